@@ -71,11 +71,11 @@ READS = {
 def read_calls():
     """What the reader of scripts takes: the classes of the arguments of each call."""
     forms = {}
-    for name, body in re.findall(r"^(?:pub\(crate\) )?fn (\w+)[^{]*?\{.*?^\{(.*?)^\}", source("cur_calls/src/arguments.rt"), re.M | re.S):
+    for name, body in re.findall(r"^(?:pub\(crate\) )?fn (\w+)[^{]*?\{.*?^\{(.*?)^\}", source("cur_scripts/src/arguments.rt"), re.M | re.S):
         reads = re.findall(r"words\s*\.(\w+)\(|(?<=\W)(sides|corners)\(", body)
         forms[name] = [method or child for method, child in reads if method != "end"]
     flat = {name: "".join(READS.get(it) or "".join(READS[each] for each in forms[it]) for it in reads) for name, reads in forms.items()}
-    table = re.findall(r'after\(b"(\w+)", text\) \{\s*hand_on\((\w+)\(', source("cur_calls/src/table.rt"))
+    table = re.findall(r'after\(b"(\w+)", text\) \{\s*hand_on\((\w+)\(', source("cur_scripts/src/table.rt"))
     return {call: flat[reader] for call, reader in table}
 
 

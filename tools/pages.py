@@ -24,8 +24,8 @@ PARTS = [
     ("Descriptions", ["ti_resolve", "ti_source", "ti_compiled", "ti_caps", "ti_parm", "ti_reach"]),
     ("The terminal", ["vt_effects", "vt_states", "vt_term", "vt_screen", "grids"]),
     ("Certificates", ["ti_remedies", "ti_faults", "ti_checker", "ti_cert", "ti_lines", "ti_conforms", "ti_rows"]),
-    ("Windows", ["cur_pads", "cur_windows", "cur_drawing"]),
-    ("Painting", ["cur_play", "cur_calls", "cur_update", "cur_paint", "cur_scrolls", "cur_looks", "cur_wires"]),
+    ("Windows", ["cur_laws", "cur_pads", "cur_windows", "cur_screens", "cur_drawing"]),
+    ("Painting", ["cur_play", "cur_scripts", "cur_calls", "cur_update", "cur_paint", "cur_moves", "cur_steps", "cur_wires"]),
     ("Benchmarks", ["bench_parm"]),
 ]
 

@@ -51,7 +51,7 @@ def what_is_read(totals):
 
 def what_is_proved():
     """What needs no reading."""
-    totals = [sum(column) for column in zip(*([code, proofs, edits] for _, code, _, proofs, edits in sizes.sizes()))]
+    totals = [sum(column) for column in zip(*([code, proofs, edits] for _, _, code, _, proofs, edits in sizes.sizes()))]
     crates = len(list(sizes.sizes()))
     rows = [
         row(

@@ -16,7 +16,7 @@ use Rattle.ti_cert.specs.Table.{CheckedTable}
 use Rattle.ti_commands.specs.Contents.{Held}
 use Rattle.ti_commands.specs.declared.failure.Failure.{Failure}
 use Rattle.cur_calls.specs.declared.calls.Call.{Call}
-use Rattle.cur_calls.specs.Texts.{script_of}
+use Rattle.cur_scripts.specs.Texts.{script_of}
 use Rattle.cur_commands.specs.Commands.{FailsAtScript, IsReady}
 use Rattle.cur_commands.specs.Preparations.{Prepared}
 use Rattle.cur_commands.specs.Scripts.{IsScriptFailure}

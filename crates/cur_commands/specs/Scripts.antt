@@ -4,10 +4,10 @@ use Rattle.std.specs.Fmt.{decimal}
 use Rattle.ti_commands.specs.declared.failure.Failure.{Failure}
 use Rattle.ti_commands.specs.declared.failure.Failure.TheVariants.{Refused, NoMemory}
 use Rattle.ti_commands.specs.declared.failure.CommandRefusal.TheVariants.{Verdict}
-use Rattle.cur_calls.specs.Texts.{script_of}
-use Rattle.cur_calls.specs.declared.faults.ScriptFault.{ScriptFault}
-use Rattle.cur_calls.specs.declared.faults.ScriptFaultKind.{ScriptFaultKind}
-use Rattle.cur_calls.specs.declared.faults.ScriptFaultKind.TheVariants as kinds
+use Rattle.cur_scripts.specs.Texts.{script_of}
+use Rattle.cur_scripts.specs.declared.faults.ScriptFault.{ScriptFault}
+use Rattle.cur_scripts.specs.declared.faults.ScriptFaultKind.{ScriptFaultKind}
+use Rattle.cur_scripts.specs.declared.faults.ScriptFaultKind.TheVariants as kinds
 
 abbrev pub kind_name : ScriptFaultKind → List ℕ
 kind_name kinds.BadLine = codes "BadLine"

@@ -2,7 +2,7 @@
 ghost use Rattle.std.specs.Prelude.{◌≡◌, IfErr, IfOk};
 ghost use Rattle.cur_commands.specs.Preparations.{FailsToPrepare, Prepared};
 
-use cur_calls::LONGEST;
+use cur_scripts::LONGEST;
 use std::alloc::Global;
 use ti_cert::Checked;
 use ti_commands::{Failure, Files, entry_of, read_whole, size_words};

@@ -1,9 +1,10 @@
 //! The calls of a script, or the line that is none.
 ghost use Rattle.std.specs.Prelude.{◌≡◌, ◌++◌, ℕ, List, IfErr, IfOk};
-ghost use Rattle.cur_calls.specs.Texts.{FailsBy, script_of};
+ghost use Rattle.cur_scripts.specs.Texts.{FailsBy, script_of};
 ghost use Rattle.cur_commands.specs.Scripts as spec;
 
-use cur_calls::{Call, ScriptFault, ScriptFaultKind, read_script};
+use cur_calls::Call;
+use cur_scripts::{ScriptFault, ScriptFaultKind, read_script};
 use std::alloc::{AllocError, Global};
 use ti_commands::{CommandRefusal, Failure};
 use ti_words::Remarks;

@@ -152,8 +152,8 @@ impl Cell {
         self.code / 256 == other.code / 256
     }
 
-    // The cell as one number.
-    pub(crate) fn number(&self) -> u32
+    /// The cell as one number, from which all of it can be read.
+    pub fn number(&self) -> u32
         ensures { content_of result ≡ self.now }
     {
         self.code

@@ -13,8 +13,8 @@ pub struct Span {
 }
 
 impl Span {
-    // What of it isn't before `first`, counted from there.
-    pub(crate) fn counted_from(self, first: u16) -> Span
+    /// The part of it that isn't before `first`, counted from there.
+    pub fn counted_from(self, first: u16) -> Span
         requires { self.at + self.size < 65536 }
         ensures within { (limit : ℕ) → self.at + self.size ≤ first + limit → result.at + result.size ≤ limit }
         ensures others { (i : ℕ) → (i < result.at) ⊎ (result.at + result.size ≤ i)

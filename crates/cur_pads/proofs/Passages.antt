@@ -7,13 +7,14 @@ use Rattle.cur_drawing.specs.declared.refusals.Refusal.TheVariants.{BadRegion, P
 use Rattle.cur_drawing.specs.Grids.{Grid, Fits, line_at, cell_at, copied, moved_to}
 use Rattle.cur_drawing.specs.Calls.{place}
 use Rattle.cur_drawing.specs.declared.spans.Span.{Span}
-use Rattle.cur_windows.specs.declared.slots.Slot.{Slot}
+use Rattle.cur_screens.specs.declared.slots.Slot.{Slot}
 use Rattle.cur_windows.specs.Copies.{in_order}
 use Rattle.cur_windows.specs.Desks.{State, IsDesk, IsPlaced, slot_of, grid_at, origin_at}
 use Rattle.cur_drawing.specs.Spans.{rectangle}
 use Rattle.cur_windows.specs.Pads.{part_shown}
-use Rattle.cur_windows.specs.VirtualScreen.{Screen, Refresh, if_shown, refresh}
-use Rattle.cur_windows.specs.Places.{is_between}
+use Rattle.cur_screens.specs.VirtualScreen.{Screen}
+use Rattle.cur_windows.specs.Refreshes.{Refresh, if_shown, refresh}
+use Rattle.cur_windows.specs.Laws.{is_between}
 use Rattle.cur_pads.specs.Laws.{IsShown, ShowsCells}
 use Rattle.cur_pads.specs.Creations.{pad_only, pad_of}
 use Rattle.cur_pads.specs.Ranges.{between, from, up_to}

@@ -8,7 +8,7 @@ use Rattle.cur_drawing.specs.Cells.{Content, space}
 use Rattle.cur_drawing.specs.Grids.{Grid, line_at, cell_at, copied, is_in, taken}
 use Rattle.cur_drawing.specs.Calls.{place}
 use Rattle.cur_drawing.proofs.DrawingFacts.{cell_at-drawn}
-use Rattle.cur_windows.specs.Places.{is_between}
+use Rattle.cur_windows.specs.Laws.{is_between}
 
 abbrev pub area_of : ℕ → ℕ → ℕ → ℕ → Area
 area_of top left rows cols = record { top = top; left = left; rows = rows; cols = cols }

@@ -8,13 +8,14 @@ use Rattle.cur_drawing.specs.declared.spans.Span.{Span}
 use Rattle.cur_drawing.specs.Calls.{place}
 use Rattle.cur_drawing.specs.Refusals.{IsFirstOf, first_refusal}
 use Rattle.cur_drawing.specs.Spans.{rectangle, is_negative}
-use Rattle.cur_windows.specs.declared.slots.Slot.{Slot}
+use Rattle.cur_screens.specs.declared.slots.Slot.{Slot}
 use Rattle.cur_windows.specs.Copies.{in_order}
 use Rattle.cur_windows.specs.Desks.{State, DeskStep, after, slot_of, some_slot, window_at}
 use Rattle.cur_windows.specs.Creations.{in_range, free, subwindow_at}
 use Rattle.cur_windows.specs.Pads.{pad_added, part_shown}
 use Rattle.cur_windows.specs.Refusals.{is_used, slot_is, is_pad, lies_outside}
-use Rattle.cur_windows.specs.VirtualScreen.{Screen, Refresh, if_shown}
+use Rattle.cur_screens.specs.VirtualScreen.{Screen}
+use Rattle.cur_windows.specs.Refreshes.{Refresh, if_shown}
 use Rattle.cur_windows.proofs.Ranks.{Answer, first_if, first_free, first_area, part_of_window, shown_if, shown_slot}
 use Rattle.cur_pads.specs.Creations as spec
 use Rattle.cur_pads.specs.Ranges.{between, from}

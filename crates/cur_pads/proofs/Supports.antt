@@ -9,7 +9,8 @@ use Rattle.cur_windows.specs.Laws.{UnchangedIfRefused}
 use Rattle.cur_windows.specs.Creations.{free, in_range, subwindow_added}
 use Rattle.cur_drawing.specs.Spans.{rectangle, area_within}
 use Rattle.cur_windows.specs.Pads.{pad_added, part_shown}
-use Rattle.cur_windows.specs.VirtualScreen.{Screen, Refresh, if_shown}
+use Rattle.cur_screens.specs.VirtualScreen.{Screen}
+use Rattle.cur_windows.specs.Refreshes.{Refresh, if_shown}
 use Rattle.cur_pads.specs.Laws.{BothUnchangedIfRefused}
 use Rattle.cur_pads.specs.Creations as spec
 use Rattle.cur_pads.specs.Ranges.{between, from}

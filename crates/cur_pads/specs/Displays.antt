@@ -6,7 +6,8 @@ use Rattle.cur_windows.specs.Copies.{in_order}
 use Rattle.cur_windows.specs.Desks.{State}
 use Rattle.cur_drawing.specs.Spans.{rectangle}
 use Rattle.cur_windows.specs.Pads.{part_shown}
-use Rattle.cur_windows.specs.VirtualScreen.{Screen, Refresh, if_shown}
+use Rattle.cur_screens.specs.VirtualScreen.{Screen}
+use Rattle.cur_windows.specs.Refreshes.{Refresh, if_shown}
 use Rattle.cur_pads.specs.Creations.{pad_of}
 use Rattle.cur_pads.specs.Ranges.{between, from}
 

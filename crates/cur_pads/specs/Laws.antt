@@ -2,10 +2,11 @@
 use Rattle.std.specs.Prelude.{◌≡◌, ℕ, ◌+◌, ◌-◌, ◌<◌, ◌&&◌, length, Ok, Err, IfOk, if◌then◌else◌, ℤ, pos}
 use Rattle.cur_drawing.specs.declared.refusals.Refusal.{Refusal}
 use Rattle.cur_drawing.specs.Grids.{line_at, cell_at}
-use Rattle.cur_windows.specs.declared.slots.Slot.{Slot}
+use Rattle.cur_screens.specs.declared.slots.Slot.{Slot}
 use Rattle.cur_windows.specs.Desks.{State, cell, slot_of}
-use Rattle.cur_windows.specs.Places.{is_between}
-use Rattle.cur_windows.specs.VirtualScreen.{Screen, Refresh}
+use Rattle.cur_windows.specs.Laws.{is_between}
+use Rattle.cur_screens.specs.VirtualScreen.{Screen}
+use Rattle.cur_windows.specs.Refreshes.{Refresh}
 use Rattle.cur_pads.specs.Displays.{start, pnoutrefresh}
 
 -- the places from (top, left) to (bottom, right) have the pad's cells from (y, x) on, all others what they had

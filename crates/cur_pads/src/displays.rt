@@ -1,12 +1,13 @@
 //! Copying a part of a pad to the virtual screen.
 ghost use Rattle.std.specs.Prelude.{◌≡◌};
-ghost use Rattle.cur_windows.specs.VirtualScreen.{refresh};
+ghost use Rattle.cur_windows.specs.Refreshes.{refresh};
 ghost use Rattle.cur_pads.specs.Displays.{pnoutrefresh};
 
 use crate::checks::pad_size;
 use crate::ranges::{at_least_zero, between, from, start};
 use cur_drawing::rectangle;
-use cur_windows::{Desk, Refusal, Virtual, in_order};
+use cur_screens::Virtual;
+use cur_windows::{Desk, Refusal, in_order};
 
 /// The pad's cells from a row and a column on are copied to the rows `top` to `bottom` and columns `left` to `right` of
 /// the virtual screen, of which all other cells stay (X/Open Curses, `pnoutrefresh`). The screen's cursor becomes the

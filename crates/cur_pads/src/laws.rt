@@ -2,7 +2,7 @@
 ghost use Rattle.std.specs.Prelude.{ℕ, ℤ};
 ghost use Rattle.cur_windows.specs.Desks.{State, IsDesk};
 ghost use Rattle.cur_windows.specs.Laws.{UnchangedIfRefused};
-ghost use Rattle.cur_windows.specs.VirtualScreen.{Screen};
+ghost use Rattle.cur_screens.specs.VirtualScreen.{Screen};
 ghost use Rattle.cur_pads.specs.Laws.{BothUnchangedIfRefused, ShowsCells};
 ghost use Rattle.cur_pads.specs.Creations.{newpad, subpad};
 ghost use Rattle.cur_drawing.specs.Refusals.{IsFirstOf};

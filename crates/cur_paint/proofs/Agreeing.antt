@@ -1,14 +1,14 @@
 -- States that agree with what is believed, and what they show.
 use Rattle.std.proofs.Common.{◌≡◌, ℕ, Bool, true, List, Option, Some, None, is_some, refl, sym, subst, ◌∙◌, arith}
 use Rattle.vt_term.specs.Screen.{State}
-use Rattle.cur_looks.specs.declared.beliefs.Belief.{Belief}
-use Rattle.cur_looks.specs.declared.beliefs.Place.{Place}
-use Rattle.cur_looks.specs.declared.beliefs.Mode.{Mode}
-use Rattle.cur_looks.specs.declared.inks.Ink.{Ink}
+use Rattle.cur_steps.specs.declared.beliefs.Belief.{Belief}
+use Rattle.cur_steps.specs.declared.beliefs.Place.{Place}
+use Rattle.cur_steps.specs.declared.beliefs.Mode.{Mode}
+use Rattle.cur_steps.specs.declared.inks.Ink.{Ink}
 use Rattle.ti_conforms.specs.Certified.{Table, IsBlank}
-use Rattle.cur_looks.specs.Inks.{blank_ink}
-use Rattle.cur_looks.specs.Beliefs.{Agrees, IsHere, IsSeen, is_shown}
-use Rattle.cur_looks.proofs.Turns.{stands_at}
+use Rattle.cur_steps.specs.Inks.{blank_ink}
+use Rattle.cur_steps.specs.Beliefs.{Agrees, IsHere, IsSeen, is_shown}
+use Rattle.cur_steps.proofs.Turns.{stands_at}
 use Rattle.cur_paint.specs.Limits.{IsCursor, IsPlaced}
 use Rattle.cur_paint.specs.Cleared.{at_start}
 use Rattle.cur_paint.specs.Update.{Shows}

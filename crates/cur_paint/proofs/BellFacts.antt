@@ -5,16 +5,16 @@ use Rattle.vt_term.specs.Ends.{Ends}
 use Rattle.vt_term.specs.Ends.{Closed}
 use Rattle.cur_wires.proofs.Completion.{ends_sized}
 use Rattle.ti_rows.specs.declared.rows.Row.TheVariants.{Bel}
-use Rattle.cur_looks.specs.declared.beliefs.Belief.{Belief}
-use Rattle.cur_looks.specs.declared.inks.Ink.{Ink}
+use Rattle.cur_steps.specs.declared.beliefs.Belief.{Belief}
+use Rattle.cur_steps.specs.declared.inks.Ink.{Ink}
 use Rattle.ti_conforms.specs.Certified.{Table, IsLost, IsChecked, IsCheckedLine, Ended}
-use Rattle.cur_looks.specs.Beliefs.{Agrees, Turns}
-use Rattle.cur_looks.proofs.Actions.{agrees_lost}
-use Rattle.cur_looks.proofs.Turns.{free_of, by_screen}
+use Rattle.cur_steps.specs.Beliefs.{Agrees, Turns}
+use Rattle.cur_steps.proofs.Actions.{agrees_lost}
+use Rattle.cur_steps.proofs.Turns.{free_of, by_screen}
 use Rattle.cur_paint.specs.Update.{Fits, IsFresh}
 use Rattle.cur_paint.specs.declared.updates.Status.{Status}
 use Rattle.cur_paint.specs.declared.updates.Status.TheVariants.{Fresh, Known, Lost}
-use Rattle.cur_looks.proofs.Actions.{line_ends}
+use Rattle.cur_steps.proofs.Actions.{line_ends}
 
 rung : (t : Table) (g : ℕ → ℕ → Ink) (b : Belief) → Turns t Bel g b g b
 rung t g b = record {

@@ -3,15 +3,15 @@ use Rattle.std.proofs.Common.{◌≡◌, ℕ, ◌+◌, ◌*◌, ◌<◌, ◌≤�
 use Rattle.std.proofs.lemmas.Bool.Decides.{nat_tests}
 use Rattle.vt_term.specs.Screen.{State}
 use Rattle.ti_conforms.specs.Certified.{Table, cell_limit}
-use Rattle.cur_looks.specs.Inks.{same}
-use Rattle.cur_looks.specs.Beliefs.{Agrees, moves, changes, modes_limit, same_mode}
-use Rattle.cur_looks.specs.declared.beliefs.Belief.{Belief}
-use Rattle.cur_looks.specs.declared.beliefs.Place.{Place}
-use Rattle.cur_looks.specs.declared.beliefs.Mode.{Mode}
-use Rattle.cur_looks.specs.declared.beliefs.Mode.TheVariants.{Hidden, Normal, Prominent}
-use Rattle.cur_looks.specs.declared.inks.Ink.{Ink}
-use Rattle.cur_looks.proofs.Answers.{moves_few, changes_few}
-use Rattle.cur_looks.proofs.Turns.{stands_at}
+use Rattle.cur_steps.specs.Inks.{same}
+use Rattle.cur_steps.specs.Beliefs.{Agrees, moves, changes, modes_limit, same_mode}
+use Rattle.cur_steps.specs.declared.beliefs.Belief.{Belief}
+use Rattle.cur_steps.specs.declared.beliefs.Place.{Place}
+use Rattle.cur_steps.specs.declared.beliefs.Mode.{Mode}
+use Rattle.cur_steps.specs.declared.beliefs.Mode.TheVariants.{Hidden, Normal, Prominent}
+use Rattle.cur_steps.specs.declared.inks.Ink.{Ink}
+use Rattle.cur_steps.proofs.Answers.{moves_few, changes_few}
+use Rattle.cur_steps.proofs.Turns.{stands_at}
 use Rattle.cur_paint.specs.Differ.{differs, span, all_differ}
 use Rattle.cur_paint.specs.Limits.{IsCursor, IsPlaced, IsWithin, seen_at, last_move, cursor_limit, is_settled, paint_limit, fresh_limit}
 use Rattle.cur_paint.proofs.Mixtures.{times_grows}

@@ -13,11 +13,11 @@ use Rattle.cur_wires.proofs.Completion.{stays, ends_sized}
 use Rattle.ti_rows.specs.declared.rows.Row.{Row}
 use Rattle.ti_rows.specs.declared.rows.Row.TheVariants.{Cup, Sgr0, Rmacs, Cnorm, Rmcup}
 use Rattle.ti_rows.specs.Starts.{Starts}
-use Rattle.cur_looks.specs.declared.beliefs.Belief.{Belief}
-use Rattle.cur_looks.specs.declared.inks.Ink.{Ink}
+use Rattle.cur_steps.specs.declared.beliefs.Belief.{Belief}
+use Rattle.cur_steps.specs.declared.inks.Ink.{Ink}
 use Rattle.ti_conforms.specs.Certified.{Table, IsLost, IsReady, IsChecked, IsCheckedLine, IsPiece, Line, Ended, or_nothing, text_of}
-use Rattle.cur_looks.proofs.Actions.{ready_lost}
-use Rattle.cur_looks.proofs.Turns.{any_of, free_of, by_screen}
+use Rattle.cur_steps.proofs.Actions.{ready_lost}
+use Rattle.cur_steps.proofs.Turns.{any_of, free_of, by_screen}
 use Rattle.cur_paint.specs.Cleared.{IsLeft}
 use Rattle.cur_paint.specs.Update.{Fits, IsFresh}
 use Rattle.cur_paint.specs.Finish.{from_cnorm_text, from_cup_text, from_rmacs_text, end_text, finish_text}

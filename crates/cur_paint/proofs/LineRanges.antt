@@ -4,12 +4,12 @@ use Rattle.std.proofs.lemmas.Bool.Decides.{nat_tests}
 use Rattle.std.proofs.lemmas.Bool.{cases_lt}
 use Rattle.vt_term.specs.Screen.{State}
 use Rattle.ti_conforms.specs.Certified.{Table}
-use Rattle.cur_looks.specs.Inks.{mixed}
-use Rattle.cur_looks.specs.Beliefs.{Agrees}
-use Rattle.cur_looks.specs.declared.beliefs.Belief.{Belief}
-use Rattle.cur_looks.specs.declared.inks.Ink.{Ink}
-use Rattle.cur_scrolls.specs.declared.scrolls.Scroll.{Scroll}
-use Rattle.cur_scrolls.specs.Scrolls.{shifted}
+use Rattle.cur_steps.specs.Inks.{mixed}
+use Rattle.cur_steps.specs.Beliefs.{Agrees}
+use Rattle.cur_steps.specs.declared.beliefs.Belief.{Belief}
+use Rattle.cur_steps.specs.declared.inks.Ink.{Ink}
+use Rattle.cur_moves.specs.declared.scrolls.Scroll.{Scroll}
+use Rattle.cur_moves.specs.Scrolls.{shifted}
 use Rattle.cur_paint.specs.Differ.{AreSameOutside, IsMoved, all_differ}
 use Rattle.cur_paint.proofs.Mixtures.{agrees_as}
 use Rattle.cur_paint.proofs.Ranges.{span_none}

@@ -2,18 +2,18 @@
 use Rattle.std.proofs.Common.{◌≡◌, ℕ, ◌+◌, ◌-◌, ◌*◌, ◌<◌, ◌≤◌, inl, inr, Bool, true, false, if◌then◌else◌, zero, suc, refl, sym, ap, subst, ◌∙◌, arith}
 use Rattle.std.proofs.lemmas.Bool.Decides.{nat_tests}
 use Rattle.std.proofs.lemmas.Bool.{cases_lt}
-use Rattle.cur_looks.specs.Inks.{same, mixed, put_at, tail_blank, blank_ink}
-use Rattle.cur_looks.specs.Gaps.{BeginsAs, IsAlike}
-use Rattle.cur_looks.specs.Erasures.{erased}
-use Rattle.cur_looks.specs.declared.erasures.ErasedPart.TheVariants.{Head, Part, Rest}
+use Rattle.cur_steps.specs.Inks.{same, mixed, put_at, tail_blank, blank_ink}
+use Rattle.cur_steps.specs.Gaps.{BeginsAs, IsAlike}
+use Rattle.cur_moves.specs.Erasures.{erased}
+use Rattle.cur_moves.specs.declared.erasures.ErasedPart.TheVariants.{Head, Part, Rest}
 use Rattle.cur_paint.specs.Differ.{differs, span, all_differ}
 use Rattle.cur_paint.specs.Blanks.{IsBlankFrom}
 use Rattle.ti_conforms.specs.Certified.{Table}
-use Rattle.cur_looks.specs.Beliefs.{Agrees}
-use Rattle.cur_looks.specs.declared.beliefs.Belief.{Belief}
+use Rattle.cur_steps.specs.Beliefs.{Agrees}
+use Rattle.cur_steps.specs.declared.beliefs.Belief.{Belief}
 use Rattle.vt_term.specs.Screen.{State}
-use Rattle.cur_looks.proofs.Sameness.{same_equal}
-use Rattle.cur_looks.specs.declared.inks.Ink.{Ink}
+use Rattle.cur_steps.proofs.Sameness.{same_equal}
+use Rattle.cur_steps.specs.declared.inks.Ink.{Ink}
 
 -- the same cells in other words
 pub agrees_as : (t : Table) (g h : ℕ → ℕ → Ink) (b : Belief) → ((i j : ℕ) → i < t.rows → j < t.cols → g i j ≡ h i j) → (s : State) → Agrees t g b s → Agrees t h b s

@@ -10,11 +10,11 @@ use Rattle.cur_wires.proofs.Leads.{all_append, concat-append, leads_then, leads_
 use Rattle.cur_wires.proofs.Paints.{sends_then}
 use Rattle.cur_wires.proofs.Stops.{leads_each, on_ok_map}
 use Rattle.ti_conforms.specs.Certified.{Table, IsLost, IsPiece, Line, Character}
-use Rattle.cur_looks.specs.Pieces.{IsPaint, Stroke, Printed}
-use Rattle.cur_looks.specs.Beliefs.{mode_text}
-use Rattle.cur_looks.specs.declared.beliefs.Mode.{Mode}
-use Rattle.cur_looks.specs.declared.beliefs.Place.{Place}
-use Rattle.cur_looks.proofs.Answers.{at_most, moves_few}
+use Rattle.cur_steps.specs.Pieces.{IsPaint, Stroke, Printed}
+use Rattle.cur_steps.specs.Beliefs.{mode_text}
+use Rattle.cur_steps.specs.declared.beliefs.Mode.{Mode}
+use Rattle.cur_steps.specs.declared.beliefs.Place.{Place}
+use Rattle.cur_steps.proofs.Answers.{at_most, moves_few}
 use Rattle.cur_paint.specs.Limits.{last_move, seen_at}
 use Rattle.cur_paint.specs.Modes.{IsPainted, OnlyPaints, move_limit}
 use Rattle.cur_paint.specs.Scenes.{Sets}

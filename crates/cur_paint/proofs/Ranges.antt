@@ -2,11 +2,11 @@
 use Rattle.std.proofs.Common.{◌≡◌, ℕ, ◌+◌, ◌-◌, ◌<◌, ◌≤◌, inl, inr, ◌==◌, ◌&&◌, Bool, true, false, zero, suc, if◌then◌else◌, refl, ap, subst, ◌∙◌, arith}
 use Rattle.std.proofs.lemmas.Bool.Decides.{nat_tests}
 use Rattle.std.proofs.lemmas.Bool.{cases_lt}
-use Rattle.cur_looks.specs.Inks.{alike, same}
-use Rattle.cur_looks.specs.declared.inks.Ink.{Ink}
-use Rattle.cur_looks.proofs.Sameness.{brush_known}
-use Rattle.cur_scrolls.specs.declared.scrolls.Scroll.{Scroll}
-use Rattle.cur_scrolls.specs.Scrolls.{shifted}
+use Rattle.cur_steps.specs.Inks.{alike, same}
+use Rattle.cur_steps.specs.declared.inks.Ink.{Ink}
+use Rattle.cur_steps.proofs.Sameness.{brush_known}
+use Rattle.cur_moves.specs.declared.scrolls.Scroll.{Scroll}
+use Rattle.cur_moves.specs.Scrolls.{shifted}
 use Rattle.cur_paint.specs.Differ.{IsMoved, IsSameOutside, differs, span}
 use Rattle.cur_paint.proofs.Mixtures.{span_more, span_parts, span_split}
 

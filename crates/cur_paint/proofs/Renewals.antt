@@ -12,14 +12,14 @@ use Rattle.cur_wires.proofs.Leads.{leads_then, leads_wider}
 use Rattle.cur_wires.proofs.Paints.{sends_then}
 use Rattle.cur_wires.proofs.Completion.{ends_as}
 use Rattle.ti_rows.specs.declared.rows.Row.TheVariants.{Clear}
-use Rattle.cur_looks.specs.declared.beliefs.Belief.{Belief}
-use Rattle.cur_looks.specs.declared.inks.Ink.{Ink}
+use Rattle.cur_steps.specs.declared.beliefs.Belief.{Belief}
+use Rattle.cur_steps.specs.declared.inks.Ink.{Ink}
 use Rattle.ti_conforms.specs.Certified.{Table, IsLost, IsBlank, IsChecked, IsPiece, Line, or_nothing}
-use Rattle.cur_looks.specs.Inks.{blank_ink}
-use Rattle.cur_looks.specs.Beliefs.{Agrees, Turns}
-use Rattle.cur_looks.specs.declared.beliefs.Mode.{Mode}
-use Rattle.cur_looks.specs.declared.beliefs.Mode.TheVariants.{Normal}
-use Rattle.cur_looks.proofs.Turns.{free_of, by_screen, look_at-drawn, stands_at}
+use Rattle.cur_steps.specs.Inks.{blank_ink}
+use Rattle.cur_steps.specs.Beliefs.{Agrees, Turns}
+use Rattle.cur_steps.specs.declared.beliefs.Mode.{Mode}
+use Rattle.cur_steps.specs.declared.beliefs.Mode.TheVariants.{Normal}
+use Rattle.cur_steps.proofs.Turns.{free_of, by_screen, look_at-drawn, stands_at}
 use Rattle.cur_paint.specs.Cleared.{IsLeft, at_start, cleared}
 use Rattle.cur_paint.specs.Limits.{fresh_limit, IsPlaced, paint_limit}
 use Rattle.cur_paint.specs.Modes.{OnlyPaints}
@@ -28,7 +28,7 @@ use Rattle.cur_paint.specs.Update.{Anew, Draws, IsFresh}
 use Rattle.cur_paint.specs.declared.updates.Wanted.{Wanted}
 use Rattle.cur_paint.specs.declared.updates.Status.{Status}
 use Rattle.cur_paint.specs.declared.updates.Status.TheVariants.{Fresh, Known, Lost}
-use Rattle.cur_looks.proofs.Actions.{line_leads}
+use Rattle.cur_steps.proofs.Actions.{line_leads}
 use Rattle.cur_paint.proofs.ModeFacts.{quiet_first}
 use Rattle.cur_paint.proofs.Agreeing.{blank_agrees}
 

@@ -4,14 +4,14 @@ use Rattle.std.proofs.lemmas.List.{get_or-take}
 use Rattle.cur_wires.specs.Wire.{IsWire}
 use Rattle.cur_wires.proofs.Stops.{steps_next, steps_wider}
 use Rattle.ti_conforms.specs.Certified.{Table, IsLost, cell_limit}
-use Rattle.cur_looks.specs.Pieces.{IsPaint}
-use Rattle.cur_looks.specs.Inks.{mixed, same}
-use Rattle.cur_looks.specs.Stretches.{AreLike, AreShown}
-use Rattle.cur_looks.specs.declared.inks.Cells.{Cells}
-use Rattle.cur_looks.specs.Beliefs.{Agrees}
-use Rattle.cur_looks.specs.declared.beliefs.Belief.{Belief}
-use Rattle.cur_looks.specs.declared.inks.Ink.{Ink}
-use Rattle.cur_looks.proofs.Sameness.{byte_as_is}
+use Rattle.cur_steps.specs.Pieces.{IsPaint}
+use Rattle.cur_steps.specs.Inks.{mixed, same}
+use Rattle.cur_steps.specs.Stretches.{AreLike, AreShown}
+use Rattle.cur_steps.specs.declared.inks.Cells.{Cells}
+use Rattle.cur_steps.specs.Beliefs.{Agrees}
+use Rattle.cur_steps.specs.declared.beliefs.Belief.{Belief}
+use Rattle.cur_steps.specs.declared.inks.Ink.{Ink}
+use Rattle.cur_steps.proofs.Sameness.{byte_as_is}
 use Rattle.cur_paint.specs.Differ.{differs, span, IsSameBy}
 use Rattle.cur_paint.specs.Scenes.{AreInked, Mends}
 use Rattle.cur_paint.proofs.Mixtures.{span_first, span_grows, span_more, sum_limit, times_grows, agrees_at}

@@ -3,11 +3,11 @@ use Rattle.std.proofs.Common.{◌≡◌, ℕ, List, ◌++◌, length, Option, So
 use Rattle.vt_term.specs.Screen.{State}
 use Rattle.cur_wires.specs.Leads.{Leads}
 use Rattle.cur_wires.specs.Wire.{StopsIn}
-use Rattle.cur_looks.specs.declared.beliefs.Belief.{Belief}
-use Rattle.cur_looks.specs.declared.beliefs.Mode.{Mode}
-use Rattle.cur_looks.specs.declared.inks.Ink.{Ink}
+use Rattle.cur_steps.specs.declared.beliefs.Belief.{Belief}
+use Rattle.cur_steps.specs.declared.beliefs.Mode.{Mode}
+use Rattle.cur_steps.specs.declared.inks.Ink.{Ink}
 use Rattle.ti_conforms.specs.Certified.{Table, IsLost, IsPiece}
-use Rattle.cur_looks.specs.Beliefs.{Agrees}
+use Rattle.cur_steps.specs.Beliefs.{Agrees}
 use Rattle.cur_paint.specs.Limits.{IsPlaced}
 use Rattle.cur_paint.specs.Modes.{OnlyPaints, shown_mode}
 use Rattle.cur_paint.specs.Update.{Made, Lawful, opening, Begins, Fits, Refreshed, CutShort}

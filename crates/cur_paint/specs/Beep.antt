@@ -5,7 +5,7 @@ use Rattle.vt_term.specs.Ends.{Ends}
 use Rattle.cur_wires.specs.Wire.{Rose}
 use Rattle.ti_rows.specs.declared.rows.Row.TheVariants.{Bel}
 use Rattle.ti_conforms.specs.Certified.{Table, IsLost, has}
-use Rattle.cur_looks.specs.declared.inks.Ink.{Ink}
+use Rattle.cur_steps.specs.declared.inks.Ink.{Ink}
 use Rattle.cur_paint.specs.Update.{Fits}
 use Rattle.cur_paint.specs.declared.bells.BellFault.{BellFault}
 use Rattle.cur_paint.specs.declared.bells.BellFault.TheVariants.{NoCap, Stray, Wire}

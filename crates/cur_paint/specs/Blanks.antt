@@ -1,7 +1,7 @@
 -- (Serves the code alone.) Where a screen is blank.
 use Rattle.std.specs.Prelude.{ℕ, ◌<◌, ◌≤◌, ◌≡◌}
-use Rattle.cur_looks.specs.Inks.{blank_ink}
-use Rattle.cur_looks.specs.declared.inks.Ink.{Ink}
+use Rattle.cur_steps.specs.Inks.{blank_ink}
+use Rattle.cur_steps.specs.declared.inks.Ink.{Ink}
 
 -- a line from a column on, and all lines below it
 pub record IsBlankFrom (g : ℕ → ℕ → Ink) (rows cols r c : ℕ) : Type 0 where

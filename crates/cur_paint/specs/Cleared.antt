@@ -3,11 +3,11 @@ use Rattle.std.specs.Prelude.{ℕ, false, Option, Some}
 use Rattle.vt_term.specs.Color.{Color}
 use Rattle.vt_term.specs.Screen.{State}
 use Rattle.ti_conforms.specs.Certified.{Table, IsLost}
-use Rattle.cur_looks.specs.Inks.{blank_ink, plain_brush}
-use Rattle.cur_looks.specs.Beliefs.{IsSeen}
-use Rattle.cur_looks.specs.declared.beliefs.Mode.{Mode}
-use Rattle.cur_looks.specs.declared.beliefs.Belief.{Belief}
-use Rattle.cur_looks.specs.declared.inks.Ink.{Ink}
+use Rattle.cur_steps.specs.Inks.{blank_ink, plain_brush}
+use Rattle.cur_steps.specs.Beliefs.{IsSeen}
+use Rattle.cur_steps.specs.declared.beliefs.Mode.{Mode}
+use Rattle.cur_steps.specs.declared.beliefs.Belief.{Belief}
+use Rattle.cur_steps.specs.declared.inks.Ink.{Ink}
 
 -- spaces on this background
 abbrev pub cleared : Option Color → ℕ → ℕ → Ink

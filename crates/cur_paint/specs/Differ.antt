@@ -1,9 +1,9 @@
 -- In how many places two screens differ.
 use Rattle.std.specs.Prelude.{ℕ, ◌+◌, ◌<◌, ◌≤◌, ◌≡◌, Bool, false, if◌then◌else◌, zero, suc, List, length, slice_index_or}
-use Rattle.cur_looks.specs.Inks.{same}
-use Rattle.cur_looks.specs.declared.inks.Ink.{Ink}
-use Rattle.cur_scrolls.specs.declared.scrolls.Scroll.{Scroll}
-use Rattle.cur_scrolls.specs.Scrolls.{shifted}
+use Rattle.cur_steps.specs.Inks.{same}
+use Rattle.cur_steps.specs.declared.inks.Ink.{Ink}
+use Rattle.cur_moves.specs.declared.scrolls.Scroll.{Scroll}
+use Rattle.cur_moves.specs.Scrolls.{shifted}
 
 -- in one place: none or one
 abbrev pub differs : (ℕ → ℕ → Ink) → (ℕ → ℕ → Ink) → ℕ → ℕ → ℕ

@@ -5,7 +5,7 @@ use Rattle.vt_term.specs.Ends.{Ends}
 use Rattle.cur_wires.specs.Wire.{Rose}
 use Rattle.ti_rows.specs.declared.rows.Row.TheVariants.{Cup, Sgr0, Rmacs, Cnorm, Rmcup}
 use Rattle.ti_conforms.specs.Certified.{Table, IsLost, text_of}
-use Rattle.cur_looks.specs.declared.inks.Ink.{Ink}
+use Rattle.cur_steps.specs.declared.inks.Ink.{Ink}
 use Rattle.cur_paint.specs.Update.{Fits, IsFresh}
 use Rattle.cur_paint.specs.declared.updates.Knowledge.{Knowledge}
 use Rattle.cur_paint.specs.declared.updates.Status.{Status}

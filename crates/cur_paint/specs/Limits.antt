@@ -1,11 +1,11 @@
 -- Where the cursor is wanted, and the most that is sent.
 use Rattle.std.specs.Prelude.{ℕ, ◌+◌, ◌-◌, ◌*◌, ◌<◌, ◌≡◌, ◌==◌, ◌&&◌, Bool, Option, Some, None, length, min, if◌then◌else◌}
 use Rattle.ti_conforms.specs.Certified.{Table, cell_limit}
-use Rattle.cur_looks.specs.Beliefs.{moves, changes, modes_limit}
-use Rattle.cur_looks.specs.declared.beliefs.Belief.{Belief}
-use Rattle.cur_looks.specs.declared.beliefs.Place.{Place}
-use Rattle.cur_looks.specs.declared.beliefs.Mode.{Mode}
-use Rattle.cur_looks.specs.declared.inks.Ink.{Ink}
+use Rattle.cur_steps.specs.Beliefs.{moves, changes, modes_limit}
+use Rattle.cur_steps.specs.declared.beliefs.Belief.{Belief}
+use Rattle.cur_steps.specs.declared.beliefs.Place.{Place}
+use Rattle.cur_steps.specs.declared.beliefs.Mode.{Mode}
+use Rattle.cur_steps.specs.declared.inks.Ink.{Ink}
 use Rattle.cur_paint.specs.Differ.{all_differ}
 
 abbrev pub IsWithin : Table → Option Place → Type 0

@@ -3,11 +3,11 @@
 use Rattle.std.specs.Prelude.{ℕ, ◌≤◌, ◌≡◌, List, ◌++◌, length, Option, Some, None}
 use Rattle.std.specs.List.{AllByRecursion, concat}
 use Rattle.ti_conforms.specs.Certified.{Table}
-use Rattle.cur_looks.specs.Pieces.{IsPaint}
-use Rattle.cur_looks.specs.Beliefs.{mode_text}
-use Rattle.cur_looks.specs.declared.beliefs.Mode.{Mode}
-use Rattle.cur_looks.specs.declared.beliefs.Mode.TheVariants.{Normal}
-use Rattle.cur_looks.specs.declared.beliefs.Place.{Place}
+use Rattle.cur_steps.specs.Pieces.{IsPaint}
+use Rattle.cur_steps.specs.Beliefs.{mode_text}
+use Rattle.cur_steps.specs.declared.beliefs.Mode.{Mode}
+use Rattle.cur_steps.specs.declared.beliefs.Mode.TheVariants.{Normal}
+use Rattle.cur_steps.specs.declared.beliefs.Place.{Place}
 use Rattle.cur_paint.specs.declared.updates.Status.{Status}
 use Rattle.cur_paint.specs.declared.updates.Status.TheVariants.{Fresh, Known, Lost}
 

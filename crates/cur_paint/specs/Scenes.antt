@@ -3,14 +3,14 @@ use Rattle.std.specs.Prelude.{ℕ, ◌+◌, ◌-◌, ◌*◌, ◌<◌, ◌≤◌
 use Rattle.vt_term.specs.Screen.{State}
 use Rattle.cur_wires.specs.Steps.{Steps}
 use Rattle.ti_conforms.specs.Certified.{Table, IsChecked, IsLost, IsPiece, cell_limit}
-use Rattle.cur_looks.specs.Inks.{CanShow, mixed, blank_ink}
-use Rattle.cur_looks.specs.Beliefs.{Agrees}
-use Rattle.cur_looks.specs.Steps.{Acts}
-use Rattle.cur_looks.specs.declared.beliefs.Belief.{Belief}
-use Rattle.cur_looks.specs.declared.beliefs.Mode.{Mode}
-use Rattle.cur_looks.specs.declared.beliefs.Place.{Place}
-use Rattle.cur_looks.specs.declared.inks.Cells.{Cells}
-use Rattle.cur_looks.specs.declared.inks.Ink.{Ink}
+use Rattle.cur_steps.specs.Inks.{CanShow, mixed, blank_ink}
+use Rattle.cur_steps.specs.Beliefs.{Agrees}
+use Rattle.cur_steps.specs.Steps.{Acts}
+use Rattle.cur_steps.specs.declared.beliefs.Belief.{Belief}
+use Rattle.cur_steps.specs.declared.beliefs.Mode.{Mode}
+use Rattle.cur_steps.specs.declared.beliefs.Place.{Place}
+use Rattle.cur_steps.specs.declared.inks.Cells.{Cells}
+use Rattle.cur_steps.specs.declared.inks.Ink.{Ink}
 use Rattle.cur_paint.specs.Differ.{differs, span, all_differ}
 use Rattle.cur_paint.specs.Limits.{paint_limit}
 use Rattle.cur_paint.specs.Modes.{OnlyPaints}

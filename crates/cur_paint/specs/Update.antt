@@ -9,11 +9,11 @@ use Rattle.cur_wires.specs.Leads.{Leads}
 use Rattle.cur_wires.specs.Wire.{Rose, Sends}
 use Rattle.ti_rows.specs.declared.rows.Row.TheVariants.{Clear}
 use Rattle.ti_conforms.specs.Certified.{Table, IsLost, IsWhole, IsPiece, text_of}
-use Rattle.cur_looks.specs.Inks.{look_of}
-use Rattle.cur_looks.specs.Beliefs.{Agrees, is_shown}
-use Rattle.cur_looks.specs.declared.beliefs.Belief.{Belief}
-use Rattle.cur_looks.specs.declared.beliefs.Mode.{Mode}
-use Rattle.cur_looks.specs.declared.inks.Ink.{Ink}
+use Rattle.cur_steps.specs.Inks.{look_of}
+use Rattle.cur_steps.specs.Beliefs.{Agrees, is_shown}
+use Rattle.cur_steps.specs.declared.beliefs.Belief.{Belief}
+use Rattle.cur_steps.specs.declared.beliefs.Mode.{Mode}
+use Rattle.cur_steps.specs.declared.inks.Ink.{Ink}
 use Rattle.cur_paint.specs.Limits.{paint_limit, fresh_limit, IsCursor, IsPlaced}
 use Rattle.cur_paint.specs.Modes.{OnlyPaints, shown_mode}
 use Rattle.cur_paint.specs.declared.updates.Wanted.{Wanted}

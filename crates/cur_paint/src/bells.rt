@@ -4,9 +4,9 @@ ghost use Rattle.cur_paint.specs.declared.updates.Status.TheVariants.{Lost};
 ghost use Rattle.cur_paint.specs.Beep.{Beeps};
 
 use crate::updates::{Knowledge, Status};
-use cur_looks::Row;
 use cur_wires::{Wire, WireFault, send_all};
 use ti_conforms::Certificate;
+use ti_rows::Row;
 
 /// Why nothing, or not all, was sent.
 #[derive(Clone, Copy)]

@@ -1,7 +1,7 @@
 //! Which lines and columns may differ.
 ghost use Rattle.std.specs.Prelude.{◌≡◌, ◌<◌, ◌≤◌, ℕ};
 
-use cur_scrolls::Scroll;
+use cur_moves::Scroll;
 
 /// Columns of a line: from one on, and before another.
 #[derive(Clone, Copy)]
@@ -20,8 +20,8 @@ pub struct LineRange {
 /// Where one screen may differ from another.
 pub trait Changes {
     ghost use Rattle.std.specs.Prelude.{◌≤◌, ℕ};
-    ghost use Rattle.cur_looks.specs.declared.inks.Ink.{Ink};
-    ghost use Rattle.cur_scrolls.specs.Scrolls.{shifted};
+    ghost use Rattle.cur_steps.specs.declared.inks.Ink.{Ink};
+    ghost use Rattle.cur_moves.specs.Scrolls.{shifted};
     ghost use Rattle.cur_paint.specs.Differ.{AreSameOutside, IsSameOutside};
 
     ghost between: { Self → (ℕ → ℕ → Ink) → (ℕ → ℕ → Ink) → Type 0 };
@@ -94,7 +94,7 @@ pub(crate) struct Moved<'a, D> {
 
 impl<'a, D: Changes> Changes for Moved<'a, D> {
     ghost use Rattle.std.specs.Prelude.{◌≤◌, ℕ};
-    ghost use Rattle.cur_looks.specs.declared.inks.Ink.{Ink};
+    ghost use Rattle.cur_steps.specs.declared.inks.Ink.{Ink};
     ghost use Rattle.cur_paint.specs.Differ.{AreSameOutside, IsMoved, IsSameOutside};
 
     ghost between = { λ m g new. IsMoved (D.between m.changes.now) m.scroll g new };

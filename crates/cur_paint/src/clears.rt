@@ -2,8 +2,9 @@
 use crate::changes::Changes;
 use crate::parts::are_blank;
 use crate::rows::may_differ;
-use cur_looks::{Picture, Row};
+use cur_steps::Picture;
 use ti_conforms::Certificate;
+use ti_rows::Row;
 
 /// What a move and a look take at least once more in a line of which cells are printed again.
 const AGAIN: usize = 8;

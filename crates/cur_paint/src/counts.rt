@@ -5,7 +5,7 @@ ghost use Rattle.cur_paint.specs.Scenes.{IsPaintable, all_changed, scene};
 
 use crate::changes::{Changes, Columns};
 use crate::screens::Screens;
-use cur_looks::Picture;
+use cur_steps::Picture;
 use ti_conforms::Certificate;
 
 /// 1 if the place in line `row` and column `col` differs, else 0.

@@ -1,7 +1,7 @@
 //! What differs, then the cursor's mode and place.
 ghost use Rattle.std.specs.Prelude.{◌≡◌, ◌*◌, true, false, Some, OnOk};
-ghost use Rattle.cur_looks.specs.Beliefs.{Agrees, CanHide};
-ghost use Rattle.cur_looks.specs.Steps.{Acts};
+ghost use Rattle.cur_steps.specs.Beliefs.{Agrees, CanHide};
+ghost use Rattle.cur_steps.specs.Steps.{Acts};
 ghost use Rattle.cur_paint.specs.Limits.{IsWithin, IsPlaced, last_move, cursor_limit};
 ghost use Rattle.cur_paint.specs.Scenes.{IsPaintable, Paints, Sets, scene};
 
@@ -9,7 +9,8 @@ use crate::changes::Changes;
 use crate::rows::mend_screen;
 use crate::screens::Screens;
 use crate::updates::Wanted;
-use cur_looks::{Belief, Picture, Place, Target, reach, show_as};
+use cur_moves::{Target, reach};
+use cur_steps::{Belief, Picture, Place, show_as};
 use cur_wires::{Wire, WireFault};
 use ti_conforms::Certificate;
 

@@ -6,9 +6,9 @@ ghost use Rattle.cur_paint.specs.declared.updates.Status.TheVariants.{Lost};
 ghost use Rattle.cur_paint.specs.Finish.{Finishes, end_text, finish_text, from_cnorm_text, from_cup_text, from_rmacs_text};
 
 use crate::updates::{Knowledge, Status};
-use cur_looks::Row;
 use cur_wires::{Wire, WireFault, send_all};
 use ti_conforms::Certificate;
+use ti_rows::Row;
 
 /// Sends the string for `row`, if there is one.
 fn send_row<C: Certificate, W: Wire>(checked: &C, row: Row, wire: &mut W) -> Result<(), WireFault>

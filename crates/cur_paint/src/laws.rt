@@ -1,11 +1,11 @@
 //! Laws of the bound, and of where a session begins.
 ghost use Rattle.std.specs.Prelude.{◌≡◌, ◌≤◌, ◌+◌, ◌*◌, ℕ, Option, Some};
 ghost use Rattle.ti_conforms.specs.Certified.{IsChecked, Table, cell_limit};
-ghost use Rattle.cur_looks.specs.Beliefs.{Agrees};
-ghost use Rattle.cur_looks.specs.declared.beliefs.Belief.{Belief};
-ghost use Rattle.cur_looks.specs.declared.beliefs.Place.{Place};
-ghost use Rattle.cur_looks.specs.declared.beliefs.Mode.{Mode};
-ghost use Rattle.cur_looks.specs.declared.inks.Ink.{Ink};
+ghost use Rattle.cur_steps.specs.Beliefs.{Agrees};
+ghost use Rattle.cur_steps.specs.declared.beliefs.Belief.{Belief};
+ghost use Rattle.cur_steps.specs.declared.beliefs.Place.{Place};
+ghost use Rattle.cur_steps.specs.declared.beliefs.Mode.{Mode};
+ghost use Rattle.cur_steps.specs.declared.inks.Ink.{Ink};
 ghost use Rattle.cur_paint.specs.Differ.{all_differ};
 ghost use Rattle.cur_paint.specs.Limits.{IsCursor, paint_limit};
 ghost use Rattle.cur_paint.specs.Update.{IsFresh};

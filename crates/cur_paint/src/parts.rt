@@ -1,16 +1,14 @@
 //! Parts of a line: runs of blanks that are erased, and the cells between them.
 ghost use Rattle.std.specs.Prelude.{◌≡◌, ◌+◌, ◌<◌, ◌≤◌, ℕ, true, OnOk, IfSome};
 ghost use Rattle.ti_conforms.specs.Certified.{IsChecked};
-ghost use Rattle.cur_looks.specs.Inks.{blank_ink};
+ghost use Rattle.cur_steps.specs.Inks.{blank_ink};
 ghost use Rattle.cur_paint.specs.Differ.{span};
 ghost use Rattle.cur_paint.specs.Scenes.{IsIdle, IsOn, IsPaintable, MendsCells, changed, scene};
 
 use crate::screens::Screens;
 use crate::spans::{differs_in, mend_span};
-use cur_looks::{
-    Belief, Cells, ErasedPart, Picture, Place, Target, erase_at, erase_from, erasing_line,
-    line_bytes,
-};
+use cur_moves::{ErasedPart, Target, erase_at, erase_from, erasing_line, line_bytes};
+use cur_steps::{Belief, Cells, Picture, Place};
 use cur_wires::{Wire, WireFault};
 use ti_conforms::Certificate;
 

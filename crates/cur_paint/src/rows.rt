@@ -2,7 +2,7 @@
 ghost use Rattle.std.specs.Prelude.{◌≡◌, ◌+◌, ◌-◌, ◌<◌, ◌≤◌, ℕ, true, Some, OnOk, IfSome};
 ghost use Rattle.ti_rows.specs.declared.rows.Row.TheVariants.{El, Ed};
 ghost use Rattle.ti_conforms.specs.Certified.{IsChecked};
-ghost use Rattle.cur_looks.specs.Inks.{blank_ink};
+ghost use Rattle.cur_steps.specs.Inks.{blank_ink};
 ghost use Rattle.cur_paint.specs.Blanks.{IsBlankFrom};
 ghost use Rattle.cur_paint.specs.Differ.{IsSameOutside};
 ghost use Rattle.cur_paint.specs.Scenes.{IsBlankPast, IsIdle, IsPaintable, IsSamePast, MendsAll, MendsBelow, MendsFrom, MendsLine, all_changed, changed_from, line_changed, scene};
@@ -11,11 +11,11 @@ use crate::changes::{Changes, Columns};
 use crate::parts::{are_blank, mend_parts};
 use crate::screens::Screens;
 use crate::spans::{differs_in, mend_span};
-use cur_looks::{
-    Belief, Cells, ErasedPart, Picture, Place, Row, Target, blank_tail, erase_from, erasing_line,
-};
+use cur_moves::{ErasedPart, Target, blank_tail, erase_from, erasing_line};
+use cur_steps::{Belief, Cells, Picture, Place};
 use cur_wires::{Wire, WireFault};
 use ti_conforms::Certificate;
+use ti_rows::Row;
 
 /// The column from which on the line `row` of `cols` columns is blank.
 fn blank_from<N: Picture>(new: &N, row: usize, cols: usize) -> usize

@@ -1,7 +1,7 @@
 //! Whether the terminal scrolls lines before a known screen is mended.
 ghost use Rattle.std.specs.Prelude.{◌≡◌, ◌+◌, ◌≤◌, IfSome, Some, OnOk};
-ghost use Rattle.cur_looks.specs.Beliefs.{CanHide};
-ghost use Rattle.cur_scrolls.specs.Scrolls.{CanScroll, shifted};
+ghost use Rattle.cur_steps.specs.Beliefs.{CanHide};
+ghost use Rattle.cur_moves.specs.Scrolls.{CanScroll, shifted};
 ghost use Rattle.cur_paint.specs.Differ.{all_differ};
 ghost use Rattle.cur_paint.specs.Limits.{IsWithin, IsPlaced};
 ghost use Rattle.cur_paint.specs.Scenes.{IsPaintable, Paints, all_changed, scene};
@@ -11,8 +11,8 @@ use crate::counts::{count_cells, differ_in_more};
 use crate::cursors::paint;
 use crate::screens::Screens;
 use crate::updates::Wanted;
-use cur_looks::{Belief, Picture};
-use cur_scrolls::{Scroll, Shifted, can_scroll, scroll_lines};
+use cur_moves::{Scroll, Shifted, can_scroll, scroll_lines};
+use cur_steps::{Belief, Picture};
 use cur_wires::{Wire, WireFault};
 use ti_conforms::Certificate;
 

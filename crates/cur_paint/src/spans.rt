@@ -1,14 +1,13 @@
 //! Cells of a line that differ: printed one by one, or several in one piece.
 ghost use Rattle.std.specs.Prelude.{◌≡◌, ◌+◌, ◌*◌, ◌<◌, ◌≤◌, ℕ, false, true, OnOk, length};
-ghost use Rattle.cur_looks.specs.Gaps.{IsAlike};
-ghost use Rattle.cur_looks.specs.declared.inks.Ink.{Ink};
+ghost use Rattle.cur_steps.specs.Gaps.{IsAlike};
+ghost use Rattle.cur_steps.specs.declared.inks.Ink.{Ink};
 ghost use Rattle.cur_paint.specs.Differ.{differs, span, IsSameBy};
 ghost use Rattle.cur_paint.specs.Scenes.{AreInked, IsIdle, IsOn, IsPaintable, IsShort, MendsCell, MendsCells, changed, scene};
 
 use crate::screens::Screens;
-use cur_looks::{
-    Belief, Cells, Ink, Picture, Place, Target, goes_on, line_bytes, print_text, put_cell,
-};
+use cur_moves::{Target, goes_on, line_bytes, print_text, put_cell};
+use cur_steps::{Belief, Cells, Ink, Picture, Place};
 use cur_wires::{Wire, WireFault};
 use ti_conforms::Certificate;
 

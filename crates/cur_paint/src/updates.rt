@@ -1,9 +1,9 @@
 //! A refresh: what differs where the terminal is known, and all anew where it isn't.
 ghost use Rattle.std.specs.Prelude.{◌≡◌, ◌+◌, ◌<◌, ℕ, List, length, true, Some, None, OnOk};
 ghost use Rattle.ti_rows.specs.declared.rows.Row.TheVariants.{Clear};
-ghost use Rattle.cur_looks.specs.Inks.{CanShow};
-ghost use Rattle.cur_looks.specs.Beliefs.{Agrees, CanHide};
-ghost use Rattle.cur_looks.specs.declared.inks.Ink.{Ink};
+ghost use Rattle.cur_steps.specs.Inks.{CanShow};
+ghost use Rattle.cur_steps.specs.Beliefs.{Agrees, CanHide};
+ghost use Rattle.cur_steps.specs.declared.inks.Ink.{Ink};
 ghost use Rattle.cur_paint.specs.Limits.{IsWithin, IsPlaced, fresh_limit, paint_limit};
 ghost use Rattle.cur_paint.specs.declared.updates.Status.TheVariants.{Fresh};
 ghost use Rattle.cur_paint.specs.Cleared.{IsLeft, at_corner, at_start, cleared};
@@ -18,9 +18,10 @@ use crate::cursors::paint;
 use crate::lasting::Lasting;
 use crate::screens::Screens;
 use crate::scrolls::{scroll_first, useful_scroll};
-use cur_looks::{Belief, Blank, Brush, Ink, Mode, Picture, Place, Row};
+use cur_steps::{Belief, Blank, Brush, Ink, Mode, Picture, Place};
 use cur_wires::{Wire, WireFault, send_all};
 use ti_conforms::Certificate;
+use ti_rows::Row;
 use vt_term::Color;
 
 /// What is known of the terminal as a whole.

@@ -5,17 +5,17 @@ use Rattle.vt_term.specs.Screen.{State}
 use Rattle.vt_term.specs.Size.{IsSize}
 use Rattle.vt_term.specs.Text.{IsOpen}
 use Rattle.vt_term.proofs.Runs.{runs_nothing}
-use Rattle.cur_windows.specs.VirtualScreen.{Screen}
+use Rattle.cur_screens.specs.VirtualScreen.{Screen}
 use Rattle.cur_wires.specs.Wire.{IsWire}
 use Rattle.vt_term.specs.Ends.{Ends}
 use Rattle.ti_rows.specs.declared.rows.Row.TheVariants.{Bel}
 use Rattle.ti_conforms.specs.Certified.{Table, IsChecked, IsLost, IsSmall, cell_limit}
-use Rattle.cur_looks.specs.Beliefs.{Agrees}
-use Rattle.cur_looks.proofs.Actions.{agrees_lost}
-use Rattle.cur_looks.specs.declared.beliefs.Belief.{Belief}
-use Rattle.cur_looks.specs.declared.beliefs.Mode.{Mode}
-use Rattle.cur_looks.specs.declared.beliefs.Place.{Place}
-use Rattle.cur_looks.specs.declared.inks.Ink.{Ink}
+use Rattle.cur_steps.specs.Beliefs.{Agrees}
+use Rattle.cur_steps.proofs.Actions.{agrees_lost}
+use Rattle.cur_steps.specs.declared.beliefs.Belief.{Belief}
+use Rattle.cur_steps.specs.declared.beliefs.Mode.{Mode}
+use Rattle.cur_steps.specs.declared.beliefs.Place.{Place}
+use Rattle.cur_steps.specs.declared.inks.Ink.{Ink}
 use Rattle.cur_paint.specs.Finish.{finish_text}
 use Rattle.cur_paint.specs.Limits.{IsCursor, paint_limit, fresh_limit}
 use Rattle.cur_paint.specs.Update.{Fits, refresh_limit}

@@ -5,11 +5,11 @@ use Rattle.vt_term.specs.Screen.{State}
 use Rattle.ti_rows.specs.declared.rows.Row.TheVariants.{Bel}
 use Rattle.ti_conforms.specs.Certified.{Table, has}
 use Rattle.cur_drawing.specs.declared.refusals.Refusal.{Refusal}
-use Rattle.cur_windows.specs.VirtualScreen.{Screen}
+use Rattle.cur_screens.specs.VirtualScreen.{Screen}
 use Rattle.cur_wires.specs.Wire.{Rose, last_count}
 use Rattle.cur_wires.specs.declared.wires.WireFault.{WireFault}
-use Rattle.cur_looks.specs.declared.beliefs.Mode.{Mode}
-use Rattle.cur_looks.specs.declared.inks.Ink.{Ink}
+use Rattle.cur_steps.specs.declared.beliefs.Mode.{Mode}
+use Rattle.cur_steps.specs.declared.inks.Ink.{Ink}
 use Rattle.cur_paint.specs.Beep.{RangShort}
 use Rattle.cur_paint.specs.Modes.{OnlyPaints, shown_mode}
 use Rattle.cur_paint.specs.Update.{Lawful, opening}

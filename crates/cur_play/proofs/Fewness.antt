@@ -5,8 +5,8 @@ use Rattle.vt_term.specs.Size.{IsSize}
 use Rattle.ti_rows.specs.declared.rows.Row.{Row}
 use Rattle.ti_rows.specs.declared.rows.Row.TheVariants.{Cup, Sgr0, Rmacs, Cnorm, Rmcup}
 use Rattle.ti_conforms.specs.Certified.{Table, IsSmall, cell_limit, or_nothing, text_of}
-use Rattle.cur_looks.specs.declared.beliefs.Belief.{Belief}
-use Rattle.cur_looks.specs.declared.inks.Ink.{Ink}
+use Rattle.cur_steps.specs.declared.beliefs.Belief.{Belief}
+use Rattle.cur_steps.specs.declared.inks.Ink.{Ink}
 use Rattle.cur_paint.proofs.Bounds.{fresh_enough}
 use Rattle.cur_paint.specs.Finish.{end_text, finish_text, from_cnorm_text, from_cup_text, from_rmacs_text}
 use Rattle.cur_paint.specs.Limits.{fresh_limit, paint_limit}

@@ -5,9 +5,10 @@ use Rattle.cur_drawing.specs.declared.windows.Window.{Window}
 use Rattle.cur_drawing.specs.declared.cells.Attrs.{Attrs}
 use Rattle.cur_drawing.specs.Grids.{Grid}
 use Rattle.cur_drawing.specs.Windows.{WindowStep}
-use Rattle.cur_windows.specs.declared.slots.Origin.{Origin}
+use Rattle.cur_screens.specs.declared.slots.Origin.{Origin}
 use Rattle.cur_windows.specs.Desks.{State, DeskStep, after, on_cursor, on_screen, slot_of, step, unchanged}
-use Rattle.cur_windows.specs.Touched.{IsShownBut, KeepsShown, Markings, ShowsBut, grid_marks}
+use Rattle.cur_screens.specs.Touched.{IsShownBut, Markings, grid_marks}
+use Rattle.cur_windows.specs.TouchedWindows.{KeepsShown, ShowsBut}
 use Rattle.cur_calls.specs.declared.groups.AttrsCall.{AttrsCall}
 use Rattle.cur_calls.specs.declared.groups.AttrsCall.TheVariants.{Attron, Attroff, Attrset}
 use Rattle.cur_calls.specs.declared.groups.FlagCall.{FlagCall}

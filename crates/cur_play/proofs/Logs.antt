@@ -8,14 +8,14 @@ use Rattle.vt_term.specs.Screen.{State}
 use Rattle.vt_term.specs.Text.{IsOpen}
 use Rattle.vt_term.proofs.Runs.{runs_nothing, runs_once}
 use Rattle.cur_windows.specs.Desks.{State as Desk}
-use Rattle.cur_windows.specs.VirtualScreen.{Screen, new_screen, refreshed}
+use Rattle.cur_screens.specs.VirtualScreen.{Screen, new_screen, refreshed}
 use Rattle.cur_wires.specs.Wire.{IsWire}
 use Rattle.cur_wires.specs.Counted.{Counts, counts_joins}
 use Rattle.vt_term.specs.Ends.{Ends}
 use Rattle.cur_wires.proofs.Leads.{ends_then}
 use Rattle.ti_conforms.specs.Certified.{Table, IsChecked}
 use Rattle.cur_play.proofs.Deliveries.{fits_lost}
-use Rattle.cur_looks.specs.declared.beliefs.Mode.{Mode}
+use Rattle.cur_steps.specs.declared.beliefs.Mode.{Mode}
 use Rattle.cur_paint.specs.Modes.{shown_mode}
 use Rattle.cur_paint.specs.Update.{Fits, IsFresh, Shows}
 use Rattle.cur_paint.specs.declared.updates.Status.{Status}

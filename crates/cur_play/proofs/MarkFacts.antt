@@ -3,11 +3,12 @@ use Rattle.std.proofs.Common.{◌≡◌, ◌==◌, ℕ, Bool, true, false, Optio
 use Rattle.cur_drawing.specs.declared.refusals.Refusal.{Refusal}
 use Rattle.cur_drawing.specs.Cells.{pair_count}
 use Rattle.cur_drawing.specs.Grids.{Grid, cell_at}
-use Rattle.cur_drawing.specs.Marks.{AreSame, Keeps, Marking}
+use Rattle.cur_screens.specs.Marks.{AreSame, Keeps, Marking}
 use Rattle.cur_drawing.specs.Windows.{place_below}
 use Rattle.cur_windows.specs.Desks.{State}
-use Rattle.cur_windows.specs.Touched.{AreFull, KeepsShown, Markings, ShowsBut}
-use Rattle.cur_windows.specs.VirtualScreen.{Screen, init_pair, initialized}
+use Rattle.cur_screens.specs.Touched.{AreFull, Markings}
+use Rattle.cur_windows.specs.TouchedWindows.{KeepsShown, ShowsBut}
+use Rattle.cur_screens.specs.VirtualScreen.{Screen, init_pair, initialized}
 use Rattle.cur_windows.proofs.TouchedFacts.{shows_full}
 
 -- screens of equal cells

@@ -8,7 +8,8 @@ use Rattle.cur_drawing.specs.Windows.{place_below}
 use Rattle.cur_windows.specs.Desks.{State, DeskStep, slot_of}
 use Rattle.cur_windows.specs.Copies.{in_order}
 use Rattle.cur_windows.specs.Creations.{window_only}
-use Rattle.cur_windows.specs.VirtualScreen.{Screen, Refresh, if_shown, noutrefresh, init_pair, initialized}
+use Rattle.cur_screens.specs.VirtualScreen.{Screen, init_pair, initialized}
+use Rattle.cur_windows.specs.Refreshes.{Refresh, if_shown, noutrefresh}
 use Rattle.cur_pads.specs.Creations.{pad_of}
 use Rattle.cur_pads.specs.Ranges.{between, from}
 use Rattle.cur_pads.specs.Displays.{pnoutrefresh, start}

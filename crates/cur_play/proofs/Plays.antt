@@ -3,9 +3,9 @@ use Rattle.std.proofs.Common.{◌≡◌, ℕ, List, [], true, false, Option, ref
 use Rattle.cur_drawing.specs.declared.refusals.Refusal.{Refusal}
 use Rattle.cur_drawing.specs.declared.refusals.Refusal.TheVariants.{NoMemory}
 use Rattle.cur_windows.specs.Desks.{State}
-use Rattle.cur_windows.specs.VirtualScreen.{Screen, refreshed}
+use Rattle.cur_screens.specs.VirtualScreen.{Screen, refreshed}
 use Rattle.ti_conforms.specs.Certified.{Table, IsChecked}
-use Rattle.cur_looks.specs.declared.beliefs.Mode.{Mode}
+use Rattle.cur_steps.specs.declared.beliefs.Mode.{Mode}
 use Rattle.cur_paint.specs.declared.updates.Status.{Status}
 use Rattle.cur_paint.specs.declared.updates.Status.TheVariants.{Fresh, Known, Lost}
 use Rattle.cur_update.specs.Painters.{Painted}

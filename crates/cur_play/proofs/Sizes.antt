@@ -11,7 +11,7 @@ use Rattle.cur_drawing.specs.Windows.{WindowStep}
 use Rattle.cur_drawing.specs.Windows as window
 use Rattle.cur_drawing.specs.declared.windows.Window.{Window}
 use Rattle.cur_drawing.specs.Spans.{area_within, start_within}
-use Rattle.cur_windows.specs.declared.slots.Slot.{Slot}
+use Rattle.cur_screens.specs.declared.slots.Slot.{Slot}
 use Rattle.cur_drawing.specs.declared.spans.CopySpan.{CopySpan}
 use Rattle.cur_windows.specs.Desks.{State, DeskStep, after, slot_of, on_cursor, on_grid, on_window, unchanged}
 use Rattle.cur_windows.specs.Creations as make

@@ -6,7 +6,8 @@ use Rattle.cur_drawing.specs.declared.refusals.Refusal.{Refusal}
 use Rattle.cur_drawing.specs.Calls as call
 use Rattle.cur_drawing.proofs.Stability as staying
 use Rattle.cur_windows.specs.Desks.{IsDesk, State, slot_of, step}
-use Rattle.cur_windows.specs.Touched.{KeepsShown, Markings, MarksWindow}
+use Rattle.cur_screens.specs.Touched.{Markings}
+use Rattle.cur_windows.specs.TouchedWindows.{KeepsShown, MarksWindow}
 use Rattle.cur_windows.proofs.AreaMarks.{keeps_on_grid, keeps_on_window, keeps_untouched}
 use Rattle.cur_windows.proofs.Shapes as shapes
 use Rattle.cur_calls.specs.declared.calls.Call.TheVariants.{Line, DrawBorder, DrawBox}

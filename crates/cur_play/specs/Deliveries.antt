@@ -1,10 +1,10 @@
 -- What a call's bytes do to the terminal, whatever of its states it is in, and how many they are.
 use Rattle.std.specs.Prelude.{ℕ, ◌<◌, ◌≤◌, ◌^◌, ◌≡◌, true, false, List, ◌++◌, length, Option, Some}
 use Rattle.vt_term.specs.Screen.{State}
-use Rattle.cur_windows.specs.VirtualScreen.{Screen}
+use Rattle.cur_screens.specs.VirtualScreen.{Screen}
 use Rattle.vt_term.specs.Ends.{Ends}
 use Rattle.ti_conforms.specs.Certified.{Table, IsLost}
-use Rattle.cur_looks.specs.declared.beliefs.Mode.{Mode}
+use Rattle.cur_steps.specs.declared.beliefs.Mode.{Mode}
 use Rattle.cur_paint.specs.Limits.{IsCursor}
 use Rattle.cur_paint.specs.Update.{Fits, Shows}
 use Rattle.cur_paint.specs.declared.updates.Status.TheVariants.{Known}

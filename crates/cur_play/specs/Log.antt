@@ -6,9 +6,9 @@ use Rattle.vt_term.specs.Run.{Runs}
 use Rattle.vt_term.specs.Ends.{Ends}
 use Rattle.ti_rows.specs.declared.rows.Row.TheVariants.{Bel}
 use Rattle.ti_conforms.specs.Certified.{Table, IsLost, cell_limit}
-use Rattle.cur_windows.specs.VirtualScreen.{Screen, new_screen}
+use Rattle.cur_screens.specs.VirtualScreen.{Screen, new_screen}
 use Rattle.cur_wires.specs.Wire.{Rose}
-use Rattle.cur_looks.specs.declared.beliefs.Mode.{Mode}
+use Rattle.cur_steps.specs.declared.beliefs.Mode.{Mode}
 use Rattle.cur_paint.specs.Finish.{finish_text}
 use Rattle.cur_paint.specs.Limits.{IsCursor, fresh_limit}
 use Rattle.cur_paint.specs.Modes.{shown_mode}

@@ -1,6 +1,6 @@
 -- What a call puts on the wire.
 use Rattle.std.specs.Prelude.{ℕ, ◌≡◌, List, [], Option}
-use Rattle.cur_windows.specs.VirtualScreen.{Screen}
+use Rattle.cur_screens.specs.VirtualScreen.{Screen}
 use Rattle.ti_conforms.specs.Certified.{Table}
 use Rattle.cur_paint.specs.Update.{Refreshed, CutShort}
 use Rattle.cur_paint.specs.Beep.{Rang, RangShort}

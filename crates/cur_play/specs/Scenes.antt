@@ -2,10 +2,10 @@
 -- Issue 7, initscr, refresh, curs_set).
 use Rattle.std.specs.Prelude.{◌≡◌}
 use Rattle.cur_windows.specs.Desks.{State, new_desk}
-use Rattle.cur_windows.specs.VirtualScreen.{Screen, new_screen}
+use Rattle.cur_screens.specs.VirtualScreen.{Screen, new_screen}
 use Rattle.ti_conforms.specs.Certified.{Table}
-use Rattle.cur_looks.specs.declared.beliefs.Mode.{Mode}
-use Rattle.cur_looks.specs.declared.beliefs.Mode.TheVariants.{Normal}
+use Rattle.cur_steps.specs.declared.beliefs.Mode.{Mode}
+use Rattle.cur_steps.specs.declared.beliefs.Mode.TheVariants.{Normal}
 use Rattle.cur_paint.specs.declared.updates.Status.{Status}
 use Rattle.cur_paint.specs.declared.updates.Status.TheVariants.{Fresh, Lost}
 use Rattle.cur_update.specs.Painters.{Painted}

@@ -1,7 +1,7 @@
 -- (Serves the code alone.) What sending leaves, done or cut short.
 use Rattle.std.specs.Prelude.{◌≡◌}
 use Rattle.ti_rows.specs.declared.rows.Row.TheVariants.{Bel}
-use Rattle.cur_windows.specs.VirtualScreen.{Screen, refreshed}
+use Rattle.cur_screens.specs.VirtualScreen.{Screen, refreshed}
 use Rattle.ti_conforms.specs.Certified.{Table, has}
 use Rattle.cur_paint.specs.declared.updates.Status.{Status}
 use Rattle.cur_paint.specs.declared.updates.Status.TheVariants.{Fresh, Known, Lost}

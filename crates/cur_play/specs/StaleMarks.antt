@@ -1,9 +1,9 @@
 -- (Serves the code alone.) Where what was copied may differ from what it is a copy of.
 use Rattle.cur_drawing.specs.Grids.{Grid}
-use Rattle.cur_drawing.specs.Marks.{AreSame}
+use Rattle.cur_screens.specs.Marks.{AreSame}
 use Rattle.cur_windows.specs.Desks.{State}
-use Rattle.cur_windows.specs.Touched.{ShowsBut}
-use Rattle.cur_windows.specs.VirtualScreen.{Screen}
+use Rattle.cur_windows.specs.TouchedWindows.{ShowsBut}
+use Rattle.cur_screens.specs.VirtualScreen.{Screen}
 use Rattle.cur_play.specs.declared.stale_marks.StaleMarks.{StaleMarks}
 
 -- outside the marks the virtual screen has the cells of each grid, and what was shown last those of the screen

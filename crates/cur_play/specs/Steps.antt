@@ -4,10 +4,11 @@ use Rattle.ti_rows.specs.declared.rows.Row.TheVariants.{Bel}
 use Rattle.cur_drawing.specs.declared.refusals.Refusal.{Refusal}
 use Rattle.cur_drawing.specs.declared.refusals.Refusal.TheVariants.{NoMemory, NoCap, IsLost}
 use Rattle.cur_windows.specs.Desks as desks
-use Rattle.cur_windows.specs.VirtualScreen as screens
+use Rattle.cur_screens.specs.VirtualScreen as screens
+use Rattle.cur_windows.specs.Refreshes as refreshes
 use Rattle.cur_pads.specs.Displays.{pnoutrefresh}
 use Rattle.ti_conforms.specs.Certified.{Table, has}
-use Rattle.cur_looks.specs.declared.beliefs.Mode.{Mode}
+use Rattle.cur_steps.specs.declared.beliefs.Mode.{Mode}
 use Rattle.cur_paint.specs.declared.updates.Status.{Status}
 use Rattle.cur_paint.specs.declared.updates.Status.TheVariants.{Fresh, Known, Lost}
 use Rattle.cur_update.specs.Painters.{set_mode}
@@ -41,7 +42,7 @@ on_desk s x = (record s { desk = x.0 }, answer_of x.1)
 abbrev pub on_screen : Scene → screens.Screen × Result (Unit {0}) Refusal → Step
 on_screen s x = (record s { screen = x.0 }, answer_of x.1)
 
-abbrev pub on_both : Scene → screens.Refresh → Step
+abbrev pub on_both : Scene → refreshes.Refresh → Step
 on_both s x = (record s { desk = x.0; screen = x.1 }, answer_of x.2)
 
 abbrev pub on_mode : Scene → Mode × Result ℕ Refusal → Step
@@ -49,7 +50,7 @@ on_mode s x = (record s { mode = x.0 }, mode_answer x.1)
 
 -- the calls on more than windows; those that only send draw nothing
 abbrev pub showing : Table → Scene → Call → Step
-showing t s (Show k n) = on_both s (screens.noutrefresh s.desk s.screen n)
+showing t s (Show k n) = on_both s (refreshes.noutrefresh s.desk s.screen n)
 showing t s (ShowPad k n row col top left bottom right) =
     on_both s (pnoutrefresh s.desk s.screen n row col top left bottom right)
 showing t s (CursSet n) = on_mode s (set_mode t n s.mode)

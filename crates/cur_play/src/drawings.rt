@@ -1,7 +1,7 @@
 //! What calls do before anything is sent.
 ghost use Rattle.std.specs.Prelude.{◌≡◌};
-ghost use Rattle.cur_drawing.specs.Marks.{Keeps};
-ghost use Rattle.cur_windows.specs.Touched.{ShowsBut};
+ghost use Rattle.cur_screens.specs.Marks.{Keeps};
+ghost use Rattle.cur_windows.specs.TouchedWindows.{ShowsBut};
 ghost use Rattle.cur_play.specs.Drawings.{Draws, SameSizes};
 ghost use Rattle.cur_play.specs.Steps.{showing};
 
@@ -11,8 +11,9 @@ use crate::stale_marks::StaleMarks;
 use crate::windows::change;
 use cur_calls::Call;
 use cur_pads::pnoutrefresh;
+use cur_screens::Virtual;
 use cur_update::Painter;
-use cur_windows::{Desk, Virtual};
+use cur_windows::Desk;
 use ti_conforms::Certificate;
 
 /// Does all of a call but what it sends.

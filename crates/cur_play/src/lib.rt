@@ -13,10 +13,10 @@ mod windows;
 
 pub use answers::Answer;
 pub use cur_calls::{
-    Attrs, AttrsCall, Border, Call, CellCall, FlagCall, LONGEST, LayCall, LineCall, NumberCall,
-    NumbersCall, PadCall, PartCall, PlainCall, Put, ScreenCall, ScriptFault, ScriptFaultKind,
-    ShowCall, Text, read_script,
+    Attrs, AttrsCall, Border, Call, CellCall, FlagCall, LayCall, LineCall, NumberCall, NumbersCall,
+    PadCall, PartCall, PlainCall, Put, ScreenCall, ShowCall, Text,
 };
+pub use cur_scripts::{LONGEST, ScriptFault, ScriptFaultKind, read_script};
 pub use paced::Paced;
 pub use runs::{Log, LogEntry, run, run_paced};
 pub use sessions::Session;

@@ -1,15 +1,16 @@
 //! What calls send.
 ghost use Rattle.std.specs.Prelude.{◌≡◌, ℕ, List};
-ghost use Rattle.cur_drawing.specs.Marks.{AreSame};
-ghost use Rattle.cur_windows.specs.VirtualScreen.{Screen};
+ghost use Rattle.cur_screens.specs.Marks.{AreSame};
+ghost use Rattle.cur_screens.specs.VirtualScreen.{Screen};
 ghost use Rattle.cur_play.specs.Outputs.{Puts};
 ghost use Rattle.cur_play.specs.Sends.{Delivers};
 ghost use Rattle.cur_play.specs.Steps as spec;
 
 use crate::answers::Answer;
 use cur_calls::{Call, PadCall, ScreenCall, ShowCall};
+use cur_screens::Virtual;
 use cur_update::{Painter, Unsent, Wire};
-use cur_windows::{Marks, Virtual};
+use cur_windows::Marks;
 use ti_conforms::Certificate;
 
 /// What a call sends.

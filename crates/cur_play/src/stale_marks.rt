@@ -1,8 +1,9 @@
 //! Where what was copied may differ from what it is a copy of.
 ghost use Rattle.std.specs.Prelude.{IfOk};
-ghost use Rattle.cur_windows.specs.Touched.{AreFull};
+ghost use Rattle.cur_screens.specs.Touched.{AreFull};
 
-use cur_windows::{Marks, Touched};
+use cur_screens::Touched;
+use cur_windows::Marks;
 use std::alloc::{AllocError, Global};
 
 /// Marks at the places where the virtual screen may differ from each grid, and at those where it may differ from what

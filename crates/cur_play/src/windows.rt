@@ -2,7 +2,7 @@
 ghost use Rattle.std.specs.Prelude.{◌≡◌};
 ghost use Rattle.cur_windows.specs.Copies.{common_part};
 ghost use Rattle.cur_windows.specs.Desks as desks;
-ghost use Rattle.cur_windows.specs.Touched.{KeepsShown};
+ghost use Rattle.cur_windows.specs.TouchedWindows.{KeepsShown};
 ghost use Rattle.cur_play.specs.Groups.{Does};
 ghost use Rattle.cur_play.specs.Windows as spec;
 
@@ -10,7 +10,8 @@ use cur_calls::{
     Attrs, AttrsCall, Call, CellCall, FlagCall, LayCall, LineCall, NumberCall, NumbersCall,
     PlainCall, Put,
 };
-use cur_windows::{Desk, Refusal, Touched};
+use cur_screens::Touched;
+use cur_windows::{Desk, Refusal};
 
 /// Changes windows; `None` for a call that doesn't, or that does more. Where a grid may have changed, or where it lies,
 /// it is marked as well.

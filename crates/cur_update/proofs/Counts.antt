@@ -4,11 +4,11 @@ use Rattle.std.proofs.lemmas.Bool.{eqb-true, eq-eqb}
 use Rattle.vt_term.specs.Color.{Color, color_number}
 use Rattle.ti_rows.specs.declared.rows.Attributes.{Attributes}
 use Rattle.cur_drawing.specs.Cells.{Content}
-use Rattle.cur_windows.specs.VirtualScreen.{Screen, colors_at}
-use Rattle.cur_windows.specs.declared.virtual_screen.Colors.{Colors}
+use Rattle.cur_screens.specs.VirtualScreen.{Screen, colors_at}
+use Rattle.cur_screens.specs.declared.virtual_screen.Colors.{Colors}
 use Rattle.ti_conforms.specs.Certified.{Table}
-use Rattle.cur_looks.specs.Inks.{alike, same_few, same_others, same_attributes, same_color, same, blank_ink}
-use Rattle.cur_looks.specs.declared.inks.Ink.{Ink}
+use Rattle.cur_steps.specs.Inks.{alike, same_few, same_others, same_attributes, same_color, same, blank_ink}
+use Rattle.cur_steps.specs.declared.inks.Ink.{Ink}
 use Rattle.cur_paint.specs.Differ.{differs, span, all_differ}
 use Rattle.cur_update.specs.Inks.{ink_of, ink_at, content_at}
 use Rattle.cur_update.specs.Differ.{same_number, same_colors, same_character, same_at, cells_differ, in_line, in_lines}

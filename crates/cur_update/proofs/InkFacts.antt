@@ -6,11 +6,11 @@ use Rattle.vt_term.specs.Look.{IsPrinted}
 use Rattle.ti_rows.specs.declared.rows.Row.TheVariants.{Op, Smacs}
 use Rattle.ti_conforms.specs.Alternates.{Plain, letters, found, or_letter, is_printed, shown, in_plain_set}
 use Rattle.cur_drawing.specs.Cells.{Content, IsCell}
-use Rattle.cur_windows.specs.VirtualScreen.{Screen, colors_at}
-use Rattle.cur_windows.specs.declared.virtual_screen.Colors.{Colors}
+use Rattle.cur_screens.specs.VirtualScreen.{Screen, colors_at}
+use Rattle.cur_screens.specs.declared.virtual_screen.Colors.{Colors}
 use Rattle.ti_conforms.specs.Certified.{Table, has}
-use Rattle.cur_looks.specs.Inks.{IsInk, CanShow, blank_ink}
-use Rattle.cur_looks.specs.declared.inks.Ink.{Ink}
+use Rattle.cur_steps.specs.Inks.{IsInk, CanShow, blank_ink}
+use Rattle.cur_steps.specs.declared.inks.Ink.{Ink}
 use Rattle.cur_update.specs.declared.inks.Means.{Means}
 use Rattle.cur_update.specs.Inks.{has_bit, color_of, partner_in, character_of, means_of, ink_of, ink_at, ink_at_with, content_at}
 

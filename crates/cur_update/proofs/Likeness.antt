@@ -3,11 +3,11 @@ use Rattle.std.proofs.Common.{◌≡◌, ℕ, ◌<◌, ◌&&◌, Bool, true, fal
 use Rattle.std.proofs.lemmas.Bool.Decides.{nat_tests}
 use Rattle.ti_conforms.specs.Alternates.{Character, shown, in_plain_set}
 use Rattle.cur_drawing.specs.Cells.{Content}
-use Rattle.cur_windows.specs.VirtualScreen.{Screen, colors_at}
-use Rattle.cur_windows.specs.declared.virtual_screen.Colors.{Colors}
-use Rattle.cur_looks.specs.Inks.{blank_ink, byte_as}
-use Rattle.cur_looks.proofs.Sameness.{byte_as_known}
-use Rattle.cur_looks.specs.declared.inks.Ink.{Ink}
+use Rattle.cur_screens.specs.VirtualScreen.{Screen, colors_at}
+use Rattle.cur_screens.specs.declared.virtual_screen.Colors.{Colors}
+use Rattle.cur_steps.specs.Inks.{blank_ink, byte_as}
+use Rattle.cur_steps.proofs.Sameness.{byte_as_known}
+use Rattle.cur_steps.specs.declared.inks.Ink.{Ink}
 use Rattle.cur_update.specs.declared.inks.Means.{Means}
 use Rattle.cur_update.specs.Inks.{has_bit, brush_of, partner_in, ink_with, ink_at_with, content_at, IsPlainLike}
 

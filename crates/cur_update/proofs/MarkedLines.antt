@@ -4,13 +4,13 @@ use Rattle.std.specs.List.{slice_range}
 use Rattle.std.proofs.lemmas.Bool.{cases_lt}
 use Rattle.std.proofs.lemmas.List.{get_or-drop, get_or-take, get_or_past, length-drop, length-take-le}
 use Rattle.cur_drawing.specs.Cells.{Content, IsCell, pair_count, space}
-use Rattle.cur_drawing.specs.Differences.{AreEqualAt, AreEqualIn}
+use Rattle.cur_screens.specs.Differences.{AreEqualAt, AreEqualIn}
 use Rattle.cur_drawing.specs.Grids.{Grid, line_at}
-use Rattle.cur_drawing.specs.Marks.{AreSame, IsUnmarked, Marking}
-use Rattle.cur_windows.specs.VirtualScreen.{IsScreen, Screen, colors_at}
+use Rattle.cur_screens.specs.Marks.{AreSame, IsUnmarked, Marking}
+use Rattle.cur_screens.specs.VirtualScreen.{IsScreen, Screen, colors_at}
 use Rattle.ti_conforms.specs.Certified.{Table}
-use Rattle.cur_looks.specs.Inks.{blank_ink}
-use Rattle.cur_looks.specs.declared.inks.Ink.{Ink}
+use Rattle.cur_steps.specs.Inks.{blank_ink}
+use Rattle.cur_steps.specs.declared.inks.Ink.{Ink}
 use Rattle.cur_paint.specs.Differ.{AreSameOutside}
 use Rattle.cur_update.specs.Inks.{content_at, ink_at, ink_of}
 use Rattle.cur_update.specs.Shift.{IsShift}

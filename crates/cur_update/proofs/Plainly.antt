@@ -1,10 +1,10 @@
 -- Cells of no attributes and default colours.
 use Rattle.std.proofs.Common.{◌≡◌, ◌==◌, ◌&&◌, ℕ, Bool, true, false, not, if◌then◌else◌, Option, None, refl, sym, ap, subst, ◌∙◌}
 use Rattle.cur_drawing.specs.Cells.{Content}
-use Rattle.cur_windows.specs.declared.virtual_screen.Colors.{Colors}
-use Rattle.cur_windows.specs.VirtualScreen.{Screen, colors_at}
-use Rattle.cur_looks.specs.Inks.{alike, same, same_brush, blank_ink}
-use Rattle.cur_looks.specs.declared.inks.Ink.{Ink}
+use Rattle.cur_screens.specs.declared.virtual_screen.Colors.{Colors}
+use Rattle.cur_screens.specs.VirtualScreen.{Screen, colors_at}
+use Rattle.cur_steps.specs.Inks.{alike, same, same_brush, blank_ink}
+use Rattle.cur_steps.specs.declared.inks.Ink.{Ink}
 use Rattle.cur_update.specs.declared.inks.Means.{Means}
 use Rattle.ti_conforms.specs.Alternates.{Character, in_plain_set, shown}
 use Rattle.cur_update.specs.Inks.{IsBare, brush_of, has_bit, ink_with, is_other, partner_in, plain_ink, printed_cell}

@@ -1,8 +1,8 @@
 -- In how many places two virtual screens differ, a pair being read as the colours of its screen's table.
 use Rattle.std.specs.Prelude.{ℕ, ◌+◌, ◌==◌, ◌&&◌, Bool, true, false, Option, Some, None, if◌then◌else◌, zero, suc}
 use Rattle.cur_drawing.specs.Cells.{Content}
-use Rattle.cur_windows.specs.VirtualScreen.{Screen, colors_at}
-use Rattle.cur_windows.specs.declared.virtual_screen.Colors.{Colors}
+use Rattle.cur_screens.specs.VirtualScreen.{Screen, colors_at}
+use Rattle.cur_screens.specs.declared.virtual_screen.Colors.{Colors}
 use Rattle.cur_update.specs.Inks.{content_at}
 
 abbrev pub same_number : Option ℕ → Option ℕ → Bool

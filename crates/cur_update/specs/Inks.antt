@@ -7,12 +7,12 @@ use Rattle.ti_rows.specs.declared.rows.Row.TheVariants.{Op, Smacs}
 use Rattle.ti_conforms.specs.Alternates.{Character, shown, printed_only, in_plain_set}
 use Rattle.cur_drawing.specs.Cells.{Content, space}
 use Rattle.cur_drawing.specs.Grids.{line_at}
-use Rattle.cur_windows.specs.VirtualScreen.{Screen, colors_at}
-use Rattle.cur_windows.specs.declared.virtual_screen.Colors.{Colors}
+use Rattle.cur_screens.specs.VirtualScreen.{Screen, colors_at}
+use Rattle.cur_screens.specs.declared.virtual_screen.Colors.{Colors}
 use Rattle.ti_conforms.specs.Certified.{Table, has}
-use Rattle.cur_looks.specs.Inks.{blank_ink}
-use Rattle.cur_looks.specs.declared.inks.Brush.{Brush}
-use Rattle.cur_looks.specs.declared.inks.Ink.{Ink}
+use Rattle.cur_steps.specs.Inks.{blank_ink}
+use Rattle.cur_steps.specs.declared.inks.Brush.{Brush}
+use Rattle.cur_steps.specs.declared.inks.Ink.{Ink}
 use Rattle.cur_update.specs.declared.inks.Means.{Means}
 
 -- one of the bits is in the set

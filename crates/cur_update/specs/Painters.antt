@@ -6,12 +6,12 @@ use Rattle.ti_rows.specs.declared.rows.Row.TheVariants.{Civis, Cnorm}
 use Rattle.cur_drawing.specs.Windows.{place_below}
 use Rattle.cur_drawing.specs.declared.refusals.Refusal.{Refusal}
 use Rattle.cur_drawing.specs.declared.refusals.Refusal.TheVariants.{BadRegion, NoCap}
-use Rattle.cur_windows.specs.VirtualScreen.{Screen}
+use Rattle.cur_screens.specs.VirtualScreen.{Screen}
 use Rattle.ti_conforms.specs.Certified.{Table, has}
-use Rattle.cur_looks.specs.Beliefs.{CanHide}
-use Rattle.cur_looks.specs.declared.beliefs.Place.{Place}
-use Rattle.cur_looks.specs.declared.beliefs.Mode.{Mode}
-use Rattle.cur_looks.specs.declared.beliefs.Mode.TheVariants.{Hidden, Normal, Prominent}
+use Rattle.cur_steps.specs.Beliefs.{CanHide}
+use Rattle.cur_steps.specs.declared.beliefs.Place.{Place}
+use Rattle.cur_steps.specs.declared.beliefs.Mode.{Mode}
+use Rattle.cur_steps.specs.declared.beliefs.Mode.TheVariants.{Hidden, Normal, Prominent}
 use Rattle.cur_paint.specs.declared.updates.Knowledge.{Knowledge}
 use Rattle.cur_paint.specs.declared.updates.Wanted.{Wanted}
 

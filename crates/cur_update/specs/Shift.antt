@@ -1,9 +1,9 @@
 -- (Serves the code alone.) From the screen that was shown last to the one to be shown.
 use Rattle.std.specs.Prelude.{ℕ, ◌≡◌, ◌<◌, ◌≤◌, Bool, true, Option, List, slice_index_or}
 use Rattle.cur_drawing.specs.Cells.{pair_count}
-use Rattle.cur_windows.specs.VirtualScreen.{Screen, colors_at}
+use Rattle.cur_screens.specs.VirtualScreen.{Screen, colors_at}
 use Rattle.ti_conforms.specs.Certified.{Table}
-use Rattle.cur_looks.specs.declared.inks.Ink.{Ink}
+use Rattle.cur_steps.specs.declared.inks.Ink.{Ink}
 use Rattle.cur_paint.specs.Differ.{AreSameOutside}
 use Rattle.cur_paint.specs.declared.changes.Columns.{Columns}
 use Rattle.cur_paint.specs.declared.changes.LineRange.{LineRange}

@@ -1,18 +1,18 @@
 //! Where the virtual screen differs from what was shown last.
 ghost use Rattle.std.specs.Prelude.{◌≡◌, ◌<◌, ◌≤◌, ◌+◌, ℕ, true, length, IfSome};
-ghost use Rattle.cur_drawing.specs.Differences.{AreEqualIn};
-ghost use Rattle.cur_drawing.specs.Marks.{AreSame};
-ghost use Rattle.cur_looks.specs.declared.inks.Ink.{Ink};
+ghost use Rattle.cur_screens.specs.Differences.{AreEqualIn};
+ghost use Rattle.cur_screens.specs.Marks.{AreSame};
+ghost use Rattle.cur_steps.specs.declared.inks.Ink.{Ink};
 ghost use Rattle.cur_drawing.specs.Cells.{IsCell};
 ghost use Rattle.cur_paint.specs.Differ.{AreSameOutside};
 ghost use Rattle.cur_update.specs.Inks.{content_at};
 ghost use Rattle.cur_update.specs.Shift.{AreAlikeOutside, AreFound, IsShift, found_at};
 
 use crate::scrolls::{found_scroll, scroll_of};
-use cur_drawing::{Cell, Marks, Span, first_diff, last_diff};
+use cur_drawing::{Cell, Span};
+use cur_moves::{Scroll, line_before};
 use cur_paint::{Changes, Columns, LineRange};
-use cur_scrolls::{Scroll, line_before};
-use cur_windows::Virtual;
+use cur_screens::{Marks, Virtual, first_diff, last_diff};
 use ti_conforms::Certificate;
 
 /// The screen that was shown last, and the one to be shown.
@@ -144,7 +144,7 @@ pub(crate) struct Found<'a, C> {
 
 impl<'a, C: Certificate> Changes for Found<'a, C> {
     ghost use Rattle.std.specs.Prelude.{◌≤◌, ℕ, length};
-    ghost use Rattle.cur_looks.specs.declared.inks.Ink.{Ink};
+    ghost use Rattle.cur_steps.specs.declared.inks.Ink.{Ink};
     ghost use Rattle.cur_paint.specs.Differ.{IsSameOutside};
     ghost use Rattle.cur_update.specs.Shift.{AreFound, IsShift};
 

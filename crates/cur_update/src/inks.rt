@@ -3,13 +3,14 @@ ghost use Rattle.std.specs.Prelude.{◌≡◌, ◌+◌, ◌<◌, ◌≤◌, ℕ,
 ghost use Rattle.cur_drawing.specs.Cells.{space};
 ghost use Rattle.ti_rows.specs.declared.rows.Row.TheVariants.{Smacs, Op};
 ghost use Rattle.ti_conforms.specs.Certified.{has};
-ghost use Rattle.cur_looks.specs.Inks.{same, blank_ink};
+ghost use Rattle.cur_steps.specs.Inks.{same, blank_ink};
 ghost use Rattle.cur_update.specs.Inks as spec;
 ghost use Rattle.cur_update.specs.declared.inks.Means.{Means};
 
 use cur_drawing::{Attrs, Cell};
-use cur_looks::{Attributes, Brush, Cells, Ink, Row, is_same};
+use cur_steps::{Brush, Cells, Ink, is_same};
 use ti_conforms::{Certificate, Character, shown};
+use ti_rows::{Attributes, Row};
 use vt_term::{Color, color_of as color};
 
 /// Whether the entry has a string.

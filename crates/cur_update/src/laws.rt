@@ -1,12 +1,12 @@
 //! Laws of the bound, by the cells of virtual screens.
 ghost use Rattle.std.specs.Prelude.{◌≡◌, ◌≤◌, ◌+◌, ◌*◌, ℕ, Option, Some};
-ghost use Rattle.cur_windows.specs.VirtualScreen.{Screen};
+ghost use Rattle.cur_screens.specs.VirtualScreen.{Screen};
 ghost use Rattle.ti_conforms.specs.Certified.{Table, cell_limit};
 ghost use Rattle.vt_term.specs.Screen.{State};
-ghost use Rattle.cur_looks.specs.Beliefs.{Agrees};
-ghost use Rattle.cur_looks.specs.declared.beliefs.Belief.{Belief};
-ghost use Rattle.cur_looks.specs.declared.beliefs.Place.{Place};
-ghost use Rattle.cur_looks.specs.declared.beliefs.Mode.{Mode};
+ghost use Rattle.cur_steps.specs.Beliefs.{Agrees};
+ghost use Rattle.cur_steps.specs.declared.beliefs.Belief.{Belief};
+ghost use Rattle.cur_steps.specs.declared.beliefs.Place.{Place};
+ghost use Rattle.cur_steps.specs.declared.beliefs.Mode.{Mode};
 ghost use Rattle.cur_paint.specs.Limits.{IsCursor, paint_limit};
 ghost use Rattle.cur_update.specs.Differ.{in_lines};
 ghost use Rattle.cur_update.specs.Inks.{ink_at};

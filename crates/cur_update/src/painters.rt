@@ -1,11 +1,11 @@
 //! A painter, which makes a terminal show the virtual screen.
 ghost use Rattle.std.specs.Prelude.{◌≡◌, IfOk, OnOk, OnErr};
-ghost use Rattle.cur_drawing.specs.Marks.{AreSame};
-ghost use Rattle.cur_looks.specs.declared.beliefs.Mode.TheVariants.{Normal};
+ghost use Rattle.cur_screens.specs.Marks.{AreSame};
+ghost use Rattle.cur_steps.specs.declared.beliefs.Mode.TheVariants.{Normal};
 ghost use Rattle.cur_paint.specs.declared.updates.Status.TheVariants.{Fresh, Lost};
 ghost use Rattle.cur_paint.specs.Finish.{Finishes};
 ghost use Rattle.cur_paint.specs.Update.{Refreshes};
-ghost use Rattle.cur_windows.specs.VirtualScreen.{new_screen};
+ghost use Rattle.cur_screens.specs.VirtualScreen.{new_screen};
 ghost use Rattle.cur_update.specs.Inks.{ink_at, means_of};
 ghost use Rattle.cur_update.specs.Painters.{IsPainter, mode_number, mode_of, set_mode, wanted_of};
 ghost use Rattle.cur_update.specs.Beep.{Rings};
@@ -14,14 +14,16 @@ use crate::bells::{Unsent, ring};
 use crate::changes::{Found, Shift};
 use crate::inks::{Means, has_line, means_of};
 use crate::screens::{PrintedScreen, all_cells};
-use cur_drawing::{Marks, Refusal, place_below};
-use cur_looks::{Mode, Place, Row};
+use cur_drawing::{Refusal, place_below};
 use cur_paint::{Columns, Knowledge, Screens, Status, Wanted};
-use cur_windows::{Size, Virtual};
+use cur_screens::{Marks, Virtual};
+use cur_steps::{Mode, Place};
 use cur_wires::{Wire, WireFault};
 use std::alloc::{AllocError, Global};
 use std::marker::Model;
 use ti_conforms::Certificate;
+use ti_rows::Row;
+use vt_term::Size;
 
 /// A painter for the terminal of a verified certificate: what that shows, and what is known of it.
 #[derive(Drop)]

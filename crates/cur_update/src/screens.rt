@@ -1,16 +1,16 @@
 //! The virtual screen as a painter sees it.
 ghost use Rattle.std.specs.Prelude.{◌≡◌, ◌+◌, ◌<◌, ◌≤◌, ℕ, false, true, length, slice_index_or};
 ghost use Rattle.cur_drawing.specs.Cells.{Content, IsCell, space};
-ghost use Rattle.cur_looks.specs.Inks.{blank_ink, same};
-ghost use Rattle.cur_looks.specs.Stretches.{AreLike};
+ghost use Rattle.cur_steps.specs.Inks.{blank_ink, same};
+ghost use Rattle.cur_steps.specs.Stretches.{AreLike};
 ghost use Rattle.cur_update.specs.Inks.{IsBare, content_at, ink_at_with, is_other, printed_cell};
 
 use crate::inks::{
     Means, ink_of, is_blank_ink, is_other, is_plain, note_alike, plain_byte, plain_text, shows_ink,
 };
 use cur_drawing::Cell;
-use cur_looks::{Cells, Ink, Picture, byte_as, is_plain_ink, is_same};
-use cur_windows::Virtual;
+use cur_screens::Virtual;
+use cur_steps::{Cells, Ink, Picture, byte_as, is_plain_ink, is_same};
 use ti_conforms::Certificate;
 
 /// A virtual screen with the certificate that says how its cells are printed.

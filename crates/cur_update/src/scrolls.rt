@@ -2,9 +2,8 @@
 ghost use Rattle.std.specs.Prelude.{◌≡◌, ◌+◌, ◌-◌, ◌<◌, ◌≤◌, IfSome};
 
 use crate::changes::{Findings, may_differ};
-use cur_drawing::first_diff;
-use cur_scrolls::Scroll;
-use cur_windows::{Hint, Virtual};
+use cur_moves::Scroll;
+use cur_screens::{Hint, Virtual, first_diff};
 
 /// The scroll that `hint` names, if it names one: by as many lines as the region has at most.
 pub(crate) fn scroll_of(hint: Hint) -> Option<Scroll> {

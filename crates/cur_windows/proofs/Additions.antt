@@ -11,9 +11,10 @@ use Rattle.cur_drawing.specs.Grids.{Grid, Fits, line_at, shape_of, blank}
 use Rattle.cur_drawing.specs.Windows.{IsWindow, fresh}
 use Rattle.cur_drawing.specs.Calls.{IsCanvas}
 use Rattle.cur_drawing.proofs.DrawingFacts.{fits_same}
-use Rattle.cur_windows.specs.declared.slots.Slot.{Slot}
-use Rattle.cur_windows.specs.declared.slots.Origin.{Origin}
-use Rattle.cur_windows.specs.Desks.{State, grid_at, origin_at, window_at, IsWhole, IsPlaced, IsFramed, IsDesk, whole_area, on_screen}
+use Rattle.cur_screens.specs.declared.slots.Slot.{Slot}
+use Rattle.cur_screens.specs.declared.slots.Origin.{Origin}
+use Rattle.cur_windows.specs.Desks.{State, grid_at, origin_at, window_at, IsWhole, IsPlaced, IsFramed, IsDesk, on_screen}
+use Rattle.cur_screens.specs.Slots.{whole_area}
 use Rattle.cur_windows.specs.Creations.{IsInFrame, root_added, inside, has_child, is_child, is_parent}
 use Rattle.cur_drawing.specs.Spans.{IsAreaWithin}
 use Rattle.cur_windows.proofs.Closures.{placed_same, whole_same, some_kept, some_inj, is_some}

@@ -1,6 +1,6 @@
 -- What becomes cells of the cursor's line: nothing else changes, and no more is marked.
-use Rattle.std.proofs.Common.{Some, Ok, set, ◌≡◌, ◌≢◌, ◌⊎◌, inl, inr, ℕ, ◌+◌, ◌-◌, ◌<◌, ◌≤◌, ◌==◌, ◌||◌, nat_lt, Bool, true, false, List, [], Option, length, get_or, sym, ap, subst, ◌∙◌, arith, if◌then◌else◌, refl, suc, ◌∷◌}
-use Rattle.std.proofs.lemmas.Bool.{cases_eq, cases_lt}
+use Rattle.std.proofs.Common.{Some, Ok, set, ◌≡◌, inl, inr, ℕ, ◌+◌, ◌-◌, ◌<◌, ◌==◌, ◌||◌, nat_lt, Bool, true, false, List, [], Option, length, get_or, sym, ap, subst, ◌∙◌, arith, if◌then◌else◌, refl, suc, ◌∷◌}
+use Rattle.std.proofs.lemmas.Bool.{cases_lt}
 use Rattle.std.proofs.lemmas.Bool.Decides.{nat_tests}
 use Rattle.std.proofs.lemmas.List.{get_or_default}
 use Rattle.grids.specs.declared.areas.Area.{Area}
@@ -9,14 +9,15 @@ use Rattle.cur_drawing.specs.declared.puts.Put.{Put}
 use Rattle.cur_drawing.specs.declared.windows.Window.{Window}
 use Rattle.cur_drawing.specs.Cells.{space}
 use Rattle.cur_drawing.specs.Grids.{Grid, cell_at, filled, is_in, shape_of}
-use Rattle.cur_drawing.specs.Marks.{Marking}
+use Rattle.cur_screens.specs.Marks.{Marking}
 use Rattle.cur_drawing.specs.Windows.{cells_of, checked, content, is_pair, is_printed}
 use Rattle.cur_drawing.specs.Calls as calls
 use Rattle.cur_drawing.specs.Calls.{Canvas, CanvasStep, IsKept, and_then, canvas, done, if_accepted, plain}
-use Rattle.cur_windows.specs.declared.slots.Origin.{Origin}
-use Rattle.cur_windows.specs.declared.slots.Slot.{Slot}
+use Rattle.cur_screens.specs.declared.slots.Origin.{Origin}
+use Rattle.cur_screens.specs.declared.slots.Slot.{Slot}
 use Rattle.cur_windows.specs.Desks.{IsDesk, IsPlaced, State, grid_at, origin_at, slot_of, window_at}
-use Rattle.cur_windows.specs.Touched.{AreTouched, FitsLine, IsUnmarkedOutside, IsOneCell, KeepsShown, Markings, MarksCellsAlone, MarksNoMore, MarksWritten, ShowsBut, cells_shown, grid_marks}
+use Rattle.cur_screens.specs.Touched.{AreTouched, FitsLine, IsOneCell, Markings, MarksNoMore, cells_shown, grid_marks}
+use Rattle.cur_windows.specs.TouchedWindows.{KeepsShown, MarksCellsAlone, MarksWritten, ShowsBut}
 use Rattle.cur_windows.proofs.TouchedFacts.{SparesGrid, slot_spared, with_grid, written_within}
 
 other : (b n : ℕ) → is_printed b ≡ true → n < 32 → (b == n) ≡ false
@@ -148,44 +149,11 @@ written_cells d now e n s w g h t u o count stays is desk there before at lies t
     row : w.row ≡ s.window.row
     row = ap (λ (x : Window). x.row) stays.window
 
--- in the cells' own line beside them
-pub cell_beside : (o : Origin) (w : Window) (col n i j : ℕ) → (i ≡ o.top + w.area.top + w.row → (j < o.left + w.area.left + col) ⊎ (o.left + w.area.left + col + n ≤ j)) → is_in (cells_shown o w col n) i j ≡ false
-cell_beside o w col n i j side = elim (cases_eq i (o.top + w.area.top + w.row)) [
-  | inl same ↦ elim (side same) [ inl low ↦ before low | inr high ↦ after high ]
-  | inr apart ↦ off apart
-]
-  where
-    before : j < o.left + w.area.left + col → is_in (cells_shown o w col n) i j ≡ false
-    before low = grind (arith, nat_tests, low)
-
-    after : o.left + w.area.left + col + n ≤ j → is_in (cells_shown o w col n) i j ≡ false
-    after high = grind (arith, nat_tests, high)
-
-    off : i ≢ o.top + w.area.top + w.row → is_in (cells_shown o w col n) i j ≡ false
-    off apart = grind (arith, nat_tests, apart)
-
 -- ---- no more is marked than the cells
 
 none_more : (m : Marking) (a : Area) → MarksNoMore m m a
 none_more m a i j (inl all) = (all j (omega arith)).unmarked
 none_more m a i j (inr all) = (all j (omega arith)).unmarked
-
-in_cells : (o : Origin) (w : Window) (col n i j : ℕ) → i ≡ o.top + w.area.top + w.row → o.left + w.area.left + col ≤ j → j < o.left + w.area.left + col + n → is_in (cells_shown o w col n) i j ≡ false → ⊥
-in_cells o w col n i j row from to off = grind (arith, nat_tests, row, from, to, off)
-
--- a place of their line is before the first of them if all up to it are free
-pub before_cells : (m : Marking) (o : Origin) (w : Window) (col n i j : ℕ) → 0 < n → ((k : ℕ) → k ≤ j → IsUnmarkedOutside m (cells_shown o w col n) i k) → i ≡ o.top + w.area.top + w.row → j < o.left + w.area.left + col
-before_cells m o w col n i j some all row = elim (cases_lt j (o.left + w.area.left + col)) [
-  | inl low ↦ low
-  | inr past ↦ absurd (in_cells o w col n i (o.left + w.area.left + col) row (omega arith) (omega (arith, some)) (all (o.left + w.area.left + col) past).outside)
-]
-
--- and after the last one if all from it on are
-pub after_cells : (m : Marking) (o : Origin) (w : Window) (col n i j : ℕ) → 0 < n → ((k : ℕ) → j ≤ k → IsUnmarkedOutside m (cells_shown o w col n) i k) → i ≡ o.top + w.area.top + w.row → o.left + w.area.left + col + n ≤ j
-after_cells m o w col n i j some all row = elim (cases_lt j (o.left + w.area.left + col + n)) [
-  | inl near ↦ absurd (in_cells o w col n i (o.left + w.area.left + col + n - 1) row (omega (arith, some)) (omega (arith, some)) (all (o.left + w.area.left + col + n - 1) (omega (arith, near, some))).outside)
-  | inr past ↦ past
-]
 
 -- so it is of the window's grid after a call that wrote them
 pub alone_cells : (now : State) (s : Slot) (w : Window) (g h : Grid) (t u : Markings) (o : Origin) (col n count : ℕ) → StaysInLine (canvas g s.window) (canvas h w) count → o ≡ origin_at now s.root → col ≡ s.window.col → n ≡ count → AreTouched t u (record s { window = w }) o col n → MarksCellsAlone t u now s count

@@ -8,8 +8,8 @@ use Rattle.cur_drawing.specs.Grids.{Grid, Fits, shape_of}
 use Rattle.cur_drawing.specs.Windows.{IsWindow}
 use Rattle.cur_drawing.specs.Calls.{IsCanvas, IsKept}
 use Rattle.cur_drawing.proofs.DrawingFacts.{fits_same, shape_of-line, shape_of-length}
-use Rattle.cur_windows.specs.declared.slots.Slot.{Slot}
-use Rattle.cur_windows.specs.declared.slots.Origin.{Origin}
+use Rattle.cur_screens.specs.declared.slots.Slot.{Slot}
+use Rattle.cur_screens.specs.declared.slots.Origin.{Origin}
 use Rattle.cur_windows.specs.Desks.{State, grid_at, origin_at, window_at, IsWhole, IsPlaced, IsFramed, IsDesk}
 
 pub whole_same : (a : Area) (g h : Grid) → shape_of h ≡ shape_of g → IsWhole a g → IsWhole a h

@@ -7,7 +7,7 @@ use Rattle.cur_drawing.specs.Cells.{unless_space}
 use Rattle.cur_drawing.specs.Grids.{Grid, overlaid, combined, taken, is_in, shape_of}
 use Rattle.cur_drawing.proofs.DrawingFacts.{shape_of-drawn}
 use Rattle.cur_drawing.specs.declared.spans.CopySpan.{CopySpan}
-use Rattle.cur_windows.specs.declared.slots.Slot.{Slot}
+use Rattle.cur_screens.specs.declared.slots.Slot.{Slot}
 use Rattle.cur_drawing.specs.declared.refusals.Refusal.{Refusal}
 use Rattle.cur_drawing.specs.declared.refusals.Refusal.TheVariants.{OutOfWindow}
 use Rattle.cur_windows.specs.Desks.{State, DeskStep, IsDesk, slot_of, after}

@@ -10,7 +10,7 @@ use Rattle.cur_drawing.proofs.DrawingFacts.{shape_of-drawn, fits_same, cell_at-d
 use Rattle.grids.specs.Grids as base
 use Rattle.grids.proofs.Drawings.{drawn_same}
 use Rattle.cur_drawing.specs.declared.refusals.Refusal.{Refusal}
-use Rattle.cur_windows.specs.declared.slots.Slot.{Slot}
+use Rattle.cur_screens.specs.declared.slots.Slot.{Slot}
 use Rattle.cur_windows.specs.Desks.{State, IsDesk, IsPlaced, grid_at, slot_of, cell}
 use Rattle.cur_windows.specs.Rows.{IsLine, row_written, line_area, place_written, written_through}
 use Rattle.cur_windows.specs.Views.{cut}

@@ -16,7 +16,7 @@ use Rattle.cur_drawing.specs.Spans.{rectangle, span_within, is_negative, start_w
 use Rattle.cur_drawing.specs.Windows as window_calls
 use Rattle.cur_drawing.specs.Windows.{WindowStep, cells_of, content, checked, is_printed, is_pair, place_below, as_is}
 use Rattle.cur_drawing.specs.declared.spans.CopySpan.{CopySpan}
-use Rattle.cur_windows.specs.declared.slots.Slot.{Slot}
+use Rattle.cur_screens.specs.declared.slots.Slot.{Slot}
 use Rattle.cur_windows.specs.Copies as copying
 use Rattle.cur_windows.specs.Desks as desks
 use Rattle.cur_windows.specs.Desks.{State, DeskStep, after, slot_of, some_slot, window_at, grid_at, origin_at}
@@ -24,8 +24,9 @@ use Rattle.cur_windows.specs.Creations as making
 use Rattle.cur_windows.specs.Creations.{is_some_slot, corner, has_child}
 use Rattle.cur_windows.specs.Refusals as causes
 use Rattle.cur_windows.specs.Refusals.{is_past_last, is_used, slot_is, slots_are, is_pad, lies_outside, moves_outside, in_turn, border_printed, border_pairs, cannot_advance}
-use Rattle.cur_windows.specs.VirtualScreen as screens
-use Rattle.cur_windows.specs.VirtualScreen.{Screen, Refresh, if_shown}
+use Rattle.cur_windows.specs.Refreshes as refreshes
+use Rattle.cur_screens.specs.VirtualScreen.{Screen}
+use Rattle.cur_windows.specs.Refreshes.{Refresh, if_shown}
 
 abbrev pub Answer : Type 0
 Answer = Result (Unit {0}) Refusal
@@ -206,7 +207,7 @@ pub shown_slot : (d : State) (v : Screen) (o : Option Slot) (next : Slot → Ref
 shown_slot d v (Some s) next later p = p s
 shown_slot d v None next later p = refl
 
-pub noutrefresh : (d : State) (v : Screen) (n : ℕ) → IsFirstOf (causes.noutrefresh d n) (screens.noutrefresh d v n).2
+pub noutrefresh : (d : State) (v : Screen) (n : ℕ) → IsFirstOf (causes.noutrefresh d n) (refreshes.noutrefresh d v n).2
 noutrefresh d v n = record {
   order = refl;
   first = shown_if d v (nat_lt 63 n) Full (some_slot (window_at d n)) _ _ (λ low. shown_slot d v (window_at d n) _ (λ o. first_refusal ((PadKind, slot_is (is_pad d) o) ∷ []))

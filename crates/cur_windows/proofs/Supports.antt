@@ -10,7 +10,7 @@ use Rattle.cur_drawing.specs.Windows as window_calls
 use Rattle.cur_drawing.specs.Calls.{Canvas, CanvasStep, canvas}
 use Rattle.cur_drawing.specs.Laws as acts
 use Rattle.cur_drawing.specs.declared.spans.CopySpan.{CopySpan}
-use Rattle.cur_windows.specs.declared.slots.Slot.{Slot}
+use Rattle.cur_screens.specs.declared.slots.Slot.{Slot}
 use Rattle.cur_windows.specs.Copies as copying
 use Rattle.cur_windows.specs.Desks as desks
 use Rattle.cur_windows.specs.Desks.{State, DeskStep, after, grid_at, window_at, slot_of, some_slot, with_window, with_canvas}

@@ -3,7 +3,7 @@ use Rattle.std.proofs.Common.{◌≡◌, ◌≢◌, ℕ, ◌+◌, ◌-◌, ◌<�
 use Rattle.std.specs.Option.{is_some}
 use Rattle.std.proofs.lemmas.Bool.{cases_eq, cases_lt}
 use Rattle.std.proofs.lemmas.Bool.Decides.{nat_tests}
-use Rattle.std.proofs.lemmas.List.{get_or-set_same, get_or-set_other, get_or_default, get_or_past, length-set, set-get_or}
+use Rattle.std.proofs.lemmas.List.{get_or-set_same, get_or-set_other, get_or_default, set-get_or}
 use Rattle.grids.specs.declared.areas.Area.{Area}
 use Rattle.grids.specs.declared.areas.Place.{Place}
 use Rattle.grids.specs.Grids as base
@@ -14,17 +14,19 @@ use Rattle.cur_drawing.specs.declared.refusals.Refusal.{Refusal}
 use Rattle.cur_drawing.specs.Calls.{Canvas, CanvasStep, IsCanvas, IsKept, canvas, place, step}
 use Rattle.cur_drawing.specs.Grids.{Grid, Fits, cell_at, copied, is_in, line_at, shape_of, taken}
 use Rattle.cur_drawing.specs.Laws.{ChangesNothingIfRefusedButNoScroll, IsLocal, Stays}
-use Rattle.cur_drawing.specs.declared.marks.Marked.{Marked}
-use Rattle.cur_drawing.specs.Marks.{AreSame, IsUnmarked, JoinsMarks, Marking, marked_at, marked_between, none_marked, nothing, widened}
+use Rattle.cur_screens.specs.Marks.{AreSame, IsUnmarked, JoinsMarks, Marking, none_marked, nothing}
 use Rattle.cur_drawing.specs.declared.refusals.Refusal.TheVariants.{Full}
 use Rattle.cur_drawing.proofs.DrawingFacts.{shape_of-line, shape_of-length}
 use Rattle.cur_windows.proofs.WrittenLines.{Writes, Writing}
-use Rattle.cur_windows.specs.declared.slots.Origin.{Origin}
-use Rattle.cur_windows.specs.declared.slots.Slot.{Slot}
+use Rattle.cur_screens.specs.declared.slots.Origin.{Origin}
+use Rattle.cur_screens.specs.declared.slots.Slot.{Slot}
 use Rattle.cur_windows.specs.Desks.{IsDesk, IsFramed, IsPlaced, IsWhole, State, after, grid_at, origin_at, slot_of, some_slot, window_at}
-use Rattle.cur_windows.specs.VirtualScreen.{IsScreen, Screen, area_on_screen}
+use Rattle.cur_screens.specs.VirtualScreen.{IsScreen, Screen}
+use Rattle.cur_windows.specs.Refreshes.{area_on_screen}
 use Rattle.cur_drawing.specs.declared.refusals.Refusal.TheVariants.{NoScroll}
-use Rattle.cur_windows.specs.Touched.{AreFull, HasAll, TakesMarksOff, IsGoneThrough, IsShownBut, KeepsShown, LeavesMarks, IsTouched, IsWrittenLine, Markings, MarksCopied, MarksWritten, ShowsBut, Spreads, TouchesGrid, WritesLine, grid_marks}
+use Rattle.cur_screens.specs.Touched.{AreFull, TakesMarksOff, IsShownBut, LeavesMarks, IsTouched, IsWrittenLine, Markings, Spreads, TouchesGrid, grid_marks}
+use Rattle.cur_windows.specs.TouchedWindows.{HasAll, KeepsShown, MarksCopied, MarksWritten, ShowsBut, WritesLine}
+use Rattle.cur_screens.proofs.Marked.{past_full}
 
 -- ---- writing
 
@@ -58,10 +60,6 @@ shown_full m o g v all i j row col off = absurd (let some = off.some in cc)
 
 pub shows_full : (t : Markings) (d : State) (v : Grid) → AreFull t → ShowsBut t d v
 shows_full t d v full k lies = shown_full (grid_marks t k) (origin_at d k) (grid_at d k) v (full k)
-
--- a grid without marks
-pub past_full : (t : Markings) (k : ℕ) → length t ≤ k → (grid_marks t k).all ≡ true
-past_full t k past = ap (λ (m : Marking). m.all) (get_or_past t k (record { all = true; lines = [] }) past)
 
 -- what isn't marked after a call wasn't before, and is as it was on the grid
 pub record Spares (m n : Marking) (o : Origin) (g h : Grid) : Type 0 where
@@ -137,24 +135,6 @@ left_by d now ws n s w g h t u act r back e is placed at value left v shown =
     let here : ShowsBut t d v = subst (λ (x : State). ShowsBut t x v) (sym e) shown in
     subst (λ (x : Markings). ShowsBut x (with_grid d s h ws) v) (sym left.same)
     (subst (λ (gs : List Grid). ShowsBut t (record d { grids = gs; windows = ws }) v) (sym grids) here)
-
--- what isn't marked in another line stays so
-pub unmarked_other : (m : Marking) (row from end i j : ℕ) → i ≢ row → IsUnmarked m i j → IsUnmarked (marked_between row from end m) i j
-unmarked_other m row from end i j apart u = record {
-  some = u.some;
-  line = omega (arith, u.line, length-set m.lines row (widened from end (marked_at m row)));
-  column = subst (λ (x : Marked). (j < x.from) ⊎ (x.end ≤ j)) (sym (get_or-set_other m.lines row i (widened from end (marked_at m row)) nothing apart)) u.column;
-}
-
--- a line through which the cursor didn't go
-pub not_gone : (o : Origin) (w : Window) (first i : ℕ) → (IsGoneThrough o w first i → ⊥) → (i < o.top + w.area.top + first) ⊎ (o.top + w.area.top + first + (w.row + 1 - first) ≤ i)
-not_gone o w first i off = elim (cases_lt i (o.top + w.area.top + first)) [
-  | inl low ↦ inl low
-  | inr past ↦ elim (cases_lt (o.top + w.area.top + w.row) i) [
-    | inl high ↦ inr (omega (arith, past, high))
-    | inr near ↦ absurd (off (record { after = past; before = near }))
-  ]
-]
 
 -- ---- no more is marked than a call may have written
 slot_there : (e : State) (ws : List (Option Slot)) (n : ℕ) (t : Slot) → n < 64 → n < length ws → e.windows ≡ set ws n (Some t) → slot_of e n ≡ Ok t

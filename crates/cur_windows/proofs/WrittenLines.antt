@@ -11,7 +11,7 @@ use Rattle.cur_drawing.specs.Grids.{Grid, cell_at, filled, is_in}
 use Rattle.cur_drawing.specs.Windows.{cells_of, content, checked, is_pair}
 use Rattle.cur_drawing.specs.Calls as calls
 use Rattle.cur_drawing.specs.Calls.{Canvas, CanvasStep, canvas, and_then, if_accepted, plain, region_height, tab_width}
-use Rattle.cur_windows.specs.Touched.{MayScroll}
+use Rattle.cur_screens.specs.Touched.{MayScroll}
 use Rattle.grids.proofs.Drawings.{cell_at-drawn_in_off}
 
 pub record Writes (s t : Canvas) : Type 0 where

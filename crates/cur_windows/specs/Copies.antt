@@ -8,11 +8,11 @@ use Rattle.cur_drawing.specs.declared.refusals.Refusal.TheVariants.{BadRegion, O
 use Rattle.cur_drawing.specs.Grids.{overlaid}
 use Rattle.cur_drawing.specs.Calls.{place}
 use Rattle.cur_drawing.specs.declared.spans.CopySpan.{CopySpan}
-use Rattle.cur_windows.specs.declared.slots.Slot.{Slot}
+use Rattle.cur_screens.specs.declared.slots.Slot.{Slot}
 use Rattle.cur_windows.specs.Desks.{State, DeskStep, after, slot_of, grid_at}
 use Rattle.cur_windows.specs.Creations.{in_range, window_only}
 use Rattle.cur_drawing.specs.Spans.{common, matched}
-use Rattle.cur_windows.specs.VirtualScreen.{area_on_screen}
+use Rattle.cur_windows.specs.Refreshes.{area_on_screen}
 
 -- where the lines and columns lie in the destination's grid, and where they come from in the source's
 abbrev pub target_area : Slot → CopySpan → CopySpan → Area

@@ -8,9 +8,10 @@ use Rattle.cur_drawing.specs.Grids.{Grid, blank, line_at, copied}
 use Rattle.cur_drawing.specs.Windows.{fresh}
 use Rattle.cur_drawing.specs.Calls.{place}
 use Rattle.cur_drawing.specs.Spans.{area_within, start_within}
-use Rattle.cur_windows.specs.declared.slots.Origin.{Origin}
-use Rattle.cur_windows.specs.declared.slots.Slot.{Slot}
-use Rattle.cur_windows.specs.Desks.{State, DeskStep, after, last_number, slot_of, grid_at, origin_at, window_at, on_screen, whole_area}
+use Rattle.cur_screens.specs.declared.slots.Origin.{Origin}
+use Rattle.cur_screens.specs.declared.slots.Slot.{Slot}
+use Rattle.cur_windows.specs.Desks.{State, DeskStep, after, last_number, slot_of, grid_at, origin_at, window_at, on_screen}
+use Rattle.cur_screens.specs.Slots.{whole_area}
 
 abbrev pub is_some_slot : Option Slot → Bool
 is_some_slot (Some s) = true

@@ -9,8 +9,9 @@ use Rattle.cur_drawing.specs.Cells.{Content}
 use Rattle.cur_drawing.specs.Grids.{Grid, line_at, cell_at, blank}
 use Rattle.cur_drawing.specs.Windows.{WindowStep, fresh}
 use Rattle.cur_drawing.specs.Calls.{Canvas, CanvasStep, IsCanvas, canvas}
-use Rattle.cur_windows.specs.declared.slots.Origin.{Origin}
-use Rattle.cur_windows.specs.declared.slots.Slot.{Slot}
+use Rattle.cur_screens.specs.declared.slots.Origin.{Origin}
+use Rattle.cur_screens.specs.declared.slots.Slot.{Slot}
+use Rattle.cur_screens.specs.Slots.{whole_area}
 
 -- how many windows there can be, and the last number of one
 abbrev pub window_count : ℕ
@@ -124,9 +125,6 @@ unchanged d n = after (slot_of d n) d (λ s. (d, Ok tt))
 -- the desk at first: window 0 on a grid of the screen's size
 abbrev pub new_slot : ℕ → Area → Slot
 new_slot n a = record { root = n; parent = None; window = fresh a }
-
-abbrev pub whole_area : ℕ → ℕ → Area
-whole_area rows cols = record { top = 0; left = 0; rows = rows; cols = cols }
 
 abbrev pub new_desk : ℕ → ℕ → State
 new_desk rows cols = record {

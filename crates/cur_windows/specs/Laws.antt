@@ -1,8 +1,8 @@
 -- What holds of the calls, whatever each of them does.
-use Rattle.std.specs.Prelude.{◌≡◌, ◌≢◌, ◌⊎◌, ℕ, ◌+◌, true, false, Err}
+use Rattle.std.specs.Prelude.{◌≡◌, ◌≢◌, ◌⊎◌, ℕ, ◌+◌, true, false, Err, ◌&&◌, nat_le, Bool}
 use Rattle.cur_drawing.specs.declared.refusals.Refusal.{Refusal}
 use Rattle.cur_drawing.specs.Grids.{is_in, cell_at}
-use Rattle.cur_windows.specs.declared.slots.Slot.{Slot}
+use Rattle.cur_screens.specs.declared.slots.Slot.{Slot}
 use Rattle.cur_windows.specs.Desks.{State, DeskStep, grid_at, window_at}
 
 -- from one desk to the other no cell outside window n's rectangle has changed, and no other window
@@ -24,3 +24,6 @@ pub record IsSubwindowOf (s t : Slot) (y x : ℕ) : Type 0 where
 -- where the step is a refusal the desk is as it was
 abbrev pub UnchangedIfRefused : State → DeskStep → Type 0
 UnchangedIfRefused d x = (e : Refusal) → x.1 ≡ Err e → x.0 ≡ d
+
+abbrev pub is_between : ℕ → ℕ → ℕ → Bool
+is_between first last i = nat_le first i && nat_le i last

@@ -5,11 +5,10 @@ pub mod Laws
 pub mod Loans
 pub mod Creations
 pub mod Pads
-pub mod Places
 pub mod Queries
 pub mod Refusals
 pub mod Rows
-pub mod VirtualScreen
 pub mod Sizes
-pub mod Touched
 pub mod Views
+pub mod Refreshes
+pub mod TouchedWindows

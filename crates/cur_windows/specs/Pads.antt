@@ -7,10 +7,11 @@ use Rattle.cur_drawing.specs.declared.refusals.Refusal.{Refusal}
 use Rattle.cur_drawing.specs.Grids.{blank, moved_to}
 use Rattle.cur_drawing.specs.Windows.{fresh, part_cursor}
 use Rattle.cur_drawing.specs.Calls.{place}
-use Rattle.cur_windows.specs.declared.slots.Slot.{Slot}
-use Rattle.cur_windows.specs.Desks.{State, slot_of, grid_at, origin_at, on_screen, whole_area, with_window}
+use Rattle.cur_screens.specs.declared.slots.Slot.{Slot}
+use Rattle.cur_windows.specs.Desks.{State, slot_of, grid_at, origin_at, on_screen, with_window}
+use Rattle.cur_screens.specs.Slots.{whole_area}
 use Rattle.cur_windows.specs.Creations.{root_added}
-use Rattle.cur_windows.specs.VirtualScreen.{Screen, shown}
+use Rattle.cur_screens.specs.VirtualScreen.{Screen, shown}
 
 -- the rectangle of `rows` rows and `cols` columns from row `y` and column `x` on
 abbrev pub area : ℕ → ℕ → ℕ → ℕ → Area

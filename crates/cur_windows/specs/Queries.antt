@@ -4,7 +4,7 @@ use Rattle.grids.specs.declared.areas.Place.{Place}
 use Rattle.cur_drawing.specs.declared.refusals.Refusal.{Refusal}
 use Rattle.cur_drawing.specs.declared.windows.Window.{Window}
 use Rattle.cur_drawing.specs.Cells.{Content}
-use Rattle.cur_windows.specs.declared.slots.Slot.{Slot}
+use Rattle.cur_screens.specs.declared.slots.Slot.{Slot}
 use Rattle.cur_windows.specs.Desks.{State, slot_of, window_at, window_count, origin_at, cell}
 
 -- what is so of a window, or that there is none of that number

@@ -8,7 +8,7 @@ use Rattle.cur_drawing.specs.Refusals.{Condition}
 use Rattle.cur_drawing.specs.Spans.{span_within, is_negative, start_within}
 use Rattle.cur_drawing.specs.Cells.{pair_count}
 use Rattle.cur_drawing.specs.Windows.{place_below, is_printed, is_pair}
-use Rattle.cur_windows.specs.declared.slots.Slot.{Slot}
+use Rattle.cur_screens.specs.declared.slots.Slot.{Slot}
 use Rattle.cur_drawing.specs.Spans.{matched}
 use Rattle.cur_windows.specs.Desks.{State, last_number, window_at, grid_at, origin_at}
 use Rattle.cur_windows.specs.Creations.{is_some_slot, has_child, corner}

@@ -7,7 +7,7 @@ use Rattle.cur_drawing.specs.Cells.{Content}
 use Rattle.cur_drawing.specs.Grids.{one, filled, part_written}
 use Rattle.cur_drawing.specs.Calls.{IsCanvas}
 use Rattle.cur_windows.specs.declared.rows.RowMut.{RowMut}
-use Rattle.cur_windows.specs.declared.slots.Slot.{Slot}
+use Rattle.cur_screens.specs.declared.slots.Slot.{Slot}
 use Rattle.cur_windows.specs.Desks.{State, grid_at, slot_of, window_count}
 
 -- the window lies in its grid and has such a line

@@ -1,7 +1,7 @@
 -- How many lines and columns a window has (X/Open Curses Issue 7, getmaxyx).
 use Rattle.std.specs.Prelude.{ℕ, Result, Ok, Err}
 use Rattle.cur_drawing.specs.declared.refusals.Refusal.{Refusal}
-use Rattle.cur_windows.specs.declared.slots.Slot.{Slot}
+use Rattle.cur_screens.specs.declared.slots.Slot.{Slot}
 use Rattle.cur_windows.specs.Desks.{State, slot_of}
 
 abbrev pub size_in : Result Slot Refusal → Result (ℕ × ℕ) Refusal

@@ -3,12 +3,14 @@ ghost use Rattle.std.specs.Prelude.{◌≡◌, ◌≢◌, bit_and, bit_or, ◌-�
 ghost use Rattle.cur_windows.specs.Desks as spec;
 ghost use Rattle.cur_drawing.specs.Calls as call;
 ghost use Rattle.cur_drawing.specs.Windows as window;
-ghost use Rattle.cur_windows.specs.Touched.{FitsLine, IsOneCell, KeepsShown, MarksCellsAlone, MarksWritten};
+ghost use Rattle.cur_screens.specs.Touched.{FitsLine, IsOneCell};
+ghost use Rattle.cur_windows.specs.TouchedWindows.{KeepsShown, MarksCellsAlone, MarksWritten};
 
 use crate::desks::Desk;
-use crate::hints::{after_writing, joined};
-use crate::touched::{Touched, start_of, start_of_text, touch_text, touch_written};
 use cur_drawing::{Attrs, Border, Put, Refusal};
+use cur_screens::{
+    Touched, after_writing, joined, start_of, start_of_text, touch_text, touch_written,
+};
 
 // The calls on one window. Each refuses with `Full` a number above 63, and else with `NoWindow` one that names no
 // window; a refusal changes nothing, but for `NoScroll` and strings.

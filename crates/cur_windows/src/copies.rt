@@ -8,8 +8,8 @@ ghost use Rattle.cur_windows.specs.Copies.{common_part, copywin, in_order, spans
 
 use crate::creations::in_range;
 use crate::desks::Desk;
-use crate::slots::Slot;
-use cur_drawing::{Cell, CopySpan, Patch, Refusal, common, matched, overlay_from, overlay_shift};
+use cur_drawing::{Cell, CopySpan, Refusal, common, matched};
+use cur_screens::{Patch, Slot, overlay_from, overlay_shift};
 use grids::{Area, Grid, Place};
 use std::mem;
 

@@ -5,12 +5,12 @@ ghost use Rattle.cur_drawing.specs.Windows.{fresh};
 ghost use Rattle.cur_drawing.specs.Calls.{IsCanvas};
 ghost use Rattle.cur_drawing.specs.Spans.{IsAreaWithin};
 ghost use Rattle.cur_windows.specs.Desks as spec;
+ghost use Rattle.cur_screens.specs.Slots.{whole_area};
 ghost use Rattle.cur_windows.specs.Creations as make;
 
 use crate::desks::Desk;
-use crate::slots::{Origin, Slot, WINDOWS, whole_area};
-use crate::virtual_screen::blank_grid;
 use cur_drawing::{Cell, Geometry, Refusal, Window, area_within, start_within};
+use cur_screens::{Origin, Slot, WINDOWS, blank_grid, whole_area};
 use grids::{Area, Grid, Place};
 
 // Making, moving and deleting windows. A refusal changes nothing.
@@ -191,7 +191,7 @@ impl Desk {
         requires grid { grid ≡ blank area.rows area.cols }
         requires within { IsAreaWithin self.old.rows self.old.cols area }
         ensures { self.new ≡ make.root_added self.old n grid (spec.on_screen area.top area.left false)
-            (fresh (spec.whole_area area.rows area.cols)) }
+            (fresh (whole_area area.rows area.cols)) }
     {
         let whole = whole_area(area.rows, area.cols);
         // a look at a field brings in the invariant: no screen is larger than a window may be

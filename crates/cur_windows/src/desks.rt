@@ -4,10 +4,8 @@ ghost use Rattle.cur_drawing.specs.Grids.{blank};
 ghost use Rattle.cur_windows.specs.Desks as spec;
 ghost use Rattle.cur_windows.specs.Desks.{IsPlaced, IsDesk};
 
-use crate::hints::Scroll;
-use crate::slots::{Origin, Slot, WINDOWS, whole_area};
-use crate::virtual_screen::blank_grid;
 use cur_drawing::{Cell, Refusal, Window};
+use cur_screens::{Origin, Scroll, Slot, WINDOWS, blank_grid, whole_area};
 use grids::Grid;
 use std::alloc::{AllocError, Global};
 use std::marker::Model;

@@ -5,8 +5,6 @@ mod calls;
 mod copies;
 mod creations;
 mod desks;
-mod hints;
-pub mod laws;
 mod marking;
 mod pads;
 mod queries;
@@ -14,22 +12,14 @@ mod refreshes;
 mod regions;
 mod rows;
 mod sizes;
-mod slots;
-mod touched;
 mod views;
-mod virtual_screen;
 
 pub use copies::in_order;
 pub use creations::in_range;
-pub use cur_drawing::{
-    Area, Attrs, Border, Cell, Marks, Place, Put, Refusal, Window, first_diff, last_diff,
-};
+pub use cur_drawing::{Area, Attrs, Border, Cell, Place, Put, Refusal, Window};
+pub use cur_screens::{Hint, Marks, Touched, Virtual, WINDOWS, first_diff, last_diff};
 pub use desks::Desk;
-pub use hints::Hint;
 pub use rows::RowMut;
-pub use slots::WINDOWS;
 pub use std::alloc::AllocError as NoMemory;
-pub use touched::Touched;
 pub use views::{Part, View};
-pub use virtual_screen::Virtual;
 pub use vt_term::Size;

@@ -2,12 +2,11 @@
 ghost use Rattle.cur_drawing.specs.Calls.{IsCanvas};
 ghost use Rattle.cur_windows.specs.Desks as spec;
 ghost use Rattle.cur_windows.specs.Desks.{IsDesk};
-ghost use Rattle.cur_windows.specs.Touched.{MarksSlot, MarksWindow};
+ghost use Rattle.cur_windows.specs.TouchedWindows.{MarksSlot, MarksWindow};
 ghost use Rattle.std.specs.Prelude.{◌<◌};
 
 use crate::desks::Desk;
-use crate::slots::Slot;
-use crate::touched::{Touched, mark_rectangle};
+use cur_screens::{Slot, Touched, mark_rectangle};
 
 impl Desk {
     /// Marks the window's rectangle, for a call that changes nothing outside of it and has no marks itself; nothing if

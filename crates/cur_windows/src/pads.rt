@@ -7,9 +7,8 @@ ghost use Rattle.cur_windows.specs.Creations as make;
 ghost use Rattle.cur_windows.specs.Pads.{area, is_pad, pad_added, part_shown};
 
 use crate::desks::Desk;
-use crate::slots::{Origin, whole_area};
-use crate::virtual_screen::{Copy, Virtual, blank_grid};
-use cur_drawing::{Marks, Refusal, Window, cursor_in_part};
+use cur_drawing::{Refusal, Window, cursor_in_part};
+use cur_screens::{Marks, Origin, ScreenCopy, Virtual, blank_grid, whole_area};
 use grids::{Area, Place};
 use std::alloc::AllocError;
 
@@ -133,7 +132,7 @@ impl Desk {
         // a look at a field brings in the invariant: no screen is larger than a window may be
         let _ = &self.rows;
         let cursor = cursor_in_part(&slot.window, part, to);
-        let copy = Copy {
+        let copy = ScreenCopy {
             area,
             from,
             cursor,

@@ -4,8 +4,8 @@ ghost use Rattle.cur_windows.specs.Desks.{window_at, window_count};
 ghost use Rattle.cur_windows.specs.Queries.{window_of, parent_of, cell_of, corner_of, IsFirstFree};
 
 use crate::desks::Desk;
-use crate::slots::WINDOWS;
 use cur_drawing::{Cell, Place, Refusal, Window};
+use cur_screens::WINDOWS;
 
 impl Desk {
     /// The cursor (`getyx`), the size (`getmaxyx`), the attributes, the pair, the background (`getbkgd`), the options

@@ -1,19 +1,19 @@
 //! Copying a window to the virtual screen.
 ghost use Rattle.std.specs.Prelude.{◌≡◌, ◌<◌, ◌≤◌, ◌+◌, IfErr, IfOk, IfSome, Ok, Some, None, if◌then◌else◌, false, true};
 ghost use Rattle.cur_drawing.specs.Calls.{IsCanvas, place};
-ghost use Rattle.cur_drawing.specs.Marks.{Keeps, MarksOnly};
+ghost use Rattle.cur_screens.specs.Marks.{Keeps, MarksOnly};
 ghost use Rattle.cur_drawing.specs.Windows.{IsWindow};
 ghost use Rattle.cur_windows.specs.Desks as spec;
 ghost use Rattle.cur_windows.specs.Creations as make;
-ghost use Rattle.cur_windows.specs.Touched.{HasAll, IsShownBut, LiesWithin, MarksCopied, ShowsBut, grid_marks};
-ghost use Rattle.cur_windows.specs.declared.slots.Slot.{Slot};
-ghost use Rattle.cur_windows.specs.VirtualScreen.{IsScreen, refresh, noutrefresh, shown, area_on_screen, cursor_on_screen};
+ghost use Rattle.cur_screens.specs.Touched.{IsShownBut, LiesWithin, grid_marks};
+ghost use Rattle.cur_windows.specs.TouchedWindows.{HasAll, MarksCopied, ShowsBut};
+ghost use Rattle.cur_screens.specs.declared.slots.Slot.{Slot};
+ghost use Rattle.cur_screens.specs.VirtualScreen.{IsScreen, shown};
+ghost use Rattle.cur_windows.specs.Refreshes.{refresh, noutrefresh, area_on_screen, cursor_on_screen};
 
 use crate::desks::Desk;
-use crate::slots::{Origin, Slot};
-use crate::touched::{Touched, spread, unmark};
-use crate::virtual_screen::{Copy, Virtual};
-use cur_drawing::{Cell, Marks, Refusal};
+use cur_drawing::{Cell, Refusal};
+use cur_screens::{Marks, Origin, ScreenCopy, Slot, Touched, Virtual, spread, unmark};
 use grids::{Area, Grid, Place};
 
 impl Desk {
@@ -115,7 +115,7 @@ impl Desk {
             row: slot.window.area.top,
             col: slot.window.area.left,
         };
-        let copy = Copy {
+        let copy = ScreenCopy {
             area,
             from,
             cursor: cursor_in(slot, area),

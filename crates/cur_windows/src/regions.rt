@@ -2,8 +2,7 @@
 ghost use Rattle.std.specs.Prelude.{◌<◌};
 
 use crate::desks::Desk;
-use crate::hints::{Hint, Scroll};
-use crate::slots::Slot;
+use cur_screens::{Hint, Scroll, Slot};
 
 impl Desk {
     // The rows of the window's region, which went by no line yet: of a window that is as wide as the screen and may

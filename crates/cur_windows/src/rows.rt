@@ -6,8 +6,8 @@ ghost use Rattle.cur_windows.specs.Rows.{IsLine, line_of, lent_of, place_written
 ghost use Rattle.cur_windows.specs.Views.{cut};
 
 use crate::desks::Desk;
-use crate::slots::Slot;
 use cur_drawing::{Cell, Refusal};
+use cur_screens::Slot;
 
 /// One line of a window that is lent for writing. While it is held, nothing else can be done with the desk.
 #[derive(Drop)]

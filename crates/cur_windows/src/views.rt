@@ -5,8 +5,8 @@ ghost use Rattle.cur_windows.specs.Desks as spec;
 ghost use Rattle.cur_windows.specs.Views.{IsSeen, seen, window_cells};
 
 use crate::desks::Desk;
-use crate::slots::Slot;
 use cur_drawing::{Cell, Refusal};
+use cur_screens::Slot;
 use grids::{Area, Grid};
 use std::marker::Model;
 

@@ -1,8 +1,8 @@
 -- The painter, and the wire that its bytes go out on.
-pub use Rattle.cur_looks.specs.declared.beliefs.Belief.{Belief}
-pub use Rattle.cur_looks.specs.declared.beliefs.Mode.{Mode}
-pub use Rattle.cur_looks.specs.declared.beliefs.Mode.TheVariants as modes
-pub use Rattle.cur_looks.specs.declared.inks.Ink.{Ink}
+pub use Rattle.cur_steps.specs.declared.beliefs.Belief.{Belief}
+pub use Rattle.cur_steps.specs.declared.beliefs.Mode.{Mode}
+pub use Rattle.cur_steps.specs.declared.beliefs.Mode.TheVariants as modes
+pub use Rattle.cur_steps.specs.declared.inks.Ink.{Ink}
 pub use Rattle.cur_paint.specs.declared.updates.Knowledge.{Knowledge}
 pub use Rattle.cur_paint.specs.declared.updates.Status.{Status}
 pub use Rattle.cur_paint.specs.declared.updates.Status.TheVariants as statuses

@@ -14,7 +14,9 @@ pub use Rattle.cur_windows.specs.Desks
 pub use Rattle.cur_windows.specs.Loans
 pub use Rattle.cur_windows.specs.Creations
 pub use Rattle.cur_windows.specs.Queries
+pub use Rattle.cur_windows.specs.Refreshes
 pub use Rattle.cur_windows.specs.Rows
 pub use Rattle.cur_windows.specs.Sizes
 pub use Rattle.cur_windows.specs.Views
-pub use Rattle.cur_windows.specs.VirtualScreen
+pub use Rattle.cur_screens.specs.Slots
+pub use Rattle.cur_screens.specs.VirtualScreen

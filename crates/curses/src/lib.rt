@@ -24,6 +24,7 @@ pub use cur_wires::{Fuse, Tape, Wire, WireFault};
 // Sessions, calls as values, and texts of calls.
 pub use cur_calls::{
     AttrsCall, Call, CellCall, FlagCall, LayCall, LineCall, NumberCall, NumbersCall, PadCall,
-    PartCall, PlainCall, ScreenCall, ScriptFault, ScriptFaultKind, ShowCall, Text, read_script,
+    PartCall, PlainCall, ScreenCall, ShowCall, Text,
 };
 pub use cur_play::{Answer, Log, LogEntry, NoMemory, Session, run};
+pub use cur_scripts::{ScriptFault, ScriptFaultKind, read_script};

@@ -6,10 +6,10 @@ use Rattle.std.proofs.lemmas.List.{drop_more}
 use Rattle.cur_calls.specs.declared.calls.Call.{Call}
 use Rattle.cur_play.specs.declared.answers.Answer.{Answer}
 use Rattle.cur_play.specs.declared.answers.Answer.TheVariants.{Done}
-use Rattle.cur_calls.specs.Texts.{FailsBy, only_call, script_of}
-use Rattle.cur_calls.specs.declared.faults.ScriptFault.{ScriptFault}
-use Rattle.cur_calls.specs.declared.faults.ScriptFaultKind.{ScriptFaultKind}
-use Rattle.cur_calls.specs.declared.faults.ScriptFaultKind.TheVariants.{BadLine, TooLong, NoMemory}
+use Rattle.cur_scripts.specs.Texts.{FailsBy, only_call, script_of}
+use Rattle.cur_scripts.specs.declared.faults.ScriptFault.{ScriptFault}
+use Rattle.cur_scripts.specs.declared.faults.ScriptFaultKind.{ScriptFaultKind}
+use Rattle.cur_scripts.specs.declared.faults.ScriptFaultKind.TheVariants.{BadLine, TooLong, NoMemory}
 use Rattle.curses_c.specs.Codes.{script_code}
 use Rattle.curses_c.specs.Held.{Makes, MakesUpTo, Plays, Says, SaysRead, Then, fault_line, is_done, noting}
 use Rattle.curses_c.specs.declared.held.Held.{Held}

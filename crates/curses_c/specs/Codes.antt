@@ -1,7 +1,7 @@
 -- The numbers of answers (include/ticurses.h).
 use Rattle.std.specs.Prelude.{ℤ, pos}
-use Rattle.cur_calls.specs.declared.faults.ScriptFaultKind.{ScriptFaultKind}
-use Rattle.cur_calls.specs.declared.faults.ScriptFaultKind.TheVariants as scripts
+use Rattle.cur_scripts.specs.declared.faults.ScriptFaultKind.{ScriptFaultKind}
+use Rattle.cur_scripts.specs.declared.faults.ScriptFaultKind.TheVariants as scripts
 use Rattle.cur_drawing.specs.declared.refusals.Refusal.{Refusal}
 use Rattle.cur_drawing.specs.declared.refusals.Refusal.TheVariants.{NoWindow, OutOfWindow, OutOfScreen, HasChildren, IsSub, PadKind, NoScroll, BadRegion, NumberUsed, BadCell, Full, NoMemory, IsScreen, NoCap, IsLost, BadPair}
 use Rattle.cur_play.specs.declared.answers.Answer.{Answer}

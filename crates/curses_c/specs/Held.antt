@@ -2,11 +2,11 @@
 use Rattle.std.specs.Prelude.{ℕ, ℤ, ◌+◌, ◌≡◌, ◌⊎◌, Bool, true, false, List, [], ◌∷◌, Option, Some, None, Result, Ok, Err, min, length, drop, pos, if◌then◌else◌}
 use Rattle.ti_cert.specs.Table.{certified}
 use Rattle.ti_cert.specs.Verified.{partner_in}
-use Rattle.cur_calls.specs.Texts.{only_call, script_of}
+use Rattle.cur_scripts.specs.Texts.{only_call, script_of}
 use Rattle.cur_calls.specs.declared.calls.Call.{Call}
-use Rattle.cur_calls.specs.declared.faults.ScriptFault.{ScriptFault}
-use Rattle.cur_calls.specs.declared.faults.ScriptFaultKind.{ScriptFaultKind}
-use Rattle.cur_calls.specs.declared.faults.ScriptFaultKind.TheVariants.{BadLine, TooLong, NoMemory}
+use Rattle.cur_scripts.specs.declared.faults.ScriptFault.{ScriptFault}
+use Rattle.cur_scripts.specs.declared.faults.ScriptFaultKind.{ScriptFaultKind}
+use Rattle.cur_scripts.specs.declared.faults.ScriptFaultKind.TheVariants.{BadLine, TooLong, NoMemory}
 use Rattle.cur_play.specs.Deliveries.{Carries}
 use Rattle.cur_play.specs.Outputs.{poised}
 use Rattle.cur_play.specs.Scenes.{lost_stage, scene_of}

@@ -1,7 +1,7 @@
 -- On which line of a text a call is.
 use Rattle.std.specs.Prelude.{ℕ, ◌+◌, get_or, List, [], ◌∷◌, if◌then◌else◌}
-use Rattle.cur_calls.specs.Cuts.{lines_of}
-use Rattle.cur_calls.specs.Texts.{is_skipped}
+use Rattle.cur_scripts.specs.Cuts.{lines_of}
+use Rattle.cur_scripts.specs.Texts.{is_skipped}
 
 -- the numbers of the lines that aren't skipped, the first line having this one
 abbrev pub call_lines : ℕ → List (List ℕ) → List ℕ

@@ -2,8 +2,8 @@
 ghost use Rattle.std.specs.Prelude.{◌≡◌};
 ghost use Rattle.curses_c.specs.Codes as spec;
 
-use cur_calls::ScriptFaultKind;
 use cur_play::Answer;
+use cur_scripts::ScriptFaultKind;
 use cur_windows::Refusal;
 
 /// All was done.

@@ -10,8 +10,9 @@ ghost use Rattle.curses_c.specs.Held.{Hands, Loses, Makes, MakesUpTo, Plays, Say
 use crate::codes::{answer_code, script_code};
 use crate::lines::line_of;
 use crate::outbox::Outbox;
-use cur_calls::{Call, ScriptFault, ScriptFaultKind, Text, read_call, read_script};
+use cur_calls::{Call, Text};
 use cur_play::{Answer, Session};
+use cur_scripts::{ScriptFault, ScriptFaultKind, read_call, read_script};
 use std::alloc::{AllocError, Global};
 use std::slice;
 use ti_cert::Checked;

@@ -1,8 +1,8 @@
 //! Which line of a text of calls a call stands on.
 ghost use Rattle.std.specs.Prelude.{◌≡◌, ◌==◌, ◌∷◌, ◌<◌, ◌≤◌, IfSome, length, option_map};
 ghost use Rattle.std.specs.List.{position};
-ghost use Rattle.cur_calls.specs.Cuts.{left_size, lines_of, parts_left};
-ghost use Rattle.cur_calls.specs.Texts.{is_skipped};
+ghost use Rattle.cur_scripts.specs.Cuts.{left_size, lines_of, parts_left};
+ghost use Rattle.cur_scripts.specs.Texts.{is_skipped};
 ghost use Rattle.curses_c.specs.Lines.{line_of};
 
 /// The line, from 1, of the call of this place, from 0, in a text of calls; 0 where it has fewer.

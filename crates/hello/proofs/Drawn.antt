@@ -9,9 +9,11 @@ use Rattle.curses.specs.Windows.Grids.{blank, cell_at, is_in, line_at}
 use Rattle.curses.specs.Windows.Calls.{place}
 use Rattle.curses.specs.Windows.Options.{fresh}
 use Rattle.curses.specs.Windows.Spans.{area_within, rectangle, span_within}
-use Rattle.curses.specs.Windows.Desks.{State, DeskStep, after, new_desk, on_screen, whole_area, new_slot}
+use Rattle.curses.specs.Windows.Desks.{State, DeskStep, after, new_desk, on_screen, new_slot}
+use Rattle.curses.specs.Windows.Slots.{whole_area}
 use Rattle.curses.specs.Windows.Creations.{newwin, root_added}
-use Rattle.curses.specs.Windows.VirtualScreen.{Screen, new_screen, Refresh, noutrefresh, refresh, shown}
+use Rattle.curses.specs.Windows.VirtualScreen.{Screen, new_screen, shown}
+use Rattle.curses.specs.Windows.Refreshes.{Refresh, noutrefresh, refresh}
 use Rattle.curses.proofs.ByPlace.{copied_by_place}
 use Rattle.curses.proofs.Additions.{blank_line}
 use Rattle.hello.specs.Calls.{and_then, greeting, written}

@@ -1,9 +1,9 @@
 use Rattle.std.proofs.Common.{◌*◌, Option, subst}
 use Rattle.std.proofs.lemmas.Result.{err_from_is_err_and}
 use Rattle.ti_conforms.specs.Certified.{cell_limit}
-use Rattle.cur_looks.specs.Beliefs.{Agrees}
-use Rattle.cur_looks.specs.declared.beliefs.Belief.{Belief}
-use Rattle.cur_looks.specs.declared.beliefs.Mode.{Mode}
+use Rattle.cur_steps.specs.Beliefs.{Agrees}
+use Rattle.cur_steps.specs.declared.beliefs.Belief.{Belief}
+use Rattle.cur_steps.specs.declared.beliefs.Mode.{Mode}
 use Rattle.cur_paint.specs.Differ.{all_differ}
 use Rattle.cur_paint.specs.Limits.{cursor_limit, paint_limit}
 use Rattle.cur_paint.specs.Scenes.{Sets}

@@ -1,11 +1,11 @@
 use Rattle.std.proofs.Common.{◌*◌, Some, refl, ap, arith}
 use Rattle.cur_wires.proofs.Stops.{on_ok_map, steps_none, steps_wider}
 use Rattle.ti_conforms.specs.Certified.{IsLost}
-use Rattle.cur_looks.specs.Pieces.{IsPaint}
-use Rattle.cur_looks.specs.Beliefs.{Agrees, moves}
-use Rattle.cur_looks.specs.declared.beliefs.Belief.{Belief}
-use Rattle.cur_looks.proofs.Actions.{agrees_lost}
-use Rattle.cur_looks.proofs.Answers.{moves_few, at_most, once}
+use Rattle.cur_steps.specs.Pieces.{IsPaint}
+use Rattle.cur_steps.specs.Beliefs.{Agrees, moves}
+use Rattle.cur_steps.specs.declared.beliefs.Belief.{Belief}
+use Rattle.cur_steps.proofs.Actions.{agrees_lost}
+use Rattle.cur_steps.proofs.Answers.{moves_few, at_most, once}
 use Rattle.cur_paint.specs.Limits.{last_move}
 use Rattle.cur_paint.proofs.Bounds.{reached_as}
 use Rattle.cur_paint.proofs.cursors.place_cursor.Goals as goal

@@ -1,7 +1,7 @@
 use Rattle.std.proofs.Common.{◌*◌, ap, arith}
 use Rattle.std.proofs.lemmas.Result.{err_from_is_err_and}
-use Rattle.cur_looks.specs.Beliefs.{Agrees, changes, modes_limit}
-use Rattle.cur_looks.specs.declared.beliefs.Belief.{Belief}
+use Rattle.cur_steps.specs.Beliefs.{Agrees, changes, modes_limit}
+use Rattle.cur_steps.specs.declared.beliefs.Belief.{Belief}
 use Rattle.cur_paint.specs.Limits.{last_move, cursor_limit}
 use Rattle.cur_paint.proofs.ModeFacts.{move_short, sets_last, sets_unfinished}
 use Rattle.cur_paint.proofs.cursors.set_cursor.Goals as goal

@@ -1,11 +1,11 @@
 use Rattle.std.proofs.Common.{◌+◌, ◌-◌, ◌*◌, refl}
-use Rattle.cur_looks.specs.Inks.{mixed}
-use Rattle.cur_looks.specs.Erasures.{erased}
-use Rattle.cur_looks.specs.declared.erasures.ErasedPart.TheVariants.{Head}
+use Rattle.cur_steps.specs.Inks.{mixed}
+use Rattle.cur_moves.specs.Erasures.{erased}
+use Rattle.cur_moves.specs.declared.erasures.ErasedPart.TheVariants.{Head}
 use Rattle.cur_paint.specs.Differ.{span}
 use Rattle.ti_conforms.specs.Certified.{IsLost, cell_limit}
-use Rattle.cur_looks.specs.Pieces.{IsPaint}
-use Rattle.cur_looks.specs.Beliefs.{Agrees}
+use Rattle.cur_steps.specs.Pieces.{IsPaint}
+use Rattle.cur_steps.specs.Beliefs.{Agrees}
 use Rattle.cur_wires.proofs.Stops.{steps_wider}
 use Rattle.cur_paint.proofs.Mixtures.{head_done, some_times}
 use Rattle.cur_paint.proofs.parts.mend_head.Goals as goal

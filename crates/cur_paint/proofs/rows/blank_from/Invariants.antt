@@ -1,5 +1,5 @@
 use Rattle.std.proofs.Common.{◌≡◌, ◌≤◌, ◌<◌, ℕ}
-use Rattle.cur_looks.specs.Inks.{blank_ink}
+use Rattle.cur_steps.specs.Inks.{blank_ink}
 use Rattle.cur_paint.proofs.rows.blank_from.Given as goal
 
 abbrev pub invariant-loop-col : goal.invariant-loop-col

@@ -1,12 +1,12 @@
 use Rattle.std.proofs.Common.{◌≡◌, ℕ, ◌+◌, ◌-◌, ◌*◌, ◌<◌, ◌≤◌, arith}
 use Rattle.std.proofs.lemmas.Result.{err_from_is_err_and}
-use Rattle.cur_looks.specs.Inks.{mixed}
-use Rattle.cur_looks.specs.Erasures.{erased}
-use Rattle.cur_looks.specs.declared.erasures.ErasedPart.TheVariants.{Rest}
+use Rattle.cur_steps.specs.Inks.{mixed}
+use Rattle.cur_moves.specs.Erasures.{erased}
+use Rattle.cur_moves.specs.declared.erasures.ErasedPart.TheVariants.{Rest}
 use Rattle.cur_paint.specs.Differ.{span}
 use Rattle.ti_conforms.specs.Certified.{IsLost, cell_limit}
-use Rattle.cur_looks.specs.Pieces.{IsPaint}
-use Rattle.cur_looks.specs.Beliefs.{Agrees}
+use Rattle.cur_steps.specs.Pieces.{IsPaint}
+use Rattle.cur_steps.specs.Beliefs.{Agrees}
 use Rattle.cur_wires.proofs.Stops.{steps_next, steps_fail, steps_wider}
 use Rattle.cur_paint.proofs.Mixtures.{mixed_before, span_parts, span_split, times_grows, front_shown, agrees_at, rest_done}
 use Rattle.cur_paint.proofs.rows.mend_bottom.Goals as goal

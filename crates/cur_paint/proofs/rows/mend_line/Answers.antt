@@ -1,13 +1,13 @@
 use Rattle.std.proofs.Common.{◌+◌, ◌-◌, ◌*◌, ◌≤◌, sym, ◌∙◌, arith}
 use Rattle.std.proofs.lemmas.Result.{err_from_is_err_and}
-use Rattle.cur_looks.specs.Inks.{mixed}
+use Rattle.cur_steps.specs.Inks.{mixed}
 use Rattle.cur_paint.specs.Differ.{span}
 use Rattle.ti_conforms.specs.Certified.{IsLost, cell_limit}
-use Rattle.cur_looks.specs.Pieces.{IsPaint}
-use Rattle.cur_looks.specs.Beliefs.{Agrees}
+use Rattle.cur_steps.specs.Pieces.{IsPaint}
+use Rattle.cur_steps.specs.Beliefs.{Agrees}
 use Rattle.cur_wires.proofs.Stops.{steps_next, steps_fail, steps_nothing, steps_wider, on_ok_map}
 use Rattle.cur_paint.proofs.Mixtures.{span_parts, span_split, times_grows, sum_limit, front_shown, rest_shown, row_done, agrees_at}
-use Rattle.cur_looks.proofs.Actions.{agrees_lost}
+use Rattle.cur_steps.proofs.Actions.{agrees_lost}
 use Rattle.cur_paint.proofs.Ranges.{all_same}
 use Rattle.cur_paint.proofs.rows.mend_line.Goals as goal
 

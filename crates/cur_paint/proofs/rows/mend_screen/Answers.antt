@@ -1,14 +1,14 @@
 use Rattle.std.proofs.Common.{◌≡◌, ◌+◌, ◌*◌, ◌<◌, Result, Ok, Err, OnOk, refl, ◌∙◌, arith}
 use Rattle.ti_rows.specs.declared.rows.Row.TheVariants.{Ed}
-use Rattle.cur_looks.proofs.Answers.{line_is}
+use Rattle.cur_steps.proofs.Answers.{line_is}
 use Rattle.std.proofs.lemmas.Result.{err_from_is_err_and}
-use Rattle.cur_looks.specs.Inks.{mixed}
+use Rattle.cur_steps.specs.Inks.{mixed}
 use Rattle.cur_paint.specs.Differ.{span, all_differ}
 use Rattle.ti_conforms.specs.Certified.{IsLost, cell_limit}
-use Rattle.cur_looks.specs.Pieces.{IsPaint}
-use Rattle.cur_looks.specs.Beliefs.{Agrees}
+use Rattle.cur_steps.specs.Pieces.{IsPaint}
+use Rattle.cur_steps.specs.Beliefs.{Agrees}
 use Rattle.cur_wires.proofs.Stops.{steps_nothing, steps_next, steps_fail, steps_wider}
-use Rattle.cur_looks.proofs.Actions.{agrees_lost}
+use Rattle.cur_steps.proofs.Actions.{agrees_lost}
 use Rattle.cur_paint.proofs.Mixtures.{span_parts, all_more, all_grows, times_grows, sum_limit}
 use Rattle.cur_paint.proofs.LineRanges.{above_shown, below_shown, sized_as}
 use Rattle.cur_paint.proofs.rows.mend_screen.Goals as goal

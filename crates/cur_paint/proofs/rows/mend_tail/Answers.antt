@@ -1,11 +1,11 @@
 use Rattle.std.proofs.Common.{◌-◌, ◌*◌, ◌<◌, ℕ, subst, refl, arith}
-use Rattle.cur_looks.specs.Inks.{mixed, tail_blank}
+use Rattle.cur_steps.specs.Inks.{mixed, tail_blank}
 use Rattle.cur_paint.specs.Differ.{span}
 use Rattle.ti_conforms.specs.Certified.{IsLost, cell_limit}
-use Rattle.cur_looks.specs.Pieces.{IsPaint}
-use Rattle.cur_looks.specs.Beliefs.{Agrees}
+use Rattle.cur_steps.specs.Pieces.{IsPaint}
+use Rattle.cur_steps.specs.Beliefs.{Agrees}
 use Rattle.cur_wires.proofs.Stops.{steps_nothing, steps_wider}
-use Rattle.cur_looks.proofs.Actions.{agrees_lost}
+use Rattle.cur_steps.proofs.Actions.{agrees_lost}
 use Rattle.cur_paint.proofs.Mixtures.{mixed_before, rest_shown, tail_done, some_times}
 use Rattle.cur_paint.proofs.rows.mend_tail.Goals as goal
 

@@ -1,11 +1,11 @@
 use Rattle.std.proofs.Common.{◌+◌, ◌*◌, ◌≤◌, ℕ, Option, arith, subst}
 use Rattle.std.proofs.lemmas.Result.{err_from_is_err_and}
 use Rattle.ti_conforms.specs.Certified.{cell_limit}
-use Rattle.cur_looks.specs.Beliefs.{Agrees}
-use Rattle.cur_looks.specs.declared.beliefs.Belief.{Belief}
-use Rattle.cur_looks.specs.declared.beliefs.Mode.{Mode}
-use Rattle.cur_looks.specs.declared.inks.Ink.{Ink}
-use Rattle.cur_scrolls.specs.Scrolls.{shifted}
+use Rattle.cur_steps.specs.Beliefs.{Agrees}
+use Rattle.cur_steps.specs.declared.beliefs.Belief.{Belief}
+use Rattle.cur_steps.specs.declared.beliefs.Mode.{Mode}
+use Rattle.cur_steps.specs.declared.inks.Ink.{Ink}
+use Rattle.cur_moves.specs.Scrolls.{shifted}
 use Rattle.cur_paint.specs.Limits.{paint_limit}
 use Rattle.cur_paint.specs.Scenes.{Sets}
 use Rattle.cur_paint.proofs.Bounds.{scrolled_enough}

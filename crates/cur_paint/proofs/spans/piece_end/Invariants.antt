@@ -1,5 +1,5 @@
 use Rattle.std.proofs.Common.{◌+◌, ◌*◌, ◌≤◌, ℕ}
-use Rattle.cur_looks.specs.declared.inks.Ink.{Ink}
+use Rattle.cur_steps.specs.declared.inks.Ink.{Ink}
 use Rattle.cur_paint.specs.Differ.{span, IsSameBy}
 use Rattle.cur_paint.proofs.spans.piece_end.Given as goal
 

@@ -1,10 +1,10 @@
 use Rattle.std.proofs.Common.{◌≡◌, ◌+◌, ◌*◌, ◌≤◌, ℕ, Result, Ok, Err, OnOk, ap, refl, arith}
-use Rattle.cur_looks.specs.Inks.{mixed}
-use Rattle.cur_looks.specs.declared.inks.Ink.{Ink}
+use Rattle.cur_steps.specs.Inks.{mixed}
+use Rattle.cur_steps.specs.declared.inks.Ink.{Ink}
 use Rattle.cur_paint.specs.Differ.{span}
 use Rattle.ti_conforms.specs.Certified.{IsLost, cell_limit}
-use Rattle.cur_looks.specs.Pieces.{IsPaint}
-use Rattle.cur_looks.specs.Beliefs.{Agrees}
+use Rattle.cur_steps.specs.Pieces.{IsPaint}
+use Rattle.cur_steps.specs.Beliefs.{Agrees}
 use Rattle.cur_wires.proofs.Stops.{steps_wider}
 use Rattle.cur_paint.proofs.Mixtures.{like_alike}
 use Rattle.cur_paint.proofs.spans.print_alike.Goals as goal

@@ -1,12 +1,12 @@
 use Rattle.std.proofs.Common.{◌+◌, ◌*◌}
-use Rattle.cur_looks.specs.Inks.{mixed, put_at}
+use Rattle.cur_steps.specs.Inks.{mixed, put_at}
 use Rattle.cur_paint.specs.Differ.{differs}
 use Rattle.ti_conforms.specs.Certified.{IsLost, cell_limit}
-use Rattle.cur_looks.specs.Pieces.{IsPaint}
-use Rattle.cur_looks.specs.Beliefs.{Agrees}
+use Rattle.cur_steps.specs.Pieces.{IsPaint}
+use Rattle.cur_steps.specs.Beliefs.{Agrees}
 use Rattle.cur_wires.proofs.Stops.{steps_wider}
 use Rattle.cur_paint.proofs.Mixtures.{agrees_as, mixed_before, put_new}
-use Rattle.cur_looks.proofs.Answers.{once}
+use Rattle.cur_steps.proofs.Answers.{once}
 use Rattle.cur_paint.proofs.spans.print_cell.Goals as goal
 
 pub returns-clause-step : goal.returns-clause-step

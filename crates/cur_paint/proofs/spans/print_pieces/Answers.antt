@@ -1,12 +1,12 @@
 use Rattle.std.proofs.Common.{◌≡◌, ◌+◌, ◌*◌, Ok, refl, sym, ◌∙◌, arith}
 use Rattle.std.proofs.lemmas.Result.{err_from_is_err_and}
-use Rattle.cur_looks.specs.Inks.{mixed}
+use Rattle.cur_steps.specs.Inks.{mixed}
 use Rattle.cur_paint.specs.Differ.{differs, span}
 use Rattle.ti_conforms.specs.Certified.{IsLost, cell_limit}
-use Rattle.cur_looks.specs.Pieces.{IsPaint}
-use Rattle.cur_looks.specs.Beliefs.{Agrees}
+use Rattle.cur_steps.specs.Pieces.{IsPaint}
+use Rattle.cur_steps.specs.Beliefs.{Agrees}
 use Rattle.cur_wires.proofs.Stops.{steps_nothing, steps_next, steps_fail, steps_wider}
-use Rattle.cur_looks.proofs.Actions.{agrees_lost}
+use Rattle.cur_steps.proofs.Actions.{agrees_lost}
 use Rattle.cur_paint.proofs.Mixtures.{span_first, span_join, span_more, span_grows, times_grows, sum_limit, agrees_as, agrees_at, mixed_same, found_same, found_different}
 use Rattle.cur_paint.proofs.SpanFacts.{first_then}
 use Rattle.cur_paint.proofs.spans.print_pieces.Goals as goal

@@ -2,10 +2,10 @@ use Rattle.std.proofs.Common.{◌≡◌, ◌+◌, ℕ, List, Option, Some, Err, 
 use Rattle.std.proofs.lemmas.Result.{err_from_is_err_and}
 use Rattle.cur_wires.specs.declared.wires.WireFault.{WireFault}
 use Rattle.ti_rows.specs.declared.rows.Row.TheVariants.{Clear}
-use Rattle.cur_looks.specs.declared.beliefs.Belief.{Belief}
-use Rattle.cur_looks.specs.Beliefs.{Agrees}
-use Rattle.cur_looks.proofs.Actions.{agrees_lost}
-use Rattle.cur_looks.proofs.Answers.{line_is}
+use Rattle.cur_steps.specs.declared.beliefs.Belief.{Belief}
+use Rattle.cur_steps.specs.Beliefs.{Agrees}
+use Rattle.cur_steps.proofs.Actions.{agrees_lost}
+use Rattle.cur_steps.proofs.Answers.{line_is}
 use Rattle.cur_paint.specs.Cleared.{at_corner, cleared}
 use Rattle.cur_paint.specs.Limits.{paint_limit}
 use Rattle.cur_paint.specs.Update.{Anew}

@@ -2,9 +2,9 @@ use Rattle.std.proofs.Common.{◌≡◌, ℕ, ◌+◌, List, [], ◌∷◌, Some
 use Rattle.std.proofs.lemmas.List.{append-nil}
 use Rattle.ti_conforms.specs.Certified.{Table}
 use Rattle.ti_rows.specs.declared.rows.Row.TheVariants.{Clear}
-use Rattle.cur_looks.specs.Beliefs.{Agrees}
+use Rattle.cur_steps.specs.Beliefs.{Agrees}
 use Rattle.cur_paint.specs.Cleared.{at_corner, cleared}
-use Rattle.cur_looks.specs.Pieces.{Stroke}
+use Rattle.cur_steps.specs.Pieces.{Stroke}
 use Rattle.cur_paint.specs.Limits.{paint_limit}
 use Rattle.cur_paint.specs.Modes.{IsPainted}
 use Rattle.cur_paint.proofs.Bounds.{fewer_enough}

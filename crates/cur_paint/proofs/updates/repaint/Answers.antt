@@ -1,9 +1,9 @@
 use Rattle.std.proofs.Common.{ℕ, length, arith}
 use Rattle.std.proofs.lemmas.Result.{err_from_is_err_and}
-use Rattle.cur_looks.specs.declared.inks.Ink.{Ink}
-use Rattle.cur_looks.specs.Inks.{blank_ink}
-use Rattle.cur_looks.specs.Beliefs.{Agrees}
-use Rattle.cur_looks.proofs.Actions.{agrees_lost}
+use Rattle.cur_steps.specs.declared.inks.Ink.{Ink}
+use Rattle.cur_steps.specs.Inks.{blank_ink}
+use Rattle.cur_steps.specs.Beliefs.{Agrees}
+use Rattle.cur_steps.proofs.Actions.{agrees_lost}
 use Rattle.cur_paint.specs.Cleared.{IsLeft, at_start}
 use Rattle.cur_paint.specs.Limits.{fresh_limit, paint_limit}
 use Rattle.cur_paint.proofs.Bounds.{fresh_enough}

@@ -1,5 +1,5 @@
 use Rattle.std.proofs.Common.{ap, of_z, to_z, w32}
-use Rattle.cur_drawing.specs.Marks.{Marking}
+use Rattle.cur_screens.specs.Marks.{Marking}
 use Rattle.cur_windows.proofs.TouchedFacts.{shows_full}
 use Rattle.cur_play.proofs.MarkFacts.{init_pair_grid, keeps_all, keeps_same, shown_on}
 use Rattle.cur_play.proofs.drawings.show.Goals as goal

@@ -1,5 +1,5 @@
 use Rattle.std.proofs.Common.{refl, ap}
-use Rattle.cur_windows.specs.VirtualScreen.{Screen}
+use Rattle.cur_screens.specs.VirtualScreen.{Screen}
 use Rattle.cur_play.proofs.MarkFacts.{same_cells, same_shown}
 use Rattle.cur_play.proofs.sends.update.Goals as goal
 

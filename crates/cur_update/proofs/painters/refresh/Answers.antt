@@ -2,10 +2,10 @@ use Rattle.std.proofs.Common.{◌≡◌, ◌∙◌, ℕ, List, ◌++◌, ap, len
 use Rattle.std.proofs.Math.ListN.{drop, take}
 use Rattle.std.proofs.Math.Seq.{take-append_seam}
 use Rattle.std.proofs.lemmas.Result.{err_from_is_err_and}
-use Rattle.cur_looks.specs.Inks.{CanShow}
-use Rattle.cur_looks.specs.declared.inks.Ink.{Ink}
-use Rattle.cur_windows.specs.VirtualScreen.{default_colors}
-use Rattle.cur_windows.specs.declared.virtual_screen.Colors.{Colors}
+use Rattle.cur_steps.specs.Inks.{CanShow}
+use Rattle.cur_steps.specs.declared.inks.Ink.{Ink}
+use Rattle.cur_screens.specs.VirtualScreen.{default_colors}
+use Rattle.cur_screens.specs.declared.virtual_screen.Colors.{Colors}
 use Rattle.cur_paint.specs.Update.{CutShort, Refreshed}
 use Rattle.cur_update.specs.Inks.{ink_at, ink_at_with}
 use Rattle.cur_paint.specs.declared.changes.Columns.{Columns}

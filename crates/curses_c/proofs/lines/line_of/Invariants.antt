@@ -1,6 +1,6 @@
 use Rattle.std.proofs.Common.{◌≡◌, ◌≤◌, ◌+◌, get_or, length}
 use Rattle.std.specs.Prelude.{option_map}
-use Rattle.cur_calls.specs.Cuts.{parts_left, left_size}
+use Rattle.cur_scripts.specs.Cuts.{parts_left, left_size}
 use Rattle.curses_c.specs.Lines.{call_lines, line_of}
 use Rattle.curses_c.proofs.lines.line_of.Given as goal
 

@@ -1,6 +1,6 @@
 use Rattle.std.proofs.Common.{◌≡◌, ◌∙◌, ℕ, ap, subst, sym}
 use Rattle.cur_windows.specs.Desks.{State}
-use Rattle.cur_windows.specs.VirtualScreen.{Screen, new_screen}
+use Rattle.cur_screens.specs.VirtualScreen.{Screen, new_screen}
 use Rattle.ti_conforms.specs.Certified.{IsChecked, Table}
 use Rattle.cur_windows.proofs.TouchedFacts.{shows_full}
 use Rattle.cur_play.proofs.MarkFacts.{same_shown}

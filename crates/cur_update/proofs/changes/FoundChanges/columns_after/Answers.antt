@@ -1,5 +1,5 @@
 use Rattle.std.proofs.Common.{◌≡◌, ◌∙◌, ℕ, Option, ap}
-use Rattle.cur_scrolls.specs.Scrolls.{cell_of, shifted}
+use Rattle.cur_moves.specs.Scrolls.{cell_of, shifted}
 use Rattle.cur_update.proofs.changes.FoundChanges.columns_after.Goals as goal
 
 pub returns-in-Some-clause-same : goal.returns-in-Some-clause-same

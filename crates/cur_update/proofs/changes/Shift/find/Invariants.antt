@@ -1,6 +1,6 @@
 -- The columns of the lines from the first one that may differ to the one before this one were found.
 use Rattle.std.proofs.Common.{◌≡◌, ℕ, length}
-use Rattle.cur_looks.specs.declared.inks.Ink.{Ink}
+use Rattle.cur_steps.specs.declared.inks.Ink.{Ink}
 use Rattle.cur_update.specs.Shift.{AreFoundIn, IsShift}
 use Rattle.cur_update.proofs.changes.Shift.find.Given as goal
 

@@ -2,9 +2,9 @@ use Rattle.std.proofs.Common.{◌≡◌, ◌∙◌, ℕ, arith, false, inl, inr,
 use Rattle.std.proofs.lemmas.Bool.{cases_lt}
 use Rattle.std.proofs.lemmas.List.{get_or_read_under, get_or-set_other, length-set}
 use Rattle.cur_drawing.specs.Cells.{Content, space}
-use Rattle.cur_looks.specs.Inks.{same}
-use Rattle.cur_looks.proofs.StretchFacts.{one_more}
-use Rattle.cur_windows.specs.VirtualScreen.{colors_at}
+use Rattle.cur_steps.specs.Inks.{same}
+use Rattle.cur_steps.proofs.StretchFacts.{one_more}
+use Rattle.cur_screens.specs.VirtualScreen.{colors_at}
 use Rattle.cur_update.specs.Inks.{is_other, printed_cell}
 use Rattle.cur_update.proofs.Plainly.{other_told, told_other}
 use Rattle.cur_update.proofs.screens.PrintedScreen.line_shows.Goals as goal

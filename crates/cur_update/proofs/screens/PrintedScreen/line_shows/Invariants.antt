@@ -1,7 +1,7 @@
 -- For the cells that were gone through it is noted whether they are printed so; of the others, whether they may be.
 use Rattle.std.proofs.Common.{◌≡◌, ◌<◌, ◌≤◌, ℕ, false, length, not, slice_index_or}
 use Rattle.cur_drawing.specs.Cells.{space}
-use Rattle.cur_looks.specs.Inks.{same}
+use Rattle.cur_steps.specs.Inks.{same}
 use Rattle.cur_update.specs.Inks.{is_other, printed_cell}
 use Rattle.cur_update.proofs.screens.PrintedScreen.line_shows.Given as goal
 

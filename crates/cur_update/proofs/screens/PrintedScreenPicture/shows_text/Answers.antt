@@ -1,7 +1,7 @@
 use Rattle.std.proofs.Common.{◌≡◌, ◌+◌, false, slice_index_or, ◌∙◌, arith}
 use Rattle.std.proofs.lemmas.List.{length-set}
-use Rattle.cur_looks.specs.Inks.{same}
-use Rattle.cur_looks.proofs.StretchFacts.{one_more}
+use Rattle.cur_steps.specs.Inks.{same}
+use Rattle.cur_steps.proofs.StretchFacts.{one_more}
 use Rattle.cur_update.specs.Inks.{ink_at_with}
 use Rattle.cur_update.proofs.screens.PrintedScreenPicture.shows_text.Goals as goal
 

@@ -1,5 +1,5 @@
 use Rattle.std.proofs.Common.{◌≡◌, length}
-use Rattle.cur_looks.specs.Stretches.{AreShown}
+use Rattle.cur_steps.specs.Stretches.{AreShown}
 use Rattle.cur_update.specs.Inks.{ink_at_with}
 use Rattle.cur_update.proofs.screens.PrintedScreenPicture.shows_text.Given as goal
 

@@ -1,7 +1,7 @@
 use Rattle.std.proofs.Common.{◌≡◌, ◌+◌, ℕ, Some, Option, ◌∙◌, subst, arith}
 use Rattle.std.proofs.lemmas.List.{length-set}
-use Rattle.cur_looks.specs.Inks.{byte_as}
-use Rattle.cur_looks.proofs.StretchFacts.{one_more}
+use Rattle.cur_steps.specs.Inks.{byte_as}
+use Rattle.cur_steps.proofs.StretchFacts.{one_more}
 use Rattle.cur_update.specs.Inks.{ink_at_with}
 use Rattle.cur_update.proofs.screens.PrintedScreenPicture.text_like.Goals as goal
 

@@ -1,5 +1,5 @@
 use Rattle.std.proofs.Common.{◌≡◌, ◌≤◌, ◌-◌, length}
-use Rattle.cur_looks.specs.Stretches.{AreLike}
+use Rattle.cur_steps.specs.Stretches.{AreLike}
 use Rattle.cur_update.specs.Inks.{ink_at_with}
 use Rattle.cur_update.proofs.screens.PrintedScreenPicture.text_like.Given as goal
 

@@ -3,8 +3,9 @@ use Rattle.cur_drawing.specs.Calls as calls
 use Rattle.cur_drawing.specs.declared.refusals.Refusal.{Refusal}
 use Rattle.cur_drawing.proofs.RefusalFacts as refusing
 use Rattle.cur_drawing.proofs.Stability as staying
-use Rattle.cur_windows.specs.declared.slots.Slot.{Slot}
-use Rattle.cur_windows.specs.Touched.{AreTouched, IsOneCell, IsTouched, MarksCellsAlone}
+use Rattle.cur_screens.specs.declared.slots.Slot.{Slot}
+use Rattle.cur_screens.specs.Touched.{AreTouched, IsOneCell, IsTouched}
+use Rattle.cur_windows.specs.TouchedWindows.{MarksCellsAlone}
 use Rattle.cur_windows.proofs.CellFacts.{StaysInLine, alone_cells, put_answers, put_stays, touched_cells, written_cells}
 use Rattle.cur_windows.proofs.Closures.{closes_canvas}
 use Rattle.cur_windows.proofs.TouchedFacts.{left_by, left_unmarked, touched_by, written_by}

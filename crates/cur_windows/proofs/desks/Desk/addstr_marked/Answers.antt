@@ -2,8 +2,9 @@ use Rattle.std.proofs.Common.{[], ℕ, IfOk, Result, length, inl, inr, refl, sub
 use Rattle.cur_drawing.specs.Calls as calls
 use Rattle.cur_drawing.specs.declared.refusals.Refusal.{Refusal}
 use Rattle.cur_drawing.proofs.Stability as staying
-use Rattle.cur_windows.specs.declared.slots.Slot.{Slot}
-use Rattle.cur_windows.specs.Touched.{AreTouched, FitsLine, IsTouched, MarksCellsAlone}
+use Rattle.cur_screens.specs.declared.slots.Slot.{Slot}
+use Rattle.cur_screens.specs.Touched.{AreTouched, FitsLine, IsTouched}
+use Rattle.cur_windows.specs.TouchedWindows.{MarksCellsAlone}
 use Rattle.cur_windows.proofs.CellFacts.{StaysInLine, alone_cells, text_stays, touched_cells, written_cells}
 use Rattle.cur_windows.proofs.Closures.{closes_canvas}
 use Rattle.cur_windows.proofs.TouchedFacts.{touched_by, written_by}

@@ -1,7 +1,7 @@
 use Rattle.std.proofs.Common.{ap, refl, subst}
 use Rattle.cur_windows.specs.Desks.{IsDesk, State}
-use Rattle.cur_windows.specs.Touched.{Spreads}
-use Rattle.cur_windows.specs.VirtualScreen.{Screen}
+use Rattle.cur_screens.specs.Touched.{Spreads}
+use Rattle.cur_screens.specs.VirtualScreen.{Screen}
 use Rattle.cur_windows.proofs.TouchedFacts.{marks_copied, slot_copied}
 use Rattle.cur_windows.proofs.desks.Desk.copy_slot.Goals as goal
 

@@ -1,8 +1,8 @@
 use Rattle.std.proofs.Common.{ap, subst, sym, refl, Bool, true, false, ◌≡◌, ◌∙◌}
 use Rattle.grids.specs.declared.areas.Area.{Area}
-use Rattle.cur_windows.specs.declared.slots.Origin.{Origin}
+use Rattle.cur_screens.specs.declared.slots.Origin.{Origin}
 use Rattle.cur_windows.specs.Desks.{origin_at}
-use Rattle.cur_windows.specs.Touched.{MarksArea, grid_marks}
+use Rattle.cur_screens.specs.Touched.{MarksArea, grid_marks}
 use Rattle.cur_windows.proofs.desks.Desk.mark_slot.Goals as goal
 
 pub returns-then-origin_of : goal.returns-then-origin_of

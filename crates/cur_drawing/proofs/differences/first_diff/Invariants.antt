@@ -1,6 +1,0 @@
--- The lists are equal before this place.
-use Rattle.cur_drawing.specs.Differences.{AreEqualIn}
-use Rattle.cur_drawing.proofs.differences.first_diff.Given as goal
-
-abbrev pub invariant-loop-k : goal.invariant-loop-k
-invariant-loop-k l = AreEqualIn l.a l.b 0 l.k

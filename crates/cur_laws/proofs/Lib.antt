@@ -1,0 +1,4 @@
+pub mod Copied
+pub mod Places
+pub mod Shares
+pub mod Within

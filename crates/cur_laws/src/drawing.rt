@@ -1,0 +1,76 @@
+//! Laws of the calls on one window, each for all grids and windows.
+ghost use Rattle.std.specs.Prelude.{◌≡◌, ℕ, ◌+◌, ◌<◌, List, ℤ, pos, negsuc};
+ghost use Rattle.cur_drawing.specs.Cells.{restyled};
+ghost use Rattle.cur_drawing.specs.Grids.{Grid};
+ghost use Rattle.cur_drawing.specs.Windows.{content, as_is};
+ghost use Rattle.cur_drawing.specs.Calls as calls;
+ghost use Rattle.cur_drawing.specs.Laws.{IsLocal, ChangesNothingIfRefused, ChangesNothingIfRefusedButNoScroll, cell_of, went_up, went_down, LeavesCells, cell_inserted, cell_deleted, line_inserted, line_deleted};
+
+use cur_drawing::{Border, Put, Window};
+
+/// A call that writes leaves each cell outside its window's rectangle as it was, and the window at its place.
+pub fn writing_stays_inside()
+    ensures addch { (put : Put) → IsLocal (calls.added put) }
+    ensures addstr { (text : List ℕ) → IsLocal (calls.added_all text) }
+    ensures insch { (put : Put) → IsLocal (calls.insert_char put) }
+    ensures hline { (put : Put) (n : ℤ) → IsLocal (calls.horizontal put n) }
+    ensures vline { (put : Put) (n : ℤ) → IsLocal (calls.vertical put n) }
+    ensures border { (border : Border) → IsLocal (calls.bordered border) }
+    ensures bkgd { (put : Put) → IsLocal (calls.change_background put) }
+{}
+
+/// So does one that erases, deletes or scrolls.
+pub fn erasing_stays_inside()
+    ensures erase { IsLocal calls.erased }
+    ensures clear { IsLocal calls.cleared }
+    ensures delch { IsLocal calls.delete_char }
+    ensures insertln { IsLocal calls.insert_line }
+    ensures deleteln { IsLocal calls.delete_line }
+    ensures clrtoeol { IsLocal calls.clear_line }
+    ensures clrtobot { IsLocal calls.clear_bottom }
+    ensures scroll { (n : ℤ) → IsLocal (calls.scroll_by n) }
+{}
+
+/// A scroll up by `n` lines gives each place of the region what was `n` lines below it, or the background; all other
+/// places keep what they had.
+pub fn scroll_up_by_place()
+    ensures { (g : Grid) (w : Window) (n y x : ℕ) → calls.IsCanvas g w → y < w.area.rows → x < w.area.cols →
+        cell_of w (calls.scrolled (pos n) w g) y x ≡ went_up w n g y x }
+{}
+
+/// A scroll down by `n` lines gives each place of the region what was `n` lines above it, or the background.
+pub fn scroll_down_by_place()
+    ensures { (g : Grid) (w : Window) (n y x : ℕ) → calls.IsCanvas g w → y < w.area.rows → x < w.area.cols →
+        cell_of w (calls.scrolled (negsuc n) w g) y x ≡ went_down w (n + 1) g y x }
+{}
+
+/// A call that is refused has changed nothing; a character's only where it isn't `NoScroll`.
+pub fn refusals_change_nothing()
+    ensures addch { (put : Put) → ChangesNothingIfRefusedButNoScroll (calls.added put) }
+    ensures insch { (put : Put) → ChangesNothingIfRefused (calls.insert_char put) }
+    ensures hline { (put : Put) (n : ℤ) → ChangesNothingIfRefused (calls.horizontal put n) }
+    ensures vline { (put : Put) (n : ℤ) → ChangesNothingIfRefused (calls.vertical put n) }
+    ensures border { (border : Border) → ChangesNothingIfRefused (calls.bordered border) }
+    ensures bkgd { (put : Put) → ChangesNothingIfRefused (calls.change_background put) }
+    ensures scroll { (n : ℤ) → ChangesNothingIfRefused (calls.scroll_by n) }
+{}
+
+/// `insch` and `delch` shift the rest of the cursor's line by one place.
+pub fn line_shifts_by_place()
+    ensures insch { (put : Put) →
+        LeavesCells (calls.insert_char put) (λ w g y x. cell_inserted w (content w put) g y x) }
+    ensures delch { LeavesCells calls.delete_char (λ w g y x. cell_deleted w g y x) }
+{}
+
+/// `insertln` and `deleteln` shift the lines from the cursor's to the window's bottom by one line.
+pub fn lines_shift_by_place()
+    ensures insertln { LeavesCells calls.insert_line (λ w g y x. line_inserted w g y x) }
+    ensures deleteln { LeavesCells calls.delete_line (λ w g y x. line_deleted w g y x) }
+{}
+
+/// `bkgd` exchanges the old background for the new one in each cell: its character, its attributes and its pair, each
+/// by itself.
+pub fn background_changes_by_place()
+    ensures { (put : Put)
+        → LeavesCells (calls.change_background put) (λ w g y x. restyled w.background (as_is put) (cell_of w g y x)) }
+{}

@@ -1,0 +1,22 @@
+use Rattle.std.proofs.Common.{arith}
+use Rattle.std.proofs.lemmas.Result.{err_from_is_err_and}
+use Rattle.cur_wires.proofs.Stops.{steps_fail, steps_next}
+use Rattle.ti_conforms.specs.Certified.{IsLost}
+use Rattle.cur_steps.specs.Pieces.{IsPaint}
+use Rattle.cur_steps.specs.Beliefs.{Agrees, plain_limit}
+use Rattle.cur_moves.proofs.cells.plainly_as.Goals as goal
+
+pub returns-in_err-colors_off-clause-step : goal.returns-in_err-colors_off-clause-step
+returns-in_err-colors_off-clause-step g c h =
+    let e = err_from_is_err_and c.from_residual.result c.from_residual.ensures.1 in
+    let t = g.C.Certificate.table c.args.checked.now in
+    let b = c.args.belief.now in
+    rw e.1 (steps_fail g.W.Wire.went g.W.Wire.failures c.args.wire.now c.colors_off.new.wire _ _ (IsPaint t) (t.longest.op) (plain_limit t) (IsLost t) (Agrees t h b) (Agrees t h c.colors_off.new.belief) (Agrees t h c.colors_off.new.belief)
+    (omega arith) (c.in_err-colors_off.ensures.step h))
+
+pub returns-clause-step : goal.returns-clause-step
+returns-clause-step g c h =
+    let t = g.C.Certificate.table c.args.checked.now in
+    let b = c.args.belief.now in
+    steps_next g.W.Wire.went g.W.Wire.failures g.met.W.Wire.lawful c.args.wire.now c.colors_off.new.wire c.attributes_as.new.wire _ c.attributes_as.result (IsPaint t) (t.longest.op) (t.longest.sgr) (plain_limit t) (IsLost t)
+    (Agrees t h b) (Agrees t h c.colors_off.new.belief) (Agrees t h c.attributes_as.new.belief) (omega arith) (c.in_ok-colors_off.ensures.step h) (c.attributes_as.ensures.step h)

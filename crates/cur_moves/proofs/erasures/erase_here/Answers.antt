@@ -1,0 +1,12 @@
+use Rattle.cur_moves.specs.Erasures.{erased}
+use Rattle.cur_moves.proofs.Blanks.{erasure_limit, erasure_paints, turns_erased}
+use Rattle.cur_moves.proofs.erasures.erase_here.Goals as goal
+
+pub returns : goal.returns
+returns g c =
+    let t = g.C.Certificate.table c.args.checked.now in
+    let b = c.args.belief.now in
+    let e = c.args.erasure in
+    record {
+      step = λ h. rw c.row_of_erasure.ensures at c.send_line.ensures.step t.longest.erasure h (erased e c.args.at.row c.args.at.col h) b b (erasure_paints e) (erasure_limit t e) (turns_erased t h b e c.args.at.row c.args.at.col c.requires.col c.requires.place c.requires.brush);
+    }

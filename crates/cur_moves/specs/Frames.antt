@@ -1,0 +1,69 @@
+-- (Serves the code alone.) A terminal whose margins may be set, in the plain brush.
+use Rattle.std.specs.Prelude.{ℕ, ◌-◌, ◌<◌, ◌≡◌, true, false, Option, Some, None, List, [], Result}
+use Rattle.vt_term.specs.Grid.{look_at}
+use Rattle.vt_term.specs.Screen.{Screen, State, IsOfSize, is_graphic}
+use Rattle.vt_effects.specs.Settings.{IsTame}
+use Rattle.cur_wires.specs.Steps.{Steps}
+use Rattle.ti_rows.specs.declared.rows.Row.{Row}
+use Rattle.ti_rows.specs.declared.rows.Row.TheVariants.{Cnorm}
+use Rattle.ti_rows.specs.Starts.{Starts}
+use Rattle.ti_conforms.specs.Certified.{Table, IsLost, Ended, has}
+use Rattle.cur_steps.specs.Pieces.{IsPaint}
+use Rattle.cur_steps.specs.Inks.{rendition_of, look_of, plain_brush}
+use Rattle.cur_steps.specs.Beliefs.{IsHere, IsSo, IsSeen}
+use Rattle.cur_steps.specs.declared.beliefs.Belief.{Belief}
+use Rattle.cur_steps.specs.declared.beliefs.Place.{Place}
+use Rattle.cur_steps.specs.declared.inks.Ink.{Ink}
+use Rattle.cur_moves.specs.Scrolls.{edge}
+use Rattle.cur_moves.specs.declared.scrolls.Scroll.{Scroll}
+
+-- the margins, the cells, and where the cursor is, if that is known
+pub record Frame : Type 0 where
+  pub top : ℕ
+  pub bottom : ℕ
+  pub cells : ℕ → ℕ → Ink
+  pub place : Option Place
+
+abbrev pub IsThere : ℕ → Option Place → Screen → Type 0
+IsThere cols None s = Unit {0}
+IsThere cols (Some p) s = IsHere cols p s.row s.col s.pending
+
+-- ready but for the margins, which are these, with these cells on the screen; the brush is the plain one, and of the
+-- sets and the cursor's mode that is so which is believed
+pub record Framed (t : Table) (f : Frame) (b : Belief) (s : State) : Type 0 where
+  pub sized : IsOfSize t.rows t.cols s
+  pub rest : s.rest ≡ []
+  pub tame : IsTame s.screen
+  pub top : s.screen.top ≡ f.top
+  pub bottom : s.screen.bottom ≡ f.bottom
+  pub settled : t.settled s.screen.charset ≡ true
+  pub visible : has t Cnorm ≡ false → s.screen.visible ≡ true
+  pub cells : (i j : ℕ) → i < t.rows → j < t.cols → look_at s.screen.grid i j ≡ look_of t.looks (f.cells i j)
+  pub place : IsThere t.cols f.place s.screen
+  pub plain : s.screen.rendition ≡ rendition_of t.looks plain_brush
+  pub set : IsSo b.graphic (is_graphic s.screen.charset)
+  pub seen : IsSeen b.mode s.screen.visible
+
+-- a row's line leads from the one frame to the other
+pub record Reframes (t : Table) (row : Row) (f h : Frame) (b : Belief) : Type 0 where
+  pub starts : (s : State) → Framed t f b s → Starts t.rows t.cols row s.screen
+  pub ends : (s u : State) → Framed t f b s → IsOfSize t.rows t.cols u → u.rest ≡ []
+      → Ended t row s.screen u.screen → Framed t h b u
+
+-- a step from one frame to the other, which sends at most limit bytes
+abbrev pub Moves : {W T E : Type 0} → (W → W → List ℕ → Type 0) → (W → ℕ) → W → W → Result T E → Table → ℕ
+    → Frame → Frame → Belief → Type 0
+Moves went failures before after answer t limit f h b =
+    Steps went failures before after answer (IsPaint t) limit (IsLost t) (Framed t f b) (Framed t h b)
+
+-- these margins, with the cursor in the column before all others of this line
+abbrev pub framed : ℕ → ℕ → (ℕ → ℕ → Ink) → ℕ → Frame
+framed top bottom g row = record { top = top; bottom = bottom; cells = g; place = Some (record { row = row; col = 0 }) }
+
+-- a scroll's margins, with the cursor where it makes the region scroll
+abbrev pub at_edge : Scroll → (ℕ → ℕ → Ink) → Frame
+at_edge x g = framed x.top x.bottom g (edge x)
+
+-- the whole screen, with the cursor in this line
+abbrev pub whole : Table → (ℕ → ℕ → Ink) → ℕ → Frame
+whole t g row = framed 0 (t.rows - 1) g row

@@ -1,0 +1,247 @@
+//! A cell, and the end of a line, each in as few of the single steps as its look needs.
+ghost use Rattle.std.specs.Prelude.{◌≡◌, ◌<◌, ℕ, true, Some, None, OnOk, IfOk};
+ghost use Rattle.ti_rows.specs.declared.rows.Row.TheVariants.{El};
+ghost use Rattle.ti_conforms.specs.Certified.{IsChecked, cell_limit};
+ghost use Rattle.cur_steps.specs.Inks.{CanShow, IsInk, IsColored, put_at, tail_blank, plain_brush};
+ghost use Rattle.cur_steps.specs.Beliefs.{IsNext, plain_limit, colors_limit, brush_limit, ready_limit, stamp_limit, ink_limit};
+ghost use Rattle.cur_steps.specs.Steps.{IsGoal, Keeps, KeepsFrom, Makes, MakesFrom};
+
+use crate::reaches::reach;
+use crate::routes::is_alike;
+use crate::targets::Target;
+use cur_steps::{
+    Belief, Brush, Ink, Picture, Place, attributes_as, background_as, colors_off, erase_tail,
+    foreground_as, print_at, same_attributes, set_as, stands,
+};
+use cur_wires::{Wire, WireFault};
+use ti_conforms::Certificate;
+use ti_rows::Attributes;
+use vt_term::Color;
+
+/// Makes the attributes `wanted`, and the colours the default ones.
+fn plainly_as<C: Certificate, W: Wire>(
+    checked: &C,
+    belief: &mut Belief,
+    wire: &mut W,
+    wanted: Attributes,
+) -> Result<(), WireFault>
+    requires checked { IsChecked (C.table checked.now) }
+    ensures brush { OnOk result
+        (belief.new.brush ≡ record { attributes = wanted; foreground = None; background = None }) }
+    ensures place { OnOk result (belief.new.place ≡ belief.old.place) }
+    ensures step { Keeps W.went W.failures wire.old wire.new result (C.table checked.now)
+        (plain_limit (C.table checked.now)) belief.old belief.new }
+    ensures mode { OnOk result (belief.new.mode ≡ belief.old.mode) }
+{
+    colors_off(checked, belief, wire)?;
+    attributes_as(checked, belief, wire, wanted)
+}
+
+/// Makes the colours those of `wanted`, where none of them becomes the default one.
+fn colors_as<C: Certificate, W: Wire>(
+    checked: &C,
+    belief: &mut Belief,
+    wire: &mut W,
+    wanted: Brush,
+) -> Result<(), WireFault>
+    requires checked { IsChecked (C.table checked.now) }
+    requires attributes { belief.old.brush.attributes ≡ wanted.attributes }
+    requires foreground { wanted.foreground ≡ None → belief.old.brush.foreground ≡ None }
+    requires background { wanted.background ≡ None → belief.old.brush.background ≡ None }
+    requires colored { IsColored (C.table checked.now) wanted }
+    ensures brush { OnOk result (belief.new.brush ≡ wanted) }
+    ensures place { OnOk result (belief.new.place ≡ belief.old.place) }
+    ensures step { Keeps W.went W.failures wire.old wire.new result (C.table checked.now)
+        (colors_limit (C.table checked.now)) belief.old belief.new }
+    ensures mode { OnOk result (belief.new.mode ≡ belief.old.mode) }
+{
+    foreground_as(checked, belief, wire, wanted.foreground)?;
+    background_as(checked, belief, wire, wanted.background)
+}
+
+/// Whether a colour is `wanted`, or `now` the default one is there already.
+fn needs_no_default(now: Option<Color>, wanted: Option<Color>) -> bool
+    ensures { result ≡ true → wanted ≡ None → now ≡ None }
+{
+    matches!((now, wanted), (None, _) | (_, Some(_)))
+}
+
+/// Whether no colour of the brush `now` becomes the default one in `wanted`.
+fn needs_no_defaults(now: Brush, wanted: Brush) -> bool
+    ensures foreground { result ≡ true → wanted.foreground ≡ None → now.foreground ≡ None }
+    ensures background { result ≡ true → wanted.background ≡ None → now.background ≡ None }
+{
+    needs_no_default(now.foreground, wanted.foreground)
+        && needs_no_default(now.background, wanted.background)
+}
+
+/// Whether the brush `now` becomes `wanted` by its colours, none of which becomes the default one.
+fn is_recolored(now: Brush, wanted: Brush) -> bool
+    ensures attributes { result ≡ true → now.attributes ≡ wanted.attributes }
+    ensures foreground { result ≡ true → wanted.foreground ≡ None → now.foreground ≡ None }
+    ensures background { result ≡ true → wanted.background ≡ None → now.background ≡ None }
+{
+    same_attributes(now.attributes, wanted.attributes) && needs_no_defaults(now, wanted)
+}
+
+/// Makes the brush `wanted`.
+pub fn brush_as<C: Certificate, W: Wire>(
+    checked: &C,
+    belief: &mut Belief,
+    wire: &mut W,
+    wanted: Brush,
+) -> Result<(), WireFault>
+    requires checked { IsChecked (C.table checked.now) }
+    requires colored { IsColored (C.table checked.now) wanted }
+    ensures brush { OnOk result (belief.new.brush ≡ wanted) }
+    ensures place { OnOk result (belief.new.place ≡ belief.old.place) }
+    ensures step { Keeps W.went W.failures wire.old wire.new result (C.table checked.now)
+        (brush_limit (C.table checked.now)) belief.old belief.new }
+    ensures mode { OnOk result (belief.new.mode ≡ belief.old.mode) }
+{
+    if is_recolored(belief.brush, wanted) {
+        return colors_as(checked, belief, wire, wanted);
+    }
+    plainly_as(checked, belief, wire, wanted.attributes)?;
+    colors_as(checked, belief, wire, wanted)
+}
+
+/// Moves the cursor to `at`, in a line that is shown as far as that place, and makes the brush `wanted`.
+pub(crate) fn reach_in_brush<C: Certificate, N: Picture, W: Wire>(
+    target: &Target<'_, C, N>,
+    belief: &mut Belief,
+    wire: &mut W,
+    at: Place,
+    wanted: Brush,
+) -> Result<(), WireFault>
+    requires goal { IsGoal (C.table target.now.checked.now) at }
+    requires drawable { CanShow (C.table target.now.checked.now) (N.cells target.now.shown.now) }
+    requires colored { IsColored (C.table target.now.checked.now) wanted }
+    ensures brush { OnOk result (belief.new.brush ≡ wanted) }
+    ensures place { OnOk result (belief.new.place ≡ at) }
+    ensures step { KeepsFrom W.went W.failures wire.old wire.new result (C.table target.now.checked.now)
+        (ready_limit (C.table target.now.checked.now)) (N.cells target.now.shown.now) at belief.old belief.new }
+    ensures mode { OnOk result (belief.new.mode ≡ belief.old.mode) }
+{
+    reach(target, belief, wire, at)?;
+    brush_as(target.checked, belief, wire, wanted)
+}
+
+/// Prints `ink` in its set at `at`, where the next character is known to go, in the brush that is known.
+fn print_in_set<C: Certificate, W: Wire>(
+    checked: &C,
+    belief: &mut Belief,
+    wire: &mut W,
+    at: Place,
+    ink: Ink,
+) -> Result<(), WireFault>
+    requires goal { IsGoal (C.table checked.now) at }
+    requires ink { IsInk (C.table checked.now) ink }
+    requires place { IsNext (C.table checked.now).cols belief.old.place at.row at.col }
+    requires brush { belief.old.brush ≡ ink.brush }
+    ensures step { Makes W.went W.failures wire.old wire.new result (C.table checked.now)
+        (stamp_limit (C.table checked.now)) (put_at at.row at.col ink) belief.old belief.new }
+    ensures mode { OnOk result (belief.new.mode ≡ belief.old.mode) }
+{
+    set_as(checked, belief, wire, ink.graphic)?;
+    print_at(checked, belief, wire, at, ink)
+}
+
+/// Whether the cursor is at `place` with a wrap pending that takes the next character to `at`.
+fn wraps_to(place: Place, cols: usize, at: Place) -> bool
+    ensures { result ≡ true → IsNext cols place at.row at.col }
+{
+    at.col == 0 && at.row > 0 && place.row == at.row - 1 && place.col == cols
+}
+
+/// Takes the next character to `at`, in a line that is shown as far as that place.
+fn approach<C: Certificate, N: Picture, W: Wire>(
+    target: &Target<'_, C, N>,
+    belief: &mut Belief,
+    wire: &mut W,
+    at: Place,
+) -> Result<(), WireFault>
+    requires goal { IsGoal (C.table target.now.checked.now) at }
+    requires drawable { CanShow (C.table target.now.checked.now) (N.cells target.now.shown.now) }
+    ensures place { OnOk result (IsNext (C.table target.now.checked.now).cols belief.new.place at.row at.col) }
+    ensures step { KeepsFrom W.went W.failures wire.old wire.new result (C.table target.now.checked.now)
+        (C.table target.now.checked.now).longest.cup (N.cells target.now.shown.now) at belief.old belief.new }
+    ensures mode { OnOk result (belief.new.mode ≡ belief.old.mode) }
+{
+    if stands(belief.place, at) {
+        return Ok(());
+    }
+    if wraps_to(belief.place, target.checked.cols(), at) {
+        return Ok(());
+    }
+    reach(target, belief, wire, at)
+}
+
+/// Prints `ink` at `at`, where the next character is known to go.
+fn put_here<C: Certificate, W: Wire>(
+    checked: &C,
+    belief: &mut Belief,
+    wire: &mut W,
+    at: Place,
+    ink: Ink,
+) -> Result<(), WireFault>
+    requires goal { IsGoal (C.table checked.now) at }
+    requires ink { IsInk (C.table checked.now) ink }
+    requires place { IsNext (C.table checked.now).cols belief.old.place at.row at.col }
+    ensures step { Makes W.went W.failures wire.old wire.new result (C.table checked.now)
+        (ink_limit (C.table checked.now)) (put_at at.row at.col ink) belief.old belief.new }
+    ensures mode { OnOk result (belief.new.mode ≡ belief.old.mode) }
+{
+    if is_alike(belief, ink) {
+        return print_at(checked, belief, wire, at, ink);
+    }
+    brush_as(checked, belief, wire, ink.brush)?;
+    print_in_set(checked, belief, wire, at, ink)
+}
+
+/// Prints `ink` at `at`, in a line that is shown as far as that place.
+#[inline(always)]
+pub fn put_cell<C: Certificate, N: Picture, W: Wire>(
+    target: &Target<'_, C, N>,
+    belief: &mut Belief,
+    wire: &mut W,
+    at: Place,
+    ink: Ink,
+) -> Result<(), WireFault>
+    requires drawable { CanShow (C.table target.now.checked.now) (N.cells target.now.shown.now) }
+    requires row { at.row < (C.table target.now.checked.now).rows }
+    requires col { at.col < (C.table target.now.checked.now).cols }
+    requires ink { IsInk (C.table target.now.checked.now) ink }
+    ensures step { MakesFrom W.went W.failures wire.old wire.new result (C.table target.now.checked.now)
+        (cell_limit (C.table target.now.checked.now)) (N.cells target.now.shown.now) at (put_at at.row at.col ink)
+        belief.old belief.new }
+    ensures mode { OnOk result (belief.new.mode ≡ belief.old.mode) }
+{
+    // only this call's contract says that the certificate is verified
+    let _ = target.checked.rows();
+    approach(target, belief, wire, at)?;
+    put_here(target.checked, belief, wire, at, ink)
+}
+
+/// Makes a line that is shown as far as `at` blank from there on, by the string `tail`.
+pub fn blank_tail<C: Certificate, N: Picture, W: Wire>(
+    target: &Target<'_, C, N>,
+    belief: &mut Belief,
+    wire: &mut W,
+    at: Place,
+    tail: &[u8],
+) -> Result<(), WireFault>
+    requires drawable { CanShow (C.table target.now.checked.now) (N.cells target.now.shown.now) }
+    requires row { at.row < (C.table target.now.checked.now).rows }
+    requires col { at.col < (C.table target.now.checked.now).cols }
+    requires tail { (C.table target.now.checked.now).line_of El ≡ Some tail.now }
+    ensures step { MakesFrom W.went W.failures wire.old wire.new result (C.table target.now.checked.now)
+        (cell_limit (C.table target.now.checked.now)) (N.cells target.now.shown.now) at (tail_blank at.row at.col)
+        belief.old belief.new }
+    ensures mode { OnOk result (belief.new.mode ≡ belief.old.mode) }
+{
+    // only this call's contract says that the certificate is verified
+    let _ = target.checked.rows();
+    reach_in_brush(target, belief, wire, at, Brush::plain())?;
+    erase_tail(target.checked, tail, belief, wire, at)
+}

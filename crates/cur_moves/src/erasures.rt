@@ -1,0 +1,129 @@
+//! Erasures but for that of a line's end, each from a place and in the plain brush.
+ghost use Rattle.std.specs.Prelude.{◌≡◌, ◌<◌, ℕ, Some, None, OnOk, IfSome};
+ghost use Rattle.ti_conforms.specs.Certified.{IsChecked, cell_limit};
+ghost use Rattle.cur_steps.specs.Inks.{CanShow, plain_brush};
+ghost use Rattle.cur_steps.specs.Beliefs.{ready_limit};
+ghost use Rattle.cur_moves.specs.Erasures.{erasure_row, erased};
+ghost use Rattle.cur_steps.specs.Steps.{IsGoal, Keeps, Makes, MakesFrom};
+
+use crate::cells::{brush_as, reach_in_brush};
+use crate::reaches::reach_by_line;
+use crate::targets::Target;
+use cur_steps::{Belief, Brush, Picture, Place, send_line};
+use cur_wires::{Wire, WireFault};
+use ti_conforms::Certificate;
+use ti_rows::Row;
+
+/// What is erased.
+#[derive(Clone, Copy)]
+pub enum ErasedPart {
+    /// The cursor's line as far as the cursor, its place included.
+    Head,
+    /// This many cells of the cursor's line, from the cursor on.
+    Part(u16),
+    /// The cursor's line from the cursor on, and all lines below.
+    Rest,
+}
+
+/// The row whose line erases `erasure`.
+fn row_of_erasure(erasure: ErasedPart) -> Row
+    ensures { result ≡ erasure_row erasure }
+{
+    match erasure {
+        ErasedPart::Head => Row::El1,
+        ErasedPart::Part(count) => Row::Ech(count),
+        ErasedPart::Rest => Row::Ed,
+    }
+}
+
+/// The line that erases `erasure`, if there is one.
+pub fn erasing_line<C: Certificate>(checked: &C, erasure: ErasedPart) -> Option<&[u8]>
+    ensures value { IfSome result (λ b. (C.table checked.now).line_of (erasure_row erasure) ≡ Some b.now) }
+    ensures none { result ≡ None → (C.table checked.now).line_of (erasure_row erasure) ≡ None }
+{
+    checked.line(row_of_erasure(erasure))
+}
+
+/// Erases `erasure` by its string `line`, from `at`, where the cursor is known to be.
+fn erase_here<C: Certificate, W: Wire>(
+    checked: &C,
+    line: &[u8],
+    belief: &Belief,
+    wire: &mut W,
+    at: Place,
+    erasure: ErasedPart,
+) -> Result<(), WireFault>
+    requires checked { IsChecked (C.table checked.now) }
+    requires col { at.col < (C.table checked.now).cols }
+    requires line { (C.table checked.now).line_of (erasure_row erasure) ≡ Some line.now }
+    requires place { belief.now.place ≡ at }
+    requires brush { belief.now.brush ≡ plain_brush }
+    ensures step { Makes W.went W.failures wire.old wire.new result (C.table checked.now)
+        (C.table checked.now).longest.erasure (erased erasure at.row at.col) belief.now belief.now }
+{
+    send_line(checked, row_of_erasure(erasure), line, wire)
+}
+
+/// Moves the cursor to `at`, whatever is shown, and makes the brush plain.
+fn reach_plainly<C: Certificate, W: Wire>(
+    checked: &C,
+    belief: &mut Belief,
+    wire: &mut W,
+    at: Place,
+) -> Result<(), WireFault>
+    requires goal { IsGoal (C.table checked.now) at }
+    ensures brush { OnOk result (belief.new.brush ≡ plain_brush) }
+    ensures place { OnOk result (belief.new.place ≡ at) }
+    ensures step { Keeps W.went W.failures wire.old wire.new result (C.table checked.now)
+        (ready_limit (C.table checked.now)) belief.old belief.new }
+    ensures mode { OnOk result (belief.new.mode ≡ belief.old.mode) }
+{
+    reach_by_line(checked, belief, wire, at)?;
+    brush_as(checked, belief, wire, Brush::plain())
+}
+
+/// Erases `erasure` by its string `line`, from the place `at` of a line that is shown as far as that place.
+pub fn erase_from<C: Certificate, N: Picture, W: Wire>(
+    target: &Target<'_, C, N>,
+    belief: &mut Belief,
+    wire: &mut W,
+    at: Place,
+    erasure: ErasedPart,
+    line: &[u8],
+) -> Result<(), WireFault>
+    requires drawable { CanShow (C.table target.now.checked.now) (N.cells target.now.shown.now) }
+    requires row { at.row < (C.table target.now.checked.now).rows }
+    requires col { at.col < (C.table target.now.checked.now).cols }
+    requires line { (C.table target.now.checked.now).line_of (erasure_row erasure) ≡ Some line.now }
+    ensures step { MakesFrom W.went W.failures wire.old wire.new result (C.table target.now.checked.now)
+        (cell_limit (C.table target.now.checked.now)) (N.cells target.now.shown.now) at (erased erasure at.row at.col)
+        belief.old belief.new }
+    ensures mode { OnOk result (belief.new.mode ≡ belief.old.mode) }
+{
+    // only this call's contract says that the certificate is verified
+    let _ = target.checked.rows();
+    reach_in_brush(target, belief, wire, at, Brush::plain())?;
+    erase_here(target.checked, line, belief, wire, at, erasure)
+}
+
+/// Erases `erasure` by its string `line`, from `at`, whatever is shown.
+pub fn erase_at<C: Certificate, W: Wire>(
+    checked: &C,
+    belief: &mut Belief,
+    wire: &mut W,
+    at: Place,
+    erasure: ErasedPart,
+    line: &[u8],
+) -> Result<(), WireFault>
+    requires row { at.row < (C.table checked.now).rows }
+    requires col { at.col < (C.table checked.now).cols }
+    requires line { (C.table checked.now).line_of (erasure_row erasure) ≡ Some line.now }
+    ensures step { Makes W.went W.failures wire.old wire.new result (C.table checked.now)
+        (cell_limit (C.table checked.now)) (erased erasure at.row at.col) belief.old belief.new }
+    ensures mode { OnOk result (belief.new.mode ≡ belief.old.mode) }
+{
+    // only this call's contract says that the certificate is verified
+    let _ = checked.rows();
+    reach_plainly(checked, belief, wire, at)?;
+    erase_here(checked, line, belief, wire, at, erasure)
+}

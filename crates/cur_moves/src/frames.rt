@@ -1,0 +1,49 @@
+//! Single lines that go out while margins may be set.
+ghost use Rattle.std.specs.Prelude.{◌≡◌, ◌+◌, ◌<◌, ◌≤◌, ℕ, true, Some};
+ghost use Rattle.ti_conforms.specs.Certified.{IsChecked, has, limit_of};
+ghost use Rattle.ti_conforms.specs.Table.{widening};
+ghost use Rattle.cur_steps.specs.Pieces.{paints};
+ghost use Rattle.cur_steps.specs.declared.beliefs.Belief.{Belief};
+ghost use Rattle.ti_rows.specs.declared.rows.Row.TheVariants.{Csr};
+ghost use Rattle.cur_moves.specs.Frames.{Frame, Moves, Reframes, framed};
+
+use cur_wires::{Wire, WireFault, send_all};
+use ti_conforms::Certificate;
+use ti_rows::Row;
+
+/// Sends the line of `row`, which leads from whatever frame the row starts from to what the row makes of it,
+/// and is a step of a painter if the row paints.
+pub(crate) fn send_row<C: Certificate, W: Wire>(
+    checked: &C,
+    wire: &mut W,
+    row: Row,
+) -> Result<(), WireFault>
+    requires checked { IsChecked (C.table checked.now) }
+    requires widens { has (C.table checked.now) (widening (C.table checked.now)) ≡ true }
+    requires there { has (C.table checked.now) row ≡ true }
+    ensures step { (n : ℕ) (f h : Frame) (b : Belief) → paints row ≡ true → limit_of (C.table checked.now) row ≤ n
+        → Reframes (C.table checked.now) row f h b
+        → Moves W.went W.failures wire.old wire.new result (C.table checked.now) n f h b }
+{
+    let line = checked.line(row).unwrap();
+    send_all(wire, line)
+}
+
+/// Sets the margins to the lines from `top` to `bottom`, and moves the cursor to the start of the line `row`.
+pub(crate) fn set_frame<C: Certificate, W: Wire>(
+    checked: &C,
+    wire: &mut W,
+    top: u16,
+    bottom: u16,
+    row: u16,
+) -> Result<(), WireFault>
+    requires checked { IsChecked (C.table checked.now) }
+    requires widens { has (C.table checked.now) (widening (C.table checked.now)) ≡ true }
+    requires there { has (C.table checked.now) (Csr top bottom) ≡ true }
+    requires row { row < (C.table checked.now).rows }
+    ensures step { (f : Frame) (b : Belief) → Moves W.went W.failures wire.old wire.new result (C.table checked.now)
+        ((C.table checked.now).longest.scroll + (C.table checked.now).longest.cup) f (framed top bottom f.cells row) b }
+{
+    send_row(checked, wire, Row::Csr(top, bottom))?;
+    send_row(checked, wire, Row::Cup(row, 0))
+}

@@ -1,0 +1,23 @@
+//! Ways to a cell, texts, erasures and scrolls: what a painter makes of several steps.
+#![tactic(auto)]
+
+mod cells;
+mod erasures;
+mod frames;
+mod moves;
+mod pictures;
+mod reaches;
+mod regions;
+mod routes;
+mod scrolls;
+mod targets;
+mod texts;
+
+pub use cells::{blank_tail, brush_as, put_cell};
+pub use erasures::{ErasedPart, erase_at, erase_from, erasing_line};
+pub use pictures::Shifted;
+pub use reaches::{line_bytes, reach};
+pub use regions::scroll_lines;
+pub use scrolls::{Scroll, can_scroll, line_before};
+pub use targets::Target;
+pub use texts::{goes_on, print_text};

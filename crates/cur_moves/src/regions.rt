@@ -1,0 +1,133 @@
+//! A region of the screen that the terminal scrolls.
+ghost use Rattle.std.specs.Prelude.{◌≡◌, ◌+◌, ◌-◌, ◌*◌, ◌<◌, ◌≤◌, ℕ, OnOk};
+ghost use Rattle.ti_conforms.specs.Certified.{IsChecked, cell_limit};
+ghost use Rattle.cur_steps.specs.declared.beliefs.Belief.{Belief};
+ghost use Rattle.cur_steps.specs.declared.inks.Ink.{Ink};
+ghost use Rattle.cur_steps.specs.Inks.{plain_brush};
+ghost use Rattle.cur_steps.specs.Steps.{Makes};
+ghost use Rattle.cur_moves.specs.Scrolls.{CanScroll, shifted};
+ghost use Rattle.cur_moves.specs.Frames.{Frame, Moves, at_edge, whole};
+
+use crate::cells::brush_as;
+use crate::frames::{send_row, set_frame};
+use crate::reaches::reach;
+use crate::scrolls::{Scroll, edge, first_blank, is_whole, scroll_row};
+use crate::targets::Target;
+use cur_steps::{Belief, Blank, Brush, Place};
+use cur_wires::{Wire, WireFault};
+use ti_conforms::Certificate;
+
+/// Moves the region's lines as `scroll` says, one line after the other, from where that is done.
+fn scroll_at_edge<C: Certificate, W: Wire>(
+    checked: &C,
+    wire: &mut W,
+    scroll: Scroll,
+) -> Result<(), WireFault>
+    requires checked { IsChecked (C.table checked.now) }
+    requires lines { CanScroll (C.table checked.now) scroll }
+    ensures step { (g : ℕ → ℕ → Ink) (b : Belief) → Moves W.went W.failures wire.old wire.new result
+        (C.table checked.now) (scroll.count * (C.table checked.now).longest.scroll)
+        (at_edge scroll g) (at_edge scroll (shifted scroll g)) b }
+{
+    for _line in 0..scroll.count {
+        send_row(checked, wire, scroll_row(scroll))?;
+    }
+    Ok(())
+}
+
+/// Moves the region's lines as `scroll` says; then the margins are the whole screen, and the cursor is at the start of
+/// the line `row`.
+fn scroll_and_widen<C: Certificate, W: Wire>(
+    checked: &C,
+    wire: &mut W,
+    scroll: Scroll,
+    row: u16,
+) -> Result<(), WireFault>
+    requires checked { IsChecked (C.table checked.now) }
+    requires lines { CanScroll (C.table checked.now) scroll }
+    requires row { row < (C.table checked.now).rows }
+    ensures step { (g : ℕ → ℕ → Ink) (b : Belief) → Moves W.went W.failures wire.old wire.new result
+        (C.table checked.now) (scroll.count * (C.table checked.now).longest.scroll
+        + ((C.table checked.now).longest.scroll + (C.table checked.now).longest.cup))
+        (at_edge scroll g) (whole (C.table checked.now) (shifted scroll g) row) b }
+{
+    scroll_at_edge(checked, wire, scroll)?;
+    set_frame(checked, wire, 0, (checked.rows() - 1) as u16, row)
+}
+
+/// Moves the lines of the region of `scroll` from any margins, and leaves the margins at the whole screen and the
+/// cursor at the start of the line `row`.
+fn scroll_region<C: Certificate, W: Wire>(
+    checked: &C,
+    wire: &mut W,
+    scroll: Scroll,
+    row: u16,
+) -> Result<(), WireFault>
+    requires checked { IsChecked (C.table checked.now) }
+    requires lines { CanScroll (C.table checked.now) scroll }
+    requires row { row < (C.table checked.now).rows }
+    ensures step { (f : Frame) (b : Belief) → Moves W.went W.failures wire.old wire.new result
+        (C.table checked.now) ((scroll.count + 2) * (C.table checked.now).longest.scroll
+        + 2 * (C.table checked.now).longest.cup)
+        f (whole (C.table checked.now) (shifted scroll f.cells) row) b }
+{
+    set_frame(checked, wire, scroll.top, scroll.bottom, edge(scroll))?;
+    scroll_and_widen(checked, wire, scroll, row)
+}
+
+/// Moves the lines of the whole screen as `scroll` says, in the plain brush. The margins are whole already.
+fn scroll_screen<C: Certificate, W: Wire>(
+    checked: &C,
+    belief: &mut Belief,
+    wire: &mut W,
+    scroll: Scroll,
+) -> Result<(), WireFault>
+    requires checked { IsChecked (C.table checked.now) }
+    requires lines { CanScroll (C.table checked.now) scroll }
+    requires top { scroll.top ≡ 0 }
+    requires bottom { scroll.bottom ≡ (C.table checked.now).rows - 1 }
+    requires plain { belief.old.brush ≡ plain_brush }
+    ensures step { Makes W.went W.failures wire.old wire.new result (C.table checked.now)
+        ((C.table checked.now).longest.cup + scroll.count * (C.table checked.now).longest.scroll) (shifted scroll)
+        belief.old belief.new }
+    ensures mode { OnOk result (belief.new.mode ≡ belief.old.mode) }
+{
+    let target = Target {
+        checked,
+        shown: &Blank,
+    };
+    let at = Place {
+        row: edge(scroll) as usize,
+        col: 0,
+    };
+    reach(&target, belief, wire, at)?;
+    scroll_at_edge(checked, wire, scroll)
+}
+
+/// Moves lines as `scroll` says, by the terminal's own scrolling: in the plain brush, within margins that are the whole
+/// screen again at the end. The lines that come in are blank, and no other line changes. At a failure the terminal is
+/// lost, whatever its margins are.
+pub fn scroll_lines<C: Certificate, W: Wire>(
+    checked: &C,
+    belief: &mut Belief,
+    wire: &mut W,
+    scroll: Scroll,
+) -> Result<(), WireFault>
+    requires lines { CanScroll (C.table checked.now) scroll }
+    ensures step { Makes W.went W.failures wire.old wire.new result (C.table checked.now)
+        ((scroll.count + 4) * cell_limit (C.table checked.now)) (shifted scroll) belief.old belief.new }
+    ensures mode { OnOk result (belief.new.mode ≡ belief.old.mode) }
+{
+    // only this call's contract says that the certificate is verified
+    let rows = checked.rows();
+    brush_as(checked, belief, wire, Brush::plain())?;
+    if is_whole(scroll, rows) {
+        return scroll_screen(checked, belief, wire, scroll);
+    }
+    let row = first_blank(scroll);
+    belief.place = Place {
+        row: row as usize,
+        col: 0,
+    };
+    scroll_region(checked, wire, scroll, row)
+}

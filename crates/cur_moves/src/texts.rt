@@ -1,0 +1,53 @@
+//! Characters of a line that go out in one piece.
+ghost use Rattle.std.specs.Prelude.{◌≡◌, ◌+◌, ◌<◌, ◌≤◌, ℕ, true, length, slice_index_or};
+ghost use Rattle.cur_steps.specs.Inks.{CanShow, mixed};
+ghost use Rattle.cur_steps.specs.Gaps.{IsAlike};
+ghost use Rattle.cur_steps.specs.Steps.{Acts};
+ghost use Rattle.cur_steps.specs.declared.inks.Ink.{Ink};
+
+use crate::routes::is_alike;
+use crate::targets::Target;
+use cur_steps::{Belief, Ink, Picture, Place, stands};
+use cur_wires::{Wire, WireFault, send_all};
+use ti_conforms::Certificate;
+
+/// Whether the next character is known to go to the place `at` and to be printed in the set and the brush of `ink`.
+pub fn goes_on(belief: &Belief, at: Place, ink: Ink) -> bool
+    ensures place { result ≡ true → belief.now.place ≡ at }
+    ensures alike { result ≡ true → IsAlike belief.now ink }
+    ensures known { belief.now.place ≡ at → IsAlike belief.now ink → result ≡ true }
+{
+    stands(belief.place, at) && is_alike(belief, ink)
+}
+
+/// Prints the first `count` bytes of `text`, which are the characters of the target's line from `at` on, where the
+/// cursor is known to be. All of them are printed in the brush and the set that are known.
+pub fn print_text<C: Certificate, N: Picture, W: Wire>(
+    target: &Target<'_, C, N>,
+    belief: &mut Belief,
+    wire: &mut W,
+    at: Place,
+    text: &[u8],
+    count: usize,
+) -> Result<(), WireFault>
+    requires drawable { CanShow (C.table target.now.checked.now) (N.cells target.now.shown.now) }
+    requires row { at.row < (C.table target.now.checked.now).rows }
+    requires within { at.col + count ≤ (C.table target.now.checked.now).cols }
+    requires long { count ≤ length text.now }
+    requires place { belief.old.place ≡ at }
+    requires alike { (k : ℕ) → k < count → IsAlike belief.old (N.cells target.now.shown.now at.row (at.col + k)) }
+    requires bytes { (k : ℕ) → k < count → (N.cells target.now.shown.now at.row (at.col + k)).byte ≡ slice_index_or
+        text.now k 0 }
+    ensures belief { belief.new ≡ record belief.old { place = record { row = at.row; col = at.col + count } } }
+    ensures step { (old : ℕ → ℕ → Ink) → Acts W.went W.failures wire.old wire.new result
+        (C.table target.now.checked.now) count (mixed old (N.cells target.now.shown.now) at.row at.col)
+        (mixed old (N.cells target.now.shown.now) at.row (at.col + count)) belief.old belief.new }
+{
+    // only this call's contract says that the certificate is verified
+    let _ = target.checked.rows();
+    belief.place = Place {
+        row: at.row,
+        col: at.col + count,
+    };
+    send_all(wire, &text[..count])
+}

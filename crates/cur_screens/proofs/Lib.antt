@@ -1,0 +1,9 @@
+pub mod Marked
+pub mod Displays
+pub mod ChangedRows
+pub mod DifferenceFacts
+pub mod MarkFacts
+pub mod Openings
+pub mod Spreading
+pub mod UsedMarks
+pub mod Slices

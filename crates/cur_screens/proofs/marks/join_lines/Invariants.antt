@@ -1,0 +1,6 @@
+-- What other marks have in the lines that were gone through is marked as well.
+use Rattle.cur_screens.specs.Marks.{JoinsLines}
+use Rattle.cur_screens.proofs.marks.join_lines.Given as goal
+
+abbrev pub invariant-loop-k : goal.invariant-loop-k
+invariant-loop-k l = JoinsLines l.fn.marks l.other l.lines l.k l.cols l.marks

@@ -1,0 +1,7 @@
+-- As many as were gone through.
+use Rattle.std.proofs.Common.{◌≡◌, replicate}
+use Rattle.cur_screens.specs.Marks.{none_marked}
+use Rattle.cur_screens.proofs.touched.unmarked_grids.Given as goal
+
+abbrev pub invariant-loop-k : goal.invariant-loop-k
+invariant-loop-k l = l.grids.items ≡ replicate l._k (none_marked l.rows)

@@ -1,0 +1,73 @@
+-- The virtual screen: what the terminal is to show (X/Open Curses Issue 7, noutrefresh, doupdate; "Color
+-- Manipulation").
+use Rattle.std.specs.Prelude.{◌≡◌, ℕ, ◌<◌, ◌≤◌, ◌||◌, ◌==◌, List, length, slice_index_or, slice_set, replicate, Bool, false, Option, Some, None, IfSome, Result, Ok, Err, if◌then◌else◌, ℤ}
+use Rattle.grids.specs.declared.areas.Area.{Area}
+use Rattle.grids.specs.declared.areas.Place.{Place}
+use Rattle.cur_drawing.specs.declared.refusals.Refusal.{Refusal}
+use Rattle.cur_drawing.specs.declared.refusals.Refusal.TheVariants.{BadPair}
+use Rattle.cur_drawing.specs.Cells.{pair_count}
+use Rattle.cur_drawing.specs.Grids.{Grid, line_at, copied, blank}
+use Rattle.cur_drawing.specs.Windows.{place_below}
+use Rattle.cur_drawing.specs.Calls.{place}
+use Rattle.cur_screens.specs.declared.virtual_screen.Colors.{Colors}
+
+pub record Screen : Type 0 where
+  pub rows : ℕ
+  pub cols : ℕ
+  pub grid : Grid
+  -- where the cursor is to stand, or none where it may stand anywhere
+  pub cursor : Option Place
+  -- the terminal is to be cleared first
+  pub clearok : Bool
+  -- the colours of the pairs
+  pub pairs : List Colors
+
+abbrev pub default_colors : Colors
+default_colors = record { foreground = None; background = None }
+
+abbrev pub colors_at : Screen → ℕ → Colors
+colors_at v p = slice_index_or v.pairs p default_colors
+
+-- the grid has the size, the cursor lies in it, and all pairs have colours
+pub record IsScreen (v : Screen) : Type 0 where
+  pub lines : length v.grid ≡ v.rows
+  pub columns : (i : ℕ) → i < length v.grid → length (line_at v.grid i) ≡ v.cols
+  pub cursor : IfSome v.cursor (λ p. (p.row < v.rows) × (p.col < v.cols))
+  pub pairs : length v.pairs ≡ pair_count
+
+-- the pairs from one on are default on default; it is one of them, or the first that there isn't
+pub record AreDefault (first : ℕ) (pairs : List Colors) : Type 0 where
+  pub within : first ≤ pair_count
+  pub colors : (p : ℕ) → first ≤ p → slice_index_or pairs p default_colors ≡ default_colors
+
+-- at first: spaces without attributes, the cursor at the corner, all pairs default on default
+abbrev pub new_screen : ℕ → ℕ → Screen
+new_screen rows cols = record {
+  rows = rows;
+  cols = cols;
+  grid = blank rows cols;
+  cursor = Some (place 0 0);
+  clearok = false;
+  pairs = replicate pair_count default_colors;
+}
+
+-- what a refresh that was done leaves
+abbrev pub refreshed : Screen → Screen
+refreshed v = record v { clearok = false }
+
+abbrev pub initialized : Option ℕ → Option ℕ → Option ℕ → Screen → Screen × Result (Unit {0}) Refusal
+initialized (Some p) (Some f) (Some b) v =
+    if p == 0 then (v, Err BadPair)
+    else (record v { pairs = slice_set v.pairs p (record { foreground = Some f; background = Some b }) }, Ok tt)
+initialized (Some p) (Some f) None v = (v, Err BadPair)
+initialized (Some p) None b v = (v, Err BadPair)
+initialized None f b v = (v, Err BadPair)
+
+-- init_pair: pairs 1 to 63, colours 0 to 7
+abbrev pub init_pair : ℤ → ℤ → ℤ → Screen → Screen × Result (Unit {0}) Refusal
+init_pair p f b v = initialized (place_below p pair_count) (place_below f 8) (place_below b 8) v
+
+-- a rectangle of the screen gets the cells of a grid from a place on
+abbrev pub shown : Area → Grid → Place → Option Place → Bool → Screen → Screen
+shown area g from cursor clears v =
+    record v { grid = copied area from g v.grid; cursor = cursor; clearok = v.clearok || clears }

@@ -1,0 +1,9 @@
+use Rattle.std.proofs.Common.{◌∙◌, ap}
+use Rattle.cur_scripts.proofs.CutFacts.{around, cut_found}
+use Rattle.cur_scripts.proofs.cuts.cut.Goals as goal
+
+pub returns-in-None-clause-value : goal.returns-in-None-clause-value
+returns-in-None-clause-value c = ap (around c.args.text.now) c.in-None.ensures.value ∙ cut_found c.args.byte c.args.text.now
+
+pub returns-in-Some-clause-value : goal.returns-in-Some-clause-value
+returns-in-Some-clause-value c = rw (c.before_and_behind.ensures.before, c.before_and_behind.ensures.behind) (ap (around c.args.text.now) c.in-Some.ensures.value ∙ cut_found c.args.byte c.args.text.now)

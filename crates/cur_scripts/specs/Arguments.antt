@@ -1,0 +1,221 @@
+-- The arguments of each call: the words after its name, in order, and no more.
+use Rattle.std.specs.Prelude.{ℕ, List, Option, Some}
+use Rattle.cur_drawing.specs.declared.puts.Put.{Put}
+use Rattle.cur_drawing.specs.declared.puts.Border.{Border}
+use Rattle.cur_drawing.specs.Calls.{drawn_line, horizontal_bar, vertical_bar, default_border}
+use Rattle.cur_calls.specs.declared.calls.Call.{Call}
+use Rattle.cur_calls.specs.declared.calls.Call.TheVariants.{Newwin, Newpad, Part, Dupwin, Plain, Number, Numbers, Flag, Attributes, Cell, Addstr, Line, DrawBorder, DrawBox, Lay, Copywin, Show, ShowPad, Screen, CursSet, InitPair}
+use Rattle.cur_calls.specs.declared.groups.PartCall.{PartCall}
+use Rattle.cur_calls.specs.declared.groups.PlainCall.{PlainCall}
+use Rattle.cur_calls.specs.declared.groups.NumberCall.{NumberCall}
+use Rattle.cur_calls.specs.declared.groups.NumbersCall.{NumbersCall}
+use Rattle.cur_calls.specs.declared.groups.FlagCall.{FlagCall}
+use Rattle.cur_calls.specs.declared.groups.AttrsCall.{AttrsCall}
+use Rattle.cur_calls.specs.declared.groups.CellCall.{CellCall}
+use Rattle.cur_calls.specs.declared.groups.LineCall.{LineCall}
+use Rattle.cur_calls.specs.declared.groups.LayCall.{LayCall}
+use Rattle.cur_calls.specs.declared.groups.ShowCall.{ShowCall}
+use Rattle.cur_calls.specs.declared.groups.PadCall.{PadCall}
+use Rattle.cur_calls.specs.declared.groups.ScreenCall.{ScreenCall}
+use Rattle.cur_calls.specs.declared.groups.LineCall.TheVariants.{Hline, Vline}
+use Rattle.cur_calls.specs.declared.groups.ScreenCall.TheVariants.{Beep}
+use Rattle.cur_scripts.specs.Cuts.{◌>>=◌}
+use Rattle.cur_scripts.specs.Numbers.{number_in, window_in, flag_in, zero_in}
+use Rattle.cur_scripts.specs.Cells.{cell_in, cell_or, attrs_in}
+use Rattle.cur_scripts.specs.Words.{first, ended, rest, two_numbers, four_numbers, two_windows}
+
+-- newwin n l c y x
+abbrev pub newwin : List (List ℕ) → Option Call
+newwin words = do
+  a ← first window_in words
+  b ← four_numbers a.1
+  _ ← ended b.1
+  Some (Newwin a.0 b.0.0 b.0.1 b.0.2 b.0.3)
+
+-- newpad n l c
+abbrev pub newpad : List (List ℕ) → Option Call
+newpad words = do
+  a ← first window_in words
+  b ← two_numbers a.1
+  _ ← ended b.1
+  Some (Newpad a.0 b.0.0 b.0.1)
+
+-- subwin n w l c y x
+abbrev pub part : PartCall → List (List ℕ) → Option Call
+part call words = do
+  a ← two_windows words
+  b ← four_numbers a.1
+  _ ← ended b.1
+  Some (Part call a.0.0 a.0.1 b.0.0 b.0.1 b.0.2 b.0.3)
+
+-- dupwin n w
+abbrev pub dupwin : List (List ℕ) → Option Call
+dupwin words = do
+  a ← two_windows words
+  _ ← ended a.1
+  Some (Dupwin a.0.0 a.0.1)
+
+-- erase w
+abbrev pub plain : PlainCall → List (List ℕ) → Option Call
+plain call words = do
+  a ← first window_in words
+  _ ← ended a.1
+  Some (Plain call a.0)
+
+-- scroll w n
+abbrev pub number : NumberCall → List (List ℕ) → Option Call
+number call words = do
+  a ← first window_in words
+  b ← first number_in a.1
+  _ ← ended b.1
+  Some (Number call a.0 b.0)
+
+-- move w y x
+abbrev pub numbers : NumbersCall → List (List ℕ) → Option Call
+numbers call words = do
+  a ← first window_in words
+  b ← two_numbers a.1
+  _ ← ended b.1
+  Some (Numbers call a.0 b.0.0 b.0.1)
+
+-- scrollok w f
+abbrev pub flag : FlagCall → List (List ℕ) → Option Call
+flag call words = do
+  a ← first window_in words
+  b ← first flag_in a.1
+  _ ← ended b.1
+  Some (Flag call a.0 b.0)
+
+-- attron w A
+abbrev pub attributes : AttrsCall → List (List ℕ) → Option Call
+attributes call words = do
+  a ← first window_in words
+  b ← first attrs_in a.1
+  _ ← ended b.1
+  Some (Attributes call a.0 b.0)
+
+-- addch w cell
+abbrev pub cell : CellCall → List (List ℕ) → Option Call
+cell call words = do
+  a ← first window_in words
+  b ← first cell_in a.1
+  _ ← ended b.1
+  Some (Cell call a.0 b.0)
+
+-- addstr w TEXT
+abbrev pub addstr : List (List ℕ) → Option Call
+addstr words = do
+  a ← first window_in words
+  text ← rest a.1
+  Some (Addstr a.0 text)
+
+-- the default cell of a line
+abbrev pub default_of : LineCall → Put
+default_of Hline = drawn_line horizontal_bar
+default_of Vline = drawn_line vertical_bar
+
+-- hline w cell n
+abbrev pub line : LineCall → List (List ℕ) → Option Call
+line call words = do
+  a ← first window_in words
+  b ← first (cell_or (default_of call)) a.1
+  c ← first number_in b.1
+  _ ← ended c.1
+  Some (Line call a.0 b.0 c.0)
+
+-- ls rs ts bs
+abbrev pub sides : List (List ℕ) → Option (Border × List (List ℕ))
+sides words = do
+  a ← first (cell_or (drawn_line vertical_bar)) words
+  b ← first (cell_or (drawn_line vertical_bar)) a.1
+  c ← first (cell_or (drawn_line horizontal_bar)) b.1
+  d ← first (cell_or (drawn_line horizontal_bar)) c.1
+  Some (record default_border { left = a.0; right = b.0; top = c.0; bottom = d.0 }, d.1)
+
+-- tl tr bl br
+abbrev pub corners : Border → List (List ℕ) → Option (Border × List (List ℕ))
+corners border words = do
+  a ← first (cell_or default_border.top_left) words
+  b ← first (cell_or default_border.top_right) a.1
+  c ← first (cell_or default_border.bottom_left) b.1
+  d ← first (cell_or default_border.bottom_right) c.1
+  Some (record border { top_left = a.0; top_right = b.0; bottom_left = c.0; bottom_right = d.0 }, d.1)
+
+-- border w ls rs ts bs tl tr bl br
+abbrev pub draw_border : List (List ℕ) → Option Call
+draw_border words = do
+  a ← first window_in words
+  b ← sides a.1
+  c ← corners b.0 b.1
+  _ ← ended c.1
+  Some (DrawBorder a.0 c.0)
+
+-- box w v h
+abbrev pub draw_box : List (List ℕ) → Option Call
+draw_box words = do
+  a ← first window_in words
+  b ← first (cell_or (drawn_line vertical_bar)) a.1
+  c ← first (cell_or (drawn_line horizontal_bar)) b.1
+  _ ← ended c.1
+  Some (DrawBox a.0 b.0 c.0)
+
+-- overlay s d
+abbrev pub lay : LayCall → List (List ℕ) → Option Call
+lay call words = do
+  a ← two_windows words
+  _ ← ended a.1
+  Some (Lay call a.0.0 a.0.1)
+
+-- copywin s d sr sc dr dc er ec f
+abbrev pub copywin : List (List ℕ) → Option Call
+copywin words = do
+  a ← two_windows words
+  b ← two_numbers a.1
+  c ← four_numbers b.1
+  d ← first flag_in c.1
+  _ ← ended d.1
+  Some (Copywin d.0 a.0.0 a.0.1 b.0.0 b.0.1 c.0.0 c.0.1 c.0.2 c.0.3)
+
+-- refresh w
+abbrev pub show : ShowCall → List (List ℕ) → Option Call
+show call words = do
+  a ← first window_in words
+  _ ← ended a.1
+  Some (Show call a.0)
+
+-- prefresh w pr pc sr sc er ec
+abbrev pub show_pad : PadCall → List (List ℕ) → Option Call
+show_pad call words = do
+  a ← first window_in words
+  b ← two_numbers a.1
+  c ← four_numbers b.1
+  _ ← ended c.1
+  Some (ShowPad call a.0 b.0.0 b.0.1 c.0.0 c.0.1 c.0.2 c.0.3)
+
+-- beep 0
+abbrev pub beep : List (List ℕ) → Option Call
+beep words = do
+  a ← first zero_in words
+  _ ← ended a.1
+  Some (Screen Beep)
+
+-- curs_set n
+abbrev pub curs_set : List (List ℕ) → Option Call
+curs_set words = do
+  a ← first number_in words
+  _ ← ended a.1
+  Some (CursSet a.0)
+
+-- init_pair p f b
+abbrev pub init_pair : List (List ℕ) → Option Call
+init_pair words = do
+  a ← first number_in words
+  b ← two_numbers a.1
+  _ ← ended b.1
+  Some (InitPair a.0 b.0.0 b.0.1)
+
+-- doupdate
+abbrev pub bare : ScreenCall → List (List ℕ) → Option Call
+bare call words = do
+  _ ← ended words
+  Some (Screen call)

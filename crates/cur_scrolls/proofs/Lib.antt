@@ -1,2 +1,0 @@
-pub mod FrameFacts
-pub mod Shifts

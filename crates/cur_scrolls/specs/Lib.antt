@@ -1,2 +1,0 @@
-pub mod Scrolls
-pub mod Frames

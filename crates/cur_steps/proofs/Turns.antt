@@ -1,0 +1,299 @@
+-- What each line does to a state that agrees with what is believed.
+use Rattle.std.proofs.Common.{◌≡◌, ℕ, ◌<◌, ◌≤◌, ◌==◌, ◌&&◌, ◌⊎◌, Bool, true, false, nat_le, List, [], length, Option, Some, None, refl, sym, ap, subst, ◌∙◌, inl, inr, arith, if◌then◌else◌}
+use Rattle.std.proofs.lemmas.Bool.Decides.{nat_tests}
+use Rattle.vt_term.specs.Look.{Rendition, Look, blank, space}
+use Rattle.vt_term.specs.Grid.{Grid, line_at, look_at, drawn}
+use Rattle.vt_term.specs.Screen.{Screen, State, IsOfSize, is_graphic}
+use Rattle.vt_term.specs.Color.{Color}
+use Rattle.grids.proofs.Drawings.{cell_at-drawn}
+use Rattle.grids.specs.Grids.{is_in, one}
+use Rattle.ti_rows.specs.declared.rows.Attributes.{Attributes}
+use Rattle.cur_steps.specs.declared.inks.Brush.{Brush}
+use Rattle.cur_steps.specs.declared.inks.Ink.{Ink}
+use Rattle.ti_rows.specs.declared.rows.Row.TheVariants.{Cup, Sgr, Setaf, Setab, Op, Smacs, Rmacs, El, Civis, Cnorm, Cvvis}
+use Rattle.ti_rows.specs.Starts.{IsAny, IsFree}
+use Rattle.ti_rows.specs.Wants.{marked, Renders, Appears}
+use Rattle.ti_rows.specs.Looks.{shown}
+use Rattle.ti_conforms.specs.Certified.{Table, IsReady, IsChecked, has, limit_of}
+use Rattle.cur_steps.specs.Inks.{rendition_of, look_of, IsColored, tail_blank, blank_ink, plain_brush}
+use Rattle.cur_steps.specs.Pieces.{paints}
+use Rattle.cur_steps.specs.Beliefs.{Agrees, Belief, Place, Turns, IsHere, set_row, Mode, Hidden, Normal, Prominent, IsSeen, is_shown}
+
+pub look_at-drawn : (f : ℕ → ℕ → Look → Look) (g : Grid) (i j : ℕ) → j < length (line_at g i) → look_at (drawn f g) i j ≡ f i j (look_at g i j)
+look_at-drawn f g i j lt = cell_at-drawn f space g i j lt
+
+-- the rectangle of one place
+pub one_place : (r c i j : ℕ) → is_in (one r c) i j ≡ ((i == r) && (j == c))
+one_place r c i j = grind (arith, nat_tests)
+
+pub any_of : (t : Table) (s : State) → IsReady t s → IsAny t.rows t.cols s.screen
+any_of t s h = record { screen = h.sized.state.screen; rows_are = h.sized.rows; cols_are = h.sized.cols; tame = h.tame }
+
+pub free_of : (t : Table) (s : State) → IsReady t s → IsFree t.rows t.cols s.screen
+free_of t s h = record { any = any_of t s h; top = h.whole.top; bottom = h.whole.bottom }
+
+-- a state that a line led to, by the screen that is wanted
+pub by_screen : (t : Table) (Q : State → Type 0) (u : State) (x : Screen) → IsOfSize t.rows t.cols u → u.rest ≡ [] → u.screen ≡ x
+    → (IsOfSize t.rows t.cols (record { screen = x; rest = [] }) → Q (record { screen = x; rest = [] })) → Q u
+by_screen t Q u x sized closed e f =
+    let P : List ℕ → Type 0 = λ l. IsOfSize t.rows t.cols (record { screen = u.screen; rest = l }) → Q (record { screen = u.screen; rest = l }) in
+    let R : Screen → Type 0 = λ y. IsOfSize t.rows t.cols (record { screen = y; rest = [] }) → Q (record { screen = y; rest = [] }) in
+    subst P (sym closed) (subst R (sym e) f) sized
+
+-- on the screen no wrap is pending
+pub stands_at : (cols row col : ℕ) → col < cols → IsHere cols (record { row = row; col = col }) row col false
+stands_at cols row col lt = (refl, omega (arith, lt), before_end cols col lt)
+  where
+    before_end : (m n : ℕ) → n < m → false ≡ nat_le m n
+    before_end m n lt = grind (arith, nat_tests)
+
+pub calmly : (cols : ℕ) (p : Place) (row col : ℕ) (pending : Bool) → p.col < cols → IsHere cols p row col pending → (row ≡ p.row) × (col ≡ p.col) × (pending ≡ false)
+calmly cols p row col pending lt h = (h.0, omega (arith, h.1, lt), h.2 ∙ sym (stands_at cols p.row p.col lt).2)
+
+-- the same state with its cursor at a place, and no wrap pending
+pub placed : (t : Table) (g : ℕ → ℕ → Ink) (b : Belief) (r c : ℕ) → c < t.cols → (s u : State) → Agrees t g b s → IsOfSize t.rows t.cols u → u.rest ≡ [] → u.screen ≡ record s.screen { row = r; col = c; pending = false }
+    → Agrees t g (record b { place = record { row = r; col = c } }) u
+placed t g b r c lc s u h sized closed e =
+    by_screen t (Agrees t g (record b { place = record { row = r; col = c } })) u (record s.screen { row = r; col = c; pending = false }) sized closed e
+    (λ k. record {
+      ready = record { sized = k; rest = refl; tame = record { autowrap = h.ready.tame.autowrap; inserting = h.ready.tame.inserting }; whole = record { top = h.ready.whole.top; bottom = h.ready.whole.bottom }; settled = h.ready.settled; visible = h.ready.visible };
+      cells = h.cells;
+      place = stands_at t.cols r c lc;
+      brush = h.brush;
+      colored = h.colored;
+      set = h.set;
+      seen = h.seen;
+    })
+
+-- the cursor's move by `cup`
+pub moved : (t : Table) (g : ℕ → ℕ → Ink) (b : Belief) (r c : ℕ) → c < t.cols → Turns t (Cup r c) g b g (record b { place = record { row = r; col = c } })
+moved t g b r c lc = record {
+  starts = λ s h. any_of t s h.ready;
+  ends = λ s u h sized closed w. placed t g b r c lc s u h sized closed w.wants;
+}
+
+-- the same cells under another rendition, with the sets as they were
+inked : (t : Table) (g : ℕ → ℕ → Ink) (b : Belief) (x : Brush) → IsColored t x → (s u : State) → Agrees t g b s → IsOfSize t.rows t.cols u → u.rest ≡ []
+    → u.screen ≡ record s.screen { rendition = rendition_of t.looks x } → Agrees t g (record b { brush = x }) u
+inked t g b x colored s u h sized closed e =
+    by_screen t (Agrees t g (record b { brush = x })) u (record s.screen { rendition = rendition_of t.looks x }) sized closed e
+    (λ k. record {
+      ready = record { sized = k; rest = refl; tame = record { autowrap = h.ready.tame.autowrap; inserting = h.ready.tame.inserting }; whole = record { top = h.ready.whole.top; bottom = h.ready.whole.bottom }; settled = h.ready.settled; visible = h.ready.visible };
+      cells = h.cells;
+      place = h.place;
+      brush = refl;
+      colored = colored;
+      set = h.set;
+      seen = h.seen;
+    })
+
+colored_with : (t : Table) (b : Brush) → has t Op ≡ true → IsColored t b
+colored_with t b e = record { foreground = λ f. absurd (cc); background = λ f. absurd (cc) }
+
+pub foreground_set : (t : Table) → has t Op ≡ true → (g : ℕ → ℕ → Ink) (b : Belief) (c : Color) → Turns t (Setaf c) g b g (record b { brush = record b.brush { foreground = Some c } })
+foreground_set t is g b c = record {
+  starts = λ s h. free_of t s h.ready;
+  ends = λ s u h sized closed w. inked t g b (record b.brush { foreground = Some c }) (colored_with t _ is) s u h sized closed
+      (w.wants ∙ ap (λ (r : Rendition). record s.screen { rendition = record r { foreground = Some c } }) h.brush);
+}
+
+pub background_set : (t : Table) → has t Op ≡ true → (g : ℕ → ℕ → Ink) (b : Belief) (c : Color) → Turns t (Setab c) g b g (record b { brush = record b.brush { background = Some c } })
+background_set t is g b c = record {
+  starts = λ s h. free_of t s h.ready;
+  ends = λ s u h sized closed w. inked t g b (record b.brush { background = Some c }) (colored_with t _ is) s u h sized closed
+      (w.wants ∙ ap (λ (r : Rendition). record s.screen { rendition = record r { background = Some c } }) h.brush);
+}
+
+pub colors_gone : (t : Table) (g : ℕ → ℕ → Ink) (b : Belief) → Turns t Op g b g (record b { brush = record b.brush { foreground = None; background = None } })
+colors_gone t g b = record {
+  starts = λ s h. free_of t s h.ready;
+  ends = λ s u h sized closed w. inked t g b (record b.brush { foreground = None; background = None }) (record { foreground = λ e. refl; background = λ e. refl }) s u h sized closed
+      (w.wants ∙ ap (λ (r : Rendition). record s.screen { rendition = record r { foreground = None; background = None } }) h.brush);
+}
+
+-- a brush without colours is that brush
+uncolored : (b : Brush) → b.foreground ≡ None → b.background ≡ None → b ≡ record b { foreground = None; background = None }
+uncolored b e f = ap (λ (c : Option Color). record b { foreground = c }) e ∙ ap (λ (c : Option Color). record b { foreground = None; background = c }) f
+
+pub brush_as : (t : Table) (g : ℕ → ℕ → Ink) (b : Belief) (x : Brush) → b.brush ≡ x → (s : State) → Agrees t g b s → Agrees t g (record b { brush = x }) s
+brush_as t g b x e s h = let P : Brush → Type 0 = λ y. Agrees t g (record b { brush = y }) s in subst P e h
+
+pub no_colors : (t : Table) (g : ℕ → ℕ → Ink) (b : Belief) → b.brush.foreground ≡ None → b.brush.background ≡ None → (s : State) → Agrees t g b s → Agrees t g (record b { brush = record b.brush { foreground = None; background = None } }) s
+no_colors t g b e f s h = brush_as t g b (record b.brush { foreground = None; background = None }) (uncolored b.brush e f) s h
+
+pub no_color_lines : (t : Table) (g : ℕ → ℕ → Ink) (b : Belief) → has t Op ≡ false → (s : State) → Agrees t g b s → Agrees t g (record b { brush = record b.brush { foreground = None; background = None } }) s
+no_color_lines t g b none s h = no_colors t g b (h.colored.foreground none) (h.colored.background none) s h
+
+-- attributes, from default colours to default colours
+either : (t : Table) (a : Attributes) (b : Brush) (s : Screen) → s.rendition ≡ rendition_of t.looks b → b.foreground ≡ None → b.background ≡ None
+    → (u : Screen) → Renders (marked (shown t.looks a) s.rendition.foreground s.rendition.background) s u ⊎ Renders (marked (shown t.looks a) None None) s u
+    → Renders (marked (shown t.looks a) b.foreground b.background) s u
+either t a b s e f k u (inl h) = h ∙ ap (λ (x : Rendition). record s { rendition = marked (shown t.looks a) x.foreground x.background; charset = u.charset }) e
+either t a b s e f k u (inr h) =
+    h ∙ ap (λ (x : Option Color). record s { rendition = marked (shown t.looks a) x None; charset = u.charset }) (sym f)
+    ∙ ap (λ (x : Option Color). record s { rendition = marked (shown t.looks a) b.foreground x; charset = u.charset }) (sym k)
+
+-- the same cells under another rendition, with the sets settled
+pub rendered : (t : Table) (g : ℕ → ℕ → Ink) (b : Belief) (x : Brush) → IsColored t x → (s u : State) → Agrees t g b s → IsOfSize t.rows t.cols u → u.rest ≡ [] → t.settled u.screen.charset ≡ true
+    → u.screen ≡ record s.screen { rendition = rendition_of t.looks x; charset = u.screen.charset } → Agrees t g (record b { brush = x; graphic = None }) u
+rendered t g b x colored s u h sized closed settled e =
+    by_screen t (Agrees t g (record b { brush = x; graphic = None })) u (record s.screen { rendition = rendition_of t.looks x; charset = u.screen.charset }) sized closed e
+    (λ j. record {
+      ready = record { sized = j; rest = refl; tame = record { autowrap = h.ready.tame.autowrap; inserting = h.ready.tame.inserting }; whole = record { top = h.ready.whole.top; bottom = h.ready.whole.bottom }; settled = settled; visible = h.ready.visible };
+      cells = h.cells;
+      place = h.place;
+      brush = refl;
+      colored = colored;
+      set = tt;
+      seen = h.seen;
+    })
+
+pub attributes_set : (t : Table) (g : ℕ → ℕ → Ink) (b : Belief) (a : Attributes) → b.brush.foreground ≡ None → b.brush.background ≡ None
+    → Turns t (Sgr a) g b g (record b { brush = record b.brush { attributes = a }; graphic = None })
+attributes_set t g b a f k = record {
+  starts = λ s h. free_of t s h.ready;
+  ends = λ s u h sized closed w. rendered t g b (record b.brush { attributes = a }) (record { foreground = h.colored.foreground; background = h.colored.background }) s u h sized closed (w.settled refl h.ready.settled)
+      (either t a b.brush s.screen h.brush f k u.screen w.wants);
+}
+
+-- the active set
+active_as : (t : Table) (g : ℕ → ℕ → Ink) (b : Belief) (x : Bool) (s u : State) → Agrees t g b s → IsOfSize t.rows t.cols u → u.rest ≡ [] → u.screen ≡ record s.screen { charset = u.screen.charset }
+    → t.settled u.screen.charset ≡ true → is_graphic u.screen.charset ≡ x → Agrees t g (record b { graphic = Some x }) u
+active_as t g b x s u h sized closed e settled is =
+    by_screen t (Agrees t g (record b { graphic = Some x })) u (record s.screen { charset = u.screen.charset }) sized closed e
+    (λ k. record {
+      ready = record { sized = k; rest = refl; tame = record { autowrap = h.ready.tame.autowrap; inserting = h.ready.tame.inserting }; whole = record { top = h.ready.whole.top; bottom = h.ready.whole.bottom }; settled = settled; visible = h.ready.visible };
+      cells = h.cells;
+      place = h.place;
+      brush = h.brush;
+      colored = h.colored;
+      set = is;
+      seen = h.seen;
+    })
+
+pub set_chosen : (t : Table) (g : ℕ → ℕ → Ink) (b : Belief) (x : Bool) → Turns t (set_row x) g b g (record b { graphic = Some x })
+set_chosen t g b true = record {
+  starts = λ s h. free_of t s h.ready;
+  ends = λ s u h sized closed w. active_as t g b true s u h sized closed w.wants (w.settled refl h.ready.settled) (w.active h.ready.settled);
+}
+set_chosen t g b false = record {
+  starts = λ s h. free_of t s h.ready;
+  ends = λ s u h sized closed w. active_as t g b false s u h sized closed w.wants (w.settled refl h.ready.settled) (w.active h.ready.settled);
+}
+
+-- where there is no line for it, the plain set is active
+pub set_plain : (t : Table) → IsChecked t → has t Rmacs ≡ false → (g : ℕ → ℕ → Ink) (b : Belief) (s : State) → Agrees t g b s → Agrees t g (record b { graphic = Some false }) s
+set_plain t checked none g b s h = record { ready = h.ready; cells = h.cells; place = h.place; brush = h.brush; colored = h.colored; set = checked.plain_sets none s.screen.charset h.ready.settled; seen = h.seen }
+
+choice : (p : Bool) (l : Look) (c d : Look) (y : Look) → l ≡ c → y ≡ d → (if p then l else y) ≡ (if p then c else d)
+choice true l c d y e f = e
+choice false l c d y e f = f
+
+choose : (t : Table) (p : Bool) (x y : Ink) → (if p then look_of t.looks x else look_of t.looks y) ≡ look_of t.looks (if p then x else y)
+choose t true x y = refl
+choose t false x y = refl
+
+-- one place of a grid that was drawn on
+pub drawn_look : (t : Table) (p : Bool) (l y : Look) (x z : Ink) → l ≡ look_of t.looks x → y ≡ look_of t.looks z → (if p then l else y) ≡ look_of t.looks (if p then x else z)
+drawn_look t p l y x z e f = choice p l (look_of t.looks x) (look_of t.looks z) y e f ∙ choose t p x z
+
+-- the line's end, erased from where the cursor is known to be, in the plain brush
+pub tail_erased : (t : Table) (g : ℕ → ℕ → Ink) (b : Belief) (r c : ℕ) → c < t.cols → b.place ≡ record { row = r; col = c } → b.brush ≡ plain_brush → Turns t El g b (tail_blank r c g) b
+tail_erased t g b r c lc p q = record {
+  starts = λ s h. (let at : (s.screen.row ≡ r) × (s.screen.col ≡ c) × (s.screen.pending ≡ false) = calmly t.cols (record { row = r; col = c }) s.screen.row s.screen.col s.screen.pending lc (subst (λ (o : Place). IsHere t.cols o s.screen.row s.screen.col s.screen.pending) p h.place) in
+      record { free = free_of t s h.ready; pending = at.2 });
+  ends = λ s u h sized closed w. (let at : (s.screen.row ≡ r) × (s.screen.col ≡ c) × (s.screen.pending ≡ false) = calmly t.cols (record { row = r; col = c }) s.screen.row s.screen.col s.screen.pending lc (subst (λ (o : Place). IsHere t.cols o s.screen.row s.screen.col s.screen.pending) p h.place) in
+      let so : s.screen.rendition ≡ rendition_of t.looks plain_brush = h.brush ∙ ap (λ (x : Brush). rendition_of t.looks x) q in
+      by_screen t (Agrees t (tail_blank r c g) b) u (record s.screen { grid = drawn (λ i j old. if (i == s.screen.row) && nat_le s.screen.col j then blank s.screen.rendition else old) s.screen.grid }) sized closed w.wants
+      (λ k. record {
+        ready = record { sized = k; rest = refl; tame = record { autowrap = h.ready.tame.autowrap; inserting = h.ready.tame.inserting }; whole = record { top = h.ready.whole.top; bottom = h.ready.whole.bottom }; settled = h.ready.settled; visible = h.ready.visible };
+        cells = λ i j li lj.
+            look_at-drawn (λ i j old. if (i == s.screen.row) && nat_le s.screen.col j then blank s.screen.rendition else old) s.screen.grid i j
+            (omega (arith, h.ready.sized.state.screen.columns i (omega (arith, h.ready.sized.rows)), h.ready.sized.cols))
+            ∙ ap (λ (n : ℕ). if (i == n) && nat_le s.screen.col j then blank s.screen.rendition else look_at s.screen.grid i j) at.0
+            ∙ ap (λ (n : ℕ). if (i == r) && nat_le n j then blank s.screen.rendition else look_at s.screen.grid i j) at.1
+            ∙ drawn_look t ((i == r) && nat_le c j) (blank s.screen.rendition) (look_at s.screen.grid i j) blank_ink (g i j) (ap (λ (x : Rendition). blank x) so) (h.cells i j li lj);
+        place = h.place;
+        brush = h.brush;
+        colored = h.colored;
+        set = h.set;
+        seen = h.seen;
+      }));
+}
+
+-- a colour that is wanted has its lines
+pub colored_has : (x : Bool) (c : Color) → (x ≡ false → Some c ≡ None) → x ≡ true
+colored_has true c h = refl
+colored_has false c h = absurd (bad (h refl))
+  where
+    bad : Some c ≡ None → ⊥
+    bad e = cc
+
+pub set_known : (t : Table) (g : ℕ → ℕ → Ink) (b : Belief) (x : Bool) → b.graphic ≡ Some x → (s : State) → Agrees t g b s → Agrees t g (record b { graphic = Some x }) s
+set_known t g b x e s h = let P : Option Bool → Type 0 = λ y. Agrees t g (record b { graphic = y }) s in subst P e h
+
+pub set_limit : (t : Table) (x : Bool) → limit_of t (set_row x) ≤ t.longest.sets
+set_limit t true = omega arith
+set_limit t false = omega arith
+
+pub set_paints : (x : Bool) → paints (set_row x) ≡ true
+set_paints true = refl
+set_paints false = refl
+
+-- a set whose line is absent is the plain one, and active
+pub set_absent : (t : Table) → IsChecked t → (x : Bool) → (has t Smacs ≡ false → x ≡ false) → has t (set_row x) ≡ false → (g : ℕ → ℕ → Ink) (b : Belief) (s : State) → Agrees t g b s → Agrees t g (record b { graphic = Some x }) s
+set_absent t checked true f e g b s h = absurd (bad (f e))
+  where
+    bad : true ≡ false → ⊥
+    bad e = cc
+set_absent t checked false f e g b s h = set_plain t checked e g b s h
+
+-- the cursor is shown or not
+visible_as : (t : Table) (g : ℕ → ℕ → Ink) (b : Belief) (m : Mode) → (has t Cnorm ≡ false → is_shown m ≡ true) → (s u : State) → Agrees t g b s → IsOfSize t.rows t.cols u → u.rest ≡ [] → u.screen ≡ record s.screen { visible = is_shown m }
+    → Agrees t g (record b { mode = Some m }) u
+visible_as t g b m needed s u h sized closed e =
+    by_screen t (Agrees t g (record b { mode = Some m })) u (record s.screen { visible = is_shown m }) sized closed e
+    (λ k. record {
+      ready = record { sized = k; rest = refl; tame = record { autowrap = h.ready.tame.autowrap; inserting = h.ready.tame.inserting }; whole = record { top = h.ready.whole.top; bottom = h.ready.whole.bottom }; settled = h.ready.settled; visible = needed };
+      cells = h.cells;
+      place = h.place;
+      brush = h.brush;
+      colored = h.colored;
+      set = h.set;
+      seen = refl;
+    })
+
+pub hidden : (t : Table) → has t Cnorm ≡ true → (g : ℕ → ℕ → Ink) (b : Belief) → Turns t Civis g b g (record b { mode = Some Hidden })
+hidden t is g b = record {
+  starts = λ s h. free_of t s h.ready;
+  ends = λ s u h sized closed w. visible_as t g b Hidden (λ e. absurd (cc)) s u h sized closed w.wants;
+}
+
+pub normal : (t : Table) (g : ℕ → ℕ → Ink) (b : Belief) → Turns t Cnorm g b g (record b { mode = Some Normal })
+normal t g b = record {
+  starts = λ s h. free_of t s h.ready;
+  ends = λ s u h sized closed w. visible_as t g b Normal (λ e. refl) s u h sized closed w.wants;
+}
+
+-- the mode is believed where it is so
+pub mode_as : (t : Table) (g : ℕ → ℕ → Ink) (b : Belief) (m : Mode) (s : State) → s.screen.visible ≡ is_shown m → Agrees t g b s → Agrees t g (record b { mode = Some m }) s
+mode_as t g b m s e h = record { ready = h.ready; cells = h.cells; place = h.place; brush = h.brush; colored = h.colored; set = h.set; seen = e }
+
+pub always_normal : (t : Table) → has t Cnorm ≡ false → (g : ℕ → ℕ → Ink) (b : Belief) (s : State) → Agrees t g b s → Agrees t g (record b { mode = Some Normal }) s
+always_normal t none g b s h = mode_as t g b Normal s (h.ready.visible none) h
+
+shown_so : (b : Belief) → b.mode ≡ Some Normal → (v : Bool) → IsSeen b.mode v → v ≡ true
+shown_so b e v h = subst (λ (o : Option Mode). IsSeen o v) e h
+
+pub stressed_without : (t : Table) (g : ℕ → ℕ → Ink) (b : Belief) → b.mode ≡ Some Normal → (s : State) → Agrees t g b s → Agrees t g (record b { mode = Some Prominent }) s
+stressed_without t g b e s h = mode_as t g b Prominent s (shown_so b e s.screen.visible h.seen) h
+
+appeared : (s u : Screen) → s.visible ≡ true → Appears s u → u ≡ record s { visible = true }
+appeared s u e (inl h) = h
+appeared s u e (inr h) = h ∙ ap (λ (v : Bool). record s { visible = v }) e
+
+pub stressed : (t : Table) (g : ℕ → ℕ → Ink) (b : Belief) → b.mode ≡ Some Normal → Turns t Cvvis g b g (record b { mode = Some Prominent })
+stressed t g b e = record {
+  starts = λ s h. free_of t s h.ready;
+  ends = λ s u h sized closed w. visible_as t g b Prominent (λ x. refl) s u h sized closed (appeared s.screen u.screen (shown_so b e s.screen.visible h.seen) w.wants);
+}

@@ -1,0 +1,43 @@
+use Rattle.std.proofs.Common.{◌≡◌, ◌*◌, [], ap, sym, ◌∙◌, arith, refl}
+use Rattle.cur_wires.proofs.Stops.{spells_as, spells_nothing}
+use Rattle.ti_conforms.specs.Certified.{IsPiece, IsLost}
+use Rattle.cur_steps.specs.Beliefs.{Agrees, Hidden, Normal, Prominent, changes, mode_text, modes_limit, setting_text}
+use Rattle.cur_steps.proofs.Actions.{agrees_lost}
+use Rattle.cur_steps.proofs.Answers.{once, text_changed, text_same}
+use Rattle.cur_steps.proofs.modes.show_as.Goals as goal
+
+pub returns-then-is_mode-clause-step : goal.returns-then-is_mode-clause-step
+returns-then-is_mode-clause-step g c h =
+    let t = g.C.Certificate.table c.args.checked.now in
+    let b = c.args.belief.now in
+    let limit = changes b.mode c.args.wanted * modes_limit t in
+    spells_as g.W.Wire.went g.W.Wire.failures c.args.wire.now c.args.wire.now _ [] (mode_text t b.mode c.args.wanted) (IsPiece t) limit limit (IsLost t) (Agrees t h b) (Agrees t h b)
+    (sym (text_same t b.mode c.args.wanted (c.if-is_mode.ensures.so refl))) (omega arith)
+    (spells_nothing g.W.Wire.went g.W.Wire.failures g.met.W.Wire.lawful c.args.wire.now tt (IsPiece t) limit (IsLost t) (Agrees t h b) (Agrees t h b) (λ s x. x.ready.rest) (λ s x. x) (agrees_lost t c.rows.ensures.checked h b))
+
+pub returns-in-Hidden-clause-step : goal.returns-in-Hidden-clause-step
+returns-in-Hidden-clause-step g c h =
+    let t = g.C.Certificate.table c.args.checked.now in
+    let b = c.args.belief.now in
+    let changed = c.if-is_mode.ensures.counted refl in
+    let so : setting_text t Hidden ≡ mode_text t b.mode c.args.wanted = ap (setting_text t) (sym c.in-Hidden.is) ∙ sym (text_changed t b.mode c.args.wanted changed) in
+    spells_as g.W.Wire.went g.W.Wire.failures c.args.wire.now c.hide.new.wire c.hide.result (setting_text t Hidden) (mode_text t b.mode c.args.wanted) (IsPiece t) t.longest.civis (changes b.mode c.args.wanted * modes_limit t) (IsLost t) (Agrees t h b) (Agrees t h c.hide.new.belief)
+    so (omega (arith, once _ (modes_limit t) changed)) (c.hide.ensures.step h)
+
+pub returns-in-Normal-clause-step : goal.returns-in-Normal-clause-step
+returns-in-Normal-clause-step g c h =
+    let t = g.C.Certificate.table c.args.checked.now in
+    let b = c.args.belief.now in
+    let changed = c.if-is_mode.ensures.counted refl in
+    let so : setting_text t Normal ≡ mode_text t b.mode c.args.wanted = ap (setting_text t) (sym c.in-Normal.is) ∙ sym (text_changed t b.mode c.args.wanted changed) in
+    spells_as g.W.Wire.went g.W.Wire.failures c.args.wire.now c.show.new.wire c.show.result (setting_text t Normal) (mode_text t b.mode c.args.wanted) (IsPiece t) t.longest.cnorm (changes b.mode c.args.wanted * modes_limit t) (IsLost t) (Agrees t h b) (Agrees t h c.show.new.belief)
+    so (omega (arith, once _ (modes_limit t) changed)) (c.show.ensures.step h)
+
+pub returns-in-Prominent-clause-step : goal.returns-in-Prominent-clause-step
+returns-in-Prominent-clause-step g c h =
+    let t = g.C.Certificate.table c.args.checked.now in
+    let b = c.args.belief.now in
+    let changed = c.if-is_mode.ensures.counted refl in
+    let so : setting_text t Prominent ≡ mode_text t b.mode c.args.wanted = ap (setting_text t) (sym c.in-Prominent.is) ∙ sym (text_changed t b.mode c.args.wanted changed) in
+    spells_as g.W.Wire.went g.W.Wire.failures c.args.wire.now c.show_prominently.new.wire c.show_prominently.result (setting_text t Prominent) (mode_text t b.mode c.args.wanted) (IsPiece t) (modes_limit t) (changes b.mode c.args.wanted * modes_limit t) (IsLost t) (Agrees t h b) (Agrees t h c.show_prominently.new.belief)
+    so (omega (arith, once _ (modes_limit t) changed)) (c.show_prominently.ensures.step h)

@@ -1,0 +1,32 @@
+use Rattle.std.proofs.Common.{None, arith, refl}
+use Rattle.cur_wires.proofs.Stops.{steps_nothing}
+use Rattle.ti_rows.specs.declared.rows.Row.TheVariants.{Op}
+use Rattle.ti_conforms.specs.Certified.{IsLost}
+use Rattle.cur_steps.specs.Pieces.{IsPaint}
+use Rattle.cur_steps.specs.Beliefs.{Agrees, Belief}
+use Rattle.cur_steps.proofs.Actions.{agrees_lost}
+use Rattle.cur_steps.proofs.Answers.{has_none}
+use Rattle.cur_steps.proofs.Turns.{colors_gone, no_colors, no_color_lines}
+use Rattle.cur_steps.proofs.steps.colors_off.Goals as goal
+
+pub returns-then-plain-clause-step : goal.returns-then-plain-clause-step
+returns-then-plain-clause-step g c h =
+    let t = g.C.Certificate.table c.args.checked.now in
+    let b = c.args.belief.now in
+    let d : Belief = record b { brush = record b.brush { foreground = None; background = None } } in
+    steps_nothing g.W.Wire.went g.W.Wire.failures g.met.W.Wire.lawful c.args.wire.now tt (IsPaint t) _ (IsLost t) (Agrees t h b) (Agrees t h d) (λ s x. x.ready.rest)
+    (no_colors t h b (c.is_uncolored-plain.ensures.foreground c.if-plain.true) (c.is_uncolored-plain.ensures.background c.if-plain.true)) (agrees_lost t c.requires.checked h b)
+
+pub returns-in-Some-clause-step : goal.returns-in-Some-clause-step
+returns-in-Some-clause-step g c h =
+    let t = g.C.Certificate.table c.args.checked.now in
+    let b = c.args.belief.now in
+    c.send_line.ensures.step t.longest.op h h b _ refl (omega arith) (colors_gone t h b)
+
+pub returns-in-None-clause-step : goal.returns-in-None-clause-step
+returns-in-None-clause-step g c h =
+    let t = g.C.Certificate.table c.args.checked.now in
+    let b = c.args.belief.now in
+    let d : Belief = record b { brush = record b.brush { foreground = None; background = None } } in
+    steps_nothing g.W.Wire.went g.W.Wire.failures g.met.W.Wire.lawful c.args.wire.now tt (IsPaint t) _ (IsLost t) (Agrees t h b) (Agrees t h d) (λ s x. x.ready.rest)
+    (no_color_lines t h b (has_none t Op (c.in-None.ensures.none refl))) (agrees_lost t c.requires.checked h b)

@@ -1,0 +1,8 @@
+-- The definitions of looks, beliefs and single steps.
+pub mod Beliefs
+pub mod Gaps
+pub mod Inks
+pub mod Pieces
+pub mod Singles
+pub mod Steps
+pub mod Stretches

@@ -1,0 +1,22 @@
+//! The single steps of a painter: what it sends as one string or one character, and what it knows of the terminal.
+#![tactic(auto)]
+
+mod beliefs;
+mod inks;
+mod lines;
+mod modes;
+mod singles;
+mod steps;
+mod stretches;
+
+pub use beliefs::{Belief, Mode, Place};
+pub use inks::{
+    Blank, Brush, Cells, Ink, Picture, byte_as, is_plain_ink, is_same, same_attributes, same_brush,
+};
+pub use lines::send_line;
+pub use modes::show_as;
+pub use steps::{
+    attributes_as, background_as, colors_off, erase_tail, foreground_as, is_active, print_at,
+    set_as, stands,
+};
+pub use stretches::blank_shown;

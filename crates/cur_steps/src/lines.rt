@@ -1,0 +1,35 @@
+//! The sending of one line.
+ghost use Rattle.std.specs.Prelude.{◌≡◌, ◌≤◌, ℕ, length, Some, true};
+ghost use Rattle.ti_conforms.specs.Certified.{IsChecked, limit_of, text_of};
+ghost use Rattle.cur_steps.specs.Beliefs.{Belief, Turns};
+ghost use Rattle.cur_steps.specs.Pieces.{paints};
+ghost use Rattle.cur_steps.specs.Steps.{Acts, KeepsBy};
+ghost use Rattle.cur_steps.specs.declared.inks.Ink.{Ink};
+
+use cur_wires::{Wire, WireFault, send_all};
+use ti_conforms::Certificate;
+use ti_rows::Row;
+
+/// Sends `bytes`, which is the line of `row`. It leads from whatever belief the row starts from to what the row makes
+/// of it, and is a step of a painter if the row paints.
+pub fn send_line<C: Certificate, W: Wire>(
+    checked: &C,
+    row: Row,
+    bytes: &[u8],
+    wire: &mut W,
+) -> Result<(), WireFault>
+    requires checked { IsChecked (C.table checked.now) }
+    requires line { (C.table checked.now).line_of row ≡ Some bytes.now }
+    ensures exact { (n : ℕ) (g h : ℕ → ℕ → Ink) (b c : Belief) → paints row ≡ true
+        → length (text_of (C.table checked.now) row) ≤ n
+        → Turns (C.table checked.now) row g b h c
+        → Acts W.went W.failures wire.old wire.new result (C.table checked.now) n g h b c }
+    ensures step { (n : ℕ) (g h : ℕ → ℕ → Ink) (b c : Belief) → paints row ≡ true
+        → limit_of (C.table checked.now) row ≤ n → Turns (C.table checked.now) row g b h c
+        → Acts W.went W.failures wire.old wire.new result (C.table checked.now) n g h b c }
+    ensures text { (b c : Belief) → ((g : ℕ → ℕ → Ink) → Turns (C.table checked.now) row g b g c)
+        → KeepsBy W.went W.failures wire.old wire.new result (C.table checked.now) (limit_of (C.table checked.now) row)
+        (text_of (C.table checked.now) row) b c }
+{
+    send_all(wire, bytes)
+}

@@ -1,0 +1,146 @@
+//! Attributes by strings of their own, for entries without `sgr`.
+ghost use Rattle.std.specs.Prelude.{◌≡◌, ◌<◌, ℕ, false, Option, Some, None, OnOk, length};
+ghost use Rattle.ti_rows.specs.declared.rows.Row.TheVariants.{Sgr, Sgr0};
+ghost use Rattle.ti_conforms.specs.Certified.{IsChecked, has, text_of, lengths};
+ghost use Rattle.cur_steps.specs.Inks.{no_attributes, plain_brush};
+ghost use Rattle.cur_steps.specs.Singles as spec;
+ghost use Rattle.cur_steps.specs.declared.inks.Brush.{Brush};
+ghost use Rattle.cur_steps.specs.Steps.{Keeps};
+
+use crate::beliefs::Belief;
+use crate::inks::Brush;
+use crate::lines::send_line;
+use cur_wires::{Wire, WireFault};
+use ti_conforms::Certificate;
+use ti_rows::{Attributes, Row};
+
+/// Whether the attribute of the string of `row` is among `attributes`.
+fn has_single(attributes: Attributes, row: Row) -> bool
+    ensures { result ≡ spec.has_single row attributes }
+{
+    match row {
+        Row::Smul => attributes.underline,
+        Row::Rev => attributes.reverse,
+        Row::Blink => attributes.blink,
+        Row::Dim => attributes.dim,
+        Row::Bold => attributes.bold,
+        Row::Invis => attributes.invisible,
+        Row::Smso => attributes.standout,
+        _ => false,
+    }
+}
+
+/// The `attributes` and that of the string of `row`.
+fn turned_on(attributes: Attributes, row: Row) -> Attributes
+    ensures { result ≡ spec.turned_on row attributes }
+{
+    let mut attributes = attributes;
+    match row {
+        Row::Smul => attributes.underline = true,
+        Row::Rev => attributes.reverse = true,
+        Row::Blink => attributes.blink = true,
+        Row::Dim => attributes.dim = true,
+        Row::Bold => attributes.bold = true,
+        Row::Invis => attributes.invisible = true,
+        Row::Smso => attributes.standout = true,
+        _ => {}
+    }
+    attributes
+}
+
+/// Makes attributes and colours plain.
+fn make_plain<C: Certificate, W: Wire>(
+    checked: &C,
+    belief: &mut Belief,
+    wire: &mut W,
+) -> Result<(), WireFault>
+    requires checked { IsChecked (C.table checked.now) }
+    ensures belief { belief.new ≡ record belief.old { brush = plain_brush; graphic = None } }
+    ensures step { Keeps W.went W.failures wire.old wire.new result (C.table checked.now)
+        (length (text_of (C.table checked.now) Sgr0)) belief.old belief.new }
+{
+    belief.brush = Brush::plain();
+    belief.graphic = None;
+    send_line(checked, Row::Sgr0, checked.line(Row::Sgr0).unwrap(), wire)
+}
+
+/// Adds the attribute of the string of `row`, if it is `wanted`. One without a string can't be seen.
+fn add_single<C: Certificate, W: Wire>(
+    checked: &C,
+    belief: &mut Belief,
+    wire: &mut W,
+    wanted: Attributes,
+    row: Row,
+) -> Result<(), WireFault>
+    requires checked { IsChecked (C.table checked.now) }
+    requires sgr { has (C.table checked.now) (Sgr no_attributes) ≡ false }
+    requires set { belief.old.graphic ≡ None }
+    ensures belief { belief.new ≡ record belief.old
+        { brush = record belief.old.brush { attributes = spec.with_single wanted row belief.old.brush.attributes } } }
+    ensures step { Keeps W.went W.failures wire.old wire.new result (C.table checked.now)
+        (length (text_of (C.table checked.now) row)) belief.old belief.new }
+{
+    if !has_single(wanted, row) {
+        return Ok(());
+    }
+    belief.brush.attributes = turned_on(belief.brush.attributes, row);
+    match checked.line(row) {
+        Some(line) => send_line(checked, row, line, wire),
+        None => Ok(()),
+    }
+}
+
+/// Adds those of the attributes of `rows` that are `wanted`.
+fn add_singles<C: Certificate, W: Wire>(
+    checked: &C,
+    belief: &mut Belief,
+    wire: &mut W,
+    wanted: Attributes,
+    rows: &[Row],
+) -> Result<(), WireFault>
+    requires checked { IsChecked (C.table checked.now) }
+    requires sgr { has (C.table checked.now) (Sgr no_attributes) ≡ false }
+    requires set { belief.old.graphic ≡ None }
+    ensures belief { OnOk result
+        (belief.new ≡ record belief.old {
+          brush = record belief.old.brush
+              { attributes = spec.with_singles wanted rows.now belief.old.brush.attributes };
+        }) }
+    ensures step { Keeps W.went W.failures wire.old wire.new result (C.table checked.now)
+        (lengths (C.table checked.now) rows.now) belief.old belief.new }
+{
+    for row in rows {
+        add_single(checked, belief, wire, wanted, *row)?;
+    }
+    Ok(())
+}
+
+/// Makes the attributes `wanted`, and the colours the default ones: all go off, and those that are wanted go on one by
+/// one.
+pub(crate) fn attributes_singly<C: Certificate, W: Wire>(
+    checked: &C,
+    belief: &mut Belief,
+    wire: &mut W,
+    wanted: Attributes,
+) -> Result<(), WireFault>
+    requires checked { IsChecked (C.table checked.now) }
+    requires sgr { (C.table checked.now).line_of (Sgr wanted) ≡ None }
+    ensures brush { OnOk result
+        (belief.new.brush ≡ record { attributes = wanted; foreground = None; background = None }) }
+    ensures place { OnOk result (belief.new.place ≡ belief.old.place) }
+    ensures step { Keeps W.went W.failures wire.old wire.new result (C.table checked.now)
+        (C.table checked.now).longest.sgr belief.old belief.new }
+    ensures mode { OnOk result (belief.new.mode ≡ belief.old.mode) }
+{
+    make_plain(checked, belief, wire)?;
+    let rows = [
+        Row::Smul,
+        Row::Rev,
+        Row::Blink,
+        Row::Dim,
+        Row::Bold,
+        Row::Invis,
+        Row::Smso,
+    ];
+    add_singles(checked, belief, wire, wanted, &rows)
+}

@@ -1,0 +1,248 @@
+//! The single steps of a painter: each sends at most one line or one character.
+ghost use Rattle.std.specs.Prelude.{◌≡◌, ◌+◌, ◌<◌, ℕ, Bool, true, false, Option, Some, None, OnOk};
+ghost use Rattle.vt_term.specs.Color.{Color};
+ghost use Rattle.vt_term.specs.Look.{IsPrinted};
+ghost use Rattle.ti_rows.specs.declared.rows.Row.TheVariants.{Op, El, Sgr, Smacs};
+ghost use Rattle.ti_conforms.specs.Certified.{IsChecked, has};
+ghost use Rattle.cur_steps.specs.Inks.{put_at, tail_blank, plain_brush};
+ghost use Rattle.cur_steps.specs.Beliefs.{moves, IsNext, set_row};
+ghost use Rattle.cur_steps.specs.declared.inks.Brush.{Brush};
+ghost use Rattle.cur_steps.specs.Steps.{IsGoal, Keeps, Makes};
+
+use crate::beliefs::{Belief, Place};
+use crate::inks::{Brush, Ink, same_attributes, same_color};
+use crate::lines::send_line;
+use crate::singles::attributes_singly;
+use cur_wires::{Wire, WireFault, send_all};
+use ti_conforms::Certificate;
+use ti_rows::{Attributes, Row};
+use vt_term::Color;
+
+/// Whether `place` is `at`.
+pub fn stands(place: Place, at: Place) -> bool
+    ensures here { result ≡ true → place ≡ at }
+    ensures counted { result ≡ false → moves place at.row at.col ≡ 1 }
+    ensures known { place ≡ at → result ≡ true }
+{
+    place.row == at.row && place.col == at.col
+}
+
+/// Makes the colours the default ones.
+pub fn colors_off<C: Certificate, W: Wire>(
+    checked: &C,
+    belief: &mut Belief,
+    wire: &mut W,
+) -> Result<(), WireFault>
+    requires checked { IsChecked (C.table checked.now) }
+    ensures belief { belief.new ≡ record belief.old
+        { brush = record belief.old.brush { foreground = None; background = None } } }
+    ensures step { Keeps W.went W.failures wire.old wire.new result (C.table checked.now)
+        (C.table checked.now).longest.op belief.old belief.new }
+{
+    let plain = is_uncolored(belief.brush);
+    belief.brush.foreground = None;
+    belief.brush.background = None;
+    if plain {
+        return Ok(());
+    }
+    match checked.line(Row::Op) {
+        Some(line) => send_line(checked, Row::Op, line, wire),
+        None => Ok(()),
+    }
+}
+
+/// Whether `brush` has the default colours.
+fn is_uncolored(brush: Brush) -> bool
+    ensures foreground { result ≡ true → brush.foreground ≡ None }
+    ensures background { result ≡ true → brush.background ≡ None }
+{
+    matches!((brush.foreground, brush.background), (None, None))
+}
+
+/// Makes the attributes `wanted`; the colours are the default ones before and after.
+pub fn attributes_as<C: Certificate, W: Wire>(
+    checked: &C,
+    belief: &mut Belief,
+    wire: &mut W,
+    wanted: Attributes,
+) -> Result<(), WireFault>
+    requires checked { IsChecked (C.table checked.now) }
+    requires foreground { belief.old.brush.foreground ≡ None }
+    requires background { belief.old.brush.background ≡ None }
+    ensures brush { OnOk result
+        (belief.new.brush ≡ record { attributes = wanted; foreground = None; background = None }) }
+    ensures place { OnOk result (belief.new.place ≡ belief.old.place) }
+    ensures step { Keeps W.went W.failures wire.old wire.new result (C.table checked.now)
+        (C.table checked.now).longest.sgr belief.old belief.new }
+    ensures mode { OnOk result (belief.new.mode ≡ belief.old.mode) }
+{
+    if same_attributes(belief.brush.attributes, wanted) {
+        belief.brush.attributes = wanted;
+        return Ok(());
+    }
+    match checked.line(Row::Sgr(wanted)) {
+        Some(line) => attributes_at_once(checked, line, belief, wire, wanted),
+        None => attributes_singly(checked, belief, wire, wanted),
+    }
+}
+
+/// Makes the attributes `wanted` by one string, `line`; the colours are the default ones before and after.
+fn attributes_at_once<C: Certificate, W: Wire>(
+    checked: &C,
+    line: &[u8],
+    belief: &mut Belief,
+    wire: &mut W,
+    wanted: Attributes,
+) -> Result<(), WireFault>
+    requires checked { IsChecked (C.table checked.now) }
+    requires line { (C.table checked.now).line_of (Sgr wanted) ≡ Some line.now }
+    requires foreground { belief.old.brush.foreground ≡ None }
+    requires background { belief.old.brush.background ≡ None }
+    ensures brush { belief.new.brush ≡ record { attributes = wanted; foreground = None; background = None } }
+    ensures place { belief.new.place ≡ belief.old.place }
+    ensures step { Keeps W.went W.failures wire.old wire.new result (C.table checked.now)
+        (C.table checked.now).longest.sgr belief.old belief.new }
+    ensures mode { OnOk result (belief.new.mode ≡ belief.old.mode) }
+{
+    belief.brush.attributes = wanted;
+    belief.graphic = None;
+    send_line(checked, Row::Sgr(wanted), line, wire)
+}
+
+/// Makes the foreground the colour `wanted`, or leaves it the default one.
+pub fn foreground_as<C: Certificate, W: Wire>(
+    checked: &C,
+    belief: &mut Belief,
+    wire: &mut W,
+    wanted: Option<Color>,
+) -> Result<(), WireFault>
+    requires checked { IsChecked (C.table checked.now) }
+    requires now { wanted ≡ None → belief.old.brush.foreground ≡ None }
+    requires colors { has (C.table checked.now) Op ≡ false → wanted ≡ None }
+    ensures belief { belief.new ≡ record belief.old { brush = record belief.old.brush { foreground = wanted } } }
+    ensures step { Keeps W.went W.failures wire.old wire.new result (C.table checked.now)
+        (C.table checked.now).longest.setaf belief.old belief.new }
+{
+    let same = same_color(belief.brush.foreground, wanted);
+    belief.brush.foreground = wanted;
+    if same {
+        return Ok(());
+    }
+    let Some(color) = wanted else {
+        return Ok(());
+    };
+    match checked.line(Row::Setaf(color)) {
+        Some(line) => send_line(checked, Row::Setaf(color), line, wire),
+        None => Ok(()),
+    }
+}
+
+/// Makes the background the colour `wanted`, or leaves it the default one.
+pub fn background_as<C: Certificate, W: Wire>(
+    checked: &C,
+    belief: &mut Belief,
+    wire: &mut W,
+    wanted: Option<Color>,
+) -> Result<(), WireFault>
+    requires checked { IsChecked (C.table checked.now) }
+    requires now { wanted ≡ None → belief.old.brush.background ≡ None }
+    requires colors { has (C.table checked.now) Op ≡ false → wanted ≡ None }
+    ensures belief { belief.new ≡ record belief.old { brush = record belief.old.brush { background = wanted } } }
+    ensures step { Keeps W.went W.failures wire.old wire.new result (C.table checked.now)
+        (C.table checked.now).longest.setab belief.old belief.new }
+{
+    let same = same_color(belief.brush.background, wanted);
+    belief.brush.background = wanted;
+    if same {
+        return Ok(());
+    }
+    let Some(color) = wanted else {
+        return Ok(());
+    };
+    match checked.line(Row::Setab(color)) {
+        Some(line) => send_line(checked, Row::Setab(color), line, wire),
+        None => Ok(()),
+    }
+}
+
+/// Makes the set, the graphic one if `graphic`, the active one, if it isn't known to be.
+pub fn set_as<C: Certificate, W: Wire>(
+    checked: &C,
+    belief: &mut Belief,
+    wire: &mut W,
+    graphic: bool,
+) -> Result<(), WireFault>
+    requires checked { IsChecked (C.table checked.now) }
+    requires lines { has (C.table checked.now) Smacs ≡ false → graphic ≡ false }
+    ensures belief { belief.new ≡ record belief.old { graphic = Some graphic } }
+    ensures step { Keeps W.went W.failures wire.old wire.new result (C.table checked.now)
+        (C.table checked.now).longest.sets belief.old belief.new }
+{
+    if is_active(belief.graphic, graphic) {
+        return Ok(());
+    }
+    belief.graphic = Some(graphic);
+    let row = row_of_set(graphic);
+    match checked.line(row) {
+        Some(line) => send_line(checked, row, line, wire),
+        None => Ok(()),
+    }
+}
+
+/// The row whose line makes the set, the graphic one if `graphic`, the active one.
+fn row_of_set(graphic: bool) -> Row
+    ensures { result ≡ set_row graphic }
+{
+    if graphic { Row::Smacs } else { Row::Rmacs }
+}
+
+/// Whether the active set `now` is known and is the graphic one just if `graphic`.
+pub fn is_active(now: Option<bool>, graphic: bool) -> bool
+    ensures active { result ≡ true → now ≡ Some graphic }
+    ensures known { now ≡ Some graphic → result ≡ true }
+{
+    matches!(now, Some(active) if active == graphic)
+}
+
+/// Prints `ink` at `at`, where the next character is known to go, in the brush and the set that are known.
+pub fn print_at<C: Certificate, W: Wire>(
+    checked: &C,
+    belief: &mut Belief,
+    wire: &mut W,
+    at: Place,
+    ink: Ink,
+) -> Result<(), WireFault>
+    requires goal { IsGoal (C.table checked.now) at }
+    requires printed { IsPrinted ink.byte }
+    requires place { IsNext (C.table checked.now).cols belief.old.place at.row at.col }
+    requires brush { belief.old.brush ≡ ink.brush }
+    requires set { belief.old.graphic ≡ Some ink.graphic }
+    ensures belief { belief.new ≡ record belief.old { place = record { row = at.row; col = at.col + 1 } } }
+    ensures step { Makes W.went W.failures wire.old wire.new result (C.table checked.now) 1 (put_at at.row at.col ink)
+        belief.old belief.new }
+{
+    belief.place = Place {
+        row: at.row,
+        col: at.col + 1,
+    };
+    send_all(wire, &[ink.byte])
+}
+
+/// Erases the line's end by its string `tail`, from `at`, where the cursor is known to be.
+pub fn erase_tail<C: Certificate, W: Wire>(
+    checked: &C,
+    tail: &[u8],
+    belief: &Belief,
+    wire: &mut W,
+    at: Place,
+) -> Result<(), WireFault>
+    requires checked { IsChecked (C.table checked.now) }
+    requires col { at.col < (C.table checked.now).cols }
+    requires tail { (C.table checked.now).line_of El ≡ Some tail.now }
+    requires place { belief.now.place ≡ at }
+    requires brush { belief.now.brush ≡ plain_brush }
+    ensures step { Makes W.went W.failures wire.old wire.new result (C.table checked.now)
+        (C.table checked.now).longest.erasure (tail_blank at.row at.col) belief.now belief.now }
+{
+    send_line(checked, Row::El, tail, wire)
+}

@@ -1,7 +1,0 @@
--- As many as were gone through.
-use Rattle.std.proofs.Common.{◌≡◌, replicate}
-use Rattle.cur_drawing.specs.Marks.{none_marked}
-use Rattle.cur_windows.proofs.touched.unmarked_grids.Given as goal
-
-abbrev pub invariant-loop-k : goal.invariant-loop-k
-invariant-loop-k l = l.grids.items ≡ replicate l._k (none_marked l.rows)

@@ -1,7 +1,0 @@
--- As many as were gone through.
-use Rattle.std.proofs.Common.{◌≡◌, replicate}
-use Rattle.cur_windows.specs.VirtualScreen.{default_colors}
-use Rattle.cur_windows.proofs.virtual_screen.default_pairs.Given as goal
-
-abbrev pub invariant-loop-k : goal.invariant-loop-k
-invariant-loop-k l = l.pairs.items ≡ replicate l._k default_colors

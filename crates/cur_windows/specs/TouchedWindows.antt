@@ -1,0 +1,73 @@
+-- The marks of the grids of a desk: where each may differ from the virtual screen, and which of them a call adds.
+use Rattle.std.specs.Prelude.{ℕ, ◌≡◌, ◌≢◌, ◌-◌, ◌<◌, ◌≤◌, ◌⊎◌, [], length, true, false, None, Result, Ok, Err}
+use Rattle.cur_drawing.specs.declared.refusals.Refusal.{Refusal}
+use Rattle.cur_drawing.specs.Grids.{Grid}
+use Rattle.cur_screens.specs.Marks.{AreUnmarkedBeside, IsUnmarked, Marking, none_marked}
+use Rattle.cur_screens.specs.declared.slots.Slot.{Slot}
+use Rattle.cur_windows.specs.Desks.{State, grid_at, origin_at, slot_of}
+use Rattle.cur_windows.specs.Refreshes.{area_on_screen}
+use Rattle.cur_screens.specs.Touched.{IsShownBut, IsWrittenLine, Markings, MarksArea, MarksNoMore, cells_shown, grid_marks}
+
+-- a screen has the cells of each grid, but for what is marked for it; a pad's lies nowhere
+abbrev pub ShowsBut : Markings → State → Grid → Type 0
+ShowsBut t d v =
+    (k : ℕ) → (origin_at d k).pad ≡ false → IsShownBut (grid_marks t k) (origin_at d k) (grid_at d k) v
+
+-- What was shown but for the one's marks on the one desk is shown but for the other's on the other desk. So what was
+-- marked stays marked, and each place in which grids differ is marked.
+abbrev pub KeepsShown : Markings → State → Markings → State → Type 0
+KeepsShown t d u e = (v : Grid) → ShowsBut t d v → ShowsBut u e v
+
+-- of a window's grid no more is marked afterwards than so many cells, from the cursor on
+abbrev pub MarksCellsAlone : Markings → Markings → State → Slot → ℕ → Type 0
+MarksCellsAlone t u d s count =
+    MarksNoMore (grid_marks t s.root) (grid_marks u s.root) (cells_shown (origin_at d s.root) s.window s.window.col count)
+
+-- a window's rectangle is marked as well of its grid, unless that is a pad's, and nothing of any other grid
+pub record MarksSlot (t u : Markings) (d : State) (s : Slot) : Type 0 where
+  pub grid : (origin_at d s.root).pad ≡ false → s.root < length t
+      → MarksArea (grid_marks t s.root) (grid_marks u s.root) (area_on_screen d s)
+  pub pad : (origin_at d s.root).pad ≡ true → u ≡ t
+  pub none : length t ≤ s.root → u ≡ t
+  pub others : (k : ℕ) → k ≢ s.root → grid_marks u k ≡ grid_marks t k
+
+-- that of the window of a number, if there is one
+abbrev pub MarksWindow : Markings → Markings → State → Result Slot Refusal → Type 0
+MarksWindow t u d (Ok s) = MarksSlot t u d s
+MarksWindow t u d (Err e) = u ≡ t
+
+-- ---- no more is marked
+
+-- a line of the screen in which a call may have written on a window of the grid k that was so before it and is so
+-- afterwards
+pub record WritesOn (k : ℕ) (d : State) (s t : Slot) (i : ℕ) : Type 0 where
+  pub root : t.root ≡ k
+  pub lies : (origin_at d t.root).pad ≡ false
+  pub line : IsWrittenLine t.window (origin_at d t.root) s.window.row i
+
+abbrev pub WritesLine : ℕ → State → Result Slot Refusal → Result Slot Refusal → ℕ → Type 0
+WritesLine k d (Ok s) (Ok t) i = WritesOn k d s t i
+WritesLine k d (Ok s) (Err e) i = ⊥
+WritesLine k d (Err e) t i = ⊥
+
+-- what wasn't marked of a grid stays unmarked, but for the lines in which the call may have written on the window of a
+-- number
+pub record MarksWritten (t u : Markings) (d e : State) (id : ℕ) : Type 0 where
+  pub only : (k i j : ℕ) → IsUnmarked (grid_marks t k) i j → (WritesLine k d (slot_of d id) (slot_of e id) i → ⊥)
+      → IsUnmarked (grid_marks u k) i j
+
+-- a window as large as the screen
+pub record IsScreenful (d : State) (s : Slot) : Type 0 where
+  pub rows : s.window.area.rows ≡ d.rows
+  pub cols : s.window.area.cols ≡ d.cols
+
+-- a window that is all of its grid
+abbrev pub HasAll : State → Slot → Type 0
+HasAll d s = (s.parent ≡ None) ⊎ IsScreenful d s
+
+-- The marks after a window was copied, the screen being marked so: none of a grid that it is all of, and else those
+-- that there were; of each other grid also what the screen has.
+pub record MarksCopied (t u : Markings) (o : Marking) (d : State) (s : Slot) : Type 0 where
+  pub whole : s.root < length t → HasAll d s → grid_marks u s.root ≡ none_marked (length (grid_marks t s.root).lines)
+  pub part : (HasAll d s → ⊥) → grid_marks u s.root ≡ grid_marks t s.root
+  pub others : (k i j : ℕ) → k ≢ s.root → AreUnmarkedBeside (grid_marks t k) o d.cols i j → IsUnmarked (grid_marks u k) i j
