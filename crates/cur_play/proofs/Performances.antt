@@ -15,13 +15,14 @@ use Rattle.cur_pads.specs.Ranges.{between, from}
 use Rattle.cur_pads.specs.Displays.{pnoutrefresh, start}
 use Rattle.ti_conforms.specs.Certified.{Table}
 use Rattle.cur_calls.specs.declared.calls.Call.{Call}
-use Rattle.cur_calls.specs.declared.calls.Call.TheVariants.{Show, ShowPad, CursSet, InitPair}
+use Rattle.cur_calls.specs.declared.calls.Call.TheVariants.{Newwin, Newpad, Part, Dupwin, Plain, Number, Numbers, Flag, Attributes, Cell, Addstr, Line, DrawBorder, DrawBox, Lay, Copywin, Show, ShowPad, Screen as OnScreen, CursSet, InitPair}
 use Rattle.cur_play.specs.Drawings.{Draws, Drawn, NoSpace, SameSizes}
 use Rattle.cur_play.specs.Groups.{Does, Makes}
 use Rattle.cur_play.specs.Scenes.{Scene}
 use Rattle.cur_update.specs.Painters.{set_mode}
-use Rattle.cur_play.specs.Steps.{Step, answer_of, drawn, mode_answer, on_desk, or_else, showing}
-use Rattle.cur_play.specs.Windows.{changing, making, takes_memory}
+use Rattle.cur_play.specs.Steps.{Step, answer_of, drawn, mode_answer, on_desk}
+use Rattle.cur_play.specs.Groups.{changing, making, showing}
+use Rattle.cur_play.specs.Windows.{takes_memory}
 use Rattle.cur_play.specs.declared.answers.Answer.{Answer}
 use Rattle.cur_play.specs.declared.answers.Answer.TheVariants.{Done, Refused, WireFailed}
 use Rattle.cur_play.proofs.Sizes.{MaySize, making_sized, changing_sized}
@@ -31,13 +32,44 @@ pub data Performs (takes : Bool) (x : Step) (before : Scene) (answer : Answer) (
   AsDefined : (after, answer) ≡ x → Performs takes x before answer after
   Short : takes ≡ true → x.1 ≡ Done → answer ≡ Refused NoMemory → after ≡ before → Performs takes x before answer after
 
-to_draws : (t : Table) (s : Scene) (call : Call) (answer : Answer) (a : Scene) → Performs (takes_memory call) (drawn t s call) s answer a → Draws t s call answer a
-to_draws t s call answer a (AsDefined e) = Drawn e
-to_draws t s call answer a (Short k done r same) = NoSpace k done r same
+abbrev or_else : Scene → Option DeskStep → Step → Step
+or_else s (Some x) other = on_desk s x
+or_else s None other = other
 
-pub to_performs : (t : Table) (s : Scene) (call : Call) (answer : Answer) (a : Scene) → Draws t s call answer a → Performs (takes_memory call) (drawn t s call) s answer a
-to_performs t s call answer a (Drawn e) = AsDefined e
-to_performs t s call answer a (NoSpace k done r same) = Short k done r same
+-- the groups one after another, as the code goes through them
+abbrev pub grouped : Table → Scene → Call → Step
+grouped t s call = or_else s (making s.desk call) (or_else s (changing s.desk call) (showing t s call))
+
+pub grouped_is : (t : Table) (s : Scene) (call : Call) → grouped t s call ≡ drawn t s call
+grouped_is t s (Newwin n lines cols y x) = refl
+grouped_is t s (Newpad n lines cols) = refl
+grouped_is t s (Part k n w lines cols y x) = refl
+grouped_is t s (Dupwin n w) = refl
+grouped_is t s (Plain k n) = refl
+grouped_is t s (Number k n x) = refl
+grouped_is t s (Numbers k n x y) = refl
+grouped_is t s (Flag k n on) = refl
+grouped_is t s (Attributes k n a) = refl
+grouped_is t s (Cell k n p) = refl
+grouped_is t s (Addstr n text) = refl
+grouped_is t s (Line k n p x) = refl
+grouped_is t s (DrawBorder n b) = refl
+grouped_is t s (DrawBox n v h) = refl
+grouped_is t s (Lay k from to) = refl
+grouped_is t s (Copywin skip from to from_row from_col row col last_row last_col) = refl
+grouped_is t s (Show k n) = refl
+grouped_is t s (ShowPad k n row col top left bottom right) = refl
+grouped_is t s (OnScreen k) = refl
+grouped_is t s (CursSet n) = refl
+grouped_is t s (InitPair p f b) = refl
+
+to_draws : (t : Table) (s : Scene) (call : Call) (answer : Answer) (a : Scene) → Performs (takes_memory call) (grouped t s call) s answer a → Draws t s call answer a
+to_draws t s call answer a (AsDefined e) = Drawn (e ∙ grouped_is t s call)
+to_draws t s call answer a (Short k done r same) = NoSpace k (ap (λ (x : Step). x.1) (sym (grouped_is t s call)) ∙ done) r same
+
+to_performs : (t : Table) (s : Scene) (call : Call) (answer : Answer) (a : Scene) → Draws t s call answer a → Performs (takes_memory call) (grouped t s call) s answer a
+to_performs t s call answer a (Drawn e) = AsDefined (e ∙ sym (grouped_is t s call))
+to_performs t s call answer a (NoSpace k done r same) = Short k (ap (λ (x : Step). x.1) (grouped_is t s call) ∙ done) r same
 
 made : (s : Scene) (d : State) (r : Result (Unit {0}) Refusal) (takes : Bool) (o : Option DeskStep) (other : Step) → Makes s.desk d (Some r) takes o → Performs takes (or_else s o other) s (answer_of r) (record s { desk = d })
 made s d r takes (Some x) other (inl n) = Short n.takes (ap answer_of n.done) (ap answer_of n.refused) (ap (λ (y : State). record s { desk = y }) n.same)
@@ -122,9 +154,12 @@ or_sizes : (s : Scene) (o : Option DeskStep) (other : Step) → MaySize s.desk o
 or_sizes s (Some x) other h k = record { desk_rows = h.rows; desk_cols = h.cols; rows = refl; cols = refl }
 or_sizes s None other h k = k
 
-pub drawn_sizes : (t : Table) (s : Scene) (call : Call) → SameSizes s.desk s.screen (drawn t s call).0.desk (drawn t s call).0.screen
-drawn_sizes t s call = or_sizes s (making s.desk call) (or_else s (changing s.desk call) (showing t s call)) (making_sized s.desk call)
+grouped_sizes : (t : Table) (s : Scene) (call : Call) → SameSizes s.desk s.screen (grouped t s call).0.desk (grouped t s call).0.screen
+grouped_sizes t s call = or_sizes s (making s.desk call) (or_else s (changing s.desk call) (showing t s call)) (making_sized s.desk call)
     (or_sizes s (changing s.desk call) (showing t s call) (changing_sized s.desk call) (showing_sizes t s call))
+
+pub drawn_sizes : (t : Table) (s : Scene) (call : Call) → SameSizes s.desk s.screen (drawn t s call).0.desk (drawn t s call).0.screen
+drawn_sizes t s call = subst (λ (x : Step). SameSizes s.desk s.screen x.0.desk x.0.screen) (grouped_is t s call) (grouped_sizes t s call)
 
 performed_sizes : (takes : Bool) (x : Step) (s : Scene) (answer : Answer) (a : Scene) → SameSizes s.desk s.screen x.0.desk x.0.screen → Performs takes x s answer a → SameSizes s.desk s.screen a.desk a.screen
 performed_sizes takes x s answer a h (AsDefined e) =
@@ -134,7 +169,7 @@ performed_sizes takes x s answer a h (Short k done r same) =
     let P : Scene → Type 0 = λ y. SameSizes s.desk s.screen y.desk y.screen in subst P (sym same) (same_sizes s.desk s.screen)
 
 pub draws_sizes : (t : Table) (s : Scene) (call : Call) (answer : Answer) (a : Scene) → Draws t s call answer a → SameSizes s.desk s.screen a.desk a.screen
-draws_sizes t s call answer a h = performed_sizes (takes_memory call) (drawn t s call) s answer a (drawn_sizes t s call) (to_performs t s call answer a h)
+draws_sizes t s call answer a h = performed_sizes (takes_memory call) (grouped t s call) s answer a (grouped_sizes t s call) (to_performs t s call answer a h)
 
 -- ---- what is answered
 
@@ -168,5 +203,5 @@ performed_answer takes x s answer a h (AsDefined e) f = h (ap (λ (y : Step). y.
 performed_answer takes x s answer a h (Short k done r same) f = refused_not_wire answer NoMemory r f
 
 pub draws_answer : (t : Table) (s : Scene) (call : Call) (answer : Answer) (a : Scene) → Draws t s call answer a → answer ≡ WireFailed → ⊥
-draws_answer t s call answer a h = performed_answer (takes_memory call) (drawn t s call) s answer a
+draws_answer t s call answer a h = performed_answer (takes_memory call) (grouped t s call) s answer a
     (or_sends_nothing s (making s.desk call) (or_else s (changing s.desk call) (showing t s call)) (or_sends_nothing s (changing s.desk call) (showing t s call) (showing_sends_nothing t s call))) (to_performs t s call answer a h)

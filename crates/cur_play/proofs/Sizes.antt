@@ -35,7 +35,8 @@ use Rattle.cur_calls.specs.declared.groups.CellCall.{CellCall}
 use Rattle.cur_calls.specs.declared.groups.CellCall.TheVariants.{Addch, Insch, Bkgdset, Bkgd}
 use Rattle.cur_calls.specs.declared.groups.LineCall.{LineCall}
 use Rattle.cur_calls.specs.declared.groups.LineCall.TheVariants.{Hline, Vline}
-use Rattle.cur_play.specs.Windows.{part_step, making, plain_step, number_step, numbers_step, flag_step, attributes_step, cell_step, line_step, skips, changing}
+use Rattle.cur_play.specs.Windows.{part_step, plain_step, number_step, numbers_step, flag_step, attributes_step, cell_step, line_step, skips}
+use Rattle.cur_play.specs.Groups.{making, changing}
 
 pub record IsSized (d : State) (x : DeskStep) : Type 0 where
   pub rows : x.0.rows ≡ d.rows

@@ -16,7 +16,8 @@ use Rattle.cur_calls.specs.declared.groups.LineCall.TheVariants.{Hline, Vline}
 use Rattle.cur_calls.specs.declared.groups.PlainCall.{PlainCall}
 use Rattle.cur_calls.specs.declared.groups.PlainCall.TheVariants.{Delwin, Delch, Insertln, Deleteln, Clrtoeol, Clrtobot, Erase, Clear, Touchwin}
 use Rattle.cur_play.specs.Groups.{Does}
-use Rattle.cur_play.specs.Windows.{line_step, plain_step, shaping}
+use Rattle.cur_play.specs.Windows.{line_step, plain_step}
+use Rattle.cur_play.specs.Groups.{shaping}
 
 -- all of them but the one that deletes a window
 pub keeps_plain : (t u : Markings) (k : PlainCall) (d e : State) (n : ℕ) (r : Result (Unit {0}) Refusal) → IsDesk d → (k ≡ Delwin → ⊥) → step e r ≡ plain_step k d n → MarksWindow t u d (slot_of d n) → KeepsShown t d u e

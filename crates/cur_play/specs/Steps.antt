@@ -1,11 +1,15 @@
 -- What each call does, and what it answers (X/Open Curses Issue 7, the reference pages of the calls).
-use Rattle.std.specs.Prelude.{ℕ, ◌≡◌, Bool, true, false, Option, Some, None, Result, Ok, Err}
+use Rattle.std.specs.Prelude.{ℕ, ◌≡◌, Bool, true, false, Result, Ok, Err}
 use Rattle.ti_rows.specs.declared.rows.Row.TheVariants.{Bel}
 use Rattle.cur_drawing.specs.declared.refusals.Refusal.{Refusal}
 use Rattle.cur_drawing.specs.declared.refusals.Refusal.TheVariants.{NoMemory, NoCap, IsLost}
 use Rattle.cur_windows.specs.Desks as desks
 use Rattle.cur_screens.specs.VirtualScreen as screens
 use Rattle.cur_windows.specs.Refreshes as refreshes
+use Rattle.cur_drawing.specs.Calls as call
+use Rattle.cur_windows.specs.Creations as make
+use Rattle.cur_windows.specs.Copies as copy
+use Rattle.cur_pads.specs.Creations as pads
 use Rattle.cur_pads.specs.Displays.{pnoutrefresh}
 use Rattle.ti_conforms.specs.Certified.{Table, has}
 use Rattle.cur_steps.specs.declared.beliefs.Mode.{Mode}
@@ -13,12 +17,16 @@ use Rattle.cur_paint.specs.declared.updates.Status.{Status}
 use Rattle.cur_paint.specs.declared.updates.Status.TheVariants.{Fresh, Known, Lost}
 use Rattle.cur_update.specs.Painters.{set_mode}
 use Rattle.cur_calls.specs.declared.calls.Call.{Call}
-use Rattle.cur_calls.specs.declared.calls.Call.TheVariants.{Show, ShowPad, Screen, CursSet, InitPair}
-use Rattle.cur_calls.specs.declared.groups.ShowCall.TheVariants.{Refresh}
-use Rattle.cur_calls.specs.declared.groups.PadCall.TheVariants.{Prefresh}
+use Rattle.cur_calls.specs.declared.calls.Call.TheVariants.{Newwin, Newpad, Part, Dupwin, Plain, Number, Numbers, Flag, Attributes, Cell, Addstr, Line, DrawBorder, DrawBox, Lay, Copywin, Show, ShowPad, Screen, CursSet, InitPair}
+use Rattle.cur_calls.specs.declared.groups.ShowCall.{ShowCall}
+use Rattle.cur_calls.specs.declared.groups.ShowCall.TheVariants.{Noutrefresh, Refresh}
+use Rattle.cur_calls.specs.declared.groups.PadCall.{PadCall}
+use Rattle.cur_calls.specs.declared.groups.PadCall.TheVariants.{Pnoutrefresh, Prefresh}
+use Rattle.cur_calls.specs.declared.groups.ScreenCall.{ScreenCall}
 use Rattle.cur_calls.specs.declared.groups.ScreenCall.TheVariants.{Doupdate, Beep, Endwin}
 use Rattle.cur_play.specs.Scenes.{Scene}
-use Rattle.cur_play.specs.Windows.{making, changing, takes_memory}
+use Rattle.cur_play.specs.Windows as windows
+use Rattle.cur_play.specs.Windows.{takes_memory}
 use Rattle.cur_play.specs.declared.answers.Answer.{Answer}
 use Rattle.cur_play.specs.declared.answers.Answer.TheVariants.{Done, Was, Refused, WireFailed}
 use Rattle.cur_play.specs.declared.sends.Emission.{Emission}
@@ -48,37 +56,75 @@ on_both s x = (record s { desk = x.0; screen = x.1 }, answer_of x.2)
 abbrev pub on_mode : Scene → Mode × Result ℕ Refusal → Step
 on_mode s x = (record s { mode = x.0 }, mode_answer x.1)
 
--- the calls on more than windows; those that only send draw nothing
-abbrev pub showing : Table → Scene → Call → Step
-showing t s (Show k n) = on_both s (refreshes.noutrefresh s.desk s.screen n)
-showing t s (ShowPad k n row col top left bottom right) =
-    on_both s (pnoutrefresh s.desk s.screen n row col top left bottom right)
-showing t s (CursSet n) = on_mode s (set_mode t n s.mode)
-showing t s (InitPair p f b) = on_screen s (screens.init_pair p f b s.screen)
-showing t s _ = (s, Done)
-
-abbrev pub or_else : Scene → Option desks.DeskStep → Step → Step
-or_else s (Some x) other = on_desk s x
-or_else s None other = other
-
--- what a call does before anything is sent: `refresh` and `prefresh` copy
+-- what each call does before anything is sent: `refresh` and `prefresh` copy, and what only sends draws nothing
 abbrev pub drawn : Table → Scene → Call → Step
-drawn t s call = or_else s (making s.desk call) (or_else s (changing s.desk call) (showing t s call))
+drawn t s (Newwin n lines cols y x) = on_desk s (make.newwin s.desk n lines cols y x)
+drawn t s (Newpad n lines cols) = on_desk s (pads.newpad s.desk n lines cols)
+drawn t s (Part k n w lines cols y x) = on_desk s (windows.part_step k s.desk n w lines cols y x)
+drawn t s (Dupwin n w) = on_desk s (make.dupwin s.desk n w)
+drawn t s (Plain k n) = on_desk s (windows.plain_step k s.desk n)
+drawn t s (Number k n x) = on_desk s (windows.number_step k s.desk n x)
+drawn t s (Numbers k n x y) = on_desk s (windows.numbers_step k s.desk n x y)
+drawn t s (Flag k n on) = on_desk s (windows.flag_step k s.desk n on)
+drawn t s (Attributes k n a) = on_desk s (windows.attributes_step k s.desk n a)
+drawn t s (Cell k n p) = on_desk s (windows.cell_step k s.desk n p)
+drawn t s (Addstr n text) = on_desk s (desks.on_window s.desk n (call.added_all text))
+drawn t s (Line k n p x) = on_desk s (windows.line_step k s.desk n p x)
+drawn t s (DrawBorder n b) = on_desk s (desks.on_grid s.desk n (call.bordered b))
+drawn t s (DrawBox n v h) = on_desk s (desks.on_grid s.desk n (call.bordered (call.box_of v h)))
+drawn t s (Lay k from to) = on_desk s (copy.common_part (windows.skips k) s.desk from to)
+drawn t s (Copywin skip from to from_row from_col row col last_row last_col) =
+    on_desk s (copy.copywin s.desk from to from_row from_col row col last_row last_col skip)
+drawn t s (Show k n) = on_both s (refreshes.noutrefresh s.desk s.screen n)
+drawn t s (ShowPad k n row col top left bottom right) =
+    on_both s (pnoutrefresh s.desk s.screen n row col top left bottom right)
+drawn t s (Screen k) = (s, Done)
+drawn t s (CursSet n) = on_mode s (set_mode t n s.mode)
+drawn t s (InitPair p f b) = on_screen s (screens.init_pair p f b s.screen)
 
--- what a call sends: what shows the virtual screen, the bell, the end of the program's screen, or nothing
+abbrev pub shown_window : ShowCall → Emission
+shown_window Noutrefresh = Nothing
+shown_window Refresh = Update
+
+abbrev pub shown_pad : PadCall → Emission
+shown_pad Pnoutrefresh = Nothing
+shown_pad Prefresh = Update
+
+abbrev pub screen_output : ScreenCall → Emission
+screen_output Doupdate = Update
+screen_output Beep = Bell
+screen_output Endwin = End
+
+-- what each call sends: what shows the virtual screen, the bell, the end of the program's screen, or nothing
 abbrev pub output_of : Call → Emission
-output_of (Show Refresh n) = Update
-output_of (ShowPad Prefresh n row col top left bottom right) = Update
-output_of (Screen Doupdate) = Update
-output_of (Screen Beep) = Bell
-output_of (Screen Endwin) = End
-output_of _ = Nothing
+output_of (Newwin n lines cols y x) = Nothing
+output_of (Newpad n lines cols) = Nothing
+output_of (Part k n w lines cols y x) = Nothing
+output_of (Dupwin n w) = Nothing
+output_of (Plain k n) = Nothing
+output_of (Number k n x) = Nothing
+output_of (Numbers k n x y) = Nothing
+output_of (Flag k n on) = Nothing
+output_of (Attributes k n a) = Nothing
+output_of (Cell k n p) = Nothing
+output_of (Addstr n text) = Nothing
+output_of (Line k n p x) = Nothing
+output_of (DrawBorder n b) = Nothing
+output_of (DrawBox n v h) = Nothing
+output_of (Lay k from to) = Nothing
+output_of (Copywin skip from to from_row from_col row col last_row last_col) = Nothing
+output_of (Show k n) = shown_window k
+output_of (ShowPad k n row col top left bottom right) = shown_pad k
+output_of (Screen k) = screen_output k
+output_of (CursSet n) = Nothing
+output_of (InitPair p f b) = Nothing
 
 -- the bell needs its string, and a terminal that isn't lost
 abbrev pub rung : Bool → Status → Answer
 rung false status = Refused NoCap
 rung true Lost = Refused IsLost
-rung true _ = Done
+rung true Known = Done
+rung true Fresh = Done
 
 -- where all of it goes out
 abbrev pub sent : Table → Emission → Scene → Step
@@ -95,11 +141,13 @@ then_sent t o (s, Refused r) = (s, Refused r)
 then_sent t o (s, WireFailed) = (s, WireFailed)
 
 abbrev pub call_step : Table → Scene → Call → Step
-call_step t s call = then_sent t (output_of call) (drawn t s call)
+call_step t s c = then_sent t (output_of c) (drawn t s c)
 
 abbrev pub is_sent : Emission → Bool
 is_sent Nothing = false
-is_sent _ = true
+is_sent Update = true
+is_sent Bell = true
+is_sent End = true
 
 -- One call: it is as defined; or there was no memory for what it makes; or the wire failed, and then what was copied
 -- stands.

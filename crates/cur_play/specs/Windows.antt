@@ -1,16 +1,15 @@
 -- What the calls on windows alone do (X/Open Curses Issue 7, the reference pages of the calls named): each is the
 -- equation of the window library.
-use Rattle.std.specs.Prelude.{ℕ, ℤ, ◌-◌, Bool, true, false, Option, Some, None, bit_and, bit_or}
+use Rattle.std.specs.Prelude.{ℕ, ℤ, ◌-◌, Bool, true, false, bit_and, bit_or}
 use Rattle.cur_drawing.specs.declared.cells.Attrs.{Attrs}
 use Rattle.cur_drawing.specs.declared.puts.Put.{Put}
 use Rattle.cur_drawing.specs.Calls as call
 use Rattle.cur_drawing.specs.Windows as window
 use Rattle.cur_windows.specs.Desks.{State, DeskStep, on_cursor, on_grid, on_window, set, unchanged}
 use Rattle.cur_windows.specs.Creations as make
-use Rattle.cur_windows.specs.Copies as copy
 use Rattle.cur_pads.specs.Creations as pads
 use Rattle.cur_calls.specs.declared.calls.Call.{Call}
-use Rattle.cur_calls.specs.declared.calls.Call.TheVariants.{Newwin, Newpad, Part, Dupwin, Plain, Number, Numbers, Flag, Attributes, Cell, Addstr, Line, DrawBorder, DrawBox, Lay, Copywin}
+use Rattle.cur_calls.specs.declared.calls.Call.TheVariants.{Newwin, Newpad, Part, Dupwin, Plain, Number, Numbers, Flag, Attributes, Cell, Addstr, Line, DrawBorder, DrawBox, Lay, Copywin, Show, ShowPad, Screen, CursSet, InitPair}
 use Rattle.cur_calls.specs.declared.groups.PartCall.{PartCall}
 use Rattle.cur_calls.specs.declared.groups.PartCall.TheVariants.{Subwin, Derwin, Subpad}
 use Rattle.cur_calls.specs.declared.groups.PlainCall.{PlainCall}
@@ -35,20 +34,29 @@ part_step Subwin d n w lines cols y x = make.subwin d n w lines cols y x
 part_step Derwin d n w lines cols y x = make.derwin d n w lines cols y x
 part_step Subpad d n w lines cols y x = pads.subpad d n w lines cols y x
 
--- the calls that make windows
-abbrev pub making : State → Call → Option DeskStep
-making d (Newwin n lines cols y x) = Some (make.newwin d n lines cols y x)
-making d (Newpad n lines cols) = Some (pads.newpad d n lines cols)
-making d (Part k n w lines cols y x) = Some (part_step k d n w lines cols y x)
-making d (Dupwin n w) = Some (make.dupwin d n w)
-making d _ = None
-
 -- the calls that need memory, which may be refused for the lack of it
 abbrev pub takes_memory : Call → Bool
 takes_memory (Newwin n lines cols y x) = true
 takes_memory (Newpad n lines cols) = true
+takes_memory (Part k n w lines cols y x) = false
 takes_memory (Dupwin n w) = true
-takes_memory _ = false
+takes_memory (Plain k n) = false
+takes_memory (Number k n x) = false
+takes_memory (Numbers k n x y) = false
+takes_memory (Flag k n on) = false
+takes_memory (Attributes k n a) = false
+takes_memory (Cell k n p) = false
+takes_memory (Addstr n text) = false
+takes_memory (Line k n p x) = false
+takes_memory (DrawBorder n b) = false
+takes_memory (DrawBox n v h) = false
+takes_memory (Lay k from to) = false
+takes_memory (Copywin skip from to from_row from_col row col last_row last_col) = false
+takes_memory (Show k n) = false
+takes_memory (ShowPad k n row col top left bottom right) = false
+takes_memory (Screen k) = false
+takes_memory (CursSet n) = false
+takes_memory (InitPair p f b) = false
 
 abbrev pub plain_step : PlainCall → State → ℕ → DeskStep
 plain_step Delwin d n = make.delwin d n
@@ -96,24 +104,3 @@ line_step Vline d n p k = on_grid d n (call.vertical p k)
 abbrev pub skips : LayCall → Bool
 skips Overlay = true
 skips Overwrite = false
-
--- the calls that draw lines, or copy from one window to another
-abbrev pub shaping : State → Call → Option DeskStep
-shaping d (Line k n p x) = Some (line_step k d n p x)
-shaping d (DrawBorder n b) = Some (on_grid d n (call.bordered b))
-shaping d (DrawBox n v h) = Some (on_grid d n (call.bordered (call.box_of v h)))
-shaping d (Lay k s t) = Some (copy.common_part (skips k) d s t)
-shaping d (Copywin skip s t from_row from_col row col last_row last_col) =
-    Some (copy.copywin d s t from_row from_col row col last_row last_col skip)
-shaping d _ = None
-
--- the calls that change windows, or delete one
-abbrev pub changing : State → Call → Option DeskStep
-changing d (Plain k n) = Some (plain_step k d n)
-changing d (Number k n x) = Some (number_step k d n x)
-changing d (Numbers k n x y) = Some (numbers_step k d n x y)
-changing d (Flag k n on) = Some (flag_step k d n on)
-changing d (Attributes k n a) = Some (attributes_step k d n a)
-changing d (Cell k n p) = Some (cell_step k d n p)
-changing d (Addstr n text) = Some (on_window d n (call.added_all text))
-changing d other = shaping d other

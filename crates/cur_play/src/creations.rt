@@ -1,7 +1,7 @@
 //! The calls that make windows.
 ghost use Rattle.std.specs.Prelude.{◌≡◌};
 ghost use Rattle.cur_windows.specs.Desks as desks;
-ghost use Rattle.cur_play.specs.Groups.{Makes};
+ghost use Rattle.cur_play.specs.Groups.{Makes, making};
 ghost use Rattle.cur_play.specs.Windows as spec;
 
 use cur_calls::{Call, PartCall};
@@ -10,7 +10,7 @@ use cur_windows::{Desk, Refusal};
 
 /// Makes a window; `None` for any other call.
 pub(crate) fn make(desk: &mut Desk, call: &Call<'_>) -> Option<Result<(), Refusal>>
-    ensures { Makes desk.old desk.new result (spec.takes_memory call.now) (spec.making desk.old call.now) }
+    ensures { Makes desk.old desk.new result (spec.takes_memory call.now) (making desk.old call.now) }
 {
     match call {
         Call::Newwin {

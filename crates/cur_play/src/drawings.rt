@@ -3,7 +3,7 @@ ghost use Rattle.std.specs.Prelude.{◌≡◌};
 ghost use Rattle.cur_screens.specs.Marks.{Keeps};
 ghost use Rattle.cur_windows.specs.TouchedWindows.{ShowsBut};
 ghost use Rattle.cur_play.specs.Drawings.{Draws, SameSizes};
-ghost use Rattle.cur_play.specs.Steps.{showing};
+ghost use Rattle.cur_play.specs.Groups.{showing};
 
 use crate::answers::{Answer, answer_of, mode_answer};
 use crate::creations::make;
@@ -108,6 +108,23 @@ fn show<C: Certificate>(
             foreground,
             background,
         } => answer_of(screen.init_pair(*pair, *foreground, *background)),
-        _ => Answer::Done,
+        Call::Screen(_) => Answer::Done,
+        // the calls on windows alone, which were done before
+        Call::Newwin { .. }
+        | Call::Newpad { .. }
+        | Call::Part { .. }
+        | Call::Dupwin { .. }
+        | Call::Plain { .. }
+        | Call::Number { .. }
+        | Call::Numbers { .. }
+        | Call::Flag { .. }
+        | Call::Attributes { .. }
+        | Call::Cell { .. }
+        | Call::Addstr { .. }
+        | Call::Line { .. }
+        | Call::DrawBorder { .. }
+        | Call::DrawBox { .. }
+        | Call::Lay { .. }
+        | Call::Copywin { .. } => Answer::Done,
     }
 }

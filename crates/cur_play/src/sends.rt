@@ -31,18 +31,55 @@ pub(crate) fn output_of(call: &Call<'_>) -> Emission
     ensures { result ≡ spec.output_of call.now }
 {
     match call {
-        Call::Show {
-            call: ShowCall::Refresh,
-            ..
-        } => Emission::Update,
-        Call::ShowPad {
-            call: PadCall::Prefresh,
-            ..
-        } => Emission::Update,
-        Call::Screen(ScreenCall::Doupdate) => Emission::Update,
-        Call::Screen(ScreenCall::Beep) => Emission::Bell,
-        Call::Screen(ScreenCall::Endwin) => Emission::End,
-        _ => Emission::Nothing,
+        Call::Show { call, .. } => shown_window(*call),
+        Call::ShowPad { call, .. } => shown_pad(*call),
+        Call::Screen(call) => screen_output(*call),
+        Call::Newwin { .. }
+        | Call::Newpad { .. }
+        | Call::Part { .. }
+        | Call::Dupwin { .. }
+        | Call::Plain { .. }
+        | Call::Number { .. }
+        | Call::Numbers { .. }
+        | Call::Flag { .. }
+        | Call::Attributes { .. }
+        | Call::Cell { .. }
+        | Call::Addstr { .. }
+        | Call::Line { .. }
+        | Call::DrawBorder { .. }
+        | Call::DrawBox { .. }
+        | Call::Lay { .. }
+        | Call::Copywin { .. }
+        | Call::CursSet { .. }
+        | Call::InitPair { .. } => Emission::Nothing,
+    }
+}
+
+fn shown_window(call: ShowCall) -> Emission
+    ensures { result ≡ spec.shown_window call }
+{
+    match call {
+        ShowCall::Noutrefresh => Emission::Nothing,
+        ShowCall::Refresh => Emission::Update,
+    }
+}
+
+fn shown_pad(call: PadCall) -> Emission
+    ensures { result ≡ spec.shown_pad call }
+{
+    match call {
+        PadCall::Pnoutrefresh => Emission::Nothing,
+        PadCall::Prefresh => Emission::Update,
+    }
+}
+
+fn screen_output(call: ScreenCall) -> Emission
+    ensures { result ≡ spec.screen_output call }
+{
+    match call {
+        ScreenCall::Doupdate => Emission::Update,
+        ScreenCall::Beep => Emission::Bell,
+        ScreenCall::Endwin => Emission::End,
     }
 }
 

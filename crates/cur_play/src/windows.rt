@@ -3,7 +3,7 @@ ghost use Rattle.std.specs.Prelude.{◌≡◌};
 ghost use Rattle.cur_windows.specs.Copies.{common_part};
 ghost use Rattle.cur_windows.specs.Desks as desks;
 ghost use Rattle.cur_windows.specs.TouchedWindows.{KeepsShown};
-ghost use Rattle.cur_play.specs.Groups.{Does};
+ghost use Rattle.cur_play.specs.Groups.{Does, changing, shaping};
 ghost use Rattle.cur_play.specs.Windows as spec;
 
 use cur_calls::{
@@ -20,7 +20,7 @@ pub(crate) fn change(
     touched: &mut Touched,
     call: &Call<'_>,
 ) -> Option<Result<(), Refusal>>
-    ensures does { Does desk.old desk.new result (spec.changing desk.old call.now) }
+    ensures does { Does desk.old desk.new result (changing desk.old call.now) }
     ensures touched { KeepsShown touched.old desk.old touched.new desk.new }
 {
     match call {
@@ -58,7 +58,7 @@ fn shape_marked(
     touched: &mut Touched,
     call: &Call<'_>,
 ) -> Option<Result<(), Refusal>>
-    ensures does { Does desk.old desk.new result (spec.shaping desk.old call.now) }
+    ensures does { Does desk.old desk.new result (shaping desk.old call.now) }
     ensures touched { KeepsShown touched.old desk.old touched.new desk.new }
 {
     match call {
@@ -88,7 +88,7 @@ fn shape_marked(
 
 /// Draws lines, or copies from one window to another; `None` for any other call.
 fn shape(desk: &mut Desk, call: &Call<'_>) -> Option<Result<(), Refusal>>
-    ensures { Does desk.old desk.new result (spec.shaping desk.old call.now) }
+    ensures { Does desk.old desk.new result (shaping desk.old call.now) }
 {
     match call {
         Call::Line {

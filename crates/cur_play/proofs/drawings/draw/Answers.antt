@@ -3,7 +3,8 @@ use Rattle.cur_windows.proofs.TouchedFacts.{shows_full}
 use Rattle.cur_play.proofs.Performances.{make_draws, change_draws, not_made, show_draws, draws_sizes}
 use Rattle.cur_play.specs.Drawings.{SameSizes}
 use Rattle.cur_play.specs.Scenes.{Scene}
-use Rattle.cur_play.specs.Windows.{making, takes_memory}
+use Rattle.cur_play.specs.Windows.{takes_memory}
+use Rattle.cur_play.specs.Groups.{making}
 use Rattle.cur_play.proofs.drawings.draw.Goals as goal
 
 pub returns-in-Some-clause-sizes : goal.returns-in-Some-clause-sizes

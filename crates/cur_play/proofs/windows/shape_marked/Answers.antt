@@ -1,7 +1,7 @@
 use Rattle.std.proofs.Common.{subst}
 use Rattle.cur_calls.specs.declared.calls.Call.{Call}
 use Rattle.cur_play.specs.Groups.{Does}
-use Rattle.cur_play.specs.Windows.{shaping}
+use Rattle.cur_play.specs.Groups.{shaping}
 use Rattle.cur_play.proofs.WindowMarks.{keeps_border, keeps_box, keeps_line}
 use Rattle.cur_play.proofs.windows.shape_marked.Goals as goal
 
