@@ -36,6 +36,7 @@ PUBLISHED = [
     "cur_play",
     "ti_commands",
     "ti_verdicts",
+    "ti_surveys",
     "ti_reports",
     "cur_commands",
     "ti_arguments",
@@ -55,7 +56,7 @@ COMMANDS = [
     ("show", [("cur_commands", "show_script")]),
     ("check", [("ti_verdicts", "check_entry"), ("ti_verdicts", "notes_on")]),
     ("check --all", [("ti_verdicts", "check_all")]),
-    ("survey", [("ti_verdicts", "survey_paths"), ("ti_verdicts", "survey_files")]),
+    ("survey", [("ti_surveys", "survey_paths"), ("ti_surveys", "survey_files")]),
     ("check --json, survey --json", [("ti_reports", "check_reports"), ("ti_reports", "survey_reports")]),
 ]
 

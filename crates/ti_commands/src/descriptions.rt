@@ -14,8 +14,9 @@ use crate::files::{FileFault, Files};
 use std::alloc::{AllocError, Global};
 use ti_caps::{CAPABILITIES, Cap, Entry, Kind, Value, at_rank, is_kind, name};
 use ti_compiled::{PackFault, encode};
+use ti_hints::{explain_large, hint_carets, unknown_names};
 use ti_source::print;
-use ti_words::{Remarks, explain_large, hint_carets, unknown_names};
+use ti_words::Remarks;
 
 /// Reports the notes of the source file that `word` names, and writes the compiled form of the entry that `word` gives
 /// to the file at `out`, if there is an `out`. Further lines go to `remarks`.

@@ -13,9 +13,10 @@ use crate::files::Files;
 use std::alloc::{AllocError, Global};
 use ti_caps::Entry;
 use ti_compiled::{PackFault, Packed, decode};
+use ti_hints::{explain_packed, explain_resolving, explain_source};
 use ti_resolve::{ResolveFault, resolve, resolve_at};
 use ti_source::{FaultKind, Note, NoteKind, RawEntry, read};
-use ti_words::{Remarks, explain_packed, explain_resolving, explain_source};
+use ti_words::Remarks;
 
 /// The most bytes of a compiled file.
 const COMPILED_LIMIT: u32 = 131_072;

@@ -11,8 +11,9 @@ use crate::failure::Failure;
 use crate::files::Files;
 use std::alloc::Global;
 use ti_caps::Entry;
+use ti_hints::hint_entry;
 use ti_source::RawEntry;
-use ti_words::{Remarks, hint_entry};
+use ti_words::Remarks;
 
 /// A source file, and the name of an entry in it.
 #[derive(Debug, Drop)]

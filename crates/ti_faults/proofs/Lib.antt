@@ -3,3 +3,4 @@ pub mod Caps
 pub mod Whole
 pub mod Places
 pub mod Mends
+pub mod Judged

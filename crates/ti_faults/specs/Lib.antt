@@ -5,3 +5,4 @@ pub mod Standard
 pub mod Candidates
 pub mod Mended
 pub mod AllFaults
+pub mod Remedies

@@ -11,7 +11,7 @@ use Rattle.ti_reports.specs.Sources.{IsValueLine, Whereabouts}
 use Rattle.ti_reports.specs.Texts.{IsShownAs}
 use Rattle.ti_reports.specs.declared.reports.Report.{Report}
 use Rattle.ti_reports.specs.declared.reports.Verdict.TheVariants as verdicts
-use Rattle.ti_verdicts.specs.Lines.{HasParts}
+use Rattle.ti_verdicts.specs.Parts.{HasParts}
 use Rattle.ti_verdicts.specs.Locations.{first_name}
 use Rattle.ti_verdicts.specs.Refusals.{cause_name}
 

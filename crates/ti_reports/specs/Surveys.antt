@@ -13,9 +13,9 @@ use Rattle.ti_reports.specs.Sources.{Whereabouts, by_place}
 use Rattle.ti_reports.specs.declared.reports.Report.{Report}
 use Rattle.ti_reports.specs.declared.reports.Verdict.TheVariants as verdicts
 use Rattle.ti_requests.specs.declared.request.SurveyWords.{SurveyWords}
-use Rattle.ti_verdicts.specs.Lines.{AreLines, Refusing, Saying}
-use Rattle.ti_verdicts.specs.Surveys.{EndsPaths}
-use Rattle.ti_verdicts.specs.Told.{Told}
+use Rattle.ti_surveys.specs.Lines.{AreLines, Refusing, Saying}
+use Rattle.ti_surveys.specs.Surveys.{EndsPaths}
+use Rattle.ti_surveys.specs.Told.{Told}
 
 -- ---- an entry
 

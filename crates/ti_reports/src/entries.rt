@@ -12,7 +12,7 @@ use crate::lines::{Standing, placed};
 use crate::refusals::refused_line;
 use std::alloc::{AllocError, Global};
 use ti_caps::Entry;
-use ti_verdicts::{FileEntry, Said, Speaker};
+use ti_surveys::{FileEntry, Said, Speaker};
 
 impl Speaker for Asked {
     ghost says = { λ asked. spec.Reports asked.size.rows asked.size.cols asked.lists_all };

@@ -5,7 +5,7 @@ ghost use Rattle.ti_caps.specs.Table.{name_at};
 ghost use Rattle.ti_reports.specs.Faults as spec;
 ghost use Rattle.ti_reports.specs.Sources.{IsThere, whereabouts_of};
 ghost use Rattle.ti_reports.specs.Texts.{IsShownAs};
-ghost use Rattle.ti_verdicts.specs.Lines.{HasParts};
+ghost use Rattle.ti_verdicts.specs.Parts.{HasParts};
 ghost use Rattle.ti_verdicts.specs.Locations.{first_name};
 ghost use Rattle.ti_verdicts.specs.Refusals.{cause_name};
 
@@ -17,8 +17,8 @@ use crate::texts::text_of;
 use std::alloc::{AllocError, Global};
 use ti_caps::{Cap, Entry, name};
 use ti_checker::{Cause, No};
+use ti_hints::advice_on;
 use ti_verdicts::{cause_name, first_name};
-use ti_words::advice_on;
 use vt_term::Size;
 
 /// An entry that is reported on.

@@ -8,7 +8,7 @@ use crate::asked::Asked;
 use std::alloc::Global;
 use ti_commands::{Failure, Files, Reply, size_words};
 use ti_requests::SurveyWords;
-use ti_verdicts::{Said, Surveyed, Watcher, survey_paths};
+use ti_surveys::{Said, Surveyed, Watcher, survey_paths};
 use ti_words::Remarks;
 
 /// Reports in JSON on each entry of each file that the `words` name: its first fault, or all of them where the `words`

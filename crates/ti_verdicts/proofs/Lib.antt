@@ -1,4 +1,3 @@
 pub mod Verdicts
 pub mod Parts
-pub mod Answering
 pub mod Listing

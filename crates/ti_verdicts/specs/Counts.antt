@@ -3,7 +3,7 @@ use Rattle.std.specs.Prelude.{◌==◌, ℕ, List, [], ◌∷◌, ◌++◌, if�
 use Rattle.std.specs.Fmt.{decimal}
 use Rattle.std.specs.List.{count_by, flat_map}
 use Rattle.std.specs.Str.{bytes_eq}
-use Rattle.ti_verdicts.specs.Told.{answer_name}
+use Rattle.ti_verdicts.specs.AnswerNames.{answer_name}
 use Rattle.ti_verdicts.specs.declared.answers.Answer.{Answer}
 
 -- the causes, in the order in which they are counted

@@ -13,10 +13,10 @@ use Rattle.ti_faults.specs.AllFaults.{AreAllFaults}
 use Rattle.ti_faults.specs.Mended.{IsBestMended}
 use Rattle.ti_faults.specs.declared.mended.Mended.{Mended}
 use Rattle.ti_requests.specs.declared.request.FaultsWords.{FaultsWords}
-use Rattle.ti_verdicts.specs.Answers.{fault_answer}
+use Rattle.ti_verdicts.specs.FaultAnswers.{fault_answer}
 use Rattle.ti_verdicts.specs.Checks.{HasText, TellsNotes}
 use Rattle.ti_verdicts.specs.Counts.{answers_line}
-use Rattle.ti_verdicts.specs.Lines.{HasParts}
+use Rattle.ti_verdicts.specs.Parts.{HasParts}
 use Rattle.ti_verdicts.specs.Locations.{IsLocation}
 use Rattle.ti_verdicts.specs.Remedies.{HasRemedy}
 use Rattle.ti_verdicts.specs.Refusals.{TellsNo, no_text}

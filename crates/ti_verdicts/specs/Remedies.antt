@@ -4,7 +4,7 @@ use Rattle.ti_caps.specs.Entry.{Content}
 use Rattle.ti_caps.specs.Table.{name_at}
 use Rattle.ti_checker.specs.declared.causes.No.{No}
 use Rattle.ti_faults.specs.declared.mended.Mended.{Mended}
-use Rattle.ti_remedies.specs.Remedies.{IsSuggestion, is_of_another_kind}
+use Rattle.ti_faults.specs.Remedies.{IsSuggestion, is_of_another_kind}
 use Rattle.ti_source.specs.Escapes.{unescaped}
 use Rattle.ti_source.specs.Prints.{string_text}
 

@@ -1,14 +1,15 @@
 //! What is answered of entries, and how many answers there are of each kind.
 
-ghost use Rattle.std.specs.Prelude.{◌≡◌, ◌++◌, IfOk, OnOk};
+ghost use Rattle.std.specs.Prelude.{◌≡◌, ◌++◌, IfOk, OnOk, map};
 ghost use Rattle.std.specs.List.{flat_map};
 ghost use Rattle.ti_commands.specs.Words.{texts_of};
 ghost use Rattle.ti_verdicts.specs.Counts as spec;
-ghost use Rattle.ti_verdicts.specs.Told.{answer_name};
+ghost use Rattle.ti_verdicts.specs.FaultAnswers.{fault_answer};
+ghost use Rattle.ti_verdicts.specs.AnswerNames.{answer_name};
 
 use crate::refusals::cause_name;
 use std::alloc::{AllocError, Global};
-use ti_checker::Cause;
+use ti_checker::{Cause, No};
 
 /// What a line answers of an entry.
 #[derive(Clone, Copy, Debug, PartialEq, Eq)]
@@ -124,4 +125,15 @@ fn count_of(answers: &[Answer], name: &str) -> usize
         .iter()
         .filter(|answer| answer.name() == name.as_bytes())
         .count()
+}
+
+/// The answers of the lines of the faults `nos`.
+pub fn fault_answers(alloc: Global, nos: &[No]) -> Result<Vec<Answer>, AllocError>
+    ensures { IfOk result (λ answers. answers.items ≡ map fault_answer nos.now) }
+{
+    let mut answers = Vec::new(alloc);
+    for no in nos {
+        answers.push(Answer::No(no.cause))?;
+    }
+    Ok(answers)
 }

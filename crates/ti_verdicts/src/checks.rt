@@ -10,8 +10,9 @@ use std::alloc::{AllocError, Global};
 use ti_caps::Entry;
 use ti_checker::{Cause, No, note_lines, notes};
 use ti_commands::{Failure, Files, Reply, Sourced, file_fault, size_words, sourced_entry};
+use ti_hints::advise;
 use ti_requests::CheckWords;
-use ti_words::{Remarks, advise};
+use ti_words::Remarks;
 use vt_term::Size;
 
 /// Replies with the notes on the entry that the `words` give and with the certificate that the `certifier` writes of

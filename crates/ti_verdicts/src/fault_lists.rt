@@ -3,12 +3,11 @@
 ghost use Rattle.std.specs.Prelude.{◌≡◌, IfErr, IfOk};
 ghost use Rattle.ti_verdicts.specs.Checks.{FailsForEntry};
 ghost use Rattle.ti_verdicts.specs.FaultLists as spec;
-ghost use Rattle.ti_verdicts.specs.Lines.{HasParts};
+ghost use Rattle.ti_verdicts.specs.Parts.{HasParts};
 
-use crate::answers::answers_line;
+use crate::answers::{answers_line, fault_answers};
 use crate::checks::notes_on;
 use crate::indents::indented;
-use crate::lines::fault_answers;
 use crate::locations::location;
 use crate::reasons::explain_no;
 use crate::refusals::{no_failure, no_words};
@@ -18,8 +17,9 @@ use ti_caps::Entry;
 use ti_checker::No;
 use ti_commands::{Failure, Files, Reply, Sourced, size_words, sourced_entry};
 use ti_faults::{Mended, faults};
+use ti_hints::advise;
 use ti_requests::FaultsWords;
-use ti_words::{Remarks, advise};
+use ti_words::Remarks;
 use vt_term::Size;
 
 /// Replies with the notes on the entry that the `words` give, and with all its faults, each with where it stands and

@@ -3,14 +3,13 @@
 ghost use Rattle.std.specs.Prelude.{◌≡◌, IfOk, IfSome, IsTrue, Some};
 ghost use Rattle.std.specs.Option.{option_copied};
 ghost use Rattle.ti_caps.specs.Fits.{string_fits};
-ghost use Rattle.ti_remedies.specs.Remedies as remedies;
+ghost use Rattle.ti_faults.specs.Remedies as remedies;
 ghost use Rattle.ti_verdicts.specs.Remedies as spec;
 
 use std::alloc::{AllocError, Global};
 use ti_caps::{Cap, Entry, name};
 use ti_checker::No;
-use ti_faults::Mended;
-use ti_remedies::{is_of_another_kind, suggestion};
+use ti_faults::{Mended, is_of_another_kind, suggestion};
 use ti_source::escape;
 use ti_words::{OF_ANOTHER_KIND, Remarks};
 

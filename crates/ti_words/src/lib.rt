@@ -1,38 +1,30 @@
 //! Words for people: what went wrong and where, in plain words, for the further lines below a message's fixed one.
 #![tactic(auto)]
 
-mod advice;
 mod certificates;
 mod changes;
 mod checked_strings;
 mod escapes;
-mod fields;
-mod hints;
-mod names;
 mod numbers;
 mod remarks;
 mod remedies;
 mod seen;
-mod sources;
 mod starts;
 mod states;
 mod strings;
 mod wanted;
 
-pub use advice::{advice_on, advise};
 pub use certificates::{explain_disagreement, explain_line, first_line_words, missing_line_words};
 pub use checked_strings::{
     NO_RESYNC, NOT_TAME, STATIC_READ, STAYS_GRAPHIC, TOO_LONG, explain_absent, explain_field,
     explain_flag, explain_look, explain_pairs, explain_run, explain_unshown, first_of_resync,
     unsent_words,
 };
-pub use hints::{hint_carets, hint_entries, hint_entry};
-pub use names::unknown_names;
+pub use escapes::push_spelled;
 pub use numbers::push_numbers;
 pub use remarks::{Remarks, SUGGESTION_END, push_shown, write_shown};
 pub use remedies::OF_ANOTHER_KIND;
 pub use seen::Seen;
-pub use sources::{explain_large, explain_packed, explain_resolving, explain_source};
 pub use starts::start_words;
 pub use strings::{
     explain_escape, explain_length, explain_parm, explain_size, explain_stuck, explain_token,

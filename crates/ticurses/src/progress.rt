@@ -2,7 +2,7 @@
 
 use std::alloc::{AllocError, Global};
 use std::io::{IsTerminal, Write};
-use ti_verdicts::Watcher;
+use ti_surveys::Watcher;
 
 /// The most bytes of the line, so that it is one row of all but the narrowest terminals.
 const WIDTH: usize = 60;

@@ -15,7 +15,8 @@ use ti_commands::{
 };
 use ti_reports::{check_reports, survey_reports};
 use ti_requests::{CheckWords, Request};
-use ti_verdicts::{Checker, check_all, check_entry, survey_files, verify_certificate};
+use ti_surveys::survey_files;
+use ti_verdicts::{Checker, check_all, check_entry, verify_certificate};
 use ti_words::Remarks;
 
 /// Does what the `words` after the program's own name ask for: the answer goes to `out`, notes and a

@@ -1,7 +1,7 @@
 use Rattle.std.proofs.Common.{take}
 use Rattle.ti_reports.specs.Faults.{IsFaultLine}
 use Rattle.ti_reports.specs.Sources.{whereabouts_of}
-use Rattle.ti_verdicts.specs.Lines.{HasParts}
+use Rattle.ti_verdicts.specs.Parts.{HasParts}
 use Rattle.ti_reports.proofs.faults.fault_lines.Given as goal
 
 -- the faults before this one have their lines

@@ -1,8 +1,8 @@
 use Rattle.std.proofs.Common.{ℕ, List, Bor, refl, subst}
 use Rattle.ti_commands.specs.Words.{texts_of}
-use Rattle.ti_verdicts.specs.Lines.{AreLines}
-use Rattle.ti_verdicts.specs.Surveys.{EndsPaths}
-use Rattle.ti_verdicts.specs.Told.{told_of}
+use Rattle.ti_surveys.specs.Lines.{AreLines}
+use Rattle.ti_surveys.specs.Surveys.{EndsPaths}
+use Rattle.ti_surveys.specs.Told.{told_of}
 use Rattle.ti_reports.specs.Surveys.{Reports, ReportsLack}
 use Rattle.ti_reports.proofs.surveys.survey_reports.Goals as goal
 

@@ -1,6 +1,6 @@
 use Rattle.std.proofs.Common.{take}
 use Rattle.ti_verdicts.specs.FaultLists.{HasFaultLines}
-use Rattle.ti_verdicts.specs.Lines.{HasParts}
+use Rattle.ti_verdicts.specs.Parts.{HasParts}
 use Rattle.ti_verdicts.proofs.fault_lists.fault_lines.Given as goal
 
 -- the faults before this one have their lines

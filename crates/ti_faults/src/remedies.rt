@@ -1,0 +1,103 @@
+//! A string that was judged right in the place of the entry's own.
+
+ghost use Rattle.std.specs.Prelude.{◌≡◌, IfSome, IsTrue, Some, true, false};
+ghost use Rattle.std.specs.List.{list_all};
+ghost use Rattle.std.specs.Option.{option_copied};
+ghost use Rattle.ti_caps.specs.Fits.{string_fits};
+ghost use Rattle.ti_conforms.specs.Entries.{string_of};
+ghost use Rattle.ti_faults.specs.Remedies as spec;
+ghost use Rattle.ti_faults.specs.Standard as standards;
+
+use crate::capabilities::row_of;
+use crate::mended::Mended;
+use crate::standards::{standard, where_so};
+use ti_caps::{Cap, Entry};
+use ti_checker::No;
+use ti_conforms::is_checked;
+use ti_rows::Row;
+
+/// The string that ECMA-48, the VT100 or the VT220 has for a checked capability. None of them has a second screen, so
+/// that there is no string for `smcup` and `rmcup`.
+pub fn standard_string(cap: Cap) -> Option<&'static [u8]>
+    ensures { standards.IsStandard cap (option_copied result) }
+{
+    match row_of(cap) {
+        Some(row) => standard(row),
+        None => None,
+    }
+}
+
+/// The capability that is right only together with the row's, or the row's own.
+fn partner(row: Row) -> Cap
+    ensures { result ≡ spec.partner_of row }
+{
+    match row {
+        Row::Smacs => Row::Rmacs.cap(),
+        Row::Rmacs => Row::Smacs.cap(),
+        _ => row.cap(),
+    }
+}
+
+/// Whether a fault says nothing against the row's string.
+fn may_stay(no: &No, row: Row) -> bool
+    ensures { result ≡ spec.may_stay row no.now }
+{
+    no.cap != row.cap() && no.cap != partner(row)
+}
+
+/// Whether none of the faults says anything against the row's string.
+fn all_may_stay(left: &[No], row: Row) -> bool
+    ensures { result ≡ list_all (spec.may_stay row) left.now }
+{
+    left.iter().all(|no| may_stay(no, row))
+}
+
+/// Whether the entry has just this string of the row's capability.
+fn has_string(entry: &Entry, row: Row, string: &[u8]) -> bool
+    ensures same { result ≡ true → string_of entry.now row ≡ Some string.now }
+    ensures differs { result ≡ false → string_of entry.now row ≡ Some string.now → ⊥ }
+{
+    match entry.get_string(row.cap()) {
+        Some(own) => own == string,
+        None => false,
+    }
+}
+
+/// Whether the string is that of the mended entry, and nothing that is left at fault there speaks against it.
+fn is_accepted(mended: &Mended, row: Row, string: &[u8]) -> bool
+    ensures yes { result ≡ true → spec.IsAccepted mended.now row string.now }
+    ensures no { result ≡ false → spec.IsRejected mended.now row string.now }
+{
+    if !is_checked(&mended.entry, row) {
+        return false;
+    }
+    if !all_may_stay(&mended.left, row) {
+        return false;
+    }
+    has_string(&mended.entry, row, string)
+}
+
+/// The string, if there is one and it is accepted.
+fn accepted(mended: &Mended, row: Row, string: Option<&'static [u8]>) -> Option<&'static [u8]>
+    requires { IfSome string (λ bytes. IsTrue (string_fits bytes.now)) }
+    ensures found { spec.IsIfAccepted mended.now row (option_copied string.entry) (option_copied result) }
+    ensures fits { IfSome result (λ bytes. IsTrue (string_fits bytes.now)) }
+{
+    match string {
+        Some(bytes) => where_so(is_accepted(mended, row, bytes), bytes),
+        None => None,
+    }
+}
+
+/// The string that is suggested for `cap`, one of the capabilities at fault in `entry`, of which `mended` was made: the
+/// string with which it was mended, if no fault that is left there speaks against it. So all strings that are suggested
+/// by one mended entry hold together. There is none where a fault speaks against it, and where no standard has one.
+pub fn suggestion(entry: &Entry, mended: &Mended, cap: Cap) -> Option<&'static [u8]>
+    ensures found { spec.IsSuggestion entry.now mended.now cap (option_copied result) }
+    ensures fits { IfSome result (λ bytes. IsTrue (string_fits bytes.now)) }
+{
+    match row_of(cap) {
+        Some(row) => accepted(mended, row, mended.choice.candidate(entry, row)),
+        None => None,
+    }
+}

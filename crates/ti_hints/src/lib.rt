@@ -1,0 +1,14 @@
+//! Words for people about a description's source text: hints, names that no capability has, why a text gives no entry,
+//! and advice about an entry.
+#![tactic(auto)]
+
+mod advice;
+mod fields;
+mod hints;
+mod names;
+mod sources;
+
+pub use advice::{advice_on, advise};
+pub use hints::{hint_carets, hint_entries, hint_entry};
+pub use names::unknown_names;
+pub use sources::{explain_large, explain_packed, explain_resolving, explain_source};

@@ -1,5 +1,0 @@
-use Rattle.ti_remedies.proofs.Judged.{accepted_right}
-use Rattle.ti_remedies.proofs.laws.suggestions_are_right.Goals as goal
-
-pub returns : goal.returns
-returns c = accepted_right

@@ -1,0 +1,28 @@
+use Rattle.std.proofs.Common.{◌++◌, ◌∙◌, ℕ, List, Bor, ap, refl, subst}
+use Rattle.ti_commands.specs.Words.{texts_of}
+use Rattle.ti_surveys.specs.Answers.{IsRefused, SaysBy}
+use Rattle.ti_verdicts.specs.Counts.{answers_line}
+use Rattle.ti_surveys.specs.Lines.{AreLines}
+use Rattle.ti_surveys.specs.Surveys.{EndsPaths}
+use Rattle.ti_surveys.specs.Told.{told_of}
+use Rattle.ti_surveys.proofs.surveys.survey_files.Goals as goal
+
+-- what the certifier says, as it is asked, and then the counts
+pub returns-clause-reply : goal.returns-clause-reply
+returns-clause-reply g c =
+    let said = c.in_ok-surveyed.surveyed.said in
+    record {
+      height = c.in_ok-size.size.rows;
+      width = c.in_ok-size.size.cols;
+      given = c.in_ok-size.ensures.size;
+      told = told_of said;
+      ends = subst
+          (λ (paths : List (Bor (List ℕ))).
+          EndsPaths
+          (AreLines (SaysBy c.args.words.now.lists_all (g.C.Certifier.certifies c.args.certifier.now) (g.C.Certifier.refuses c.args.certifier.now) c.in_ok-size.size.rows c.in_ok-size.size.cols) IsRefused)
+          (g.F.Files.holds c.args.files.now) (texts_of paths) (told_of said) c.in_ok-surveyed.surveyed.failure)
+          c.as_slice.ensures.value c.in_ok-surveyed.ensures.told;
+      places = refl;
+      says = c.in_ok-extend_from_slice.ensures.items
+          ∙ ap (λ (own : List ℕ). said.lines.items ++ own) (c.as_slice-3.ensures.value ∙ (c.in_ok-counts.ensures ∙ ap answers_line c.as_slice-2.ensures.value));
+    }

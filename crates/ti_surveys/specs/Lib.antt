@@ -1,0 +1,5 @@
+-- The definitions of surveys.
+pub mod Answers
+pub mod Surveys
+pub mod Told
+pub mod Lines

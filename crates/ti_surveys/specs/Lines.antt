@@ -1,0 +1,94 @@
+-- The lines of a survey: what is said of each entry of a file, in order.
+use Rattle.std.specs.Prelude.{◌≡◌, ◌⊎◌, ◌==◌, ◌&&◌, ◌||◌, ℕ, Bool, true, false, List, [], ◌∷◌, Option, Some, None, Result, Ok, Err, length, slice_get}
+use Rattle.std.specs.List.{range_with_len}
+use Rattle.ti_caps.specs.Entry.{Content}
+use Rattle.ti_compiled.specs.Contents.{read_of}
+use Rattle.ti_compiled.specs.declared.types.PackFault.{PackFault}
+use Rattle.ti_source.specs.Source.{source_of}
+use Rattle.ti_source.specs.declared.types.RawEntry.{RawEntry}
+use Rattle.ti_commands.specs.Findings.{FitsTo, IsSourceFailure, ResolvesAt}
+use Rattle.ti_commands.specs.declared.failure.Failure.TheVariants.{Refused}
+use Rattle.ti_commands.specs.declared.failure.CommandRefusal.{CommandRefusal}
+use Rattle.ti_commands.specs.declared.failure.CommandRefusal.TheVariants.{Pack}
+use Rattle.ti_commands.specs.Refusals.{refusal_text_of}
+use Rattle.ti_surveys.specs.Told.{IsToldOfEach, Told}
+use Rattle.ti_verdicts.specs.Locations.{PlaceInSource, first_name}
+
+-- what may be said of an entry by the path of its file, where it stands in a source, its name and what it has
+abbrev pub Saying : Type 1
+Saying = List ℕ → Option PlaceInSource → List ℕ → Content → Told → Type 0
+
+-- what may be said by the path of a file of an entry of this name that can't be had, or of a file that has none, and the
+-- reason
+abbrev pub Refusing : Type 1
+Refusing = List ℕ → Option (List ℕ) → List ℕ → Told → Type 0
+
+-- the same, where the reason is a refusal
+abbrev pub IsLack : Refusing → CommandRefusal → List ℕ → Option (List ℕ) → Told → Type 0
+IsLack Refuses refusal path name told = Refuses path name (refusal_text_of refusal) told
+
+-- ---- the lines of an entry
+
+-- what is said under its name of an entry that is there, or of one that can't be had
+abbrev pub IsTold : Saying → Refusing → Result Content CommandRefusal → List ℕ → Option PlaceInSource → List ℕ → Told
+    → Type 0
+IsTold Says Refuses (Ok entry) path stands name told = Says path stands name entry told
+IsTold Says Refuses (Err refusal) path stands name told = IsLack Refuses refusal path (Some name) told
+
+-- of an entry of a source text by its place, whatever other entries have its names
+pub record IsSourcePart (Says : Saying) (Refuses : Refusing) (path text : List ℕ) (raws : List RawEntry) (place : ℕ)
+    (said : Told) : Type 0 where
+  pub raw : RawEntry
+  pub there : slice_get raws place ≡ Some raw
+  pub entry : Result Content CommandRefusal
+  pub resolves : ResolvesAt raws place entry
+  pub told : IsTold Says Refuses entry path (Some (record { path = path; text = text; raws = raws; place = place }))
+      (first_name raw.names) said
+
+-- of the entry of a compiled file
+pub record IsFilePart (Says : Saying) (Refuses : Refusing) (path : List ℕ) (packed : Content) (said : Told)
+    : Type 0 where
+  pub entry : Result Content CommandRefusal
+  pub fits : FitsTo packed entry
+  pub told : IsTold Says Refuses entry path None (first_name packed.names) said
+
+-- ---- a file
+
+-- it begins as a compiled file does
+abbrev pub is_compiled : List ℕ → Bool
+is_compiled (first ∷ second ∷ rest) = ((first == 0x1a) && (second == 0x01)) || ((first == 0x1e) && (second == 0x02))
+is_compiled _ = false
+
+-- the entry of a compiled file
+pub record HasEntry (Says : Saying) (Refuses : Refusing) (path bytes : List ℕ) (said : Told) : Type 0 where
+  pub packed : Content
+  pub reads : read_of bytes ≡ Ok packed
+  pub told : IsFilePart Says Refuses path packed said
+
+-- or it has a fault
+pub record IsFaultyFile (Refuses : Refusing) (path bytes : List ℕ) (said : Told) : Type 0 where
+  pub fault : PackFault
+  pub faulty : read_of bytes ≡ Err fault
+  pub told : IsLack Refuses (Pack fault) path None said
+
+-- the entries of a source text
+pub record HasEntries (Says : Saying) (Refuses : Refusing) (path bytes : List ℕ) (said : Told) : Type 0 where
+  pub raws : List RawEntry
+  pub reads : source_of bytes ≡ Ok raws
+  pub each : IsToldOfEach (IsSourcePart Says Refuses path bytes raws) (range_with_len 0 (length raws)) said
+
+-- or it has a fault
+pub record LacksEntries (Refuses : Refusing) (path bytes : List ℕ) (said : Told) : Type 0 where
+  pub refusal : CommandRefusal
+  pub faulty : IsSourceFailure bytes (Refused refusal)
+  pub told : IsLack Refuses refusal path None said
+
+abbrev pub AreLinesBy : Bool → Saying → Refusing → List ℕ → List ℕ → Told → Type 0
+AreLinesBy true Says Refuses path bytes said =
+    HasEntry Says Refuses path bytes said ⊎ IsFaultyFile Refuses path bytes said
+AreLinesBy false Says Refuses path bytes said =
+    HasEntries Says Refuses path bytes said ⊎ LacksEntries Refuses path bytes said
+
+-- the lines of a file: its first bytes show whether it is compiled
+abbrev pub AreLines : Saying → Refusing → List ℕ → List ℕ → Told → Type 0
+AreLines Says Refuses path bytes said = AreLinesBy (is_compiled bytes) Says Refuses path bytes said

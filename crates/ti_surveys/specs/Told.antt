@@ -1,0 +1,26 @@
+-- What a survey says of an entry, a file or several.
+use Rattle.std.specs.Prelude.{◌≡◌, ℕ, List, [], ◌∷◌, ◌++◌}
+use Rattle.ti_verdicts.specs.declared.answers.Answer.{Answer}
+use Rattle.ti_surveys.specs.declared.said.Said.{Said}
+
+-- lines, beside them where the faults stand that they name, and the answer of each line
+pub record Told : Type 0 where
+  pub lines : List ℕ
+  pub places : List ℕ
+  pub answers : List Answer
+
+abbrev pub nothing : Told
+nothing = record { lines = []; places = []; answers = [] }
+
+-- the one, and then the other
+abbrev pub followed_by : Told → Told → Told
+followed_by first later = record { lines = first.lines ++ later.lines; places = first.places ++ later.places; answers = first.answers ++ later.answers }
+
+-- what is said of each item, one after another
+unfoldable pub IsToldOfEach : {X : Type 0} → (X → Told → Type 0) → List X → Told → Type 0
+IsToldOfEach P [] told = told ≡ nothing
+IsToldOfEach P (x ∷ xs) told = (own : Told) × (later : Told) × (told ≡ followed_by own later) × P x own × IsToldOfEach P xs later
+
+-- (Serves the code alone.) the same without where it lies in memory
+abbrev pub told_of : Said → Told
+told_of said = record { lines = said.lines.items; places = said.places.items; answers = said.answers.items }

@@ -1,0 +1,15 @@
+//! Surveys: what is said of each entry of many files, and how the answers are counted.
+#![tactic(auto)]
+
+mod asked;
+mod files;
+mod lines;
+mod said;
+mod speakers;
+mod surveys;
+mod watchers;
+
+pub use said::Said;
+pub use speakers::{FileEntry, Speaker};
+pub use surveys::{Surveyed, survey_files, survey_paths};
+pub use watchers::Watcher;

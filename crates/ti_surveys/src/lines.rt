@@ -1,0 +1,214 @@
+//! The lines of a survey: one for each entry of a file, or for each of its faults, and where these stand.
+
+ghost use Rattle.std.specs.Prelude.{◌≡◌, ◌≢◌, ◌<◌, ◌++◌, IfOk, IfSome, codes, length, map, option_map};
+ghost use Rattle.std.specs.List.{flat_map};
+ghost use Rattle.ti_surveys.specs.Answers as spec;
+ghost use Rattle.ti_verdicts.specs.Parts.{HasParts};
+ghost use Rattle.ti_verdicts.specs.Locations.{IsPlaced, place_if};
+ghost use Rattle.ti_verdicts.specs.Refusals.{no_text};
+ghost use Rattle.ti_surveys.specs.Told.{told_of};
+
+use crate::asked::Asked;
+use crate::said::Said;
+use crate::speakers::{FileEntry, Speaker};
+use std::alloc::{AllocError, Global};
+use ti_caps::Entry;
+use ti_checker::{Cause, No};
+use ti_faults::{faults, must_claim};
+use ti_verdicts::{Answer, Certifier, SourcePlace, fault_answers, no_words, placed};
+use ti_words::push_shown;
+use vt_term::Size;
+
+impl<'a, C: Certifier> Speaker for Asked<'a, C> {
+    ghost says = { λ asked path. spec.SaysTo C.certifies C.refuses asked path };
+
+    ghost refuses = { λ _. spec.IsRefused };
+
+    fn hints(&self) -> bool {
+        self.lists_all
+    }
+
+    fn say(&self, alloc: Global, found: &FileEntry<'_>) -> Result<Said, AllocError> {
+        if self.lists_all {
+            all_faults(alloc, self.size, found.stands, found.name, found.entry)
+        } else {
+            answer_line(alloc, self, found.name, found.entry)
+        }
+    }
+
+    fn refuse(
+        &self,
+        alloc: Global,
+        path: &str,
+        name: Option<&[u8]>,
+        why: &[u8],
+    ) -> Result<Said, AllocError> {
+        refused_line(alloc, name_or(name, path), why)
+    }
+}
+
+/// The `name`, or else the `path`.
+fn name_or<'a>(name: Option<&'a [u8]>, path: &'a str) -> &'a [u8]
+    ensures { result.now ≡ spec.name_or path.now (option_map (λ n. n.now) name.entry) }
+{
+    match name {
+        Some(name) => name,
+        None => path.as_bytes(),
+    }
+}
+
+/// The line of `name`, with the `words` that are said of it, as far as they can be shown.
+fn line(alloc: Global, name: &[u8], words: &[u8]) -> Result<Vec<u8>, AllocError>
+    ensures { IfOk result (λ line. line.items ≡ spec.line_of name.now words.now) }
+{
+    let mut text = Vec::from_slice(alloc, name)?;
+    text.extend_from_slice(words)?;
+    let mut line = Vec::new(alloc);
+    push_shown(&mut line, text.as_slice())?;
+    line.push(b'\n')?;
+    Ok(line)
+}
+
+/// The line of `name` alone, with the `words` that are said of it, which answer this.
+fn one_line(alloc: Global, name: &[u8], words: &[u8], answer: Answer) -> Result<Said, AllocError>
+    ensures { IfOk result (λ said. told_of said ≡ spec.one_line name.now words.now answer) }
+{
+    let line = line(alloc, name, words)?;
+    Said::of_line(alloc, line, answer)
+}
+
+/// What `no` says of its entry.
+fn words_of(alloc: Global, no: &No) -> Result<Vec<u8>, AllocError>
+    ensures { IfOk result (λ words. words.items ≡ codes " " ++ no_text no.now) }
+{
+    let mut words = Vec::from_slice(alloc, b" ")?;
+    words.extend_from_slice(no_words(alloc, no)?.as_slice())?;
+    Ok(words)
+}
+
+/// That something can't be had, and `why`.
+fn refused(alloc: Global, why: &[u8]) -> Result<Vec<u8>, AllocError>
+    ensures { IfOk result (λ words. words.items ≡ spec.refusal_text why.now) }
+{
+    let mut words = Vec::from_slice(alloc, b" refused: ")?;
+    words.extend_from_slice(why)?;
+    Ok(words)
+}
+
+/// The lines of the faults of `entry` under its `name`, and where they stand; or that there are none.
+fn all_faults(
+    alloc: Global,
+    size: Size,
+    stands: &Option<SourcePlace<'_>>,
+    name: &[u8],
+    entry: &Entry,
+) -> Result<Said, AllocError>
+    requires { IfSome stands.now (λ there. there.place < length there.raws.now) }
+    ensures { IfOk result (λ said. spec.HasAllFaults size.rows size.cols (place_if stands.now) name.now entry.now
+        (told_of said)) }
+{
+    let nos = faults(alloc, entry, size)?;
+    let lines = listed(alloc, name, nos.as_slice())?;
+    let places = places_of(alloc, stands, name, nos.as_slice())?;
+    let answers = answers_of(alloc, nos.as_slice())?;
+    Ok(Said {
+        lines,
+        places,
+        answers,
+    })
+}
+
+/// For each of the faults `nos` of the entry of this `name`, which `stands` there, the line that says where it stands.
+fn places_of(
+    alloc: Global,
+    stands: &Option<SourcePlace<'_>>,
+    name: &[u8],
+    nos: &[No],
+) -> Result<Vec<u8>, AllocError>
+    requires { IfSome stands.now (λ there. there.place < length there.raws.now) }
+    ensures { IfOk result (λ places. HasParts (IsPlaced (place_if stands.now) name.now) nos.now places.items) }
+{
+    let mut places = Vec::new(alloc);
+    for no in nos {
+        let own = placed(alloc, stands, name, no)?;
+        places.extend_from_slice(own.as_slice())?;
+    }
+    Ok(places)
+}
+
+/// The lines of the faults `nos` of the entry of this `name`; or that it has none.
+fn listed(alloc: Global, name: &[u8], nos: &[No]) -> Result<Vec<u8>, AllocError>
+    ensures { IfOk result (λ lines. lines.items ≡ spec.fault_lines name.now nos.now) }
+{
+    match nos {
+        [] => line(alloc, name, b" yes"),
+        [_, ..] => fault_lines(alloc, name, nos),
+    }
+}
+
+/// A line for each of `nos`, after the `name` of their entry.
+fn fault_lines(alloc: Global, name: &[u8], nos: &[No]) -> Result<Vec<u8>, AllocError>
+    ensures { IfOk result (λ lines. lines.items ≡ flat_map (spec.fault_line name.now) nos.now) }
+{
+    let mut lines = Vec::new(alloc);
+    for no in nos {
+        let own = fault_line(alloc, name, no)?;
+        lines.extend_from_slice(own.as_slice())?;
+    }
+    Ok(lines)
+}
+
+/// The line of `no` after the `name` of its entry.
+fn fault_line(alloc: Global, name: &[u8], no: &No) -> Result<Vec<u8>, AllocError>
+    ensures { IfOk result (λ line. line.items ≡ spec.fault_line name.now no.now) }
+{
+    let words = words_of(alloc, no)?;
+    line(alloc, name, words.as_slice())
+}
+
+/// The answers of the lines of the faults `nos`, or of the line that there are none.
+fn answers_of(alloc: Global, nos: &[No]) -> Result<Vec<Answer>, AllocError>
+    ensures { IfOk result (λ answers. answers.items ≡ spec.fault_answers nos.now) }
+{
+    match nos {
+        [] => Ok(vec![in alloc; Answer::Yes]?),
+        [_, ..] => fault_answers(alloc, nos),
+    }
+}
+
+/// The line of `entry` under its `name`, with what the certifier says.
+fn answer_line<C: Certifier>(
+    alloc: Global,
+    asked: &Asked<'_, C>,
+    name: &[u8],
+    entry: &Entry,
+) -> Result<Said, AllocError>
+    ensures { IfOk result (λ said. spec.HasAnswer (C.certifies asked.now.certifier.now)
+        (C.refuses asked.now.certifier.now) asked.now.size.rows asked.now.size.cols
+        name.now entry.now (told_of said)) }
+{
+    match asked.certifier.certify(alloc, entry, asked.size) {
+        Ok(_text) => one_line(alloc, name, b" yes", Answer::Yes),
+        Err(no) => no_line(alloc, name, &no),
+    }
+}
+
+/// The line of `no` about the entry of this `name`; out of memory is no answer.
+fn no_line(alloc: Global, name: &[u8], no: &No) -> Result<Said, AllocError>
+    ensures claims { IfOk result (λ said. no.now.cause ≢ Cause.NoMemory) }
+    ensures says { IfOk result (λ said. told_of said
+        ≡ spec.one_line name.now (codes " " ++ no_text no.now) (Answer.No no.now.cause)) }
+{
+    must_claim(no.cause)?;
+    let words = words_of(alloc, no)?;
+    one_line(alloc, name, words.as_slice(), Answer::No(no.cause))
+}
+
+/// The line of `name`, that what it names can't be had, and `why`.
+fn refused_line(alloc: Global, name: &[u8], why: &[u8]) -> Result<Said, AllocError>
+    ensures { IfOk result (λ said. told_of said
+        ≡ spec.one_line name.now (spec.refusal_text why.now) Answer.Refused) }
+{
+    let words = refused(alloc, why)?;
+    one_line(alloc, name, words.as_slice(), Answer::Refused)
+}

@@ -1,0 +1,53 @@
+//! What is said of an entry, a file or several.
+
+ghost use Rattle.std.specs.Prelude.{◌≡◌, [], ◌∷◌, IfOk, OnOk};
+ghost use Rattle.ti_surveys.specs.Told as spec;
+
+use std::alloc::{AllocError, Global};
+use ti_verdicts::Answer;
+
+/// What is said of an entry, a file or several.
+#[derive(Drop)]
+pub struct Said {
+    /// The lines.
+    pub lines: Vec<u8>,
+    /// Where the faults in them stand.
+    pub places: Vec<u8>,
+    /// The answer of each line.
+    pub answers: Vec<Answer>,
+}
+
+impl Said {
+    /// Nothing yet.
+    pub fn new(alloc: Global) -> Said
+        ensures { spec.told_of result ≡ spec.nothing }
+    {
+        Said {
+            lines: Vec::new(alloc),
+            places: Vec::new(alloc),
+            answers: Vec::new(alloc),
+        }
+    }
+
+    /// A `line` that answers this, and names no fault that stands anywhere.
+    pub fn of_line(alloc: Global, line: Vec<u8>, answer: Answer) -> Result<Said, AllocError>
+        ensures { IfOk result (λ said. spec.told_of said
+            ≡ record { lines = line.items; places = []; answers = answer ∷ [] }) }
+    {
+        Ok(Said {
+            lines: line,
+            places: Vec::new(alloc),
+            answers: vec![in alloc; answer]?,
+        })
+    }
+
+    /// Adds what `later` says.
+    pub fn add(&mut self, later: &Said) -> Result<(), AllocError>
+        ensures { OnOk result (spec.told_of self.new
+            ≡ spec.followed_by (spec.told_of self.old) (spec.told_of later.now)) }
+    {
+        self.lines.extend_from_slice(later.lines.as_slice())?;
+        self.places.extend_from_slice(later.places.as_slice())?;
+        self.answers.extend_from_slice(later.answers.as_slice())
+    }
+}

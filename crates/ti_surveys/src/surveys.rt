@@ -1,0 +1,157 @@
+//! The command `survey`, and what all surveys do.
+
+ghost use Rattle.std.specs.Prelude.{◌≡◌, IfErr, IfOk};
+ghost use Rattle.ti_commands.specs.Sizes.{LacksSize};
+ghost use Rattle.ti_commands.specs.Words.{texts_of};
+ghost use Rattle.ti_surveys.specs.Lines.{AreLines};
+ghost use Rattle.ti_surveys.specs.Surveys as spec;
+ghost use Rattle.ti_surveys.specs.Told.{told_of};
+
+use crate::asked::Asked;
+use crate::files::file_lines;
+use crate::said::Said;
+use crate::speakers::Speaker;
+use crate::watchers::Watcher;
+use std::alloc::{AllocError, Global};
+use ti_commands::{Failure, Files, LONGEST_FILE, Reply, read_whole, size_words};
+use ti_requests::SurveyWords;
+use ti_verdicts::{Certifier, answers_line};
+use ti_words::Remarks;
+
+/// What a survey of some paths has found.
+#[derive(Drop)]
+pub struct Surveyed {
+    /// What is said of them.
+    pub said: Said,
+    /// The failure of the first path that can't be had.
+    pub failure: Option<Failure>,
+}
+
+/// Says for each entry of each file that the `words` name whether the `certifier` writes a certificate, or why not, or
+/// lists all faults of each, as the `words` ask for; and counts the answers. What can't be read as an entry has its
+/// line too. The reply's notes say of each fault that is listed of a source's entry where its value stands. The reply
+/// fails as the first file does that can't be had, and the others are surveyed all the same. The `watcher` sees how far
+/// the survey has come.
+///
+/// # Errors
+/// Why the words give no size; out of memory.
+pub fn survey_files<C: Certifier, F: Files, W: Watcher + Drop>(
+    alloc: Global,
+    certifier: &C,
+    words: &SurveyWords<'_>,
+    files: &mut F,
+    watcher: W,
+    remarks: &mut Remarks,
+) -> Result<Reply, Failure>
+    ensures reply { IfOk result (λ reply. spec.IsSurveyed (C.certifies certifier.now) (C.refuses certifier.now)
+        (F.holds files.old) words.now reply) }
+    ensures failure { IfErr result (λ e. LacksSize words.now.rows.now words.now.cols.now e) }
+    ensures kept { F.holds files.new ≡ F.holds files.old }
+{
+    let size = size_words(alloc, words.rows, words.cols, remarks)?;
+    let asked = Asked {
+        certifier,
+        size,
+        lists_all: words.lists_all,
+    };
+    let surveyed = survey_paths(
+        alloc,
+        &asked,
+        words.paths.as_slice(),
+        files,
+        watcher,
+        remarks,
+    )?;
+    let Said {
+        lines,
+        places,
+        answers,
+    } = surveyed.said;
+    let mut text = lines;
+    let counts = answers_line(alloc, answers.as_slice())?;
+    text.extend_from_slice(counts.as_slice())?;
+    Ok(Reply {
+        notes: places,
+        text,
+        failure: surveyed.failure,
+    })
+}
+
+/// What the `speaker` says of each entry of each file of `paths`, one after another. The failure is that of the first
+/// file that can't be had, and the others are surveyed all the same. The `watcher` sees how far the survey has come.
+pub fn survey_paths<S: Speaker, F: Files, W: Watcher + Drop>(
+    alloc: Global,
+    speaker: &S,
+    paths: &[&str],
+    files: &mut F,
+    mut watcher: W,
+    remarks: &mut Remarks,
+) -> Result<Surveyed, AllocError>
+    ensures told { IfOk result (λ surveyed. spec.EndsPaths (AreLines (S.says speaker.now) (S.refuses speaker.now))
+        (F.holds files.old) (texts_of paths.now) (told_of surveyed.said) surveyed.failure) }
+    ensures kept { F.holds files.new ≡ F.holds files.old }
+{
+    let surveyed = paths_said(alloc, speaker, paths, files, &mut watcher, remarks);
+    watcher.ends();
+    surveyed
+}
+
+/// What the `speaker` says of all `paths`.
+fn paths_said<S: Speaker, F: Files, W: Watcher>(
+    alloc: Global,
+    speaker: &S,
+    paths: &[&str],
+    files: &mut F,
+    watcher: &mut W,
+    remarks: &mut Remarks,
+) -> Result<Surveyed, AllocError>
+    ensures told { IfOk result (λ surveyed. spec.EndsPaths (AreLines (S.says speaker.now) (S.refuses speaker.now))
+        (F.holds files.old) (texts_of paths.now) (told_of surveyed.said) surveyed.failure) }
+    ensures kept { F.holds files.new ≡ F.holds files.old }
+{
+    let mut said = Said::new(alloc);
+    let mut failure = None;
+    for (done, path) in paths.iter().enumerate() {
+        watcher.begins(done, paths.len(), path.as_bytes());
+        let own = path_said(alloc, speaker, path, files, watcher, remarks)?;
+        said.add(&own.said)?;
+        failure = first_failure(failure, own.failure);
+    }
+    Ok(Surveyed { said, failure })
+}
+
+/// The first of two failures: `failure`, or else `later`.
+fn first_failure(failure: Option<Failure>, later: Option<Failure>) -> Option<Failure>
+    ensures { result ≡ spec.first_failure failure later }
+{
+    match failure {
+        Some(failure) => Some(failure),
+        None => later,
+    }
+}
+
+/// What the `speaker` says of `path`; nothing where it can't be had.
+fn path_said<S: Speaker, F: Files, W: Watcher>(
+    alloc: Global,
+    speaker: &S,
+    path: &str,
+    files: &mut F,
+    watcher: &mut W,
+    remarks: &mut Remarks,
+) -> Result<Surveyed, AllocError>
+    ensures told { IfOk result (λ surveyed. spec.EndsPath (AreLines (S.says speaker.now) (S.refuses speaker.now))
+        (F.holds files.old) path.now (told_of surveyed.said) surveyed.failure) }
+    ensures kept { F.holds files.new ≡ F.holds files.old }
+{
+    match read_whole(alloc, files, path, LONGEST_FILE, remarks) {
+        Ok(bytes) => Ok(Surveyed {
+            said: file_lines(alloc, speaker, path, bytes.as_slice(), watcher, remarks)?,
+            failure: None,
+        }),
+        Err(Failure::NoMemory) => Err(AllocError),
+        Err(failure) => Ok(Surveyed {
+            said: Said::new(alloc),
+            failure: Some(failure),
+        }),
+    }
+}

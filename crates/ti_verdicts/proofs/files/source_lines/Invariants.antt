@@ -1,9 +1,0 @@
-use Rattle.std.specs.List.{range_with_len}
-use Rattle.ti_verdicts.specs.Lines as spec
-use Rattle.ti_verdicts.specs.Told.{IsToldOfEach, told_of}
-use Rattle.ti_verdicts.proofs.files.source_lines.Given as goal
-
--- the entries before this one have their lines
-abbrev pub invariant-loop-place : goal.invariant-loop-place
-invariant-loop-place g l =
-    IsToldOfEach (spec.IsSourcePart (g.S.Speaker.says l.speaker) (g.S.Speaker.refuses l.speaker) l.path l.text l.raws) (range_with_len 0 l.place) (told_of l.said)

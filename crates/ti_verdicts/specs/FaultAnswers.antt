@@ -1,0 +1,9 @@
+-- The answer that a fault is counted as.
+use Rattle.std.specs.Prelude.{[]}
+use Rattle.ti_checker.specs.declared.causes.No.{No}
+use Rattle.ti_verdicts.specs.declared.answers.Answer.{Answer}
+use Rattle.ti_verdicts.specs.declared.answers.Answer.TheVariants as answers
+
+-- a fault counts as a no of its cause
+abbrev pub fault_answer : No → Answer
+fault_answer refusal = answers.No refusal.cause
