@@ -89,7 +89,7 @@ enum { TICURSES_TEXT_MAX = 1048576 };
 
 typedef struct ticurses { void *at; size_t state; } ticurses;
 
-/* What stands in a place of a window: a byte from 32 to 126, attributes, and a colour pair from 0 to 63. */
+/* What stands in a place of a window: a byte from 32 to 126, attributes, and a color pair from 0 to 63. */
 typedef struct ticurses_cell { uint8_t byte, attrs, pair; } ticurses_cell;
 
 /* The attributes of a cell, with their letters in the language of scripts. */
