@@ -29,8 +29,8 @@ pub record IsPainted (t : Table) (bytes : List ℕ) : Type 0 where
   pub made : bytes ≡ concat pieces
   pub each : AllByRecursion (IsPaint t) pieces
 
--- A text begins with these bytes (first), paints, shows the cursor in its mode by these strings, and then paints in at
--- most so many bytes.
+-- A text begins with the bytes `first`, paints, sends the `strings` that set the cursor's mode, and then paints again, in
+-- at most `limit` bytes.
 pub record PaintsAround (t : Table) (limit : ℕ) (first strings bytes : List ℕ) : Type 0 where
   pub front : List ℕ
   pub back : List ℕ

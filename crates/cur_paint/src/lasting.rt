@@ -5,9 +5,9 @@ use cur_wires::{Wire, WireFault};
 /// nothing of that goes out. So a refresh is made up to its end, and only a front of it has gone out.
 #[derive(Drop)]
 pub(crate) struct Lasting<'a, W> {
-    /// What the bytes go out on.
+    /// The wire that sends the bytes.
     pub wire: &'a mut W,
-    /// Whether that has failed.
+    /// Whether `wire` has failed.
     pub failed: bool,
 }
 

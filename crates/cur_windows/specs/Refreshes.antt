@@ -30,7 +30,7 @@ abbrev pub if_shown : {A : Type 0} → Result A Refusal → State → Screen →
 if_shown (Ok a) d v next = next a
 if_shown (Err e) d v next = (d, v, Err e)
 
--- noutrefresh: the whole window is copied, and its clearok goes over to the screen
+-- noutrefresh copies the whole window, and hands its clearok on to the screen
 abbrev pub noutrefresh : State → Screen → ℕ → Refresh
 noutrefresh d v n = if_shown (slot_of d n) d v (λ s. if_shown (window_only d s) d v (λ u. (
   with_window d n s (record s.window { clears = false }),

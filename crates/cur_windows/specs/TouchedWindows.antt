@@ -13,7 +13,7 @@ abbrev pub ShowsBut : Markings → State → Grid → Type 0
 ShowsBut t d v =
     (k : ℕ) → (origin_at d k).pad ≡ false → IsShownBut (grid_marks t k) (origin_at d k) (grid_at d k) v
 
--- What was shown but for the one's marks on the one desk is shown but for the other's on the other desk. So what was
+-- Every screen that shows desk `d` but for the marks `t` shows desk `e` but for the marks `u`. So what was
 -- marked stays marked, and each place in which grids differ is marked.
 abbrev pub KeepsShown : Markings → State → Markings → State → Type 0
 KeepsShown t d u e = (v : Grid) → ShowsBut t d v → ShowsBut u e v
