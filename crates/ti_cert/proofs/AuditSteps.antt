@@ -16,7 +16,7 @@ use Rattle.ti_conforms.specs.declared.closures.Charsets.{Charsets}
 use Rattle.ti_rows.specs.declared.rows.Looks.{Looks}
 use Rattle.ti_rows.specs.declared.rows.Row.{Row}
 use Rattle.ti_rows.specs.declared.rows.Row.TheVariants.{Clear, Sgr0, Csr}
-use Rattle.ti_rows.specs.Names.{order}
+use Rattle.ti_rows.specs.Names.{order, capabilities}
 use Rattle.ti_rows.specs.Lists.{IsInRange, rank}
 use Rattle.ti_rows.specs.Looks.{learned}
 use Rattle.ti_rows.specs.Asked.{start_of, asked}
@@ -212,7 +212,7 @@ is_no_memory NoResync = inr (λ e. cc)
 is_no_memory BadLook = inr (λ e. cc)
 is_no_memory ReadFailed = inr (λ e. cc)
 
-pub last_lacks : (p : Progress) (row : Row) → Some row ≡ missing p.size.rows p.size.cols p.place.last 42 → AnswersLast p (Err (missing_line row))
+pub last_lacks : (p : Progress) (row : Row) → Some row ≡ missing p.size.rows p.size.cols p.place.last capabilities → AnswersLast p (Err (missing_line row))
 last_lacks p row e = λ pairs lines st pa. Lacks row (missing_at_end p.size.rows p.size.cols lines p.place.last row p.size.limits st.place (sym e)) refl
 
 pub has_cap : (lines : List RowLine) (row other : Row) → order row ≡ order other → speaks_of lines row ≡ true → HasCap lines other
@@ -241,7 +241,7 @@ has_needed p lines kind st complete (NoWidening some none) = complete (Csr 0 (p.
     absent : HasLine lines (Csr 0 (p.known.strings.rows - 1)) → ⊥
     absent h = none-some h.line.bytes (sym none ∙ (ap (λ (r : Row). row_string p.known.strings r) (sym h.of_row) ∙ st.lists.kept h.line h.among))
 
-pub last_clashes : (p : Progress) (kind : CertFaultKind) (has_pairs : Bool) → has_pairs ≡ is_some p.acsc → None ≡ missing p.size.rows p.size.cols p.place.last 42 → (Holds p.known → ConcludesBy p.known has_pairs kind) → OrNoMemory kind (AnswersLast p)
+pub last_clashes : (p : Progress) (kind : CertFaultKind) (has_pairs : Bool) → has_pairs ≡ is_some p.acsc → None ≡ missing p.size.rows p.size.cols p.place.last capabilities → (Holds p.known → ConcludesBy p.known has_pairs kind) → OrNoMemory kind (AnswersLast p)
 last_clashes p kind has_pairs same none h = by_kind (is_no_memory kind)
   where
     by_why : (lines : List RowLine) (pairs : Option (List ℕ)) → (kind ≡ NoMemory → ⊥) → Stands p lines → p.acsc ≡ pairs → IsComplete p.size.rows p.size.cols lines None → ConcludesBy p.known (is_some p.acsc) kind
@@ -261,7 +261,7 @@ last_clashes p kind has_pairs same none h = by_kind (is_no_memory kind)
     by_kind (inl e) = inr e
     by_kind (inr never) = inl (λ pairs lines st pa. by_why lines pairs never st pa (complete_at_end p.size.rows p.size.cols lines p.place.last p.size.limits st.place (sym none)) (subst (λ (b : Bool). ConcludesBy p.known b kind) same (h st.holds)))
 
-pub last_closes : (p : Progress) (settled : Charsets) (has_pairs : Bool) → has_pairs ≡ is_some p.acsc → None ≡ missing p.size.rows p.size.cols p.place.last 42 → (Holds p.known → IsConcluded p.known has_pairs settled)
+pub last_closes : (p : Progress) (settled : Charsets) (has_pairs : Bool) → has_pairs ≡ is_some p.acsc → None ≡ missing p.size.rows p.size.cols p.place.last capabilities → (Holds p.known → IsConcluded p.known has_pairs settled)
     → AnswersLast p (Ok (record p { awaited = lines_awaited.Ended settled }))
 last_closes p settled has_pairs same none concluded = λ pairs lines st pa. record {
   after = Ended pairs lines;
@@ -444,7 +444,7 @@ row_stands_at p line q k bytes tokens effect looks new is ek same h splits has s
 
 -- the beginning and the end
 
-pub starts_so : (p : Progress) → p.known.strings ≡ record { rows = p.size.rows; cols = p.size.cols; groups = replicate 42 [] } → p.known.looks ≡ no_looks → Holds p.known → p.acsc ≡ None → p.place.last ≡ None → Stands p []
+pub starts_so : (p : Progress) → p.known.strings ≡ record { rows = p.size.rows; cols = p.size.cols; groups = replicate capabilities [] } → p.known.looks ≡ no_looks → Holds p.known → p.acsc ≡ None → p.place.last ≡ None → Stands p []
 starts_so p s looks holds none last = record {
   rows = ap (λ (x : Strings). x.rows) s;
   cols = ap (λ (x : Strings). x.cols) s;
@@ -452,7 +452,7 @@ starts_so p s looks holds none last = record {
   lists = record {
     found = λ row bytes h. absurd (none_at_first p.size.rows p.size.cols row bytes (ap (λ (x : Strings). row_string x row) (sym s) ∙ h));
     kept = λ line among. absurd among;
-    groups = λ row. ap (λ (x : Strings). has_group x row) s ∙ ap (λ (g : List (List ℕ)). not (length g == 0)) (empty_group 42 (order row));
+    groups = λ row. ap (λ (x : Strings). has_group x row) s ∙ ap (λ (g : List (List ℕ)). not (length g == 0)) (empty_group capabilities (order row));
     looks = looks;
     total_is = ap (λ (x : Strings). total x) s;
   };

@@ -7,7 +7,7 @@ use Rattle.std.proofs.lemmas.Bool.{true≢false}
 use Rattle.std.proofs.lemmas.Bool.Decides.{nat_tests}
 use Rattle.std.specs.Prelude.{replicate}
 use Rattle.vt_term.specs.Size.{IsSize}
-use Rattle.ti_rows.specs.Names.{HasFirst}
+use Rattle.ti_rows.specs.Names.{HasFirst, capabilities}
 use Rattle.ti_rows.specs.Lists.{IsFirst}
 use Rattle.ti_rows.proofs.NameFacts.{firsts_in_order}
 use Rattle.ti_rows.proofs.ListFacts.{firsts_in_range}
@@ -77,7 +77,7 @@ same_places a b h = grind (arith, nat_tests)
 other_places : (a b : ℕ) → (a == b) ≡ false → a ≢ b
 other_places a b h = λ e. grind (arith, nat_tests)
 
-pub adds : (rows cols : ℕ) (groups : List (List (List ℕ))) (row : Row) (bytes : List ℕ) (g : List (List ℕ)) → length groups ≡ 42 → allows rows cols row ≡ true
+pub adds : (rows cols : ℕ) (groups : List (List (List ℕ))) (row : Row) (bytes : List ℕ) (g : List (List ℕ)) → length groups ≡ capabilities → allows rows cols row ≡ true
     → rank rows cols row ≡ length (slice_index_or groups (order row) []) → g ≡ slice_index_or groups (order row) [] ++ bytes ∷ []
     → Adds (record { rows = rows; cols = cols; groups = groups }) (record { rows = rows; cols = cols; groups = slice_set groups (order row) g }) row bytes
 adds rows cols groups row bytes g many fits place made = record {
@@ -152,7 +152,7 @@ adds rows cols groups row bytes g many fits place made = record {
 
 -- the same of any strings that are these
 pub adds_to : (old : Strings) (rows cols : ℕ) (groups : List (List (List ℕ))) (row : Row) (bytes : List ℕ) (n : ℕ) (g : List (List ℕ)) → record { rows = rows; cols = cols; groups = groups } ≡ old → n ≡ order row
-    → length groups ≡ 42 → allows old.rows old.cols row ≡ true → rank old.rows old.cols row ≡ length (group_at old (order row)) → g ≡ slice_index_or groups n [] ++ bytes ∷ []
+    → length groups ≡ capabilities → allows old.rows old.cols row ≡ true → rank old.rows old.cols row ≡ length (group_at old (order row)) → g ≡ slice_index_or groups n [] ++ bytes ∷ []
     → Adds old (record { rows = rows; cols = cols; groups = slice_set groups n g }) row bytes
 adds_to old rows cols groups row bytes n g is place many = subst (λ (s : Strings). allows s.rows s.cols row ≡ true → rank s.rows s.cols row ≡ length (group_at s (order row)) → g ≡ slice_index_or groups n [] ++ bytes ∷ []
     → Adds s (record { rows = rows; cols = cols; groups = slice_set groups n g }) row bytes) is
@@ -194,10 +194,10 @@ empty_group zero n = refl
 empty_group (suc m) zero = refl
 empty_group (suc m) (suc n) = empty_group m n
 
-pub none_at_first : (rows cols : ℕ) (row : Row) (bytes : List ℕ) → row_string (record { rows = rows; cols = cols; groups = replicate 42 [] }) row ≡ Some bytes → ⊥
+pub none_at_first : (rows cols : ℕ) (row : Row) (bytes : List ℕ) → row_string (record { rows = rows; cols = cols; groups = replicate capabilities [] }) row ≡ Some bytes → ⊥
 none_at_first rows cols row bytes h =
-    let p = if_some (allows rows cols row) (slice_get (slice_index_or (replicate {A = List (List ℕ)} 42 []) (order row) []) (rank rows cols row)) bytes h in
-    none-some bytes (ap (λ (g : List (List ℕ)). slice_get g (rank rows cols row)) (sym (empty_group 42 (order row))) ∙ p.1)
+    let p = if_some (allows rows cols row) (slice_get (slice_index_or (replicate {A = List (List ℕ)} capabilities []) (order row) []) (rank rows cols row)) bytes h in
+    none-some bytes (ap (λ (g : List (List ℕ)). slice_get g (rank rows cols row)) (sym (empty_group capabilities (order row))) ∙ p.1)
 
 pub any_default : {A : Type 0} (xs : List A) (i : ℕ) (a b : A) → i < length xs → slice_index_or xs i a ≡ slice_index_or xs i b
 any_default [] i a b h = let wrong : ⊥ = omega (arith, h) in absurd wrong

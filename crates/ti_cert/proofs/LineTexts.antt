@@ -10,7 +10,7 @@ use Rattle.std.proofs.lemmas.Slice.Eq.{bytes_eq-Decides}
 use Rattle.hex.specs.Hex.{IsBytes}
 use Rattle.vt_effects.specs.declared.effects.Effect.{Effect}
 use Rattle.ti_rows.specs.declared.rows.Row.{Row}
-use Rattle.ti_rows.specs.Names.{order, name_in_order, name_of}
+use Rattle.ti_rows.specs.Names.{order, name_in_order, name_of, capabilities}
 use Rattle.ti_rows.specs.Params.{params}
 use Rattle.ti_rows.proofs.NameFacts.{orders_small}
 use Rattle.ti_lines.specs.declared.row_lines.RowLine.{RowLine}
@@ -48,13 +48,13 @@ numbers_lack [] h = refl
 numbers_lack (n ∷ ns) h = both_lack 10 (decimal n) (32 ∷ numbers_text ns) (decimal_lacks 10 n (omega arith) h.0) (numbers_lack ns h.1)
 
 -- no name is that of the line of alternate characters
-each_is_no_acsc : agree_below (λ n. not (bytes_eq (name_in_order n) acsc_word)) (λ _. true) 42 ≡ true
+each_is_no_acsc : agree_below (λ n. not (bytes_eq (name_in_order n) acsc_word)) (λ _. true) capabilities ≡ true
 unfolding name_in_order
 each_is_no_acsc = refl
 
 no_acsc : (row : Row) → name_of row ≡ acsc_word → ⊥
 no_acsc row e =
-    true≢false (sym ((bytes_eq-Decides (name_of row) acsc_word).1 e) ∙ not-true (bytes_eq (name_of row) acsc_word) (agree_below_at (λ n. not (bytes_eq (name_in_order n) acsc_word)) (λ _. true) 42 (order row) each_is_no_acsc (orders_small row)))
+    true≢false (sym ((bytes_eq-Decides (name_of row) acsc_word).1 e) ∙ not-true (bytes_eq (name_of row) acsc_word) (agree_below_at (λ n. not (bytes_eq (name_in_order n) acsc_word)) (λ _. true) capabilities (order row) each_is_no_acsc (orders_small row)))
 
 -- ---- the lines
 

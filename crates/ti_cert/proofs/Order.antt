@@ -4,7 +4,7 @@ use Rattle.std.proofs.lemmas.Bool.{ltb-true, ltb-false, leb-true, leb-false, cas
 use Rattle.std.proofs.lemmas.Option.{same_Some, none-some}
 use Rattle.vt_term.specs.Size.{IsSize}
 use Rattle.ti_rows.specs.declared.rows.Row.{Row}
-use Rattle.ti_rows.specs.Names.{order, first_in_order, HasFirst}
+use Rattle.ti_rows.specs.Names.{order, first_in_order, HasFirst, capabilities}
 use Rattle.ti_rows.specs.Lists.{IsInRange, next, rank, count, IsFirst, Follows}
 use Rattle.ti_rows.proofs.NameFacts.{firsts_in_order, orders_small}
 use Rattle.ti_rows.proofs.ListFacts.{firsts_in_range, next_follows, ranks_below, last_is_last, one_of_rank}
@@ -107,7 +107,7 @@ not_between from n to h f t = by_cases (and_cases (nat_le from n) (nat_lt n to) 
     by_cases (inl e) = let g = leb-false from n e in omega (arith, g, f)
     by_cases (inr e) = let g = ltb-false n to e in omega (arith, g, t)
 
-pub first_at : (rows cols n : ℕ) (row : Row) → IsSize rows cols → n < 42 → first_in_order n ≡ Some row → IsInRange rows cols row × (rank rows cols row ≡ 0) × (order row ≡ n)
+pub first_at : (rows cols n : ℕ) (row : Row) → IsSize rows cols → n < capabilities → first_in_order n ≡ Some row → IsInRange rows cols row × (rank rows cols row ≡ 0) × (order row ≡ n)
 first_at rows cols n row size small h =
     let f : HasFirst n = firsts_in_order n small in
     let same : f.row ≡ row = same_Some f.row row (sym f.is_first ∙ h) in
@@ -159,7 +159,7 @@ required_some rows cols from to row size h = by_clear (is_between from 4 to) ref
         least m (inr (inr k)) f = omega (arith, k)
     by_clear false b e = by_cup (is_between from 14 to) refl b e
 
-not_first : (n : ℕ) {A : Type 0} → n < 42 → first_in_order n ≡ None → A
+not_first : (n : ℕ) {A : Type 0} → n < capabilities → first_in_order n ≡ None → A
 not_first n small h = let f : HasFirst n = firsts_in_order n small in absurd (none-some f.row (sym h ∙ f.is_first))
 
 required_none : (from to : ℕ) → required from to ≡ None → (row : Row) → IsRequiredLine row → from ≤ order row → order row < to → ⊥
@@ -283,7 +283,7 @@ missing_none rows cols lines (Some last) n size l h row k = by_next (next_within
     by_next (Some follower) e same = by_lt follower (nat_lt (order last) n) refl same
 
 -- before the last line of the text
-lacks_at_end : (rows cols : ℕ) (lines : List RowLine) (row : Row) → IsLacking rows cols lines None row → Lacks rows cols lines 42 row
+lacks_at_end : (rows cols : ℕ) (lines : List RowLine) (row : Row) → IsLacking rows cols lines None row → Lacks rows cols lines capabilities row
 lacks_at_end rows cols lines row k = record { range = k.range; absent = k.absent; before = orders_small row; due = due k.due }
   where
     due : IsRequiredLine row ⊎ (HasCap lines row ⊎ ⊥) → IsRequiredLine row ⊎ HasCap lines row
@@ -291,14 +291,14 @@ lacks_at_end rows cols lines row k = record { range = k.range; absent = k.absent
     due (inr (inl c)) = inr c
     due (inr (inr z)) = absurd z
 
-pub missing_at_end : (rows cols : ℕ) (lines : List RowLine) (last : Option Row) (row : Row) → IsSize rows cols → IsUpTo rows cols lines last → missing rows cols last 42 ≡ Some row → IsFirstLacking rows cols lines None row
+pub missing_at_end : (rows cols : ℕ) (lines : List RowLine) (last : Option Row) (row : Row) → IsSize rows cols → IsUpTo rows cols lines last → missing rows cols last capabilities ≡ Some row → IsFirstLacking rows cols lines None row
 missing_at_end rows cols lines last row size up h =
-    let m = missing_some rows cols lines last 42 row size up h in
+    let m = missing_some rows cols lines last capabilities row size up h in
     record { lacking = record { range = m.lacks.range; absent = m.lacks.absent; before = tt; due = due m.lacks.due }; first = λ other k. m.first other (lacks_at_end rows cols lines other k) }
   where
     due : IsRequiredLine row ⊎ HasCap lines row → IsRequiredLine row ⊎ (HasCap lines row ⊎ ⊥)
     due (inl d) = inl d
     due (inr c) = inr (inl c)
 
-pub complete_at_end : (rows cols : ℕ) (lines : List RowLine) (last : Option Row) → IsSize rows cols → IsUpTo rows cols lines last → missing rows cols last 42 ≡ None → IsComplete rows cols lines None
-complete_at_end rows cols lines last size up h row k = missing_none rows cols lines last 42 size up h row (lacks_at_end rows cols lines row k)
+pub complete_at_end : (rows cols : ℕ) (lines : List RowLine) (last : Option Row) → IsSize rows cols → IsUpTo rows cols lines last → missing rows cols last capabilities ≡ None → IsComplete rows cols lines None
+complete_at_end rows cols lines last size up h row k = missing_none rows cols lines last capabilities size up h row (lacks_at_end rows cols lines row k)

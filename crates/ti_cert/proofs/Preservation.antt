@@ -15,7 +15,7 @@ use Rattle.ti_rows.specs.declared.rows.Row.{Row}
 use Rattle.ti_rows.specs.declared.rows.Row.TheVariants.{Clear, Cup, Home, Cr, Hpa, Vpa, Cub1, Cuf1, Cuu1, Cud1, Cub, Cuf, Cuu, Cud, El, El1, Ed, Ech, Sgr, Sgr0, Setaf, Setab, Op, Smul, Rev, Blink, Dim, Bold, Invis, Smso, Enacs, Smacs, Rmacs, Csr, Ind, Ri, Civis, Cnorm, Cvvis, Smcup, Rmcup, Bel}
 use Rattle.ti_rows.specs.declared.rows.Attributes.{Attributes}
 use Rattle.ti_rows.specs.Bits.{number_of}
-use Rattle.ti_rows.specs.Names.{order}
+use Rattle.ti_rows.specs.Names.{order, capabilities}
 use Rattle.ti_rows.specs.Lists.{rank}
 use Rattle.ti_rows.specs.Looks.{learned, shown}
 use Rattle.ti_rows.specs.Asked.{start_of, asked, rendering, just, ink_of, defaults_both_inks, with_marks_on}
@@ -233,10 +233,10 @@ holds_to k s l q x is strings row bytes tokens effect looks reach changes h a w 
     (subst (λ (y : Known). Adds y.strings strings row bytes) is a) w lo has
     (re ∙ ap (λ (y : Known). joined y.reach (reach_of tokens)) is) (ch ∙ ap (λ (y : Known). with_change (settles row) y.changes effect.charset) is)
 
-looks_at_first : (rows cols : ℕ) → LooksAlone (λ row. has_group (record { rows = rows; cols = cols; groups = replicate 42 [] }) row) no_looks
+looks_at_first : (rows cols : ℕ) → LooksAlone (λ row. has_group (record { rows = rows; cols = cols; groups = replicate capabilities [] }) row) no_looks
 looks_at_first rows cols off = record { underline = refl; reverse = refl; blink = refl; dim = refl; bold = refl; invisible = refl; standout = λ none. refl }
 
-pub holds_at_first : (strings : Strings) (reach : Reach) (changes : List Sets) (rows cols : ℕ) → strings ≡ record { rows = rows; cols = cols; groups = replicate 42 [] } → reach ≡ reach_of [] → changes ≡ []
+pub holds_at_first : (strings : Strings) (reach : Reach) (changes : List Sets) (rows cols : ℕ) → strings ≡ record { rows = rows; cols = cols; groups = replicate capabilities [] } → reach ≡ reach_of [] → changes ≡ []
     → Holds (record { strings = strings; looks = no_looks; reach = reach; changes = changes })
 holds_at_first strings reach changes rows cols s r c = record {
   all = [];

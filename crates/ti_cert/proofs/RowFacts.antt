@@ -5,7 +5,7 @@ use Rattle.std.specs.Prelude.{option_copied}
 use Rattle.ti_caps.specs.Table.{name_at, place_in}
 use Rattle.ti_caps.proofs.Tables.{place_in_name}
 use Rattle.ti_rows.specs.declared.rows.Row.{Row}
-use Rattle.ti_rows.specs.Names.{order, string_in_order, name_in_order, name_of, cap_of}
+use Rattle.ti_rows.specs.Names.{order, string_in_order, name_in_order, name_of, cap_of, capabilities}
 use Rattle.ti_rows.specs.Params.{with_params, HasParams}
 use Rattle.ti_rows.proofs.NameFacts.{named, orders_small, strings_small}
 use Rattle.ti_rows.proofs.Readers.{finds_params, params_found}
@@ -21,15 +21,15 @@ is_same high low = string_in_order low == string_in_order high
 unfoldable none_is_same : ℕ → Bool
 none_is_same high = agree_below (is_same high) (λ _. false) high
 
-each_differs : agree_below none_is_same (λ _. true) 42 ≡ true
+each_differs : agree_below none_is_same (λ _. true) capabilities ≡ true
 unfolding none_is_same is_same string_in_order
 each_differs = refl
 
-all_differ : (high : ℕ) → high < 42 → agree_below (is_same high) (λ _. false) high ≡ true
+all_differ : (high : ℕ) → high < capabilities → agree_below (is_same high) (λ _. false) high ≡ true
 unfolding none_is_same
-all_differ high within = agree_below_at none_is_same (λ _. true) 42 high each_differs within
+all_differ high within = agree_below_at none_is_same (λ _. true) capabilities high each_differs within
 
-never_same : (low high : ℕ) → low < high → high < 42 → string_in_order low ≡ string_in_order high → ⊥
+never_same : (low high : ℕ) → low < high → high < capabilities → string_in_order low ≡ string_in_order high → ⊥
 unfolding is_same
 never_same low high less within e = eqb-false (string_in_order low) (string_in_order high) (agree_below_at (is_same high) (λ _. false) high low (all_differ high within) less) e
 

@@ -25,6 +25,7 @@ use ti_conforms::Charsets;
 use ti_lines::{
     Judge, Reader, RowLine, is_end_line, judge_lines, read_acsc_line, read_row_line, read_size_line,
 };
+use ti_rows::CAPABILITIES;
 use vt_term::{Scanner, Size};
 
 /// The most bytes that a certificate has.
@@ -178,7 +179,7 @@ impl Progress {
         ensures ok { OnOk result (spec.AnswersLast self.old (Ok self.new)) }
         ensures err { IfErr result (λ kind. spec.OrNoMemory kind (spec.AnswersLast self.old)) }
     {
-        match self.place.missing(self.size, 42) {
+        match self.place.missing(self.size, CAPABILITIES) {
             Some(missing) => Err(CertFaultKind::missing(missing)),
             None => {
                 let settled = conclude(alloc, &self.known, self.acsc.is_some())?;

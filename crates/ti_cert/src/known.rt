@@ -2,7 +2,7 @@
 
 ghost use Rattle.std.specs.Prelude.{◌≡◌, [], length, replicate, IfOk, IfErr, OnOk, IsTrue, true, List, ℕ};
 ghost use Rattle.ti_rows.specs.Lists.{rank};
-ghost use Rattle.ti_rows.specs.Names.{order};
+ghost use Rattle.ti_rows.specs.Names.{order, capabilities};
 ghost use Rattle.ti_conforms.specs.Table.{settles};
 ghost use Rattle.ti_cert.specs.Strings.{Adds, allows, group_at};
 ghost use Rattle.ti_conforms.specs.Looks.{no_looks};
@@ -76,7 +76,7 @@ impl Known {
     pub fn new(alloc: Global, size: Size) -> Result<Known, AllocError>
         ensures holds { IfOk result (λ known. spec.Holds known) }
         ensures strings { IfOk result (λ known. known.strings
-            ≡ record { rows = size.rows; cols = size.cols; groups = replicate 42 [] }) }
+            ≡ record { rows = size.rows; cols = size.cols; groups = replicate capabilities [] }) }
         ensures looks { IfOk result (λ known. known.looks ≡ no_looks) }
     {
         Ok(Known {

@@ -4,7 +4,7 @@ ghost use Rattle.std.specs.Prelude.{◌≡◌, ◌<◌, OnOk, IfErr, None, Some,
 ghost use Rattle.ti_cert.specs.Places as spec;
 ghost use Rattle.ti_cert.specs.Strings.{allows, group_at};
 ghost use Rattle.ti_rows.specs.Lists.{rank};
-ghost use Rattle.ti_rows.specs.Names.{order};
+ghost use Rattle.ti_rows.specs.Names.{order, capabilities};
 
 use crate::faults::CertFaultKind;
 use crate::strings::{Strings, allows};
@@ -52,7 +52,7 @@ fn required(from: usize, to: usize) -> Option<Row>
 
 /// What is missing after the line of the capability at a place, whose next line is this one.
 fn missing_behind(next: Option<Row>, last: usize, order: usize) -> Option<Row>
-    requires { last < 42 }
+    requires { last < capabilities }
     ensures { result ≡ spec.missing_behind next last order }
 {
     match next {
@@ -92,7 +92,8 @@ impl Place {
         }
     }
 
-    /// The first line that has to come before those of the capability at a place; 42 is that of the end.
+    /// The first line that has to come before those of the capability at the place `order`; `CAPABILITIES` is that
+    /// of the end.
     pub fn missing(&self, size: Size, order: usize) -> Option<Row>
         ensures { result ≡ spec.missing size.rows size.cols self.now.last order }
     {

@@ -3,7 +3,7 @@
 ghost use Rattle.std.specs.Prelude.{◌≡◌, ◌<◌, ◌++◌, [], ◌∷◌, length, OnOk, IfOk, IsTrue, option_copied, replicate, true, false, None};
 ghost use Rattle.std.specs.List.{slice_get};
 ghost use Rattle.ti_rows.specs.Lists.{IsInRange, rank};
-ghost use Rattle.ti_rows.specs.Names.{order};
+ghost use Rattle.ti_rows.specs.Names.{order, capabilities};
 ghost use Rattle.ti_conforms.specs.Agreement.{SomeLine};
 ghost use Rattle.ti_rows.specs.declared.rows.Row as rows;
 ghost use Rattle.ti_cert.specs.Strings as spec;
@@ -11,11 +11,8 @@ ghost use Rattle.ti_cert.specs.Strings as spec;
 use crate::groups::Group;
 use std::alloc::{AllocError, Global};
 use std::marker::Model;
-use ti_rows::Row;
+use ti_rows::{CAPABILITIES, Row};
 use vt_term::Size;
-
-/// How many capabilities are checked.
-const CAPABILITIES: usize = 42;
 
 /// The strings of a certificate for a size.
 #[derive(Drop)]
@@ -34,11 +31,11 @@ impl Model for Strings {
 
     ghost view = { λ s. record { rows = s.size.rows; cols = s.size.cols; groups = s.groups.items } };
 
-    ghost invariant = { λ s. length s.groups.items ≡ 42 };
+    ghost invariant = { λ s. length s.groups.items ≡ capabilities };
 }
 
 fn empty_groups(alloc: Global) -> Result<Vec<Group>, AllocError>
-    ensures { IfOk result (λ groups. groups.items ≡ replicate 42 []) }
+    ensures { IfOk result (λ groups. groups.items ≡ replicate capabilities []) }
 {
     let mut groups = Vec::with_capacity(alloc, CAPABILITIES)?;
     for _ in 0..CAPABILITIES {
@@ -59,7 +56,7 @@ impl Strings {
     /// No strings. The error is out of memory.
     pub fn new(alloc: Global, size: Size) -> Result<Strings, AllocError>
         ensures { IfOk result (λ strings. strings
-            ≡ record { rows = size.rows; cols = size.cols; groups = replicate 42 [] }) }
+            ≡ record { rows = size.rows; cols = size.cols; groups = replicate capabilities [] }) }
     {
         Ok(Strings {
             size,

@@ -8,7 +8,7 @@ use Rattle.vt_effects.specs.declared.effects.Effect.{Effect}
 use Rattle.ti_caps.specs.Entry.{Content}
 use Rattle.ti_conforms.specs.Charsets.{IsAmong}
 use Rattle.ti_rows.specs.declared.rows.Row.{Row}
-use Rattle.ti_rows.specs.Names.{order, cap_of}
+use Rattle.ti_rows.specs.Names.{order, cap_of, capabilities}
 use Rattle.ti_rows.specs.Params.{params}
 use Rattle.ti_rows.specs.Lists.{IsFirst, IsInRange, Follows, next, rank, count}
 use Rattle.ti_rows.proofs.NameFacts.{orders_small}
@@ -228,5 +228,5 @@ refused_row entry rows cols string row text refusal range checked there cap numb
 
 -- ---- all capabilities
 
-pub all_caps : (entry : Content) (rows cols n : ℕ) (text : List ℕ) → 42 ≤ n → IsDrafted entry rows cols (λ row. order row < n) text → IsDrafted entry rows cols (λ row. order row < 42) text
-all_caps entry rows cols n text all d = drafted_as entry rows cols (λ row. order row < n) (λ row. order row < 42) text (λ row range lt. orders_small row) (λ row range checked lt. omega (arith, lt, all)) d
+pub all_caps : (entry : Content) (rows cols n : ℕ) (text : List ℕ) → capabilities ≤ n → IsDrafted entry rows cols (λ row. order row < n) text → IsDrafted entry rows cols (λ row. order row < capabilities) text
+all_caps entry rows cols n text all d = drafted_as entry rows cols (λ row. order row < n) (λ row. order row < capabilities) text (λ row range lt. orders_small row) (λ row range checked lt. omega (arith, lt, all)) d

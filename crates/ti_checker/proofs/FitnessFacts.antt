@@ -6,7 +6,7 @@ use Rattle.ti_conforms.specs.Charsets.{IsAmong}
 use Rattle.ti_parm.proofs.Numbers.{le_or_ge}
 use Rattle.ti_rows.specs.declared.rows.Row.{Row}
 use Rattle.ti_rows.specs.Lists.{IsInRange, rank}
-use Rattle.ti_rows.specs.Names.{order}
+use Rattle.ti_rows.specs.Names.{order, capabilities}
 use Rattle.ti_rows.proofs.NameFacts.{orders_small}
 use Rattle.ti_lines.specs.declared.row_lines.RowLine.{RowLine}
 use Rattle.ti_conforms.specs.Entries.{is_checked}
@@ -120,10 +120,10 @@ within_before entry rows cols row f = record {
 
 -- ---- all of them are written
 
-all_drafted : (entry : Content) (rows cols : ℕ) (text : List ℕ) → IsDrafted entry rows cols (λ row. order row < 42) text → IsDrafted entry rows cols (λ row. Unit {0}) text
-all_drafted entry rows cols text d = drafted_as entry rows cols (λ row. order row < 42) (λ row. Unit {0}) text (λ row range lt. tt) (λ row range checked u. orders_small row) d
+all_drafted : (entry : Content) (rows cols : ℕ) (text : List ℕ) → IsDrafted entry rows cols (λ row. order row < capabilities) text → IsDrafted entry rows cols (λ row. Unit {0}) text
+all_drafted entry rows cols text d = drafted_as entry rows cols (λ row. order row < capabilities) (λ row. Unit {0}) text (λ row range lt. tt) (λ row range checked u. orders_small row) d
 
-pub full_text : (entry : Content) (rows cols : ℕ) (front text : List ℕ) → IsDrafted entry rows cols (λ row. order row < 42) front → text ≡ front ++ last → IsFullText entry rows cols text
+pub full_text : (entry : Content) (rows cols : ℕ) (front text : List ℕ) → IsDrafted entry rows cols (λ row. order row < capabilities) front → text ≡ front ++ last → IsFullText entry rows cols text
 full_text entry rows cols front text d e =
     let all = all_drafted entry rows cols front d in
     let is : text ≡ text_with entry rows cols all.written.lines = e ∙ (ap (λ (x : List ℕ). x ++ last) all.written.text_is ∙ sym (text_is entry rows cols all.written.lines)) in
@@ -137,7 +137,7 @@ full_text entry rows cols front text d e =
           omega (arith, n, l, s);
     }
 
-pub each_written : (entry : Content) (rows cols : ℕ) (text : List ℕ) → IsDrafted entry rows cols (λ row. order row < 42) text → EachWritten entry rows cols
+pub each_written : (entry : Content) (rows cols : ℕ) (text : List ℕ) → IsDrafted entry rows cols (λ row. order row < capabilities) text → EachWritten entry rows cols
 each_written entry rows cols text d =
     let f = full_text entry rows cols text (text ++ last) d refl in
     record {

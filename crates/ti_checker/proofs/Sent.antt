@@ -24,6 +24,7 @@ use Rattle.ti_rows.specs.declared.rows.Row.{Row}
 use Rattle.ti_rows.specs.declared.rows.Row.TheVariants.{Clear, Csr, Smcup, Enacs, Sgr0, Smacs, Rmacs}
 use Rattle.ti_rows.specs.Lists.{IsInRange}
 use Rattle.ti_rows.specs.Starts.{Starts}
+use Rattle.ti_rows.specs.Names.{capabilities}
 use Rattle.ti_parm.specs.Meaning.{sent}
 use Rattle.ti_parm.specs.declared.fault.ParmFault.{ParmFault}
 use Rattle.ti_conforms.specs.Sends.{Sends, values}
@@ -297,7 +298,7 @@ pub record AreChanges (entry : Content) (rows cols : ℕ) (r : Resync) (smacs : 
   pub rmacs : RowChanges entry rows cols Rmacs r.rmacs
   pub smacs_is : RowChanges entry rows cols Smacs smacs
 
-pub is_found : (entry : Content) (rows cols : ℕ) (reach : Reach) (changes others : List Sets) (r : Resync) (smacs : Option Sets) (begins : Bool) → IsSize rows cols → EachStands entry rows cols → IsSeen entry rows cols reach changes 42 0 → others ≡ changes
+pub is_found : (entry : Content) (rows cols : ℕ) (reach : Reach) (changes others : List Sets) (r : Resync) (smacs : Option Sets) (begins : Bool) → IsSize rows cols → EachStands entry rows cols → IsSeen entry rows cols reach changes capabilities 0 → others ≡ changes
     → AreChanges entry rows cols r smacs → (begins ≡ true → OfAllSent entry rows cols (λ t. BeginsOpen t → ⊥)) → (begins ≡ false → OfAllSent entry rows cols (λ t. BeginsOpen t))
     → OfAllSent entry rows cols (λ t. IsFound t reach others r smacs begins)
 is_found entry rows cols reach changes others r smacs begins size stands s same a begun opened t h = record {

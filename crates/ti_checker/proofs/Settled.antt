@@ -13,7 +13,7 @@ use Rattle.ti_conforms.specs.Charsets.{IsAmong, joined, reach_of}
 use Rattle.ti_conforms.proofs.Reaches.{reach_of-append}
 use Rattle.ti_rows.specs.declared.rows.Row.{Row}
 use Rattle.ti_rows.specs.Lists.{IsFirst, IsInRange, Follows, next, rank, count}
-use Rattle.ti_rows.specs.Names.{order}
+use Rattle.ti_rows.specs.Names.{order, capabilities}
 use Rattle.ti_rows.proofs.ListFacts.{last_is_last, ranks_below, one_of_rank}
 use Rattle.ti_rows.proofs.NameFacts.{orders_small}
 use Rattle.ti_conforms.specs.Sends.{Sends}
@@ -190,10 +190,10 @@ seen_unchecked_cap entry rows cols first reach changes unchecked s = seen_at ent
     earlier other checked (inr p) = let no : ⊥ = omega (arith, p.1) in absurd no
 
 -- the rows of all capabilities
-pub seen_whole : (entry : Content) (rows cols place : ℕ) (reach : Reach) (changes : List Sets) → 42 ≤ place → IsSeen entry rows cols reach changes place 0 → IsSeen entry rows cols reach changes 42 0
-seen_whole entry rows cols place reach changes le s = seen_at entry rows cols reach changes place 0 42 0 s (λ other range checked b. earlier other b)
+pub seen_whole : (entry : Content) (rows cols place : ℕ) (reach : Reach) (changes : List Sets) → capabilities ≤ place → IsSeen entry rows cols reach changes place 0 → IsSeen entry rows cols reach changes capabilities 0
+seen_whole entry rows cols place reach changes le s = seen_at entry rows cols reach changes place 0 capabilities 0 s (λ other range checked b. earlier other b)
   where
-    earlier : (other : Row) → IsBefore rows cols 42 0 other → IsBefore rows cols place 0 other
+    earlier : (other : Row) → IsBefore rows cols capabilities 0 other → IsBefore rows cols place 0 other
     earlier other (inl lt) = inl (omega (arith, lt, le))
     earlier other (inr p) = let no : ⊥ = omega (arith, p.1) in absurd no
 
@@ -217,7 +217,7 @@ checked_changes entry rows cols row tokens change range k t h =
 
 -- ---- all lines were seen
 
-line_seen : (entry : Content) (rows cols : ℕ) (reach : Reach) (changes : List Sets) (s : IsSeen entry rows cols reach changes 42 0) (t : Table) → HasSent entry rows cols t → (row : Row) (bytes : List ℕ) → t.line_of row ≡ Some bytes
+line_seen : (entry : Content) (rows cols : ℕ) (reach : Reach) (changes : List Sets) (s : IsSeen entry rows cols reach changes capabilities 0) (t : Table) → HasSent entry rows cols t → (row : Row) (bytes : List ℕ) → t.line_of row ≡ Some bytes
     → IsLineSeen s.tokens changes row bytes
 line_seen entry rows cols reach changes s t h row bytes there =
     let range = h.only row bytes there in
@@ -234,7 +234,7 @@ line_seen entry rows cols reach changes s t h row bytes there =
       | inr unchecked ↦ absurd (none-some bytes (sym ((h.sends row range).unchecked unchecked) ∙ there))
     ]
 
-pub all_seen : (entry : Content) (rows cols : ℕ) (reach : Reach) (changes : List Sets) → IsSeen entry rows cols reach changes 42 0 → OfAllSent entry rows cols (λ t. AreSeen t reach changes)
+pub all_seen : (entry : Content) (rows cols : ℕ) (reach : Reach) (changes : List Sets) → IsSeen entry rows cols reach changes capabilities 0 → OfAllSent entry rows cols (λ t. AreSeen t reach changes)
 all_seen entry rows cols reach changes s t h =
     record { tokens = s.tokens; reach_is = s.reach_is; occurs = s.occurs t h; told = s.told t h; lines = λ row bytes there. line_seen entry rows cols reach changes s t h row bytes there }
 

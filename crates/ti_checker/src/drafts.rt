@@ -13,7 +13,7 @@ ghost use Rattle.ti_lines.specs.Heads.{acsc_text, end_text, size_text};
 ghost use Rattle.ti_lines.specs.RowLines.{line_text};
 ghost use Rattle.ti_lines.specs.Texts.{acsc_lines, ended};
 ghost use Rattle.ti_rows.specs.Lists.{Follows, IsFirst, IsInRange};
-ghost use Rattle.ti_rows.specs.Names.{order};
+ghost use Rattle.ti_rows.specs.Names.{order, capabilities};
 ghost use Rattle.ti_conforms.specs.Conforms.{IsFit};
 ghost use Rattle.ti_conforms.specs.Charsets.{joined, reach_of};
 ghost use Rattle.ti_conforms.specs.Entries as entries;
@@ -28,7 +28,7 @@ use std::alloc::{AllocError, Global};
 use ti_caps::Entry;
 use ti_conforms::{NO_LOOKS, acsc};
 use ti_lines::{push_hex, push_row_line};
-use ti_rows::{Looks, Row};
+use ti_rows::{CAPABILITIES, Looks, Row};
 use vt_effects::Effect;
 use vt_term::Size;
 
@@ -222,7 +222,7 @@ fn push_at(
     size: Size,
     draft: &mut Draft,
 ) -> Result<(), No>
-    requires place { place < 42 }
+    requires place { place < capabilities }
     requires drafted { told.IsDrafted entry.now size.rows size.cols (λ row. order row < place) draft.old.text.items }
     requires seen { IsSeen entry.now size.rows size.cols draft.old.seen.reach draft.old.seen.changes.items place 0 }
     ensures drafted { OnOk result (told.IsDrafted entry.now size.rows size.cols (λ row. order row < place + 1)
@@ -241,13 +241,13 @@ fn push_at(
 fn push_caps(alloc: Global, entry: &Entry, size: Size, draft: &mut Draft) -> Result<(), No>
     requires drafted { told.IsDrafted entry.now size.rows size.cols (λ row. order row < 0) draft.old.text.items }
     requires seen { IsSeen entry.now size.rows size.cols draft.old.seen.reach draft.old.seen.changes.items 0 0 }
-    ensures drafted { OnOk result (told.IsDrafted entry.now size.rows size.cols (λ row. order row < 42)
+    ensures drafted { OnOk result (told.IsDrafted entry.now size.rows size.cols (λ row. order row < capabilities)
         draft.new.text.items) }
     ensures seen { OnOk result (IsSeen entry.now size.rows size.cols draft.new.seen.reach draft.new.seen.changes.items
-        42 0) }
+        capabilities 0) }
     ensures refused { IfErr result (spec.IsOfRow entry.now size.rows size.cols) }
 {
-    for place in 0..42 {
+    for place in 0..CAPABILITIES {
         push_at(alloc, entry, place, size, draft)?;
     }
     Ok(())
@@ -281,7 +281,7 @@ pub(crate) fn draft_of(alloc: Global, entry: &Entry, size: Size) -> Result<Writt
     ensures written { IfOk result (λ _. told.EachWritten entry.now size.rows size.cols) }
     ensures text { IfOk result (λ written. IsFullText entry.now size.rows size.cols written.text.items) }
     ensures seen { IfOk result (λ written. IsSeen entry.now size.rows size.cols written.seen.reach
-        written.seen.changes.items 42 0) }
+        written.seen.changes.items capabilities 0) }
     ensures basic { IsBasic entry.now size.rows size.cols → IfErr result (λ refusal. refusal.cause ≡ Cause.NoMemory) }
     ensures refused { IfErr result (spec.IsNo entry.now size.rows size.cols) }
 {

@@ -11,7 +11,7 @@ use crate::judgements::tokens_of;
 use crate::sends::{checked_string, sent};
 use std::alloc::{AllocError, Global};
 use ti_caps::{Bytes, Cap, Entry};
-use ti_rows::Row;
+use ti_rows::{CAPABILITIES, Row};
 use vt_term::{Size, Token};
 
 /// A sequence that the terminal ignores, wholly or in one of its numbers.
@@ -116,7 +116,7 @@ pub fn notes(alloc: Global, entry: &Entry, size: Size) -> Result<Vec<CheckNote>,
     ensures first { IfErr result (λ refusal. spec.IsFirstUnsent entry.now refusal) }
 {
     let mut notes = Vec::new(alloc);
-    for place in 0..42 {
+    for place in 0..CAPABILITIES {
         push_notes_at(alloc, entry, place, &mut notes)?;
     }
     Ok(notes)

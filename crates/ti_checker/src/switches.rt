@@ -14,6 +14,7 @@ ghost use Rattle.ti_conforms.specs.Table as checked;
 ghost use Rattle.ti_rows.specs.Lists.{IsInRange};
 ghost use Rattle.ti_rows.specs.Starts.{IsFree};
 ghost use Rattle.ti_rows.specs.declared.rows.Row.TheVariants as rows;
+ghost use Rattle.ti_rows.specs.Names.{capabilities};
 
 use crate::causes::{Cause, No};
 use crate::judgements::tokens_of;
@@ -161,7 +162,7 @@ pub(crate) fn check_together(
 ) -> Result<(), No>
     requires fit { IsFit entry.now }
     requires written { EachWritten entry.now size.rows size.cols }
-    requires seen { spec.IsSeen entry.now size.rows size.cols seen.now.reach seen.now.changes.items 42 0 }
+    requires seen { spec.IsSeen entry.now size.rows size.cols seen.now.reach seen.now.changes.items capabilities 0 }
     ensures right { OnOk result (GoTogether entry.now size.rows size.cols) }
     ensures conforms { OnOk result (Conforms entry.now size.rows size.cols) }
     ensures refused { IfErr result (IsNo entry.now size.rows size.cols) }

@@ -9,7 +9,7 @@ ghost use Rattle.ti_conforms.specs.Entries as spec;
 use crate::agreement::{Disagreement, LinesByRow, all_agree};
 use std::alloc::Global;
 use ti_caps::{Cap, Entry, Kind, at};
-use ti_rows::{NO_ATTRIBUTES, Row};
+use ti_rows::{CAPABILITIES, NO_ATTRIBUTES, Row};
 use vt_term::{Color, Size};
 
 /// What a capability is checked beside.
@@ -117,7 +117,7 @@ pub fn entry_agrees<L: LinesByRow>(
     ensures agrees { OnOk result (spec.EntryAgrees size.rows size.cols entry.now (L.line_of lines.now)) }
     ensures fault { IfErr result (spec.IsNotAgreed size.rows size.cols entry.now (L.line_of lines.now)) }
 {
-    for order in 0..42 {
+    for order in 0..CAPABILITIES {
         if let Some(first) = Row::first(order) {
             cap_agrees(alloc, size, entry, lines, first)?;
         }

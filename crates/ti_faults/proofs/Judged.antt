@@ -7,7 +7,7 @@ use Rattle.std.specs.List.{list_all}
 use Rattle.ti_caps.specs.Entry.{Content}
 use Rattle.ti_rows.specs.declared.rows.Row.{Row}
 use Rattle.ti_rows.specs.Looks.{learned}
-use Rattle.ti_rows.specs.Names.{cap_of, order, string_in_order}
+use Rattle.ti_rows.specs.Names.{cap_of, order, string_in_order, capabilities}
 use Rattle.ti_rows.proofs.NameFacts.{orders_small}
 use Rattle.ti_conforms.specs.Conforms.{Conforms}
 use Rattle.ti_conforms.specs.Entries.{is_checked, string_of}
@@ -91,7 +91,7 @@ all_right entry rows cols row string faults p out checked there all (Faulty f) =
     let single : list_all p f.single ≡ true = own_all p f.whole f.single (or_one_all p (f.whole ++ f.single) f.refusal listed) in
     let of_row : (fault : No) → IsCapFault entry rows cols (order row) fault → p fault ≡ false =
     λ fault k. out fault (k.cap_is ∙ ap (λ (n : ℕ). 83 + string_in_order n) k.of_cap) in
-    standing entry rows cols row string (cap_stands entry rows cols 42 (order row) f.single p (orders_small row) of_row single f.of_single) checked there
+    standing entry rows cols row string (cap_stands entry rows cols capabilities (order row) f.single p (orders_small row) of_row single f.of_single) checked there
 
 -- ---- what is accepted is right
 

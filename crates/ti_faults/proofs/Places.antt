@@ -1,14 +1,14 @@
--- The row of a capability, by going over the 42 places.
+-- The row of a capability, by going over all places.
 use Rattle.std.proofs.Common.{◌≡◌, ◌≢◌, ◌⊎◌, inl, inr, ◌<◌, ◌≤◌, ◌+◌, ℕ, Option, Some, is_some, true, sym, ap, ◌∙◌, arith}
 use Rattle.std.proofs.Math.Nat.{eq-or-lt_of_le}
 use Rattle.ti_rows.specs.declared.rows.Row.{Row}
-use Rattle.ti_rows.specs.Names.{cap_of, order, first_in_order, string_in_order}
+use Rattle.ti_rows.specs.Names.{cap_of, order, first_in_order, string_in_order, capabilities}
 use Rattle.ti_rows.proofs.NameFacts.{firsts_in_order, orders_small}
 
-pub has_first : (place : ℕ) (found : Option Row) → place < 42 → found ≡ first_in_order place → is_some found ≡ true
+pub has_first : (place : ℕ) (found : Option Row) → place < capabilities → found ≡ first_in_order place → is_some found ≡ true
 has_first place found lt e = let f = firsts_in_order place lt in ap (λ (o : Option Row). is_some o) (e ∙ f.is_first)
 
-pub first_order : (place : ℕ) (first : Row) → place < 42 → Some first ≡ first_in_order place → order first ≡ place
+pub first_order : (place : ℕ) (first : Row) → place < capabilities → Some first ≡ first_in_order place → order first ≡ place
 first_order place first lt e =
     let f = firsts_in_order place lt in
     let is : Some first ≡ Some f.row = e ∙ f.is_first in
@@ -26,5 +26,5 @@ passed cap place first ordered differs before row less = by_place (eq-or-lt_of_l
     by_place (inl same) = λ is. differs (ap (λ (n : ℕ). 83 + string_in_order n) (ordered ∙ sym same) ∙ is)
     by_place (inr earlier) = before row earlier
 
-pub all_apart : (cap place : ℕ) → 42 ≤ place → Apart cap place → (row : Row) → cap_of row ≢ cap
-all_apart cap place all before row = let small : order row < 42 = orders_small row in before row (omega (arith, small, all))
+pub all_apart : (cap place : ℕ) → capabilities ≤ place → Apart cap place → (row : Row) → cap_of row ≢ cap
+all_apart cap place all before row = let small : order row < capabilities = orders_small row in before row (omega (arith, small, all))

@@ -8,6 +8,7 @@ use Rattle.ti_checker.specs.declared.causes.Cause.TheVariants.{NoMemory}
 use Rattle.ti_checker.specs.declared.causes.No.{No}
 use Rattle.ti_faults.specs.Lacks.{Lacks}
 use Rattle.ti_faults.specs.RowFaults.{OfCaps}
+use Rattle.ti_rows.specs.Names.{capabilities}
 
 -- these, or this one where there are none
 abbrev pub or_one : List No → No → List No
@@ -20,9 +21,9 @@ pub record HasCertificate (entry : Content) (rows cols : ℕ) : Type 0 where
   pub text : List ℕ
   pub certificate : IsCertificateOf entry rows cols text
 
--- There is none, as the no of `check` says. What the entry as a whole is at fault for comes first, then for each of the
--- 42 capabilities its first faulty row; where there is neither, that no stands alone: it is about all strings together,
--- or about how long the certificate would be.
+-- There is none, as the no of `check` says. What the entry as a whole is at fault for comes first, then the first faulty
+-- row of each checked capability. Where there is neither, that no is the only one: it is about all strings together, or
+-- about how long the certificate would be.
 pub record AreFaults (entry : Content) (rows cols : ℕ) (nos : List No) : Type 0 where
   pub refusal : No
   pub refused : IsNo entry rows cols refusal
@@ -30,7 +31,7 @@ pub record AreFaults (entry : Content) (rows cols : ℕ) (nos : List No) : Type 
   pub whole : List No
   pub of_whole : Lacks entry whole
   pub single : List No
-  pub of_single : OfCaps entry rows cols 42 single
+  pub of_single : OfCaps entry rows cols capabilities single
   pub are : nos ≡ or_one (whole ++ single) refusal
 
 -- no fault exactly where there is a certificate

@@ -1,16 +1,16 @@
 //! The row of a capability.
 
 ghost use Rattle.std.specs.Prelude.{◌≡◌, ◌≢◌, ◌<◌, IfNone, IfSome};
-ghost use Rattle.ti_rows.specs.Names.{cap_of, order};
+ghost use Rattle.ti_rows.specs.Names.{cap_of, order, capabilities};
 ghost use Rattle.ti_rows.specs.declared.rows.Row as rows;
 
 use ti_caps::Cap;
-use ti_rows::Row;
+use ti_rows::{CAPABILITIES, Row};
 
 /// The first parameter list of the capability at this place in the order of names.
 #[tactic(auto, using(crate::proofs::Places::has_first, crate::proofs::Places::first_order))]
 fn first_row(place: usize) -> Row
-    requires { place < 42 }
+    requires { place < capabilities }
     ensures { order result ≡ place }
 {
     Row::first(place).unwrap()
@@ -21,7 +21,7 @@ pub fn row_of(cap: Cap) -> Option<Row>
     ensures found { IfSome result (λ row. cap_of row ≡ cap) }
     ensures none { IfNone result ((row : rows.Row) → cap_of row ≢ cap) }
 {
-    for place in 0..42 {
+    for place in 0..CAPABILITIES {
         let row = first_row(place);
         if row.cap() == cap {
             return Some(row);

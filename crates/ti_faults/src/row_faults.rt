@@ -3,14 +3,14 @@
 ghost use Rattle.std.specs.Prelude.{◌≡◌, ◌≢◌, ◌<◌, ◌++◌, ◌∷◌, [], IfNone, IfSome, OnOk};
 ghost use Rattle.ti_faults.specs.RowFaults as spec;
 ghost use Rattle.ti_rows.specs.Lists.{IsFirst};
-ghost use Rattle.ti_rows.specs.Names.{order};
+ghost use Rattle.ti_rows.specs.Names.{order, capabilities};
 
 use crate::claims::must_claim;
 use std::alloc::{AllocError, Global};
 use ti_caps::Entry;
 use ti_checker::{Cause, Judge, No, checked_string};
 use ti_conforms::NO_LOOKS;
-use ti_rows::Row;
+use ti_rows::{CAPABILITIES, Row};
 use vt_term::Size;
 
 /// The first row, from the capability's row `first` on, for which the string is at fault.
@@ -47,7 +47,7 @@ fn cap_fault(
     size: Size,
     judge: &mut Judge,
 ) -> Option<No>
-    requires { place < 42 }
+    requires { place < capabilities }
     ensures none { IfNone result (spec.CapStands entry.now size.rows size.cols place) }
     ensures some { IfSome result (spec.IsCapFault entry.now size.rows size.cols place) }
 {
@@ -70,7 +70,7 @@ fn push_cap_fault(
     judge: &mut Judge,
     nos: &mut Vec<No>,
 ) -> Result<(), AllocError>
-    requires { place < 42 }
+    requires { place < capabilities }
     ensures { OnOk result (spec.AddsCap entry.now size.rows size.cols place nos.old.items nos.new.items) }
 {
     match cap_fault(alloc, entry, place, size, judge) {
@@ -96,10 +96,10 @@ pub(crate) fn push_row_faults(
     size: Size,
     nos: &mut Vec<No>,
 ) -> Result<(), AllocError>
-    ensures { OnOk result (spec.AddsCaps entry.now size.rows size.cols 42 nos.old.items nos.new.items) }
+    ensures { OnOk result (spec.AddsCaps entry.now size.rows size.cols capabilities nos.old.items nos.new.items) }
 {
     let mut judge = Judge::new(alloc)?;
-    for place in 0..42 {
+    for place in 0..CAPABILITIES {
         push_cap_fault(alloc, entry, place, size, &mut judge, nos)?;
     }
     Ok(())

@@ -23,7 +23,7 @@ use Rattle.vt_effects.specs.declared.effects.Region.{Region}
 use Rattle.vt_effects.specs.declared.effects.Effect.{Effect}
 use Rattle.vt_term.specs.Color.{color_number}
 use Rattle.ti_rows.specs.declared.rows.Row.{Row}
-use Rattle.ti_rows.specs.Names.{order, name_in_order, name_of}
+use Rattle.ti_rows.specs.Names.{order, name_in_order, name_of, capabilities}
 use Rattle.ti_rows.proofs.NameFacts.{orders_small}
 use Rattle.ti_lines.specs.Hex.{hex_text}
 use Rattle.ti_lines.specs.EffectText.{row_name, col_name, look_name, ink_name, set_name, rows_name, nopend, all_name, tail_name, head_name, rest_name, next_name, up_name, down_name, show_name, hide_name, move_text, pending_text, erasure_text, scroll_text, switch_letter, mark_letter, ink_letter, is_dot, lettered, look_letters, look_text, ink_text, set_text, rows_text, visible_text, texts, words, nonempty, IsPlain, IsPlainMove, IsPlainErasure, IsPlainRegion}
@@ -167,9 +167,9 @@ hex_high (b ∷ bytes) h = encoded_each (λ b. nat_le 43 b) refl (b ∷ bytes) h
 pub hex_lacks : (c : ℕ) (bytes : List ℕ) → c < 43 → IsBytes bytes → lacks c (hex_text bytes) ≡ true
 hex_lacks c bytes lt h = high_lacks c (hex_text bytes) lt (hex_high bytes h)
 
-each_name_high : agree_below (λ n. is_high (name_in_order n)) (λ _. true) 42 ≡ true
+each_name_high : agree_below (λ n. is_high (name_in_order n)) (λ _. true) capabilities ≡ true
 unfolding name_in_order
 each_name_high = refl
 
 pub name_lacks : (c : ℕ) (row : Row) → c < 43 → lacks c (name_of row) ≡ true
-name_lacks c row lt = high_lacks c (name_of row) lt (agree_below_at (λ n. is_high (name_in_order n)) (λ _. true) 42 (order row) each_name_high (orders_small row))
+name_lacks c row lt = high_lacks c (name_of row) lt (agree_below_at (λ n. is_high (name_in_order n)) (λ _. true) capabilities (order row) each_name_high (orders_small row))

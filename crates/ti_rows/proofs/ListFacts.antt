@@ -11,7 +11,7 @@ use Rattle.std.proofs.Math.Nat.{add-mul, mul-add, mul-le-mul_right, mul-div_canc
 use Rattle.vt_term.specs.Size.{IsSize}
 use Rattle.vt_term.specs.Color.{Color, color, color_number, Black, Red, Green, Yellow, Blue, Magenta, Cyan, White}
 use Rattle.ti_rows.specs.Bits.{bit, number_of}
-use Rattle.ti_rows.specs.Names.{order, firsts, first_in_order, no_attributes, HasFirst}
+use Rattle.ti_rows.specs.Names.{order, firsts, first_in_order, no_attributes, HasFirst, capabilities}
 use Rattle.ti_rows.specs.Params.{params, only_number, two_numbers, only_color, nine_bits}
 use Rattle.ti_rows.specs.Rows.{Attributes, Row, Clear, Cup, Home, Cr, Hpa, Vpa, Cub1, Cuf1, Cuu1, Cud1, Cub, Cuf, Cuu, Cud, El, El1, Ed, Ech, Sgr, Sgr0, Setaf, Setab, Op, Smul, Rev, Blink, Dim, Bold, Invis, Smso, Enacs, Smacs, Rmacs, Csr, Ind, Ri, Civis, Cnorm, Cvvis, Smcup, Rmcup, Bel}
 use Rattle.ti_rows.specs.Lists.{IsInRange, attributes_of, above, next, rank, count, IsFirst, FirstsInRange, Follows, NextFollows, LastIsLast, RanksBelow, OneOfRank, HasRank, EachReached}
@@ -434,7 +434,7 @@ first_of rows cols Smcup z h = record { range = tt; rank_zero = refl }
 first_of rows cols Rmcup z h = record { range = tt; rank_zero = refl }
 first_of rows cols Bel z h = record { range = tt; rank_zero = refl }
 
-below_42 : (n : ℕ) (row : Row) → first_in_order n ≡ Some row → n < 42
+below_42 : (n : ℕ) (row : Row) → first_in_order n ≡ Some row → n < capabilities
 unfolding first_in_order
 below_42 n row h = slice_get_within firsts n row h
 

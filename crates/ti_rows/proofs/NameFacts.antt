@@ -12,33 +12,33 @@ use Rattle.std.proofs.lemmas.Option.{same_Some, none-some}
 use Rattle.ti_caps.specs.Table.{name_at, row_at, place_from}
 use Rattle.ti_caps.specs.declared.types.Kind.TheVariants.{String}
 use Rattle.ti_rows.specs.Rows.{Row, Clear, Cup, Home, Cr, Hpa, Vpa, Cub1, Cuf1, Cuu1, Cud1, Cub, Cuf, Cuu, Cud, El, El1, Ed, Ech, Sgr, Sgr0, Setaf, Setab, Op, Smul, Rev, Blink, Dim, Bold, Invis, Smso, Enacs, Smacs, Rmacs, Csr, Ind, Ri, Civis, Cnorm, Cvvis, Smcup, Rmcup, Bel}
-use Rattle.ti_rows.specs.Names.{order, name_in_order, string_in_order, first_in_order, name_of, NamesRise, Named, HasFirst, FirstsInOrder, OrdersSmall}
+use Rattle.ti_rows.specs.Names.{order, name_in_order, string_in_order, first_in_order, name_of, NamesRise, Named, HasFirst, FirstsInOrder, OrdersSmall, capabilities}
 
--- the test passes at each of the 42 places
+-- the test passes at each of the places
 pub each_at : (test : ℕ → Bool) (n k : ℕ) → agree_below test (λ _. true) n ≡ true → k < n → test k ≡ true
 each_at test n k all less = agree_below_at test (λ _. true) n k all less
 
 unfoldable is_small : ℕ → Bool
 is_small n = nat_lt (string_in_order n) 414
 
-each_is_small : agree_below is_small (λ _. true) 42 ≡ true
+each_is_small : agree_below is_small (λ _. true) capabilities ≡ true
 unfolding is_small string_in_order
 each_is_small = refl
 
-pub strings_small : (n : ℕ) → n < 42 → string_in_order n < 414
+pub strings_small : (n : ℕ) → n < capabilities → string_in_order n < 414
 unfolding is_small
-strings_small n less = ltb-true _ _ (each_at is_small 42 n each_is_small less)
+strings_small n less = ltb-true _ _ (each_at is_small capabilities n each_is_small less)
 
 unfoldable is_named : ℕ → Bool
 is_named n = bytes_eq (name_at (83 + string_in_order n)) (name_in_order n)
 
-each_is_named : agree_below is_named (λ _. true) 42 ≡ true
+each_is_named : agree_below is_named (λ _. true) capabilities ≡ true
 unfolding is_named string_in_order name_in_order name_at row_at
 each_is_named = refl
 
 pub named : Named
 unfolding is_named
-named n less = (bytes_eq-Decides (name_at (83 + string_in_order n)) (name_in_order n)).0 (each_at is_named 42 n each_is_named less)
+named n less = (bytes_eq-Decides (name_at (83 + string_in_order n)) (name_in_order n)).0 (each_at is_named capabilities n each_is_named less)
 
 less_from : (o : Ordering) → is_lt o ≡ true → o ≡ Less
 less_from Less e = refl
@@ -52,13 +52,13 @@ is_above high low = is_lt (slice_cmp nat_cmp (name_in_order low) (name_in_order 
 unfoldable is_above_all : ℕ → Bool
 is_above_all high = agree_below (is_above high) (λ _. true) high
 
-each_is_above_all : agree_below is_above_all (λ _. true) 42 ≡ true
+each_is_above_all : agree_below is_above_all (λ _. true) capabilities ≡ true
 unfolding is_above_all is_above name_in_order
 each_is_above_all = refl
 
-above_all : (high : ℕ) → high < 42 → agree_below (is_above high) (λ _. true) high ≡ true
+above_all : (high : ℕ) → high < capabilities → agree_below (is_above high) (λ _. true) high ≡ true
 unfolding is_above_all
-above_all high less = each_at is_above_all 42 high each_is_above_all less
+above_all high less = each_at is_above_all capabilities high each_is_above_all less
 
 pub names_rise : NamesRise
 unfolding is_above
@@ -72,7 +72,7 @@ is_ordered_row n (Some row) = order row == n
 unfoldable is_ordered : ℕ → Bool
 is_ordered n = is_ordered_row n (first_in_order n)
 
-each_is_ordered : agree_below is_ordered (λ _. true) 42 ≡ true
+each_is_ordered : agree_below is_ordered (λ _. true) capabilities ≡ true
 unfolding is_ordered first_in_order
 each_is_ordered = refl
 
@@ -82,7 +82,7 @@ ordered_row n (Some row) e h = record { row = row; is_first = e; ordered = eqb-t
 
 pub firsts_in_order : FirstsInOrder
 unfolding is_ordered
-firsts_in_order n less = ordered_row n (first_in_order n) refl (each_at is_ordered 42 n each_is_ordered less)
+firsts_in_order n less = ordered_row n (first_in_order n) refl (each_at is_ordered capabilities n each_is_ordered less)
 
 pub orders_small : OrdersSmall
 orders_small Clear = omega arith
@@ -134,18 +134,18 @@ unfolding place_from
 placed position place lt h = same_Some place (83 + position) (h ∙ ap (λ (b : Bool). if b then Some (83 + position) else None) (lt-ltb position 414 lt))
 
 -- the first row of a place has its name
-pub first_named : (n : ℕ) (o : Option Row) (text : List ℕ) → n < 42 → o ≡ first_in_order n → name_in_order n ≡ text → IfSome o (λ row. name_of row ≡ text)
+pub first_named : (n : ℕ) (o : Option Row) (text : List ℕ) → n < capabilities → o ≡ first_in_order n → name_in_order n ≡ text → IfSome o (λ row. name_of row ≡ text)
 first_named n None text less e h = tt
 first_named n (Some row) text less e h =
     let f : HasFirst n = firsts_in_order n less in
     ap name_in_order (ap order (same_Some row f.row (e ∙ f.is_first)) ∙ f.ordered) ∙ h
 
-pub first_again : (n : ℕ) (o : Option Row) → n < 42 → o ≡ first_in_order n → IfSome o (λ row. first_in_order (order row) ≡ Some row)
+pub first_again : (n : ℕ) (o : Option Row) → n < capabilities → o ≡ first_in_order n → IfSome o (λ row. first_in_order (order row) ≡ Some row)
 first_again n None less e = tt
 first_again n (Some row) less e =
     let f : HasFirst n = firsts_in_order n less in
     ap first_in_order (ap order (same_Some row f.row (e ∙ f.is_first)) ∙ f.ordered) ∙ sym e
 
-pub first_found : (G : Type 0) (n : ℕ) (o : Option Row) → n < 42 → o ≡ first_in_order n → IfNone o G
+pub first_found : (G : Type 0) (n : ℕ) (o : Option Row) → n < capabilities → o ≡ first_in_order n → IfNone o G
 first_found G n None less e = absurd (none-some (firsts_in_order n less).row (e ∙ (firsts_in_order n less).is_first))
 first_found G n (Some row) less e = tt

@@ -8,6 +8,10 @@ use Rattle.vt_term.specs.Color.{Black}
 use Rattle.ti_caps.specs.Table.{name_at}
 use Rattle.ti_rows.specs.Rows.{Attributes, Row, Clear, Cup, Home, Cr, Hpa, Vpa, Cub1, Cuf1, Cuu1, Cud1, Cub, Cuf, Cuu, Cud, El, El1, Ed, Ech, Sgr, Sgr0, Setaf, Setab, Op, Smul, Rev, Blink, Dim, Bold, Invis, Smso, Enacs, Smacs, Rmacs, Csr, Ind, Ri, Civis, Cnorm, Cvvis, Smcup, Rmcup, Bel}
 
+-- how many there are
+abbrev pub capabilities : ℕ
+capabilities = 42
+
 -- where a row's capability stands among them
 abbrev pub order : Row → ℕ
 order Bel = 0
@@ -107,20 +111,20 @@ cap_of row = 83 + string_in_order (order row)
 
 -- the names rise
 abbrev pub NamesRise : Type 0
-NamesRise = (low high : ℕ) → low < high → high < 42 → slice_cmp nat_cmp (name_in_order low) (name_in_order high) ≡ Less
+NamesRise = (low high : ℕ) → low < high → high < capabilities → slice_cmp nat_cmp (name_in_order low) (name_in_order high) ≡ Less
 
 -- each is the name of the capability at its position
 abbrev pub Named : Type 0
-Named = (n : ℕ) → n < 42 → name_at (83 + string_in_order n) ≡ name_in_order n
+Named = (n : ℕ) → n < capabilities → name_at (83 + string_in_order n) ≡ name_in_order n
 
--- each of the 42 has a first row, in that order, and each row's capability is one of them
+-- each of them has a first row, in that order, and each row's capability is one of them
 pub record HasFirst (n : ℕ) : Type 0 where
   pub row : Row
   pub is_first : first_in_order n ≡ Some row
   pub ordered : order row ≡ n
 
 abbrev pub FirstsInOrder : Type 0
-FirstsInOrder = (n : ℕ) → n < 42 → HasFirst n
+FirstsInOrder = (n : ℕ) → n < capabilities → HasFirst n
 
 abbrev pub OrdersSmall : Type 0
-OrdersSmall = (row : Row) → order row < 42
+OrdersSmall = (row : Row) → order row < capabilities

@@ -14,5 +14,6 @@ mod starts;
 mod wants;
 
 pub use judgements::does_as_wanted;
+pub use names::CAPABILITIES;
 pub use params::Params;
 pub use rows::{Attributes, Looks, Marks, NO_ATTRIBUTES, NO_MARKS, Row};

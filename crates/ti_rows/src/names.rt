@@ -7,14 +7,17 @@ use crate::rows::{NO_ATTRIBUTES, Row};
 use ti_caps::{Cap, Kind, at, name};
 use vt_term::Color;
 
+/// How many capabilities are checked.
+pub const CAPABILITIES: usize = 42;
+
 /// The positions of the checked capabilities among the strings of term(5), in the byte order of their names.
-const STRINGS: [u16; 42] = [
+const STRINGS: [u16; CAPABILITIES] = [
     1, 26, 27, 13, 5, 16, 2, 3, 111, 14, 107, 11, 112, 17, 10, 114, 19, 20, 30, 37, 7, 6, 269, 155,
     12, 8, 129, 32, 297, 34, 130, 38, 40, 360, 359, 131, 39, 25, 28, 35, 36, 127,
 ];
 
 /// The first parameter list of each, in the same order.
-const FIRSTS: [Row; 42] = [
+const FIRSTS: [Row; CAPABILITIES] = [
     Row::Bel,
     Row::Blink,
     Row::Bold,
@@ -60,8 +63,8 @@ const FIRSTS: [Row; 42] = [
 ];
 
 impl Row {
-    /// The first parameter list of the capability at this place among the 42 checked ones, which
-    /// are in the byte order of their names.
+    /// The first parameter list of the capability at the place `order` among the checked ones, which are in
+    /// the byte order of their names. There is one exactly below [`CAPABILITIES`].
     pub fn first(order: usize) -> Option<Row>
         ensures { result ≡ spec.first_in_order order }
     {
@@ -78,7 +81,7 @@ impl Row {
         ensures first { IfSome result (λ row. spec.first_in_order (spec.order row) ≡ Some row) }
         ensures none { IfNone result ((row : rows.Row) → spec.name_of row ≢ text.now) }
     {
-        for order in 0..42 {
+        for order in 0..CAPABILITIES {
             if name_in_order(order) == text {
                 return Row::first(order);
             }
@@ -86,10 +89,10 @@ impl Row {
         None
     }
 
-    /// The place of its capability among the 42 checked ones.
+    /// The place of its capability among the checked ones, in the byte order of their names.
     pub fn order(self) -> usize
         ensures value { result ≡ spec.order self }
-        ensures small { result < 42 }
+        ensures small { result < spec.capabilities }
     {
         match self {
             Row::Bel => 0,
@@ -166,7 +169,7 @@ fn order_from_dim(row: Row) -> usize
 /// The name of the capability at a place.
 #[tactic(auto, using(crate::proofs::NameFacts::named))]
 fn name_in_order(order: usize) -> &'static [u8]
-    requires { order < 42 }
+    requires { order < spec.capabilities }
     ensures { result.now ≡ spec.name_in_order order }
 {
     name(cap_in_order(order))
@@ -175,7 +178,7 @@ fn name_in_order(order: usize) -> &'static [u8]
 /// The capability at a place.
 #[tactic(auto, using(crate::proofs::NameFacts::placed))]
 fn cap_in_order(order: usize) -> Cap
-    requires { order < 42 }
+    requires { order < spec.capabilities }
     ensures { result ≡ 83 + spec.string_in_order order }
 {
     at(Kind::String, string_in_order(order)).unwrap()
@@ -184,7 +187,7 @@ fn cap_in_order(order: usize) -> Cap
 /// Its position among the strings of term(5).
 #[tactic(auto, unfolding(crate::specs::Names::string_in_order))]
 fn string_in_order(order: usize) -> usize
-    requires { order < 42 }
+    requires { order < spec.capabilities }
     ensures value { result ≡ spec.string_in_order order }
     ensures small { result < 414 }
 {
