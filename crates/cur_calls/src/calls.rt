@@ -107,8 +107,8 @@ pub enum Call<'a> {
         source: usize,
         target: usize,
     },
-    /// `copywin`: whether spaces are skipped; from a place of the source on, to the target's rows `row` to `last_row` and
-    /// columns `col` to `last_col`.
+    /// `copywin`: whether spaces are skipped; from a place of the source on, to the target's rows `row` to `last_row`
+    /// and columns `col` to `last_col`.
     Copywin {
         skip: bool,
         source: usize,

@@ -53,7 +53,13 @@ HoldsOf contents has_failed output held failures a b x =
 pub holds_lawful : {O C : Type 0} (contents : O → Option (List ℕ)) (has_failed : O → Bool) (output : C → MutBor O)
     (held : C → List ℕ) (failures : C → ℕ) → IsWire (HoldsOf contents has_failed output held failures) failures
 holds_lawful contents has_failed output held failures = record {
-  nothing = λ w. record { risen = le_refl (failures w); grows = λ none. appends_nothing _; told = λ t. t; stays = λ some. refl; same = refl };
+  nothing = λ w. record {
+    risen = le_refl (failures w);
+    grows = λ none. appends_nothing _;
+    told = λ t. t;
+    stays = λ some. refl;
+    same = refl;
+  };
   joins = λ a b c x y p q. holds_joins contents has_failed (output a) (output b) (output c) (held a) (held b) (held c)
       (failures a) (failures b) (failures c) x y p q;
   counts = λ a b x p. p.risen;

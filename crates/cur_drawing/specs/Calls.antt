@@ -1,6 +1,7 @@
 -- What a call does to one window and the grid under it (X/Open Curses Issue 7, the reference pages of the calls
 -- named). A step is the canvas after it and the answer; where it is a refusal, what was done before it stays.
-use Rattle.std.specs.Prelude.{◌≡◌, ℕ, ◌+◌, ◌-◌, ◌%◌, ◌==◌, ◌&&◌, ◌||◌, zero, suc, min, nat_lt, List, [], ◌∷◌, true, Result, Ok, Err, if◌then◌else◌, bit_xor, ℤ, pos, negsuc}
+use Rattle.std.specs.Prelude.{◌≡◌, ℕ, ◌+◌, ◌-◌, ◌%◌, ◌==◌, ◌&&◌, ◌||◌, zero, suc, min, nat_lt, List, [], ◌∷◌, true}
+use Rattle.std.specs.Prelude.{Result, Ok, Err, if◌then◌else◌, bit_xor, ℤ, pos, negsuc}
 use Rattle.grids.specs.declared.areas.Place.{Place}
 use Rattle.cur_drawing.specs.declared.puts.Put.{Put}
 use Rattle.cur_drawing.specs.declared.puts.Border.{Border}
@@ -9,7 +10,8 @@ use Rattle.cur_drawing.specs.declared.refusals.Refusal.TheVariants.{NoScroll}
 use Rattle.cur_drawing.specs.declared.windows.Window.{Window}
 use Rattle.cur_drawing.specs.Cells.{Content}
 use Rattle.cur_drawing.specs.Grids.{Grid, Fits, filled, shifted, recolored, shape_of}
-use Rattle.cur_drawing.specs.Windows.{IsWindow, WindowStep, lines_of, cells_of, column_of, content, checked, is_printed, is_pair, count_to, as_is, IsPut}
+use Rattle.cur_drawing.specs.Windows.{IsWindow, WindowStep, lines_of, cells_of, column_of, content, checked, is_printed}
+use Rattle.cur_drawing.specs.Windows.{is_pair, count_to, as_is, IsPut}
 
 -- a window and the grid under it
 pub record Canvas : Type 0 where

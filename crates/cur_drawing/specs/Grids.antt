@@ -4,7 +4,9 @@ use Rattle.grids.specs.declared.areas.Area.{Area}
 use Rattle.grids.specs.declared.areas.Place.{Place}
 use Rattle.grids.specs.Grids as base
 use Rattle.cur_drawing.specs.Cells.{Content, space, restyled, unless_space}
-pub use Rattle.grids.specs.Grids.{line_at, line_drawn, drawn_from, drawn, is_in, drawn_in, filled, taken, copied, redrawn, shifted, combined, merged, one, row_of, moved_to, part_written, Fits, shape_of}
+pub use Rattle.grids.specs.Grids.{line_at, line_drawn, drawn_from, drawn, is_in, drawn_in, filled, taken, copied}
+pub use Rattle.grids.specs.Grids.{redrawn, shifted, combined, merged, one, row_of, moved_to, part_written, Fits}
+pub use Rattle.grids.specs.Grids.{shape_of}
 
 abbrev pub Grid : Type 0
 Grid = List (List Content)

@@ -1,7 +1,10 @@
 -- The order of refusals: where several hold, the one of the lowest rank is reported.
 use Rattle.std.specs.Prelude.{◌≡◌, ℕ, ◌+◌, ◌&&◌, nat_le, List, [], ◌∷◌, Bool, true, Result, Ok, Err, if◌then◌else◌}
 use Rattle.cur_drawing.specs.declared.refusals.Refusal.{Refusal}
-use Rattle.cur_drawing.specs.declared.refusals.Refusal.TheVariants.{NoWindow, OutOfWindow, OutOfScreen, HasChildren, IsSub, PadKind, NoScroll, BadRegion, NumberUsed, BadCell, Full, NoMemory, IsScreen, NoCap, IsLost, BadPair}
+use Rattle.cur_drawing.specs.declared.refusals.Refusal.TheVariants.{NoWindow, OutOfWindow, OutOfScreen, HasChildren}
+use Rattle.cur_drawing.specs.declared.refusals.Refusal.TheVariants.{IsSub, PadKind, NoScroll, BadRegion, NumberUsed}
+use Rattle.cur_drawing.specs.declared.refusals.Refusal.TheVariants.{BadCell, Full, NoMemory, IsScreen, NoCap, IsLost}
+use Rattle.cur_drawing.specs.declared.refusals.Refusal.TheVariants.{BadPair}
 
 -- numbers first, then the kind of window, then what is to be written, then places and sizes, and what the terminal or
 -- the memory lacks last

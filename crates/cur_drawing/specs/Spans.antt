@@ -1,5 +1,6 @@
 -- Runs of lines or columns, and rectangles of them, from the numbers that a call is given.
-use Rattle.std.specs.Prelude.{ℕ, ◌+◌, ◌-◌, ◌<◌, ◌≤◌, ◌==◌, ◌||◌, nat_lt, nat_le, max, min, Bool, true, false, Option, Some, None, Result, Ok, Err, if◌then◌else◌, ℤ, pos, negsuc}
+use Rattle.std.specs.Prelude.{ℕ, ◌+◌, ◌-◌, ◌<◌, ◌≤◌, ◌==◌, ◌||◌, nat_lt, nat_le, max, min, Bool, true, false, Option}
+use Rattle.std.specs.Prelude.{Some, None, Result, Ok, Err, if◌then◌else◌, ℤ, pos, negsuc}
 use Rattle.grids.specs.declared.areas.Area.{Area}
 use Rattle.cur_drawing.specs.declared.spans.Span.{Span}
 use Rattle.cur_drawing.specs.declared.spans.CopySpan.{CopySpan}

@@ -1,5 +1,6 @@
 //! Attributes and cells (X/Open Curses Issue 7, "Attributes", "Characters").
-ghost use Rattle.std.specs.Prelude.{ℕ, length, slice_index_or, ⊤, ◌≡◌, ◌<◌, ◌≤◌, ◌-◌, ◌==◌, [], ◌∷◌, codes, bit_or, bit_and, false, true};
+ghost use Rattle.std.specs.Prelude.{ℕ, length, slice_index_or, ⊤, ◌≡◌, ◌<◌, ◌≤◌, ◌-◌, ◌==◌, [], ◌∷◌, codes, bit_or};
+ghost use Rattle.std.specs.Prelude.{bit_and, false, true};
 ghost use Rattle.cur_drawing.specs.Cells.{content_of, IsPrinted, IsCell, space, restyled};
 
 use bitflags::{Flag, Flags, bitflag_items};

@@ -3,7 +3,10 @@ ghost use Rattle.std.specs.Prelude.{◌≡◌, ◌<◌, ◌≤◌, ◌+◌, ◌-
 ghost use Rattle.cur_drawing.specs.Cells.{IsPrinted};
 ghost use Rattle.cur_drawing.specs.Grids.{shape_of};
 ghost use Rattle.cur_drawing.specs.Windows.{IsWindow};
-ghost use Rattle.cur_drawing.specs.Calls.{IsCanvas, IsKept, canvas, step, done, advanced, written, written_times, character, added, erased, cleared, insert_char, horizontal, vertical, IsBorder, sides, corners, bordered, scrolled, scroll_by, change_background, tab_width, region_height};
+ghost use Rattle.cur_drawing.specs.Calls.{IsCanvas, IsKept, canvas, step, done, advanced, written, written_times};
+ghost use Rattle.cur_drawing.specs.Calls.{character, added, erased, cleared, insert_char, horizontal, vertical};
+ghost use Rattle.cur_drawing.specs.Calls.{IsBorder, sides, corners, bordered, scrolled, scroll_by, change_background};
+ghost use Rattle.cur_drawing.specs.Calls.{tab_width, region_height};
 
 use crate::cells::Cell;
 use crate::puts::{Border, Put};

@@ -1,7 +1,8 @@
 //! The characters and borders that calls are given.
 ghost use Rattle.std.specs.Prelude.{◌&&◌, ◌≡◌, nat_lt, OnOk};
 ghost use Rattle.cur_drawing.specs.Windows.{is_printed, is_pair, checked};
-ghost use Rattle.cur_drawing.specs.Calls.{plain, of_cell, to_cell, drawn_line, default_border, box_of, IsBorder, checked_cell, checked_border};
+ghost use Rattle.cur_drawing.specs.Calls.{plain, of_cell, to_cell, drawn_line, default_border, box_of, IsBorder};
+ghost use Rattle.cur_drawing.specs.Calls.{checked_cell, checked_border};
 
 use crate::cells::{Attrs, Cell, PAIRS};
 use crate::refusals::Refusal;

@@ -2,7 +2,9 @@
 ghost use Rattle.std.specs.Prelude.{◌≡◌, ◌<◌, ◌≤◌, ◌+◌, ◌-◌, false};
 ghost use Rattle.cur_drawing.specs.Windows.{IsWindow, lines_of, cells_of, column_of, content};
 ghost use Rattle.cur_drawing.specs.Grids.{shifted, filled, shape_of};
-ghost use Rattle.cur_drawing.specs.Calls.{IsCanvas, place, canvas, done, lines_up, lines_down, inserted, deleted, line_cleared, bottom_cleared, insert_line, delete_line, delete_char, clear_line, clear_bottom};
+ghost use Rattle.cur_drawing.specs.Calls.{IsCanvas, place, canvas, done, lines_up, lines_down, inserted, deleted};
+ghost use Rattle.cur_drawing.specs.Calls.{line_cleared, bottom_cleared, insert_line, delete_line, delete_char};
+ghost use Rattle.cur_drawing.specs.Calls.{clear_line, clear_bottom};
 
 use crate::cells::Cell;
 use crate::windows::Window;

@@ -1,6 +1,7 @@
 //! Runs of lines or columns, and the rectangles that they make.
 ghost use Rattle.std.specs.Prelude.{ℕ, ◌≡◌, ◌<◌, ◌≤◌, ◌≤ℤ◌, ◌+◌, ◌⊎◌, IfOk, IfSome, pos};
-ghost use Rattle.cur_drawing.specs.Spans.{IsAreaWithin, IsWithin, start_within, span_within, area_within, rectangle, common, matched};
+ghost use Rattle.cur_drawing.specs.Spans.{IsAreaWithin, IsWithin, start_within, span_within, area_within, rectangle};
+ghost use Rattle.cur_drawing.specs.Spans.{common, matched};
 
 use crate::refusals::Refusal;
 use grids::Area;

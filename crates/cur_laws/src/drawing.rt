@@ -4,7 +4,9 @@ ghost use Rattle.cur_drawing.specs.Cells.{restyled};
 ghost use Rattle.cur_drawing.specs.Grids.{Grid};
 ghost use Rattle.cur_drawing.specs.Windows.{content, as_is};
 ghost use Rattle.cur_drawing.specs.Calls as calls;
-ghost use Rattle.cur_drawing.specs.Laws.{IsLocal, ChangesNothingIfRefused, ChangesNothingIfRefusedButNoScroll, cell_of, went_up, went_down, LeavesCells, cell_inserted, cell_deleted, line_inserted, line_deleted};
+ghost use Rattle.cur_drawing.specs.Laws.{IsLocal, ChangesNothingIfRefused, ChangesNothingIfRefusedButNoScroll, cell_of};
+ghost use Rattle.cur_drawing.specs.Laws.{went_up, went_down, LeavesCells, cell_inserted, cell_deleted, line_inserted};
+ghost use Rattle.cur_drawing.specs.Laws.{line_deleted};
 
 use cur_drawing::{Border, Put, Window};
 

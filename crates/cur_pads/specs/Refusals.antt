@@ -1,6 +1,8 @@
 -- What each call is refused for, in the order of ranks. No condition depends on another one.
-use Rattle.std.specs.Prelude.{ℕ, ◌&&◌, ◌||◌, not, is_some, List, [], ◌∷◌, Bool, false, Option, Some, None, ℤ, int_lt, pos}
-use Rattle.cur_drawing.specs.declared.refusals.Refusal.TheVariants.{NoWindow, OutOfWindow, OutOfScreen, PadKind, BadRegion, NumberUsed, Full}
+use Rattle.std.specs.Prelude.{ℕ, ◌&&◌, ◌||◌, not, is_some, List, [], ◌∷◌, Bool, false, Option, Some, None, ℤ, int_lt}
+use Rattle.std.specs.Prelude.{pos}
+use Rattle.cur_drawing.specs.declared.refusals.Refusal.TheVariants.{NoWindow, OutOfWindow, OutOfScreen, PadKind}
+use Rattle.cur_drawing.specs.declared.refusals.Refusal.TheVariants.{BadRegion, NumberUsed, Full}
 use Rattle.cur_drawing.specs.declared.spans.Span.{Span}
 use Rattle.cur_drawing.specs.Refusals.{Condition}
 use Rattle.cur_drawing.specs.Spans.{is_negative}

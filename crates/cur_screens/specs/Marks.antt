@@ -1,5 +1,7 @@
--- Marks at the places of a grid that may differ from another one: of each line, the columns from one on and before another.
-use Rattle.std.specs.Prelude.{ℕ, ◌+◌, ◌<◌, ◌≤◌, ◌≡◌, ◌≢◌, ◌⊎◌, Bool, false, List, length, replicate, slice_index_or, slice_set, nat_lt, min, max, if◌then◌else◌}
+-- Marks at the places of a grid that may differ from another one: of each line, the columns from one on and before
+-- another.
+use Rattle.std.specs.Prelude.{ℕ, ◌+◌, ◌<◌, ◌≤◌, ◌≡◌, ◌≢◌, ◌⊎◌, Bool, false, List, length, replicate, slice_index_or}
+use Rattle.std.specs.Prelude.{slice_set, nat_lt, min, max, if◌then◌else◌}
 use Rattle.grids.specs.declared.areas.Area.{Area}
 use Rattle.grids.specs.declared.areas.Place.{Place}
 use Rattle.cur_drawing.specs.Grids.{Grid, cell_at}
@@ -24,7 +26,10 @@ none_marked rows = record { all = false; lines = replicate rows nothing }
 
 -- the columns from one on and before another, those that were marked, and all between them
 abbrev pub widened : ℕ → ℕ → Marked → Marked
-widened from end m = if nat_lt m.from m.end then record { from = min m.from from; end = max m.end end } else record { from = from; end = end }
+widened from end m =
+    if nat_lt m.from m.end
+    then record { from = min m.from from; end = max m.end end }
+    else record { from = from; end = end }
 
 -- columns of the line i are marked as well
 abbrev pub marked_between : ℕ → ℕ → ℕ → Marking → Marking
@@ -56,8 +61,9 @@ IsCopiedBut m a from source g =
     (i j : ℕ) → i < a.rows → j < a.cols → IsUnmarked m (a.top + i) (a.left + j)
     → cell_at g (a.top + i) (a.left + j) ≡ cell_at source (from.row + i) (from.col + j)
 
--- What was the same as the one grid in all places that the one marking leaves is the same as the other grid in all places
--- that the other leaves. So what was marked stays marked, and each place in which the two grids differ is marked.
+-- What was the same as the one grid in all places that the one marking leaves is the same as the other grid in all
+-- places that the other leaves. So what was marked stays marked, and each place in which the two grids differ is
+-- marked.
 abbrev pub Keeps : Marking → Grid → Marking → Grid → Type 0
 Keeps m g n h = (v : Grid) → AreSame m v g → AreSame n v h
 
@@ -69,7 +75,9 @@ pub record IsUntouched (m : Marking) (g h : Grid) (i j : ℕ) : Type 0 where
 -- No more is marked afterwards than from the first to the last place of each line that was marked or in which the grids
 -- differ: a place before these, or after them, is unmarked.
 abbrev pub MarksOnly : Marking → Grid → Marking → Grid → Type 0
-MarksOnly m g n h = (i j : ℕ) → ((k : ℕ) → k ≤ j → IsUntouched m g h i k) ⊎ ((k : ℕ) → j ≤ k → IsUntouched m g h i k) → IsUnmarked n i j
+MarksOnly m g n h =
+    (i j : ℕ) → ((k : ℕ) → k ≤ j → IsUntouched m g h i k) ⊎ ((k : ℕ) → j ≤ k → IsUntouched m g h i k)
+    → IsUnmarked n i j
 
 -- ---- what other marks have is marked as well
 

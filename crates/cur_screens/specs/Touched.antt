@@ -1,5 +1,6 @@
 -- Where each grid may have changed since it was copied to the virtual screen.
-use Rattle.std.specs.Prelude.{ℕ, ◌≡◌, ◌≢◌, ◌+◌, ◌-◌, ◌<◌, ◌≤◌, ◌⊎◌, ◌++◌, List, [], drop, length, map, slice_index_or, slice_set, take, Bool, true, false, Result, IfErr, OnOk}
+use Rattle.std.specs.Prelude.{ℕ, ◌≡◌, ◌≢◌, ◌+◌, ◌-◌, ◌<◌, ◌≤◌, ◌⊎◌, ◌++◌, List, [], drop, length, map, slice_index_or}
+use Rattle.std.specs.Prelude.{slice_set, take, Bool, true, false, Result, IfErr, OnOk}
 use Rattle.grids.specs.declared.areas.Area.{Area}
 use Rattle.cur_drawing.specs.declared.puts.Put.{Put}
 use Rattle.cur_drawing.specs.declared.refusals.Refusal.{Refusal}
@@ -84,7 +85,8 @@ pub record TouchesGrid (m n : Marking) (w : Window) (o : Origin) (first : ℕ) :
 
 -- those of the window's grid, unless it is a pad's, and no others
 pub record IsTouched (t u : Markings) (s : Slot) (o : Origin) (first : ℕ) : Type 0 where
-  pub grid : o.pad ≡ false → s.root < length t → TouchesGrid (grid_marks t s.root) (grid_marks u s.root) s.window o first
+  pub grid : o.pad ≡ false → s.root < length t
+      → TouchesGrid (grid_marks t s.root) (grid_marks u s.root) s.window o first
   pub pad : o.pad ≡ true → u ≡ t
   pub none : length t ≤ s.root → u ≡ t
   pub others : (k : ℕ) → k ≢ s.root → grid_marks u k ≡ grid_marks t k
@@ -113,7 +115,8 @@ pub record IsUnmarkedOutside (m : Marking) (a : Area) (i j : ℕ) : Type 0 where
 -- rectangle: a place before these, or after them, is unmarked.
 abbrev pub MarksNoMore : Marking → Marking → Area → Type 0
 MarksNoMore m n a =
-    (i j : ℕ) → ((k : ℕ) → k ≤ j → IsUnmarkedOutside m a i k) ⊎ ((k : ℕ) → j ≤ k → IsUnmarkedOutside m a i k) → IsUnmarked n i j
+    (i j : ℕ) → ((k : ℕ) → k ≤ j → IsUnmarkedOutside m a i k) ⊎ ((k : ℕ) → j ≤ k → IsUnmarkedOutside m a i k)
+    → IsUnmarked n i j
 
 -- cells of the cursor's line, on the screen
 abbrev pub cells_shown : Origin → Window → ℕ → ℕ → Area
@@ -129,7 +132,8 @@ pub record MarksCells (m n : Marking) (o : Origin) (w : Window) (col count : ℕ
 
 -- (Serves the code alone.) the same of the window's grid, unless it is a pad's, and of no other
 pub record AreTouched (t u : Markings) (s : Slot) (o : Origin) (col count : ℕ) : Type 0 where
-  pub grid : o.pad ≡ false → s.root < length t → MarksCells (grid_marks t s.root) (grid_marks u s.root) o s.window col count
+  pub grid : o.pad ≡ false → s.root < length t
+      → MarksCells (grid_marks t s.root) (grid_marks u s.root) o s.window col count
   pub pad : o.pad ≡ true → u ≡ t
   pub none : length t ≤ s.root → u ≡ t
   pub others : (k : ℕ) → k ≢ s.root → grid_marks u k ≡ grid_marks t k

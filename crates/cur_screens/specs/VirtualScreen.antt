@@ -1,6 +1,7 @@
 -- The virtual screen: what the terminal is to show (X/Open Curses Issue 7, noutrefresh, doupdate; "Color
 -- Manipulation").
-use Rattle.std.specs.Prelude.{◌≡◌, ℕ, ◌<◌, ◌≤◌, ◌||◌, ◌==◌, List, length, slice_index_or, slice_set, replicate, Bool, false, Option, Some, None, IfSome, Result, Ok, Err, if◌then◌else◌, ℤ}
+use Rattle.std.specs.Prelude.{◌≡◌, ℕ, ◌<◌, ◌≤◌, ◌||◌, ◌==◌, List, length, slice_index_or, slice_set, replicate, Bool}
+use Rattle.std.specs.Prelude.{false, Option, Some, None, IfSome, Result, Ok, Err, if◌then◌else◌, ℤ}
 use Rattle.grids.specs.declared.areas.Area.{Area}
 use Rattle.grids.specs.declared.areas.Place.{Place}
 use Rattle.cur_drawing.specs.declared.refusals.Refusal.{Refusal}

@@ -1,6 +1,7 @@
 //! Marks at the places of a screen that may differ from another one.
 ghost use Rattle.std.specs.Prelude.{ℕ, ◌≡◌, ◌<◌, ◌≤◌, ◌+◌, ◌⊎◌, IfOk, length, replicate, true, []};
-ghost use Rattle.cur_screens.specs.Marks.{AreMarkedWithin, IsUnmarked, JoinsMarks, JoinsLine, JoinsLines, marked_between, none_marked, nothing, widened};
+ghost use Rattle.cur_screens.specs.Marks.{AreMarkedWithin, IsUnmarked, JoinsMarks, JoinsLine, JoinsLines};
+ghost use Rattle.cur_screens.specs.Marks.{marked_between, none_marked, nothing, widened};
 
 use cur_drawing::Span;
 use std::alloc::{AllocError, Global};

@@ -221,8 +221,8 @@ impl Virtual {
         self.owners.forget();
     }
 
-    /// Copies a rectangle of `grid` to the screen, as `copy` says. Only cells marked in `touched` can differ; those that
-    /// do are added to `marks`. A `scrolled` region replaces the one that is remembered. Takes no memory.
+    /// Copies a rectangle of `grid` to the screen, as `copy` says. Only cells marked in `touched` can differ; those
+    /// that do are added to `marks`. A `scrolled` region replaces the one that is remembered. Takes no memory.
     #[inline(always)]
     pub fn show(
         &mut self,

@@ -4,7 +4,9 @@ use Rattle.cur_drawing.specs.declared.puts.Put.{Put}
 use Rattle.cur_drawing.specs.declared.puts.Border.{Border}
 use Rattle.cur_drawing.specs.Calls.{drawn_line, horizontal_bar, vertical_bar, default_border}
 use Rattle.cur_calls.specs.declared.calls.Call.{Call}
-use Rattle.cur_calls.specs.declared.calls.Call.TheVariants.{Newwin, Newpad, Part, Dupwin, Plain, Number, Numbers, Flag, Attributes, Cell, Addstr, Line, DrawBorder, DrawBox, Lay, Copywin, Show, ShowPad, Screen, CursSet, InitPair}
+use Rattle.cur_calls.specs.declared.calls.Call.TheVariants.{Newwin, Newpad, Part, Dupwin, Plain, Number, Numbers, Flag}
+use Rattle.cur_calls.specs.declared.calls.Call.TheVariants.{Attributes, Cell, Addstr, Line, DrawBorder, DrawBox, Lay}
+use Rattle.cur_calls.specs.declared.calls.Call.TheVariants.{Copywin, Show, ShowPad, Screen, CursSet, InitPair}
 use Rattle.cur_calls.specs.declared.groups.PartCall.{PartCall}
 use Rattle.cur_calls.specs.declared.groups.PlainCall.{PlainCall}
 use Rattle.cur_calls.specs.declared.groups.NumberCall.{NumberCall}

@@ -11,10 +11,13 @@ use Rattle.cur_calls.specs.declared.groups.NumberCall.TheVariants.{Scroll, Color
 use Rattle.cur_calls.specs.declared.groups.NumbersCall.TheVariants.{Move, Mvwin, Setscrreg, Touchline}
 use Rattle.cur_calls.specs.declared.groups.PadCall.TheVariants.{Pnoutrefresh, Prefresh}
 use Rattle.cur_calls.specs.declared.groups.PartCall.TheVariants.{Subwin, Derwin, Subpad}
-use Rattle.cur_calls.specs.declared.groups.PlainCall.TheVariants.{Delch, Insertln, Deleteln, Clrtoeol, Clrtobot, Erase, Clear, Touchwin, Delwin}
+use Rattle.cur_calls.specs.declared.groups.PlainCall.TheVariants.{Delch, Insertln, Deleteln, Clrtoeol, Clrtobot, Erase}
+use Rattle.cur_calls.specs.declared.groups.PlainCall.TheVariants.{Clear, Touchwin, Delwin}
 use Rattle.cur_calls.specs.declared.groups.ScreenCall.TheVariants.{Doupdate, Endwin}
 use Rattle.cur_calls.specs.declared.groups.ShowCall.TheVariants.{Noutrefresh, Refresh}
-use Rattle.cur_scripts.specs.Arguments.{addstr, attributes, bare, beep, cell, copywin, curs_set, draw_border, draw_box, dupwin, flag, init_pair, lay, line, newpad, newwin, number, numbers, part, plain, show, show_pad}
+use Rattle.cur_scripts.specs.Arguments.{addstr, attributes, bare, beep, cell, copywin, curs_set, draw_border, draw_box}
+use Rattle.cur_scripts.specs.Arguments.{dupwin, flag, init_pair, lay, line, newpad, newwin, number, numbers, part}
+use Rattle.cur_scripts.specs.Arguments.{plain, show, show_pad}
 use Rattle.cur_scripts.specs.Cuts.{words_of, ◌>>=◌}
 use Rattle.cur_scripts.specs.Words.{first_word, front_word, words_after}
 

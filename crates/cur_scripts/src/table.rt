@@ -21,7 +21,8 @@ pub(crate) fn hand_on_named<'a, T: Taker<'a>>(
     text: &'a [u8],
     to: &mut T,
 ) -> Result<(), ScriptFaultKind>
-    ensures { HandsOn (T.calls to.old) (T.has_room to.old) (spec.call_under spec.table text.now) (T.calls to.new) result }
+    ensures { HandsOn (T.calls to.old) (T.has_room to.old) (spec.call_under spec.table text.now)
+        (T.calls to.new) result }
 {
     match text {
         [b'a', ..] => under_a(text, to),
@@ -46,7 +47,8 @@ pub(crate) fn hand_on_named<'a, T: Taker<'a>>(
 
 #[inline(never)]
 fn under_a<'a, T: Taker<'a>>(text: &'a [u8], to: &mut T) -> Result<(), ScriptFaultKind>
-    ensures { HandsOn (T.calls to.old) (T.has_room to.old) (spec.call_under spec.rows_a text.now) (T.calls to.new) result }
+    ensures { HandsOn (T.calls to.old) (T.has_room to.old) (spec.call_under spec.rows_a text.now)
+        (T.calls to.new) result }
 {
     if let Some(words) = Words::after(b"addch", text) {
         hand_on(cell(CellCall::Addch, words), to)
@@ -65,7 +67,8 @@ fn under_a<'a, T: Taker<'a>>(text: &'a [u8], to: &mut T) -> Result<(), ScriptFau
 
 #[inline(never)]
 fn under_b<'a, T: Taker<'a>>(text: &'a [u8], to: &mut T) -> Result<(), ScriptFaultKind>
-    ensures { HandsOn (T.calls to.old) (T.has_room to.old) (spec.call_under spec.rows_b text.now) (T.calls to.new) result }
+    ensures { HandsOn (T.calls to.old) (T.has_room to.old) (spec.call_under spec.rows_b text.now)
+        (T.calls to.new) result }
 {
     if let Some(words) = Words::after(b"beep", text) {
         hand_on(beep(words), to)
@@ -84,7 +87,8 @@ fn under_b<'a, T: Taker<'a>>(text: &'a [u8], to: &mut T) -> Result<(), ScriptFau
 
 #[inline(never)]
 fn under_c<'a, T: Taker<'a>>(text: &'a [u8], to: &mut T) -> Result<(), ScriptFaultKind>
-    ensures { HandsOn (T.calls to.old) (T.has_room to.old) (spec.call_under spec.rows_c text.now) (T.calls to.new) result }
+    ensures { HandsOn (T.calls to.old) (T.has_room to.old) (spec.call_under spec.rows_c text.now)
+        (T.calls to.new) result }
 {
     if let Some(words) = Words::after(b"clear", text) {
         hand_on(plain(PlainCall::Clear, words), to)
@@ -107,7 +111,8 @@ fn under_c<'a, T: Taker<'a>>(text: &'a [u8], to: &mut T) -> Result<(), ScriptFau
 
 #[inline(never)]
 fn under_d<'a, T: Taker<'a>>(text: &'a [u8], to: &mut T) -> Result<(), ScriptFaultKind>
-    ensures { HandsOn (T.calls to.old) (T.has_room to.old) (spec.call_under spec.rows_d text.now) (T.calls to.new) result }
+    ensures { HandsOn (T.calls to.old) (T.has_room to.old) (spec.call_under spec.rows_d text.now)
+        (T.calls to.new) result }
 {
     if let Some(words) = Words::after(b"delch", text) {
         hand_on(plain(PlainCall::Delch, words), to)
@@ -128,7 +133,8 @@ fn under_d<'a, T: Taker<'a>>(text: &'a [u8], to: &mut T) -> Result<(), ScriptFau
 
 #[inline(never)]
 fn under_e<'a, T: Taker<'a>>(text: &'a [u8], to: &mut T) -> Result<(), ScriptFaultKind>
-    ensures { HandsOn (T.calls to.old) (T.has_room to.old) (spec.call_under spec.rows_e text.now) (T.calls to.new) result }
+    ensures { HandsOn (T.calls to.old) (T.has_room to.old) (spec.call_under spec.rows_e text.now)
+        (T.calls to.new) result }
 {
     if let Some(words) = Words::after(b"endwin", text) {
         hand_on(bare(ScreenCall::Endwin, words), to)
@@ -141,7 +147,8 @@ fn under_e<'a, T: Taker<'a>>(text: &'a [u8], to: &mut T) -> Result<(), ScriptFau
 
 #[inline(never)]
 fn under_h<'a, T: Taker<'a>>(text: &'a [u8], to: &mut T) -> Result<(), ScriptFaultKind>
-    ensures { HandsOn (T.calls to.old) (T.has_room to.old) (spec.call_under spec.rows_h text.now) (T.calls to.new) result }
+    ensures { HandsOn (T.calls to.old) (T.has_room to.old) (spec.call_under spec.rows_h text.now)
+        (T.calls to.new) result }
 {
     if let Some(words) = Words::after(b"hline", text) {
         hand_on(line(LineCall::Hline, words), to)
@@ -152,7 +159,8 @@ fn under_h<'a, T: Taker<'a>>(text: &'a [u8], to: &mut T) -> Result<(), ScriptFau
 
 #[inline(never)]
 fn under_i<'a, T: Taker<'a>>(text: &'a [u8], to: &mut T) -> Result<(), ScriptFaultKind>
-    ensures { HandsOn (T.calls to.old) (T.has_room to.old) (spec.call_under spec.rows_i text.now) (T.calls to.new) result }
+    ensures { HandsOn (T.calls to.old) (T.has_room to.old) (spec.call_under spec.rows_i text.now)
+        (T.calls to.new) result }
 {
     if let Some(words) = Words::after(b"idlok", text) {
         hand_on(flag(FlagCall::Idlok, words), to)
@@ -169,7 +177,8 @@ fn under_i<'a, T: Taker<'a>>(text: &'a [u8], to: &mut T) -> Result<(), ScriptFau
 
 #[inline(never)]
 fn under_l<'a, T: Taker<'a>>(text: &'a [u8], to: &mut T) -> Result<(), ScriptFaultKind>
-    ensures { HandsOn (T.calls to.old) (T.has_room to.old) (spec.call_under spec.rows_l text.now) (T.calls to.new) result }
+    ensures { HandsOn (T.calls to.old) (T.has_room to.old) (spec.call_under spec.rows_l text.now)
+        (T.calls to.new) result }
 {
     if let Some(words) = Words::after(b"leaveok", text) {
         hand_on(flag(FlagCall::Leaveok, words), to)
@@ -180,7 +189,8 @@ fn under_l<'a, T: Taker<'a>>(text: &'a [u8], to: &mut T) -> Result<(), ScriptFau
 
 #[inline(never)]
 fn under_m<'a, T: Taker<'a>>(text: &'a [u8], to: &mut T) -> Result<(), ScriptFaultKind>
-    ensures { HandsOn (T.calls to.old) (T.has_room to.old) (spec.call_under spec.rows_m text.now) (T.calls to.new) result }
+    ensures { HandsOn (T.calls to.old) (T.has_room to.old) (spec.call_under spec.rows_m text.now)
+        (T.calls to.new) result }
 {
     if let Some(words) = Words::after(b"move", text) {
         hand_on(numbers(NumbersCall::Move, words), to)
@@ -193,7 +203,8 @@ fn under_m<'a, T: Taker<'a>>(text: &'a [u8], to: &mut T) -> Result<(), ScriptFau
 
 #[inline(never)]
 fn under_n<'a, T: Taker<'a>>(text: &'a [u8], to: &mut T) -> Result<(), ScriptFaultKind>
-    ensures { HandsOn (T.calls to.old) (T.has_room to.old) (spec.call_under spec.rows_n text.now) (T.calls to.new) result }
+    ensures { HandsOn (T.calls to.old) (T.has_room to.old) (spec.call_under spec.rows_n text.now)
+        (T.calls to.new) result }
 {
     if let Some(words) = Words::after(b"newpad", text) {
         hand_on(newpad(words), to)
@@ -208,7 +219,8 @@ fn under_n<'a, T: Taker<'a>>(text: &'a [u8], to: &mut T) -> Result<(), ScriptFau
 
 #[inline(never)]
 fn under_o<'a, T: Taker<'a>>(text: &'a [u8], to: &mut T) -> Result<(), ScriptFaultKind>
-    ensures { HandsOn (T.calls to.old) (T.has_room to.old) (spec.call_under spec.rows_o text.now) (T.calls to.new) result }
+    ensures { HandsOn (T.calls to.old) (T.has_room to.old) (spec.call_under spec.rows_o text.now)
+        (T.calls to.new) result }
 {
     if let Some(words) = Words::after(b"overlay", text) {
         hand_on(lay(LayCall::Overlay, words), to)
@@ -221,7 +233,8 @@ fn under_o<'a, T: Taker<'a>>(text: &'a [u8], to: &mut T) -> Result<(), ScriptFau
 
 #[inline(never)]
 fn under_p<'a, T: Taker<'a>>(text: &'a [u8], to: &mut T) -> Result<(), ScriptFaultKind>
-    ensures { HandsOn (T.calls to.old) (T.has_room to.old) (spec.call_under spec.rows_p text.now) (T.calls to.new) result }
+    ensures { HandsOn (T.calls to.old) (T.has_room to.old) (spec.call_under spec.rows_p text.now)
+        (T.calls to.new) result }
 {
     if let Some(words) = Words::after(b"pnoutrefresh", text) {
         hand_on(show_pad(PadCall::Pnoutrefresh, words), to)
@@ -234,7 +247,8 @@ fn under_p<'a, T: Taker<'a>>(text: &'a [u8], to: &mut T) -> Result<(), ScriptFau
 
 #[inline(never)]
 fn under_r<'a, T: Taker<'a>>(text: &'a [u8], to: &mut T) -> Result<(), ScriptFaultKind>
-    ensures { HandsOn (T.calls to.old) (T.has_room to.old) (spec.call_under spec.rows_r text.now) (T.calls to.new) result }
+    ensures { HandsOn (T.calls to.old) (T.has_room to.old) (spec.call_under spec.rows_r text.now)
+        (T.calls to.new) result }
 {
     if let Some(words) = Words::after(b"refresh", text) {
         hand_on(show(ShowCall::Refresh, words), to)
@@ -245,7 +259,8 @@ fn under_r<'a, T: Taker<'a>>(text: &'a [u8], to: &mut T) -> Result<(), ScriptFau
 
 #[inline(never)]
 fn under_s<'a, T: Taker<'a>>(text: &'a [u8], to: &mut T) -> Result<(), ScriptFaultKind>
-    ensures { HandsOn (T.calls to.old) (T.has_room to.old) (spec.call_under spec.rows_s text.now) (T.calls to.new) result }
+    ensures { HandsOn (T.calls to.old) (T.has_room to.old) (spec.call_under spec.rows_s text.now)
+        (T.calls to.new) result }
 {
     if let Some(words) = Words::after(b"scroll", text) {
         hand_on(number(NumberCall::Scroll, words), to)
@@ -264,7 +279,8 @@ fn under_s<'a, T: Taker<'a>>(text: &'a [u8], to: &mut T) -> Result<(), ScriptFau
 
 #[inline(never)]
 fn under_t<'a, T: Taker<'a>>(text: &'a [u8], to: &mut T) -> Result<(), ScriptFaultKind>
-    ensures { HandsOn (T.calls to.old) (T.has_room to.old) (spec.call_under spec.rows_t text.now) (T.calls to.new) result }
+    ensures { HandsOn (T.calls to.old) (T.has_room to.old) (spec.call_under spec.rows_t text.now)
+        (T.calls to.new) result }
 {
     if let Some(words) = Words::after(b"touchline", text) {
         hand_on(numbers(NumbersCall::Touchline, words), to)
@@ -277,7 +293,8 @@ fn under_t<'a, T: Taker<'a>>(text: &'a [u8], to: &mut T) -> Result<(), ScriptFau
 
 #[inline(never)]
 fn under_v<'a, T: Taker<'a>>(text: &'a [u8], to: &mut T) -> Result<(), ScriptFaultKind>
-    ensures { HandsOn (T.calls to.old) (T.has_room to.old) (spec.call_under spec.rows_v text.now) (T.calls to.new) result }
+    ensures { HandsOn (T.calls to.old) (T.has_room to.old) (spec.call_under spec.rows_v text.now)
+        (T.calls to.new) result }
 {
     if let Some(words) = Words::after(b"vline", text) {
         hand_on(line(LineCall::Vline, words), to)

@@ -220,7 +220,8 @@ impl<'a> Words<'a> {
 fn past_name<'a>(name: &[u8], line: &'a [u8]) -> Option<&'a [u8]>
     requires { spec.front_word name.now ≡ name.now }
     ensures none { IfNone result (bytes_eq (spec.front_word line.now) name.now ≡ false) }
-    ensures word { IfSome result (λ left. bytes_eq (spec.front_word left.now) [] ≡ bytes_eq (spec.front_word line.now) name.now) }
+    ensures word { IfSome result (λ left. bytes_eq (spec.front_word left.now) []
+        ≡ bytes_eq (spec.front_word line.now) name.now) }
     ensures rest { IfSome result (λ left. spec.past_front_word left.now ≡ spec.past_front_word line.now) }
 {
     if line.len() < name.len() {

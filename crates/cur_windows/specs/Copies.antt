@@ -1,6 +1,7 @@
 -- Copying from one window to another (X/Open Curses Issue 7, overlay, overwrite, copywin). What is read is what the
 -- source had before the call, also where both are parts of one grid.
-use Rattle.std.specs.Prelude.{ℕ, ◌+◌, ◌||◌, slice_set, Bool, Option, Some, None, Result, Ok, Err, if◌then◌else◌, ℤ, int_lt}
+use Rattle.std.specs.Prelude.{ℕ, ◌+◌, ◌||◌, slice_set, Bool, Option, Some, None, Result, Ok, Err, if◌then◌else◌, ℤ}
+use Rattle.std.specs.Prelude.{int_lt}
 use Rattle.grids.specs.declared.areas.Area.{Area}
 use Rattle.grids.specs.declared.areas.Place.{Place}
 use Rattle.cur_drawing.specs.declared.refusals.Refusal.{Refusal}

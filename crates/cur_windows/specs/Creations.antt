@@ -1,8 +1,10 @@
 -- Making, moving and deleting windows (X/Open Curses Issue 7, newwin, subwin, derwin, delwin, mvwin).
-use Rattle.std.specs.Prelude.{ℕ, ◌+◌, ◌<◌, ◌≤◌, ◌==◌, ◌&&◌, ◌||◌, nat_lt, not, List, [], ◌∷◌, length, slice_set, Bool, true, false, Option, Some, None, Result, Ok, Err, if◌then◌else◌, ℤ, pos, ◌-ℤ◌}
+use Rattle.std.specs.Prelude.{ℕ, ◌+◌, ◌<◌, ◌≤◌, ◌==◌, ◌&&◌, ◌||◌, nat_lt, not, List, [], ◌∷◌, length, slice_set, Bool}
+use Rattle.std.specs.Prelude.{true, false, Option, Some, None, Result, Ok, Err, if◌then◌else◌, ℤ, pos, ◌-ℤ◌}
 use Rattle.grids.specs.declared.areas.Area.{Area}
 use Rattle.cur_drawing.specs.declared.refusals.Refusal.{Refusal}
-use Rattle.cur_drawing.specs.declared.refusals.Refusal.TheVariants.{Full, NumberUsed, OutOfScreen, OutOfWindow, PadKind, IsScreen, HasChildren, IsSub}
+use Rattle.cur_drawing.specs.declared.refusals.Refusal.TheVariants.{Full, NumberUsed, OutOfScreen, OutOfWindow, PadKind}
+use Rattle.cur_drawing.specs.declared.refusals.Refusal.TheVariants.{IsScreen, HasChildren, IsSub}
 use Rattle.cur_drawing.specs.declared.windows.Window.{Window}
 use Rattle.cur_drawing.specs.Grids.{Grid, blank, line_at, copied}
 use Rattle.cur_drawing.specs.Windows.{fresh}
@@ -10,7 +12,8 @@ use Rattle.cur_drawing.specs.Calls.{place}
 use Rattle.cur_drawing.specs.Spans.{area_within, start_within}
 use Rattle.cur_screens.specs.declared.slots.Origin.{Origin}
 use Rattle.cur_screens.specs.declared.slots.Slot.{Slot}
-use Rattle.cur_windows.specs.Desks.{State, DeskStep, after, last_number, slot_of, grid_at, origin_at, window_at, on_screen}
+use Rattle.cur_windows.specs.Desks.{State, DeskStep, after, last_number, slot_of, grid_at, origin_at, window_at}
+use Rattle.cur_windows.specs.Desks.{on_screen}
 use Rattle.cur_screens.specs.Slots.{whole_area}
 
 abbrev pub is_some_slot : Option Slot → Bool

@@ -1,6 +1,7 @@
 -- A desk: root grids, and windows that are rectangles of them (X/Open Curses Issue 7, "Windows"). A subwindow has its
 -- parent's root, so that it shows and changes its parent's cells.
-use Rattle.std.specs.Prelude.{◌≡◌, ℕ, ◌+◌, ◌<◌, ◌≤◌, nat_lt, List, [], length, slice_index_or, slice_set, Bool, false, Option, Some, None, IsSome, Result, Ok, Err, if◌then◌else◌, replicate}
+use Rattle.std.specs.Prelude.{◌≡◌, ℕ, ◌+◌, ◌<◌, ◌≤◌, nat_lt, List, [], length, slice_index_or, slice_set, Bool, false}
+use Rattle.std.specs.Prelude.{Option, Some, None, IsSome, Result, Ok, Err, if◌then◌else◌, replicate}
 use Rattle.grids.specs.declared.areas.Area.{Area}
 use Rattle.cur_drawing.specs.declared.refusals.Refusal.{Refusal}
 use Rattle.cur_drawing.specs.declared.refusals.Refusal.TheVariants.{NoWindow, Full}

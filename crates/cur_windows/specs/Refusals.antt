@@ -1,8 +1,11 @@
 -- What each call is refused for, in the order of ranks. No condition depends on another one.
-use Rattle.std.specs.Prelude.{ℕ, ◌==◌, ◌&&◌, ◌||◌, nat_le, nat_lt, not, is_some, is_ok, List, [], ◌∷◌, Bool, false, Option, Some, None, ℤ, int_lt, pos, ◌-ℤ◌}
+use Rattle.std.specs.Prelude.{ℕ, ◌==◌, ◌&&◌, ◌||◌, nat_le, nat_lt, not, is_some, is_ok, List, [], ◌∷◌, Bool, false}
+use Rattle.std.specs.Prelude.{Option, Some, None, ℤ, int_lt, pos, ◌-ℤ◌}
 use Rattle.cur_drawing.specs.declared.puts.Put.{Put}
 use Rattle.cur_drawing.specs.declared.puts.Border.{Border}
-use Rattle.cur_drawing.specs.declared.refusals.Refusal.TheVariants.{NoWindow, OutOfWindow, OutOfScreen, HasChildren, IsSub, PadKind, NoScroll, BadRegion, NumberUsed, BadCell, Full, IsScreen, BadPair}
+use Rattle.cur_drawing.specs.declared.refusals.Refusal.TheVariants.{NoWindow, OutOfWindow, OutOfScreen, HasChildren}
+use Rattle.cur_drawing.specs.declared.refusals.Refusal.TheVariants.{IsSub, PadKind, NoScroll, BadRegion, NumberUsed}
+use Rattle.cur_drawing.specs.declared.refusals.Refusal.TheVariants.{BadCell, Full, IsScreen, BadPair}
 use Rattle.cur_drawing.specs.Calls.{canvas, character}
 use Rattle.cur_drawing.specs.Refusals.{Condition}
 use Rattle.cur_drawing.specs.Spans.{span_within, is_negative, start_within}

@@ -6,7 +6,8 @@ use Rattle.cur_screens.specs.Marks.{AreUnmarkedBeside, IsUnmarked, Marking, none
 use Rattle.cur_screens.specs.declared.slots.Slot.{Slot}
 use Rattle.cur_windows.specs.Desks.{State, grid_at, origin_at, slot_of}
 use Rattle.cur_windows.specs.Refreshes.{area_on_screen}
-use Rattle.cur_screens.specs.Touched.{IsShownBut, IsWrittenLine, Markings, MarksArea, MarksNoMore, cells_shown, grid_marks}
+use Rattle.cur_screens.specs.Touched.{IsShownBut, IsWrittenLine, Markings, MarksArea, MarksNoMore, cells_shown}
+use Rattle.cur_screens.specs.Touched.{grid_marks}
 
 -- a screen has the cells of each grid, but for what is marked for it; a pad's lies nowhere
 abbrev pub ShowsBut : Markings → State → Grid → Type 0
@@ -21,7 +22,8 @@ KeepsShown t d u e = (v : Grid) → ShowsBut t d v → ShowsBut u e v
 -- of a window's grid no more is marked afterwards than so many cells, from the cursor on
 abbrev pub MarksCellsAlone : Markings → Markings → State → Slot → ℕ → Type 0
 MarksCellsAlone t u d s count =
-    MarksNoMore (grid_marks t s.root) (grid_marks u s.root) (cells_shown (origin_at d s.root) s.window s.window.col count)
+    MarksNoMore (grid_marks t s.root) (grid_marks u s.root)
+    (cells_shown (origin_at d s.root) s.window s.window.col count)
 
 -- a window's rectangle is marked as well of its grid, unless that is a pad's, and nothing of any other grid
 pub record MarksSlot (t u : Markings) (d : State) (s : Slot) : Type 0 where
@@ -70,4 +72,5 @@ HasAll d s = (s.parent ≡ None) ⊎ IsScreenful d s
 pub record MarksCopied (t u : Markings) (o : Marking) (d : State) (s : Slot) : Type 0 where
   pub whole : s.root < length t → HasAll d s → grid_marks u s.root ≡ none_marked (length (grid_marks t s.root).lines)
   pub part : (HasAll d s → ⊥) → grid_marks u s.root ≡ grid_marks t s.root
-  pub others : (k i j : ℕ) → k ≢ s.root → AreUnmarkedBeside (grid_marks t k) o d.cols i j → IsUnmarked (grid_marks u k) i j
+  pub others : (k i j : ℕ) → k ≢ s.root → AreUnmarkedBeside (grid_marks t k) o d.cols i j
+      → IsUnmarked (grid_marks u k) i j

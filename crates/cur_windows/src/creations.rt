@@ -1,5 +1,6 @@
 //! Making, moving and deleting windows.
-ghost use Rattle.std.specs.Prelude.{◌≡◌, ◌<◌, ◌≤◌, ◌+◌, ◌⊎◌, Ok, Err, Some, None, IfOk, OnOk, length, slice_set, false, slice_index_or, ◌-ℤ◌, pos};
+ghost use Rattle.std.specs.Prelude.{◌≡◌, ◌<◌, ◌≤◌, ◌+◌, ◌⊎◌, Ok, Err, Some, None, IfOk, OnOk, length, slice_set, false};
+ghost use Rattle.std.specs.Prelude.{slice_index_or, ◌-ℤ◌, pos};
 ghost use Rattle.cur_drawing.specs.Grids.{blank};
 ghost use Rattle.cur_drawing.specs.Windows.{fresh};
 ghost use Rattle.cur_drawing.specs.Calls.{IsCanvas};

@@ -1,5 +1,6 @@
 //! Copying a window to the virtual screen.
-ghost use Rattle.std.specs.Prelude.{◌≡◌, ◌<◌, ◌≤◌, ◌+◌, IfErr, IfOk, IfSome, Ok, Some, None, if◌then◌else◌, false, true};
+ghost use Rattle.std.specs.Prelude.{◌≡◌, ◌<◌, ◌≤◌, ◌+◌, IfErr, IfOk, IfSome, Ok, Some, None, if◌then◌else◌, false};
+ghost use Rattle.std.specs.Prelude.{true};
 ghost use Rattle.cur_drawing.specs.Calls.{IsCanvas, place};
 ghost use Rattle.cur_screens.specs.Marks.{Keeps, MarksOnly};
 ghost use Rattle.cur_drawing.specs.Windows.{IsWindow};

@@ -1,5 +1,6 @@
 -- An entry of terminfo(5): its names, and a finite map from capabilities to values.
-use Rattle.std.specs.Prelude.{ℕ, ◌^◌, ◌<◌, ◌≡◌, ◌≢◌, Bool, true, false, IsTrue, List, Option, Some, None, length, replicate, slice_index_or, slice_set}
+use Rattle.std.specs.Prelude.{ℕ, ◌^◌, ◌<◌, ◌≡◌, ◌≢◌, Bool, true, false, IsTrue, List, Option, Some, None, length}
+use Rattle.std.specs.Prelude.{replicate, slice_index_or, slice_set}
 use Rattle.std.specs.List.{AllByRecursion}
 use Rattle.ti_caps.specs.declared.types.Kind.TheVariants as kinds
 use Rattle.ti_caps.specs.declared.value.Value.{Value}

@@ -1,7 +1,8 @@
 -- The table of terminfo(5)'s capabilities: flags, numbers and strings, each in the order of term(5).
 -- A capability is seen as its place among all of them, from 0 to 496. The words that read the table
 -- are never opened where a place is not a literal.
-use Rattle.std.specs.Prelude.{ℕ, Bool, true, false, ◌+◌, ◌-◌, ◌<◌, ◌≡◌, List, [], ◌++◌, Option, Some, None, ◌==◌, nat_lt, if◌then◌else◌, length, replicate, slice_index_or}
+use Rattle.std.specs.Prelude.{ℕ, Bool, true, false, ◌+◌, ◌-◌, ◌<◌, ◌≡◌, List, [], ◌++◌, Option, Some, None, ◌==◌}
+use Rattle.std.specs.Prelude.{nat_lt, if◌then◌else◌, length, replicate, slice_index_or}
 use Rattle.std.specs.Int.{from_be_bytes, w64}
 use Rattle.std.specs.List.{before_first, position_from}
 use Rattle.std.specs.Cmp.Lexicographic.{slice_cmp}

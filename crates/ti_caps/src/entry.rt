@@ -6,7 +6,8 @@ ghost use Rattle.ti_caps.specs.declared.types.Kind.TheVariants as kinds;
 ghost use Rattle.ti_caps.specs.declared.value.Value.TheVariants as values;
 ghost use Rattle.ti_caps.specs.Table.{kind_of};
 ghost use Rattle.ti_caps.specs.Fits.{names_fit, string_fits};
-ghost use Rattle.ti_caps.specs.Entry.{value_at, with_value, bare_entry, flag_at, number_at, string_at, FitsPlace, HasBytes, IsEntry, SetsOnly};
+ghost use Rattle.ti_caps.specs.Entry.{value_at, with_value, bare_entry, flag_at, number_at, string_at, FitsPlace};
+ghost use Rattle.ti_caps.specs.Entry.{HasBytes, IsEntry, SetsOnly};
 
 use crate::types::{CAPABILITIES, Cap};
 use crate::value::{Bytes, Value, are_bytes};

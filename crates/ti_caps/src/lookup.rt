@@ -3,7 +3,8 @@
 ghost use Rattle.std.specs.Prelude.{◌≡◌, ◌≢◌, ℕ, ◌<◌, ◌≤◌, ◌↔◌, Some, length, IfSome, IfNone, IsNone, ◌==◌};
 ghost use Rattle.std.specs.List as List;
 ghost use Rattle.ti_caps.specs.Names.{CountsAreStandard, NamesAreStandard};
-ghost use Rattle.ti_caps.specs.Table.{row_at, name_at, place_in, kind_of, is_kind, count_of, position_of, place_from, place_of_rank, place_ranked, rank_key, key_of, unpadded, NamesRise, EachHasRank};
+ghost use Rattle.ti_caps.specs.Table.{row_at, name_at, place_in, kind_of, is_kind, count_of, position_of, place_from};
+ghost use Rattle.ti_caps.specs.Table.{place_of_rank, place_ranked, rank_key, key_of, unpadded, NamesRise, EachHasRank};
 
 use crate::table::{rank_at, row};
 use crate::types::{CAPABILITIES, Cap, FLAGS, Kind, NUMBERS, STRINGS};

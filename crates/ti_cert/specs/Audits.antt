@@ -1,5 +1,6 @@
 -- (Serves the code alone.) What is known while a certificate is read, and how that stands to what its lines say.
-use Rattle.std.specs.Prelude.{ℕ, ◌+◌, ◌-◌, ◌≡◌, ◌⊎◌, Bool, true, List, [], ◌∷◌, length, Option, None, Some, Result, Ok, Err}
+use Rattle.std.specs.Prelude.{ℕ, ◌+◌, ◌-◌, ◌≡◌, ◌⊎◌, Bool, true, List, [], ◌∷◌, length, Option, None, Some, Result, Ok}
+use Rattle.std.specs.Prelude.{Err}
 use Rattle.vt_effects.specs.declared.effects.Effect.{Effect}
 use Rattle.ti_conforms.specs.declared.closures.Charsets.{Charsets}
 use Rattle.vt_effects.specs.Record.{record_of}
@@ -14,7 +15,8 @@ use Rattle.ti_lines.specs.declared.row_lines.RowLine.{RowLine}
 use Rattle.ti_lines.specs.Heads.{IsAcscText}
 use Rattle.ti_lines.specs.Judgements.{Rules}
 use Rattle.ti_cert.specs.Known.{Known, Holds, looks_with}
-use Rattle.ti_cert.specs.Certificates.{Said, Nothing, Sized, Listing, Ended, speaks_of, looks_of, IsWholeText, IsMisfit, JudgesRow, JudgesLast, JudgesLater, JudgesLine, JudgesEnd}
+use Rattle.ti_cert.specs.Certificates.{Said, Nothing, Sized, Listing, Ended, speaks_of, looks_of, IsWholeText, IsMisfit}
+use Rattle.ti_cert.specs.Certificates.{JudgesRow, JudgesLast, JudgesLater, JudgesLine, JudgesEnd}
 use Rattle.ti_cert.specs.Order.{Precedes, HasLine, GivesBytes, IsComplete}
 use Rattle.ti_cert.specs.Clashes.{IsClash, GoesTogether, kind_of}
 use Rattle.ti_cert.specs.declared.clashes.Clash.{Clash}
@@ -24,7 +26,8 @@ use Rattle.ti_cert.specs.declared.audits.Progress.{Progress}
 use Rattle.ti_cert.specs.declared.audits.Awaited.{Awaited}
 use Rattle.ti_cert.specs.declared.audits.Awaited.TheVariants as lines_awaited
 use Rattle.ti_cert.specs.declared.faults.CertFaultKind.{CertFaultKind}
-use Rattle.ti_cert.specs.declared.faults.CertFaultKind.TheVariants.{BadLine, OutOfOrder, NotWhole, NotTame, NotShown, NoMemory, ReadFailed}
+use Rattle.ti_cert.specs.declared.faults.CertFaultKind.TheVariants.{BadLine, OutOfOrder, NotWhole, NotTame, NotShown}
+use Rattle.ti_cert.specs.declared.faults.CertFaultKind.TheVariants.{NoMemory, ReadFailed}
 
 -- how many bytes lines have together
 abbrev pub all_bytes : List RowLine → ℕ

@@ -1,12 +1,14 @@
 -- The plainest entries: the cursor goes to a place, cells are erased and the rendition becomes plain, each by one
 -- string of ECMA-48; and the text of their certificate.
-use Rattle.std.specs.Prelude.{ℕ, ◌≡◌, ◌⊎◌, Bool, true, false, if◌then◌else◌, List, [], ◌∷◌, ◌++◌, map, reverse, None, Some, Ok}
+use Rattle.std.specs.Prelude.{ℕ, ◌≡◌, ◌⊎◌, Bool, true, false, if◌then◌else◌, List, [], ◌∷◌, ◌++◌, map, reverse, None}
+use Rattle.std.specs.Prelude.{Some, Ok}
 use Rattle.std.specs.List.{flat_map, range_with_len}
 use Rattle.vt_term.specs.Moves.{cursor_to}
 use Rattle.vt_term.specs.Size.{IsSize}
 use Rattle.vt_effects.specs.declared.effects.Effect.{Effect}
 use Rattle.vt_effects.specs.Effect.{unchanged}
-use Rattle.vt_effects.specs.Basic.{clear_text, home_text, el_text, sgr0_text, cleared, placed_at, tail_erased, made_plain}
+use Rattle.vt_effects.specs.Basic.{clear_text, home_text, el_text, sgr0_text, cleared, placed_at, tail_erased}
+use Rattle.vt_effects.specs.Basic.{made_plain}
 use Rattle.ti_caps.specs.Entry.{Content, string_at}
 use Rattle.ti_rows.specs.declared.rows.Row.{Row}
 use Rattle.ti_rows.specs.declared.rows.Row.TheVariants.{Clear, Cup, Home, El, Sgr0}

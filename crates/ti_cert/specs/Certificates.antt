@@ -1,6 +1,7 @@
 -- How the lines of a certificate are judged one after another: which line may follow those that were read, and
 -- otherwise its first fault. Lines are listed with the latest first.
-use Rattle.std.specs.Prelude.{ℕ, ◌≡◌, ◌==◌, ◌||◌, is_some, Bool, true, false, if◌then◌else◌, List, [], ◌∷◌, Option, None, Some, Result, Ok, Err}
+use Rattle.std.specs.Prelude.{ℕ, ◌≡◌, ◌==◌, ◌||◌, is_some, Bool, true, false, if◌then◌else◌, List, [], ◌∷◌, Option}
+use Rattle.std.specs.Prelude.{None, Some, Result, Ok, Err}
 use Rattle.vt_term.specs.Text.{Splits}
 use Rattle.vt_effects.specs.declared.effects.Effect.{Effect}
 use Rattle.vt_effects.specs.Record.{record_of}
@@ -22,7 +23,8 @@ use Rattle.ti_cert.specs.Clashes.{IsClash, GoesTogether, OfLines, kind_of}
 use Rattle.ti_cert.specs.declared.clashes.Clash.{Clash}
 use Rattle.ti_cert.specs.Order.{IsFirstLacking, IsComplete, IsLate, IsBehind, IsInPlace}
 use Rattle.ti_cert.specs.declared.faults.CertFaultKind.{CertFaultKind}
-use Rattle.ti_cert.specs.declared.faults.CertFaultKind.TheVariants.{BadLine, Missing, OutOfOrder, NotWhole, NotTame, NotShown, BadLook, NoMemory, ReadFailed}
+use Rattle.ti_cert.specs.declared.faults.CertFaultKind.TheVariants.{BadLine, Missing, OutOfOrder, NotWhole, NotTame}
+use Rattle.ti_cert.specs.declared.faults.CertFaultKind.TheVariants.{NotShown, BadLook, NoMemory, ReadFailed}
 
 -- the fault of a row's line that isn't there where it has to be, by its capability and its parameters
 abbrev pub missing_line : Row → CertFaultKind

@@ -2,7 +2,8 @@
 use Rattle.std.specs.Prelude.{ℕ, ◌+◌, max, if◌then◌else◌, List, [], ◌∷◌, length, is_some, sum_by}
 use Rattle.vt_term.specs.Color.{Black}
 use Rattle.ti_rows.specs.declared.rows.Row.{Row}
-use Rattle.ti_rows.specs.declared.rows.Row.TheVariants.{Cup, El, El1, Ed, Ech, Sgr, Sgr0, Setaf, Setab, Op, Smacs, Rmacs, Csr, Ind, Ri, Civis, Cnorm, Cvvis}
+use Rattle.ti_rows.specs.declared.rows.Row.TheVariants.{Cup, El, El1, Ed, Ech, Sgr, Sgr0, Setaf, Setab, Op, Smacs}
+use Rattle.ti_rows.specs.declared.rows.Row.TheVariants.{Rmacs, Csr, Ind, Ri, Civis, Cnorm, Cvvis}
 use Rattle.ti_rows.specs.Names.{order, no_attributes}
 use Rattle.ti_conforms.specs.Certified.{singles}
 use Rattle.ti_conforms.specs.Table.{Longest, or_nothing}

@@ -1,5 +1,6 @@
 -- The strings of a certificate: for each checked capability those of its parameter lists, in ascending order.
-use Rattle.std.specs.Prelude.{ℕ, ◌≡◌, ◌⊎◌, ◌&&◌, ◌||◌, nat_le, nat_lt, Bool, true, not, ◌+◌, ◌==◌, if◌then◌else◌, List, [], Option, Some, None, length, slice_index_or}
+use Rattle.std.specs.Prelude.{ℕ, ◌≡◌, ◌⊎◌, ◌&&◌, ◌||◌, nat_le, nat_lt, Bool, true, not, ◌+◌, ◌==◌, if◌then◌else◌, List}
+use Rattle.std.specs.Prelude.{[], Option, Some, None, length, slice_index_or}
 use Rattle.std.specs.List.{slice_get, sum_by}
 use Rattle.ti_rows.specs.declared.rows.Row.{Row}
 use Rattle.ti_rows.specs.declared.rows.Row.TheVariants.{Cup, Hpa, Vpa, Cub, Cuf, Cuu, Cud, Ech, Csr}

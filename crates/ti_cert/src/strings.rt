@@ -1,6 +1,7 @@
 //! The strings of a certificate, found by the row that they are for.
 
-ghost use Rattle.std.specs.Prelude.{◌≡◌, ◌<◌, ◌++◌, [], ◌∷◌, length, OnOk, IfOk, IsTrue, option_copied, replicate, true, false, None};
+ghost use Rattle.std.specs.Prelude.{◌≡◌, ◌<◌, ◌++◌, [], ◌∷◌, length, OnOk, IfOk, IsTrue, option_copied, replicate};
+ghost use Rattle.std.specs.Prelude.{true, false, None};
 ghost use Rattle.std.specs.List.{slice_get};
 ghost use Rattle.ti_rows.specs.Lists.{IsInRange, rank};
 ghost use Rattle.ti_rows.specs.Names.{order, capabilities};

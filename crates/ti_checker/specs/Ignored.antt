@@ -1,6 +1,7 @@
 -- What the terminal ignores of a sequence: all of it, where it names no function, or some of its numbers (ECMA-48 5.4,
 -- control sequences; 8.3.106 RM, 8.3.117 SGR, 8.3.125 SM; ECMA-35 13.2, escape sequences).
-use Rattle.std.specs.Prelude.{ℕ, ◌==◌, ◌&&◌, ◌||◌, nat_le, not, is_none, Bool, true, false, List, [], ◌∷◌, if◌then◌else◌, Option}
+use Rattle.std.specs.Prelude.{ℕ, ◌==◌, ◌&&◌, ◌||◌, nat_le, not, is_none, Bool, true, false, List, [], ◌∷◌}
+use Rattle.std.specs.Prelude.{if◌then◌else◌, Option}
 use Rattle.std.specs.Option.{unwrap_or}
 use Rattle.std.specs.List.{list_any}
 use Rattle.vt_term.specs.Rendition.{change_of}

@@ -29,7 +29,9 @@ use Rattle.ti_cert.specs.Order.{Precedes}
 use Rattle.ti_cert.specs.declared.clashes.Clash.{Clash}
 use Rattle.ti_cert.specs.declared.clashes.Clash.TheVariants as clashes
 use Rattle.ti_checker.specs.declared.causes.Cause.{Cause}
-use Rattle.ti_checker.specs.declared.causes.Cause.TheVariants.{FlagOut, Absent, AcsByte, Parm, StaticRead, Unfinished, Stuck, NotTame, BadLook, WrongEffect, NotShown, TooLong, NoResync, NoMemory}
+use Rattle.ti_checker.specs.declared.causes.Cause.TheVariants.{FlagOut, Absent, AcsByte, Parm, StaticRead, Unfinished}
+use Rattle.ti_checker.specs.declared.causes.Cause.TheVariants.{Stuck, NotTame, BadLook, WrongEffect, NotShown, TooLong}
+use Rattle.ti_checker.specs.declared.causes.Cause.TheVariants.{NoResync, NoMemory}
 use Rattle.ti_checker.specs.declared.causes.No.{No}
 use Rattle.ti_checker.specs.First.{RowStands, EachWritten}
 use Rattle.ti_checker.specs.Limit.{Overflows, PassesLimit, StaysWithin}

@@ -56,8 +56,8 @@ LeavesOtherModes rows cols taught row e = Strays HaveSameModes rows cols taught 
 abbrev pub IsRecorded : ℕ → ℕ → Row → Effect → Type 0
 IsRecorded rows cols row e = (tokens : List (List ℕ)) × (record_of rows cols (start_of rows cols row) tokens ≡ Some e)
 
--- Attributes can look in one way, which agrees with what the rows before taught, so that the end of the effect from each
--- start of the row is one that is wanted.
+-- Attributes can look in one way, which agrees with what the rows before taught, so that the end of the effect from
+-- each start of the row is one that is wanted.
 pub record IsAlwaysWanted (rows cols : ℕ) (taught : Looks) (row : Row) (e : Effect) : Type 0 where
   pub looks : Looks
   pub agree : AgreeBefore row taught looks

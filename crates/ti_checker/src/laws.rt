@@ -6,7 +6,8 @@ ghost use Rattle.std.specs.Prelude.{◌≡◌, ◌≢◌, ℕ, Bool, List, Optio
 ghost use Rattle.ti_caps.specs.Entry.{Content};
 ghost use Rattle.ti_checker.specs.Breakage.{ShownBreaks};
 ghost use Rattle.ti_checker.specs.Certificate.{BasicCertificate, IsCertificateOf};
-ghost use Rattle.ti_checker.specs.Doubts.{NeverElsewhere, NeverOther, NeverOtherCells, NeverOtherModes, NeverUnasked, NeverUntamed, OneTeaching};
+ghost use Rattle.ti_checker.specs.Doubts.{NeverElsewhere, NeverOther, NeverOtherCells, NeverOtherModes, NeverUnasked};
+ghost use Rattle.ti_checker.specs.Doubts.{NeverUntamed, OneTeaching};
 ghost use Rattle.ti_checker.specs.Ignored.{is_unknown_mode, is_unknown_rendition, is_whole_sequence};
 ghost use Rattle.ti_checker.specs.No.{ClaimsNothing, IsNo};
 ghost use Rattle.ti_checker.specs.Notes.{EntryNotes};

@@ -1,5 +1,7 @@
 -- The entry that the sections of a compiled terminfo file hold, term(5).
-use Rattle.std.specs.Prelude.{◌≡◌, ◌-◌, ℕ, Bool, false, List, [], ◌∷◌, ◌++◌, length, take, drop, map, replicate, slice_get, Option, Some, None, Result, Ok, Err, IsOk, if◌then◌else◌, ◌==◌, nat_lt, option_and_then}
+use Rattle.std.specs.Prelude.{◌≡◌, ◌-◌, ℕ, Bool, false, List, [], ◌∷◌, ◌++◌, length, take, drop, map, replicate}
+use Rattle.std.specs.Prelude.{slice_get, Option, Some, None, Result, Ok, Err, IsOk, if◌then◌else◌, ◌==◌, nat_lt}
+use Rattle.std.specs.Prelude.{option_and_then}
 use Rattle.std.specs.List.{list_any}
 use Rattle.ti_caps.specs.declared.types.Kind.{Kind}
 use Rattle.ti_caps.specs.declared.types.Kind.TheVariants as kinds
@@ -8,7 +10,8 @@ use Rattle.ti_caps.specs.declared.value.Value.TheVariants.{Flag, Number, String}
 use Rattle.ti_caps.specs.Entry.{Content, string_in, with_value}
 use Rattle.ti_caps.specs.Fits.{names_fit}
 use Rattle.ti_compiled.specs.declared.types.PackFault.{PackFault}
-use Rattle.ti_compiled.specs.declared.types.PackFault.TheVariants.{Short, BadMagic, BadCount, BadFlag, BadNumber, BadOffset, NoNul, TooLarge, NoMemory, BadNames}
+use Rattle.ti_compiled.specs.declared.types.PackFault.TheVariants.{Short, BadMagic, BadCount, BadFlag, BadNumber}
+use Rattle.ti_compiled.specs.declared.types.PackFault.TheVariants.{BadOffset, NoNul, TooLarge, NoMemory, BadNames}
 use Rattle.ti_compiled.specs.Layout.{Parts, words, numbers_in, half}
 use Rattle.ti_compiled.specs.Readings.{◌>>=◌, parts_of}
 

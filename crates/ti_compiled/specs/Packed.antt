@@ -1,6 +1,7 @@
 -- The layout of a compiled terminfo file, as a relation between its bytes and an entry: term(5), "Legacy
 -- Storage Format" and "Extended Number Format". A file is its sections joined end to end.
-use Rattle.std.specs.Prelude.{◌≡◌, ℕ, ◌+◌, ◌*◌, ◌/◌, ◌%◌, ◌≤◌, ◌<◌, ◌≢◌, ◌⊎◌, List, [], ◌∷◌, ◌++◌, length, Option, Some, None, Ok, flat_map}
+use Rattle.std.specs.Prelude.{◌≡◌, ℕ, ◌+◌, ◌*◌, ◌/◌, ◌%◌, ◌≤◌, ◌<◌, ◌≢◌, ◌⊎◌, List, [], ◌∷◌, ◌++◌, length, Option, Some}
+use Rattle.std.specs.Prelude.{None, Ok, flat_map}
 use Rattle.std.specs.List.{AllByRecursion}
 use Rattle.ti_caps.specs.declared.value.Value.{Value}
 use Rattle.ti_caps.specs.declared.value.Value.TheVariants.{Flag, Number, String}

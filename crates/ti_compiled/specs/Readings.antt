@@ -1,10 +1,12 @@
 -- What a compiled terminfo file holds, or its first fault, term(5).
-use Rattle.std.specs.Prelude.{◌≡◌, ℕ, ◌+◌, ◌*◌, ◌%◌, Bool, ◌&&◌, ◌||◌, List, [], ◌∷◌, length, take, drop, Result, Ok, Err, if◌then◌else◌, ◌==◌, nat_le, nat_lt}
+use Rattle.std.specs.Prelude.{◌≡◌, ℕ, ◌+◌, ◌*◌, ◌%◌, Bool, ◌&&◌, ◌||◌, List, [], ◌∷◌, length, take, drop, Result, Ok}
+use Rattle.std.specs.Prelude.{Err, if◌then◌else◌, ◌==◌, nat_le, nat_lt}
 use Rattle.std.specs.List.{list_all, list_any}
 use Rattle.ti_compiled.specs.declared.types.Form.{Form}
 use Rattle.ti_compiled.specs.declared.types.Form.TheVariants.{Legacy, Wide}
 use Rattle.ti_compiled.specs.declared.types.PackFault.{PackFault}
-use Rattle.ti_compiled.specs.declared.types.PackFault.TheVariants.{Short, BadMagic, BadCount, BadFlag, BadNumber, BadOffset, NoNul}
+use Rattle.ti_compiled.specs.declared.types.PackFault.TheVariants.{Short, BadMagic, BadCount, BadFlag, BadNumber}
+use Rattle.ti_compiled.specs.declared.types.PackFault.TheVariants.{BadOffset, NoNul}
 use Rattle.ti_compiled.specs.declared.sections.Sizes.{Sizes}
 use Rattle.ti_compiled.specs.declared.sections.Sections.{Sections}
 use Rattle.ti_compiled.specs.Layout.{Parts, words, width, numbers_in, half, is_number, is_flag, is_nul, ends_with_nul}

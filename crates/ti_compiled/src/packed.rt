@@ -1,6 +1,7 @@
 //! A compiled file that was read, and its entry.
 
-ghost use Rattle.std.specs.Prelude.{List, IfSome, ◌^◌, IfOk, IsOkAnd, ◌≡◌, ◌+◌, ◌<◌, ◌≤◌, ℕ, Some, None, Ok, Err, slice_get, length, drop};
+ghost use Rattle.std.specs.Prelude.{List, IfSome, ◌^◌, IfOk, IsOkAnd, ◌≡◌, ◌+◌, ◌<◌, ◌≤◌, ℕ, Some, None, Ok, Err};
+ghost use Rattle.std.specs.Prelude.{slice_get, length, drop};
 ghost use Rattle.std.specs.Option.{option_copied};
 ghost use Rattle.ti_caps.specs.declared.types.Kind.TheVariants as kinds;
 ghost use Rattle.ti_caps.specs.Entry.{Content, flag_at, number_at, string_at, has_flag, number_in, string_in};

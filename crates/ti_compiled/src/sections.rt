@@ -2,8 +2,11 @@
 
 ghost use Rattle.std.specs.Prelude.{◌≡◌, ◌*◌, ◌+◌, ◌≤◌, ℕ, length, drop};
 ghost use Rattle.std.specs.List.{list_all, list_any};
-ghost use Rattle.ti_compiled.specs.Layout.{words, longs, width, numbers_in, half, is_number, is_flag, is_nul, ends_with_nul};
-ghost use Rattle.ti_compiled.specs.Readings.{Is, Judged, judged, word_of, form_of, sizes_fit, sizes_of, cut_at, sections_of, offset_judged, offsets_judged, parts_judged, parts_of, parts_view};
+ghost use Rattle.ti_compiled.specs.Layout.{words, longs, width, numbers_in, half, is_number, is_flag, is_nul};
+ghost use Rattle.ti_compiled.specs.Layout.{ends_with_nul};
+ghost use Rattle.ti_compiled.specs.Readings.{Is, Judged, judged, word_of, form_of, sizes_fit, sizes_of, cut_at};
+ghost use Rattle.ti_compiled.specs.Readings.{sections_of, offset_judged, offsets_judged, parts_judged, parts_of};
+ghost use Rattle.ti_compiled.specs.Readings.{parts_view};
 
 use crate::types::{Form, PackFault};
 use ti_caps::{FLAGS, NUMBERS, STRINGS};

@@ -1,13 +1,15 @@
 //! The entry of a compiled file, as one that owns its bytes.
 
-ghost use Rattle.std.specs.Prelude.{◌≡◌, ◌+◌, ◌<◌, ◌≤◌, ℕ, Bool, true, false, None, OnOk, slice_index_or, length, IsTrue, IfOk};
+ghost use Rattle.std.specs.Prelude.{◌≡◌, ◌+◌, ◌<◌, ◌≤◌, ℕ, Bool, true, false, None, OnOk, slice_index_or, length};
+ghost use Rattle.std.specs.Prelude.{IsTrue, IfOk};
 ghost use Rattle.std.specs.List.{list_any};
 ghost use Rattle.ti_caps.specs.declared.types.Kind.TheVariants as kinds;
 ghost use Rattle.ti_caps.specs.Entry.{bare_entry};
 ghost use Rattle.ti_caps.specs.Table.{kind_of, count_of, first_of};
 ghost use Rattle.ti_caps.specs.Fits.{names_fit};
 ghost use Rattle.ti_compiled.specs.Readings.{parts_view};
-ghost use Rattle.ti_compiled.specs.Contents.{before_nul, entry_of, value_of, fit_of, filled, string_values, is_long, is_long_string, with_row, partly, Gives};
+ghost use Rattle.ti_compiled.specs.Contents.{before_nul, entry_of, value_of, fit_of, filled, string_values, is_long};
+ghost use Rattle.ti_compiled.specs.Contents.{is_long_string, with_row, partly, Gives};
 
 use crate::packed::{before_nul, flag_in, number_in, string_in};
 use crate::sections::Sections;

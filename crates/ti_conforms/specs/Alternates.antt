@@ -1,5 +1,6 @@
 -- Alternate characters (terminfo(5), "Line Graphics"): the pairs of `acsc`, and what stands for a letter without one.
-use Rattle.std.specs.Prelude.{ℕ, ◌==◌, ◌&&◌, nat_le, Bool, false, if◌then◌else◌, List, [], ◌∷◌, Option, Some, None, is_some, not}
+use Rattle.std.specs.Prelude.{ℕ, ◌==◌, ◌&&◌, nat_le, Bool, false, if◌then◌else◌, List, [], ◌∷◌, Option, Some, None}
+use Rattle.std.specs.Prelude.{is_some, not}
 
 -- the first pair of a letter counts, and an odd last byte doesn't
 abbrev pub listed : List ℕ → ℕ → Option ℕ

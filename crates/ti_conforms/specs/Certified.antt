@@ -1,5 +1,6 @@
 -- What a painter may know of a verified certificate: its lines, what each does, and what resynchronizes.
-use Rattle.std.specs.Prelude.{ℕ, ◌+◌, ◌^◌, ◌<◌, ◌≤◌, ◌≡◌, ◌&&◌, not, if◌then◌else◌, Bool, true, false, List, [], ◌∷◌, ◌++◌, length, sum_by, Option, Some, None}
+use Rattle.std.specs.Prelude.{ℕ, ◌+◌, ◌^◌, ◌<◌, ◌≤◌, ◌≡◌, ◌&&◌, not, if◌then◌else◌, Bool, true, false, List, [], ◌∷◌}
+use Rattle.std.specs.Prelude.{◌++◌, length, sum_by, Option, Some, None}
 use Rattle.std.specs.List.{AllByRecursion, concat}
 use Rattle.vt_term.specs.Size.{IsSize}
 use Rattle.vt_term.specs.Color.{Color}
@@ -13,7 +14,9 @@ pub use Rattle.ti_conforms.specs.Lost.{IsWhole}
 pub use Rattle.ti_conforms.specs.Table.{Table, Longest, has, or_nothing, text_of, IsLost, settles, Activates, Ended}
 use Rattle.ti_rows.specs.declared.rows.Attributes.{Attributes}
 use Rattle.ti_rows.specs.declared.rows.Row.{Row}
-use Rattle.ti_rows.specs.declared.rows.Row.TheVariants.{Clear, Cup, El, El1, Ed, Ech, Sgr, Sgr0, Setaf, Setab, Op, Smul, Rev, Blink, Dim, Bold, Invis, Smso, Smacs, Rmacs, Csr, Ind, Ri, Civis, Cnorm, Cvvis}
+use Rattle.ti_rows.specs.declared.rows.Row.TheVariants.{Clear, Cup, El, El1, Ed, Ech, Sgr, Sgr0, Setaf, Setab, Op, Smul}
+use Rattle.ti_rows.specs.declared.rows.Row.TheVariants.{Rev, Blink, Dim, Bold, Invis, Smso, Smacs, Rmacs, Csr, Ind, Ri}
+use Rattle.ti_rows.specs.declared.rows.Row.TheVariants.{Civis, Cnorm, Cvvis}
 use Rattle.ti_rows.specs.Names.{no_attributes}
 use Rattle.ti_rows.specs.Starts.{Starts}
 use Rattle.ti_rows.specs.Right.{sets_visible}

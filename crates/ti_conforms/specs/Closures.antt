@@ -1,5 +1,6 @@
 -- The least set of charsets that has these and that no string of these leads out of.
-use Rattle.std.specs.Prelude.{ℕ, ◌+◌, ◌*◌, ◌≡◌, Bool, true, false, List, [], ◌∷◌, not, Option, Some, None, slice_index_or, sum_by}
+use Rattle.std.specs.Prelude.{ℕ, ◌+◌, ◌*◌, ◌≡◌, Bool, true, false, List, [], ◌∷◌, not, Option, Some, None}
+use Rattle.std.specs.Prelude.{slice_index_or, sum_by}
 use Rattle.vt_term.specs.Screen.{Charset}
 use Rattle.vt_effects.specs.declared.effects.Sets.{Sets}
 use Rattle.vt_effects.specs.declared.effects.Switch.TheVariants as switches

@@ -3,7 +3,8 @@ use Rattle.std.specs.Prelude.{ℕ, ◌≡◌, ◌&&◌, Bool, true, false, not, 
 use Rattle.vt_term.specs.Color.{Black}
 use Rattle.ti_caps.specs.Entry.{Content, string_at}
 use Rattle.ti_rows.specs.declared.rows.Row.{Row}
-use Rattle.ti_rows.specs.declared.rows.Row.TheVariants.{Sgr, Setaf, Setab, Op, Smul, Rev, Blink, Dim, Bold, Invis, Smso, Smacs, Rmacs}
+use Rattle.ti_rows.specs.declared.rows.Row.TheVariants.{Sgr, Setaf, Setab, Op, Smul, Rev, Blink, Dim, Bold, Invis, Smso}
+use Rattle.ti_rows.specs.declared.rows.Row.TheVariants.{Smacs, Rmacs}
 use Rattle.ti_rows.specs.Names.{order, cap_of, no_attributes}
 use Rattle.ti_rows.specs.Lists.{IsFirst, IsInRange}
 use Rattle.ti_conforms.specs.Agreement.{LineSends, SomeLine}

@@ -1,6 +1,7 @@
 -- Why no certificate is for an entry, whatever its strings send (terminfo(5), "Predefined Capabilities"): it hasn't
 -- what it needs, or has what it may not have.
-use Rattle.std.specs.Prelude.{ℕ, ◌≡◌, ◌==◌, ◌&&◌, ◌||◌, not, if◌then◌else◌, Bool, true, false, List, Option, Some, None, is_some}
+use Rattle.std.specs.Prelude.{ℕ, ◌≡◌, ◌==◌, ◌&&◌, ◌||◌, not, if◌then◌else◌, Bool, true, false, List, Option, Some, None}
+use Rattle.std.specs.Prelude.{is_some}
 use Rattle.ti_caps.specs.Entry.{Content, flag_at, number_at, string_at}
 use Rattle.ti_conforms.specs.Alternates.{is_misfit}
 use Rattle.ti_rows.specs.declared.rows.Row.{Row}

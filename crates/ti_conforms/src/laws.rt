@@ -3,7 +3,8 @@
 ghost use Rattle.std.specs.Prelude.{◌≡◌, ◌++◌, true, ℕ, List, codes};
 ghost use Rattle.ti_conforms.specs.Charsets.{Reached, can_have, joined, reach_of};
 ghost use Rattle.vt_term.specs.Screen.{Charset};
-ghost use Rattle.ti_conforms.specs.Resync.{QuietSettles, NothingSettles, SettlingJoins, ResyncLeads, FrontsStay, WholesStay};
+ghost use Rattle.ti_conforms.specs.Resync.{QuietSettles, NothingSettles, SettlingJoins, ResyncLeads, FrontsStay};
+ghost use Rattle.ti_conforms.specs.Resync.{WholesStay};
 ghost use Rattle.ti_conforms.specs.Holds.{JudgedHolds};
 ghost use Rattle.ti_caps.specs.Table.{name_at};
 ghost use Rattle.ti_conforms.specs.Conforms.{AgreedConforms, gn, hc, os, xmc};

@@ -21,9 +21,9 @@ pub record HasCertificate (entry : Content) (rows cols : ℕ) : Type 0 where
   pub text : List ℕ
   pub certificate : IsCertificateOf entry rows cols text
 
--- There is none, as the no of `check` says. What the entry as a whole is at fault for comes first, then the first faulty
--- row of each checked capability. Where there is neither, that no is the only one: it is about all strings together, or
--- about how long the certificate would be.
+-- There is none, as the no of `check` says. What the entry as a whole is at fault for comes first, then the first
+-- faulty row of each checked capability. Where there is neither, that no is the only one: it is about all strings
+-- together, or about how long the certificate would be.
 pub record AreFaults (entry : Content) (rows cols : ℕ) (nos : List No) : Type 0 where
   pub refusal : No
   pub refused : IsNo entry rows cols refusal

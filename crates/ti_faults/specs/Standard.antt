@@ -1,11 +1,15 @@
 -- The strings that the standards have for the checked capabilities, in the parameter language of terminfo(5): those of
 -- ECMA-48 (5th edition), and of the VT100 User Guide (chapter 3) and the VT220 Programmer Reference where ECMA-48 has
 -- none.
-use Rattle.std.specs.Prelude.{ℕ, ◌≡◌, ◌≢◌, ◌++◌, ◌==◌, ◌&&◌, ◌||◌, nat_le, nat_lt, Bool, false, if◌then◌else◌, List, [], ◌∷◌, Option, Some, None, codes}
+use Rattle.std.specs.Prelude.{ℕ, ◌≡◌, ◌≢◌, ◌++◌, ◌==◌, ◌&&◌, ◌||◌, nat_le, nat_lt, Bool, false, if◌then◌else◌, List, []}
+use Rattle.std.specs.Prelude.{◌∷◌, Option, Some, None, codes}
 use Rattle.std.specs.List.{list_any, starts_with}
 use Rattle.ti_caps.specs.Entry.{Content, number_at}
 use Rattle.ti_rows.specs.declared.rows.Row.{Row}
-use Rattle.ti_rows.specs.declared.rows.Row.TheVariants.{Bel, Blink, Bold, Civis, Clear, Cnorm, Cr, Csr, Cub, Cub1, Cud, Cud1, Cuf, Cuf1, Cup, Cuu, Cuu1, Cvvis, Dim, Ech, Ed, El, El1, Enacs, Home, Hpa, Ind, Invis, Op, Rev, Ri, Rmacs, Rmcup, Setab, Setaf, Sgr, Sgr0, Smacs, Smcup, Smso, Smul, Vpa}
+use Rattle.ti_rows.specs.declared.rows.Row.TheVariants.{Bel, Blink, Bold, Civis, Clear, Cnorm, Cr, Csr, Cub, Cub1, Cud}
+use Rattle.ti_rows.specs.declared.rows.Row.TheVariants.{Cud1, Cuf, Cuf1, Cup, Cuu, Cuu1, Cvvis, Dim, Ech, Ed, El, El1}
+use Rattle.ti_rows.specs.declared.rows.Row.TheVariants.{Enacs, Home, Hpa, Ind, Invis, Op, Rev, Ri, Rmacs, Rmcup, Setab}
+use Rattle.ti_rows.specs.declared.rows.Row.TheVariants.{Setaf, Sgr, Sgr0, Smacs, Smcup, Smso, Smul, Vpa}
 use Rattle.ti_rows.specs.Names.{cap_of}
 use Rattle.ti_conforms.specs.Entries.{string_of, has_string}
 

@@ -25,7 +25,8 @@ fn add_advice(alloc: Global, text: &[u8], remarks: &mut Remarks) -> Result<(), A
 }
 
 /// The advice on `entry`, whose strings are right at `size`: each attribute whose own string shows it and `sgr` never
-/// does, and strings that are never sent since others are missing. Each text begins with the capability that it is about.
+/// does, and strings that are never sent since others are missing. Each text begins with the capability that it is
+/// about.
 pub fn advice_on(alloc: Global, entry: &Entry, size: Size) -> Result<Vec<Vec<u8>>, AllocError> {
     let mut advice = Vec::new(alloc);
     if is_checked(entry, Row::Sgr(NO_ATTRIBUTES)) {

@@ -1,5 +1,6 @@
 -- (Serves the code alone.) How a text is read, word by word. Only the reader's own clauses cite this file.
-use Rattle.std.specs.Prelude.{ℕ, ◌+◌, ◌-◌, ◌*◌, ◌==◌, ◌&&◌, nat_le, nat_lt, bytes_eq, Bool, true, if◌then◌else◌, List, [], ◌∷◌, Option, None, Some}
+use Rattle.std.specs.Prelude.{ℕ, ◌+◌, ◌-◌, ◌*◌, ◌==◌, ◌&&◌, nat_le, nat_lt, bytes_eq, Bool, true, if◌then◌else◌, List}
+use Rattle.std.specs.Prelude.{[], ◌∷◌, Option, None, Some}
 use Rattle.std.specs.Option.{option_map, option_or, option_and_then}
 use Rattle.std.specs.List.{list_all, slice_split}
 use Rattle.vt_term.specs.Color.{color}
@@ -17,10 +18,13 @@ use Rattle.vt_effects.specs.declared.effects.Region.{Region}
 use Rattle.vt_effects.specs.declared.effects.Effect.{Effect}
 use Rattle.vt_effects.specs.Effect.{unchanged}
 use Rattle.ti_lines.specs.declared.words.Word.{Word}
-use Rattle.ti_lines.specs.declared.words.Word.TheVariants.{Row, Col, EndsPending, Erases, Scrolls, Looks, Inks, Chooses, Rows, Shows}
+use Rattle.ti_lines.specs.declared.words.Word.TheVariants.{Row, Col, EndsPending, Erases, Scrolls, Looks, Inks, Chooses}
+use Rattle.ti_lines.specs.declared.words.Word.TheVariants.{Rows, Shows}
 use Rattle.ti_lines.specs.declared.words.Marks.{Marks}
 use Rattle.ti_lines.specs.declared.words.Found.{Found}
-use Rattle.ti_lines.specs.EffectText.{is_dot, row_name, col_name, nopend, all_name, tail_name, head_name, rest_name, next_name, up_name, down_name, look_name, ink_name, set_name, rows_name, show_name, hide_name}
+use Rattle.ti_lines.specs.EffectText.{is_dot, row_name, col_name, nopend, all_name, tail_name, head_name, rest_name}
+use Rattle.ti_lines.specs.EffectText.{next_name, up_name, down_name, look_name, ink_name, set_name, rows_name}
+use Rattle.ti_lines.specs.EffectText.{show_name, hide_name}
 
 -- what follows this front
 abbrev pub behind : List ℕ → List ℕ → Option (List ℕ)

@@ -1,5 +1,6 @@
 -- Bytes in lower case hexadecimal, and a dash for none.
-use Rattle.std.specs.Prelude.{ℕ, ◌&&◌, ◌==◌, length, nat_le, not, bytes_eq, Bool, if◌then◌else◌, List, [], ◌∷◌, Option, None, Some, Result, Ok, Err}
+use Rattle.std.specs.Prelude.{ℕ, ◌&&◌, ◌==◌, length, nat_le, not, bytes_eq, Bool, if◌then◌else◌, List, [], ◌∷◌, Option}
+use Rattle.std.specs.Prelude.{None, Some, Result, Ok, Err}
 use Rattle.std.specs.List.{list_all}
 use Rattle.hex.specs.Hex.{encode_lower, decode_of}
 use Rattle.hex.specs.declared.error.FromHexError.{FromHexError}

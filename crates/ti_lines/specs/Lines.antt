@@ -1,5 +1,6 @@
 -- A reader of lines: what it has taken and not passed yet.
-use Rattle.std.specs.Prelude.{ℕ, ◌+◌, ◌<◌, ◌≤◌, ◌≡◌, ◌==◌, nat_lt, if◌then◌else◌, true, List, [], ◌++◌, None, Some, length}
+use Rattle.std.specs.Prelude.{ℕ, ◌+◌, ◌<◌, ◌≤◌, ◌≡◌, ◌==◌, nat_lt, if◌then◌else◌, true, List, [], ◌++◌, None, Some}
+use Rattle.std.specs.Prelude.{length}
 use Rattle.ti_lines.specs.Reader.{AtEnd, Gave, Rose, piece_limit}
 use Rattle.ti_lines.specs.Text.{line_end, is_long}
 use Rattle.ti_lines.specs.declared.lines.Next.{Next}

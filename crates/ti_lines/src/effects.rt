@@ -1,5 +1,6 @@
 //! Reading an effect's text.
-ghost use Rattle.std.specs.Prelude.{◌≡◌, ◌∷◌, [], ◌<◌, ◌==◌, ℕ, Some, IfSome, IfNone, option_map, length, take, drop, ◌+◌};
+ghost use Rattle.std.specs.Prelude.{◌≡◌, ◌∷◌, [], ◌<◌, ◌==◌, ℕ, Some, IfSome, IfNone, option_map, length, take, drop};
+ghost use Rattle.std.specs.Prelude.{◌+◌};
 ghost use Rattle.std.specs.List.{position};
 ghost use Rattle.vt_effects.specs.declared.effects.Effect as declared;
 ghost use Rattle.ti_lines.specs.EffectText.{spelled, IsPlain};

@@ -1,12 +1,15 @@
 -- The codes of a parameter string, one at a time (terminfo(5), "Parameterized Strings").
-use Rattle.std.specs.Prelude.{ℕ, pos, ◌+◌, ◌-◌, ◌*◌, ◌&&◌, ◌||◌, Bool, true, false, cond, List, [], ◌∷◌, Result, Ok, Err, Option, Some, None, nat_le, ◌==◌}
+use Rattle.std.specs.Prelude.{ℕ, pos, ◌+◌, ◌-◌, ◌*◌, ◌&&◌, ◌||◌, Bool, true, false, cond, List, [], ◌∷◌, Result, Ok}
+use Rattle.std.specs.Prelude.{Err, Option, Some, None, nat_le, ◌==◌}
 use Rattle.ti_parm.specs.declared.code.Action.{Action}
-use Rattle.ti_parm.specs.declared.code.Action.TheVariants.{Literal, Push, Parameter, Set, Get, Operate, Change, Length, Increment, Character, Show}
+use Rattle.ti_parm.specs.declared.code.Action.TheVariants.{Literal, Push, Parameter, Set, Get, Operate, Change, Length}
+use Rattle.ti_parm.specs.declared.code.Action.TheVariants.{Increment, Character, Show}
 use Rattle.ti_parm.specs.declared.formats.Conversion.{Conversion}
 use Rattle.ti_parm.specs.declared.formats.Conversion.TheVariants.{Decimal, Octal, LowerHex, UpperHex, Text}
 use Rattle.ti_parm.specs.declared.formats.Flags.{Flags}
 use Rattle.ti_parm.specs.declared.formats.Format.{Format}
-use Rattle.ti_parm.specs.declared.code.Operator.TheVariants.{Add, Subtract, Multiply, Divide, Remainder, BitAnd, BitOr, BitXor, Equal, Greater, Less, Both, Either}
+use Rattle.ti_parm.specs.declared.code.Operator.TheVariants.{Add, Subtract, Multiply, Divide, Remainder, BitAnd, BitOr}
+use Rattle.ti_parm.specs.declared.code.Operator.TheVariants.{BitXor, Equal, Greater, Less, Both, Either}
 use Rattle.ti_parm.specs.declared.code.Unary.TheVariants.{Not, Complement}
 use Rattle.ti_parm.specs.declared.code.Variable.{Variable}
 use Rattle.ti_parm.specs.declared.code.Variable.TheVariants.{Dynamic, Static}

@@ -1,5 +1,6 @@
 -- Delays in what is sent (terminfo(5), "Delays and Padding").
-use Rattle.std.specs.Prelude.{◌≡◌, ℕ, zero, suc, ◌&&◌, ◌||◌, ◌==◌, Bool, cond, List, [], ◌∷◌, length, Option, Some, None}
+use Rattle.std.specs.Prelude.{◌≡◌, ℕ, zero, suc, ◌&&◌, ◌||◌, ◌==◌, Bool, cond, List, [], ◌∷◌, length, Option, Some}
+use Rattle.std.specs.Prelude.{None}
 use Rattle.ti_parm.specs.Codes.{behind_digits, is_digit}
 
 abbrev pub is_mark : ℕ → Bool

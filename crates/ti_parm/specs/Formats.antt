@@ -1,9 +1,11 @@
 -- How formats show numbers and texts, as C's printf shows an int and a string (X/Open, printf).
-use Rattle.std.specs.Prelude.{ℕ, ℤ, pos, negsuc, ◌+◌, ◌-◌, ◌&&◌, Bool, false, true, cond, not, List, [], ◌∷◌, ◌++◌, length, take, replicate, Option, Some, None, Result, Ok, Err, ◌==◌, unsigned_abs}
+use Rattle.std.specs.Prelude.{ℕ, ℤ, pos, negsuc, ◌+◌, ◌-◌, ◌&&◌, Bool, false, true, cond, not, List, [], ◌∷◌, ◌++◌}
+use Rattle.std.specs.Prelude.{length, take, replicate, Option, Some, None, Result, Ok, Err, ◌==◌, unsigned_abs}
 use Rattle.std.specs.Fmt.{digits}
 use Rattle.std.specs.Int.{cast_unsigned, w32}
 use Rattle.ti_parm.specs.declared.formats.Conversion.{Conversion}
-use Rattle.ti_parm.specs.declared.formats.Conversion.TheVariants.{Decimal, Octal, LowerHex, UpperHex, Text as TextConversion}
+use Rattle.ti_parm.specs.declared.formats.Conversion.TheVariants.{Decimal, Octal, LowerHex, UpperHex}
+use Rattle.ti_parm.specs.declared.formats.Conversion.TheVariants.{Text as TextConversion}
 use Rattle.ti_parm.specs.declared.formats.Format.{Format}
 use Rattle.ti_parm.specs.declared.fault.ParmFault.{ParmFault}
 use Rattle.ti_parm.specs.declared.fault.ParmFault.TheVariants.{Underflow, WrongKind}

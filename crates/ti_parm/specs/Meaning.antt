@@ -1,5 +1,6 @@
 -- What a parameter string means (terminfo(5), "Parameterized Strings").
-use Rattle.std.specs.Prelude.{◌≡◌, ℕ, ℤ, pos, ◌+ℤ◌, Bool, cond, List, [], ◌∷◌, ◌++◌, Result, Ok, Err, replicate, Contains, slice_index_or, slice_set}
+use Rattle.std.specs.Prelude.{◌≡◌, ℕ, ℤ, pos, ◌+ℤ◌, Bool, cond, List, [], ◌∷◌, ◌++◌, Result, Ok, Err, replicate}
+use Rattle.std.specs.Prelude.{Contains, slice_index_or, slice_set}
 use Rattle.ti_parm.specs.declared.uses.FirstUse.{FirstUse}
 use Rattle.ti_parm.specs.declared.uses.FirstUse.TheVariants.{Unused, ReadFirst, SetFirst}
 use Rattle.ti_parm.specs.Uses.{noted}
@@ -10,7 +11,8 @@ use Rattle.ti_parm.specs.Operators.{binary, byte_of, fitting, is_true, pop_numbe
 use Rattle.ti_parm.specs.Value.{Value, Values, Number, Text, nine, zeros}
 use Rattle.ti_parm.specs.Syntax.{Part, Act, Conditional, Parts, Done, Next, Otherwise, Nothing, Else, ElseIf, syntax}
 use Rattle.ti_parm.specs.declared.code.Action.{Action}
-use Rattle.ti_parm.specs.declared.code.Action.TheVariants.{Literal, Push, Parameter, Set, Get, Operate, Change, Length, Increment, Character, Show}
+use Rattle.ti_parm.specs.declared.code.Action.TheVariants.{Literal, Push, Parameter, Set, Get, Operate, Change, Length}
+use Rattle.ti_parm.specs.declared.code.Action.TheVariants.{Increment, Character, Show}
 use Rattle.ti_parm.specs.declared.code.Variable.{Variable}
 use Rattle.ti_parm.specs.declared.code.Variable.TheVariants.{Dynamic, Static}
 use Rattle.ti_parm.specs.declared.fault.ParmFault.{ParmFault}

@@ -1,12 +1,14 @@
 -- What the codes of terminfo(5), "Parameterized Strings", make of the values on the stack. A stack is a
 -- list, its top first.
-use Rattle.std.specs.Prelude.{ℕ, ℤ, pos, negsuc, ◌+ℤ◌, ◌-ℤ◌, ◌*ℤ◌, ◌&&◌, ◌||◌, Bool, cond, not, [], ◌∷◌, length, Result, Ok, Err, int_div, int_le, int_lt, int_rem, nat_eq, nat_le}
+use Rattle.std.specs.Prelude.{ℕ, ℤ, pos, negsuc, ◌+ℤ◌, ◌-ℤ◌, ◌*ℤ◌, ◌&&◌, ◌||◌, Bool, cond, not, [], ◌∷◌, length, Result}
+use Rattle.std.specs.Prelude.{Ok, Err, int_div, int_le, int_lt, int_rem, nat_eq, nat_le}
 use Rattle.std.specs.Int.{int_bit_and, int_bit_not, int_bit_or, int_bit_xor, w32}
 use Rattle.std.specs.Ordering.{int_eq}
 use Rattle.ti_parm.specs.Fault.{◌>>=◌}
 use Rattle.ti_parm.specs.Value.{Number, Text, Values}
 use Rattle.ti_parm.specs.declared.code.Operator.{Operator}
-use Rattle.ti_parm.specs.declared.code.Operator.TheVariants.{Add, Subtract, Multiply, Divide, Remainder, BitAnd, BitOr, BitXor, Equal, Greater, Less, Both, Either}
+use Rattle.ti_parm.specs.declared.code.Operator.TheVariants.{Add, Subtract, Multiply, Divide, Remainder, BitAnd, BitOr}
+use Rattle.ti_parm.specs.declared.code.Operator.TheVariants.{BitXor, Equal, Greater, Less, Both, Either}
 use Rattle.ti_parm.specs.declared.code.Unary.{Unary}
 use Rattle.ti_parm.specs.declared.code.Unary.TheVariants.{Not, Complement}
 use Rattle.ti_parm.specs.declared.fault.ParmFault.{ParmFault}

@@ -8,7 +8,8 @@ use Rattle.ti_parm.specs.declared.code.Variable.{Variable}
 use Rattle.ti_parm.specs.declared.fault.ParmFault.{ParmFault}
 use Rattle.ti_parm.specs.declared.formats.Conversion.{Conversion}
 use Rattle.ti_parm.specs.declared.formats.Format.{Format}
-use Rattle.ti_parm.specs.Codes.{conversion, finished, flags_on, is_digit, is_flag, no_flags, number_on, short_code, variable}
+use Rattle.ti_parm.specs.Codes.{conversion, finished, flags_on, is_digit, is_flag, no_flags, number_on, short_code}
+use Rattle.ti_parm.specs.Codes.{variable}
 use Rattle.ti_parm.specs.Meaning.{State, run, start_of}
 use Rattle.ti_parm.specs.Syntax.{Part, Act, Conditional, Parts, Done, Next, Otherwise, Nothing, Else, ElseIf, syntax}
 use Rattle.ti_parm.specs.Value.{Value}

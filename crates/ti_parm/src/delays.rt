@@ -1,6 +1,8 @@
 //! Delays in what is sent (terminfo(5), "Delays and Padding").
-ghost use Rattle.std.specs.Prelude.{◌≡◌, ◌<◌, ◌≤◌, ◌++◌, IfNone, IfOk, IfSome, MatchOption, None, Some, drop, length, take};
-ghost use Rattle.ti_parm.specs.Delays.{behind_delay, behind_mark, behind_marks, behind_number, behind_opening, behind_tenth, strip};
+ghost use Rattle.std.specs.Prelude.{◌≡◌, ◌<◌, ◌≤◌, ◌++◌, IfNone, IfOk, IfSome, MatchOption, None, Some, drop, length};
+ghost use Rattle.std.specs.Prelude.{take};
+ghost use Rattle.ti_parm.specs.Delays.{behind_delay, behind_mark, behind_marks, behind_number, behind_opening};
+ghost use Rattle.ti_parm.specs.Delays.{behind_tenth, strip};
 
 use crate::number::number;
 use std::alloc::{AllocError, Global};

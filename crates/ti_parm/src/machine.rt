@@ -1,5 +1,6 @@
 //! What a run has, and what each code does to it.
-ghost use Rattle.std.specs.Prelude.{◌≡◌, ◌↔◌, ℕ, List, [], ◌≤◌, IfErr, IfOk, IsTrue, length, pos, slice_index_or, slice_set};
+ghost use Rattle.std.specs.Prelude.{◌≡◌, ◌↔◌, ℕ, List, [], ◌≤◌, IfErr, IfOk, IsTrue, length, pos, slice_index_or};
+ghost use Rattle.std.specs.Prelude.{slice_set};
 ghost use Rattle.ti_parm.specs.Fault.{Answers, Extends, FailsBy, Gives};
 ghost use Rattle.ti_parm.specs.Value.{nine, values_of, value_of, zeros};
 ghost use Rattle.ti_parm.specs.Meaning.{ReadsUnset, act, character, one_more, pop_test, start_of, writing};

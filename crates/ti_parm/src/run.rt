@@ -1,5 +1,6 @@
 //! Running a parameter string.
-ghost use Rattle.std.specs.Prelude.{◌≡◌, ◌↔◌, ◌++◌, ◌⊎◌, ℕ, ℤ, List, Result, IfErr, IfOk, IsTrue, OnErr, OnOk, Ok, Err, length, take};
+ghost use Rattle.std.specs.Prelude.{◌≡◌, ◌↔◌, ◌++◌, ◌⊎◌, ℕ, ℤ, List, Result, IfErr, IfOk, IsTrue, OnErr, OnOk, Ok, Err};
+ghost use Rattle.std.specs.Prelude.{length, take};
 ghost use Rattle.ti_parm.specs.Delays.{HasNoOpening, strip};
 ghost use Rattle.ti_parm.specs.Fault.{Gives};
 ghost use Rattle.ti_parm.specs.Machine.{state_of};

@@ -1,7 +1,8 @@
 //! Showing values in a format.
 ghost use Rattle.std.specs.Prelude.{◌≡◌, ◌≤◌, ◌++◌, OnOk, drop, length, replicate};
 ghost use Rattle.ti_parm.specs.Fault.{Extends};
-ghost use Rattle.ti_parm.specs.Formats.{base_of, begins_with_zero, cut, digits_shown, is_upper, laid_out, least_digits, magnitude, number_shown, padded, prefix_of, sign_of, text_shown, zeros_shown};
+ghost use Rattle.ti_parm.specs.Formats.{base_of, begins_with_zero, cut, digits_shown, is_upper, laid_out, least_digits};
+ghost use Rattle.ti_parm.specs.Formats.{magnitude, number_shown, padded, prefix_of, sign_of, text_shown, zeros_shown};
 
 use crate::digits::{PLACES, digits_at_end};
 use crate::formats::{Conversion, Format};

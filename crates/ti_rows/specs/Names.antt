@@ -6,7 +6,9 @@ use Rattle.std.specs.Ordering.{nat_cmp}
 use Rattle.std.specs.declared.cmp.Ordering.TheVariants.{Less}
 use Rattle.vt_term.specs.Color.{Black}
 use Rattle.ti_caps.specs.Table.{name_at}
-use Rattle.ti_rows.specs.Rows.{Attributes, Row, Clear, Cup, Home, Cr, Hpa, Vpa, Cub1, Cuf1, Cuu1, Cud1, Cub, Cuf, Cuu, Cud, El, El1, Ed, Ech, Sgr, Sgr0, Setaf, Setab, Op, Smul, Rev, Blink, Dim, Bold, Invis, Smso, Enacs, Smacs, Rmacs, Csr, Ind, Ri, Civis, Cnorm, Cvvis, Smcup, Rmcup, Bel}
+use Rattle.ti_rows.specs.Rows.{Attributes, Row, Clear, Cup, Home, Cr, Hpa, Vpa, Cub1, Cuf1, Cuu1, Cud1, Cub, Cuf, Cuu}
+use Rattle.ti_rows.specs.Rows.{Cud, El, El1, Ed, Ech, Sgr, Sgr0, Setaf, Setab, Op, Smul, Rev, Blink, Dim, Bold, Invis}
+use Rattle.ti_rows.specs.Rows.{Smso, Enacs, Smacs, Rmacs, Csr, Ind, Ri, Civis, Cnorm, Cvvis, Smcup, Rmcup, Bel}
 
 -- how many there are
 abbrev pub capabilities : ℕ
@@ -111,7 +113,8 @@ cap_of row = 83 + string_in_order (order row)
 
 -- the names rise
 abbrev pub NamesRise : Type 0
-NamesRise = (low high : ℕ) → low < high → high < capabilities → slice_cmp nat_cmp (name_in_order low) (name_in_order high) ≡ Less
+NamesRise = (low high : ℕ) → low < high → high < capabilities
+    → slice_cmp nat_cmp (name_in_order low) (name_in_order high) ≡ Less
 
 -- each is the name of the capability at its position
 abbrev pub Named : Type 0

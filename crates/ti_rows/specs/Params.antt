@@ -1,5 +1,6 @@
 -- The parameters of each row as numbers, and the row that a capability's numbers give.
-use Rattle.std.specs.Prelude.{ℕ, ◌≡◌, ◌==◌, ◌&&◌, nat_le, nat_lt, Bool, List, [], ◌∷◌, Option, Some, None, if◌then◌else◌, length}
+use Rattle.std.specs.Prelude.{ℕ, ◌≡◌, ◌==◌, ◌&&◌, nat_le, nat_lt, Bool, List, [], ◌∷◌, Option, Some, None}
+use Rattle.std.specs.Prelude.{if◌then◌else◌, length}
 use Rattle.std.specs.Option.{option_map}
 use Rattle.vt_term.specs.Color.{Color, color, color_number}
 use Rattle.ti_rows.specs.Bits.{bit}

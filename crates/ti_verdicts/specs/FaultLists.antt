@@ -38,7 +38,9 @@ pub record AreIndented (lines : List ℕ) : Type 0 where
 -- spaces, and the line of the string that would be right.
 abbrev pub HasFaultLines : Content → Option SourceText → Mended → List No → No → List ℕ → Type 0
 HasFaultLines entry source mended nos refusal lines =
-    (line : List ℕ) × (further : List ℕ) × (remedy : List ℕ) × IsLocation source refusal.cap line × AreIndented further × HasRemedy entry mended nos refusal.cap remedy × (lines ≡ no_text refusal ++ 10 ∷ (line ++ (further ++ remedy)))
+    (line : List ℕ) × (further : List ℕ) × (remedy : List ℕ) × IsLocation source refusal.cap line
+    × AreIndented further × HasRemedy entry mended nos refusal.cap remedy
+    × (lines ≡ no_text refusal ++ 10 ∷ (line ++ (further ++ remedy)))
 
 -- ---- how many
 
@@ -49,7 +51,8 @@ counts_line nos = answers_line (map fault_answer nos)
 -- ---- the reply
 
 -- the lines of each fault, in their order, and the line of counts
-pub record IsFaultsText (entry : Content) (source : Option SourceText) (mended : Mended) (nos : List No) (text : List ℕ) : Type 0 where
+pub record IsFaultsText (entry : Content) (source : Option SourceText) (mended : Mended) (nos : List No)
+    (text : List ℕ) : Type 0 where
   pub lines : List ℕ
   pub each : HasParts (HasFaultLines entry source mended nos) nos lines
   pub says : text ≡ lines ++ counts_line nos
@@ -60,7 +63,8 @@ EndsAsNo refusal None = ⊥
 
 -- The reply lists these faults, with what is suggested by the entry in which all of them are mended at once, and fails
 -- as the first does.
-pub record HasFaults (entry : Content) (source : Option SourceText) (rows cols : ℕ) (first : No) (others : List No) (reply : Reply) : Type 0 where
+pub record HasFaults (entry : Content) (source : Option SourceText) (rows cols : ℕ) (first : No) (others : List No)
+    (reply : Reply) : Type 0 where
   pub mended : Mended
   pub best : IsBestMended entry rows cols (first ∷ others) mended
   pub text : IsFaultsText entry source mended (first ∷ others) reply.text.items

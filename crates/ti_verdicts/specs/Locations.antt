@@ -28,7 +28,8 @@ line_of_field text origin = number_of (slice_get (field_lines_of text origin.ent
 abbrev pub first_name : List ℕ → List ℕ
 first_name names = before_first (λ b. b == 124) names
 
--- `FILE:LINE: CAP of NAME` by the file's path and text and its entries, with the first name of the entry that has the field
+-- `FILE:LINE: CAP of NAME` by the file's path and text and its entries, with the first name of the entry that has the
+-- field
 unfoldable pub place_text : List ℕ → List ℕ → List RawEntry → ℕ → Origin → List ℕ
 place_text path text raws cap origin =
     path
@@ -60,8 +61,8 @@ pub record PlaceInSource : Type 0 where
   pub raws : List RawEntry
   pub place : ℕ
 
--- Where the value stands that a fault is about, and then the fault under the name of its entry, as far as it can be shown;
--- there is no line for a capability without a value.
+-- Where the value stands that a fault is about, and then the fault under the name of its entry, as far as it can be
+-- shown; there is no line for a capability without a value.
 abbrev pub placed_text : PlaceInSource → List ℕ → No → Option Origin → List ℕ
 placed_text stands name refusal None = []
 placed_text stands name refusal (Some origin) =
@@ -80,7 +81,12 @@ IsPlaced (Some stands) name refusal line = IsPlacedIn stands name refusal line
 
 -- (Serves the code alone.) the same without where it lies in memory
 abbrev pub place_in : SourcePlace → PlaceInSource
-place_in stands = record { path = stands.path.now; text = stands.text.now; raws = stands.raws.now; place = stands.place }
+place_in stands = record {
+  path = stands.path.now;
+  text = stands.text.now;
+  raws = stands.raws.now;
+  place = stands.place;
+}
 
 abbrev pub place_if : Option SourcePlace → Option PlaceInSource
 place_if None = None

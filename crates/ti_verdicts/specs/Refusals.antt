@@ -6,7 +6,8 @@ use Rattle.ti_caps.specs.Table.{name_at}
 use Rattle.ti_cert.specs.declared.faults.AgreeFault.TheVariants as agree_faults
 use Rattle.ti_cert.specs.declared.faults.CertFault.{CertFault}
 use Rattle.ti_cert.specs.declared.faults.CertFaultKind.{CertFaultKind}
-use Rattle.ti_cert.specs.declared.faults.CertFaultKind.TheVariants.{BadLine, Missing, OutOfOrder, NotWhole, NotTame, NotShown, NoResync, BadLook, NoMemory, ReadFailed}
+use Rattle.ti_cert.specs.declared.faults.CertFaultKind.TheVariants.{BadLine, Missing, OutOfOrder, NotWhole, NotTame}
+use Rattle.ti_cert.specs.declared.faults.CertFaultKind.TheVariants.{NotShown, NoResync, BadLook, NoMemory, ReadFailed}
 use Rattle.ti_cert.specs.declared.faults.VerifyFault.{VerifyFault}
 use Rattle.ti_cert.specs.declared.faults.VerifyFault.TheVariants.{Cert, Agree}
 use Rattle.ti_checker.specs.declared.causes.Cause.{Cause}

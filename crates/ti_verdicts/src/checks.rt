@@ -16,8 +16,8 @@ use ti_words::Remarks;
 use vt_term::Size;
 
 /// Replies with the notes on the entry that the `words` give and with the certificate that the `certifier` writes of
-/// it, which goes to its path or to standard output, or with why there is none. Further lines go to `remarks`, advice on
-/// an entry with a certificate among them.
+/// it, which goes to its path or to standard output, or with why there is none. Further lines go to `remarks`, advice
+/// on an entry with a certificate among them.
 pub fn check_entry<C: Certifier, F: Files>(
     alloc: Global,
     certifier: &C,

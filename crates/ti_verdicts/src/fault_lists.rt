@@ -120,8 +120,8 @@ fn fault_lines(
     Ok(lines)
 }
 
-/// The line of `no`, one of the faults `nos` of the entry `found`, which is `mended`; where its value stands in the source,
-/// what explains it, and what would be right.
+/// The line of `no`, one of the faults `nos` of the entry `found`, which is `mended`; where its value stands in the
+/// source, what explains it, and what would be right.
 fn own_lines(
     alloc: Global,
     found: &Sourced<'_>,

@@ -48,8 +48,9 @@ fn remedy_line(alloc: Global, cap: Cap, string: &[u8]) -> Result<Vec<u8>, AllocE
 }
 
 /// The line of the string that would be right in the place of the one that `no` is about; none if there is no such
-/// string. `nos` are all faults of `entry`, and `mended` is the entry with all of them mended, in which each string that
-/// is suggested is right beside the others. Where the faults show a terminal of another kind, nothing is suggested.
+/// string. `nos` are all faults of `entry`, and `mended` is the entry with all of them mended, in which each string
+/// that is suggested is right beside the others. Where the faults show a terminal of another kind, nothing is
+/// suggested.
 pub fn suggestion_line(
     alloc: Global,
     entry: &Entry,

@@ -53,8 +53,8 @@ impl Remarks {
         self.lines.as_slice()
     }
 
-    /// Adds a line, as far as there is memory: `subject` in quotes, and the `words` about it. A line that could be taken
-    /// for a suggestion is left out.
+    /// Adds a line, as far as there is memory: `subject` in quotes, and the `words` about it. A line that could be
+    /// taken for a suggestion is left out.
     pub fn add(&mut self, subject: &[u8], words: &[u8])
         ensures { MayAdd (quoted (shown subject.now) (shown words.now)) self.old self.new }
     {

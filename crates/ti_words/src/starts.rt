@@ -6,8 +6,8 @@ ghost use Rattle.ti_words.specs.Starts as spec;
 use std::alloc::{AllocError, Global};
 use vt_term::{Charset, Color, Rendition, Settings, Size};
 
-/// The state `start` of a terminal of `size`, in which every cell shows the character `fill`: the cursor, and what is not
-/// as after a reset.
+/// The state `start` of a terminal of `size`, in which every cell shows the character `fill`: the cursor, and what is
+/// not as after a reset.
 pub fn start_words(
     alloc: Global,
     size: Size,

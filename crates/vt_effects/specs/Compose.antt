@@ -18,7 +18,8 @@ use Rattle.vt_effects.specs.declared.effects.Sets.{Sets}
 use Rattle.vt_effects.specs.declared.effects.Region.{Region}
 use Rattle.vt_effects.specs.declared.effects.Effect.{Effect}
 use Rattle.vt_effects.specs.Effect.{applied, Applies}
-use Rattle.vt_effects.specs.Record.{and_back, and_forward, cells_erased, screen_erased, display_erased, keeps_margins, is_still, keeps_background}
+use Rattle.vt_effects.specs.Record.{and_back, and_forward, cells_erased, screen_erased, display_erased, keeps_margins}
+use Rattle.vt_effects.specs.Record.{is_still, keeps_background}
 
 -- the greatest number of a move is 65535, and none leads above the first row or left of the first column
 abbrev pub goes_back : Move → ℕ → Bool

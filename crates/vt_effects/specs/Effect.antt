@@ -1,6 +1,7 @@
 -- What an effect means: a function on screens. Cells are erased and the region scrolls around the cursor and with
 -- the background that were there before; then come the cursor, the rendition, the sets, the margins and visibility.
-use Rattle.std.specs.Prelude.{ℕ, ◌+◌, ◌-◌, ◌<◌, ◌≤◌, ◌==◌, ◌&&◌, ◌||◌, nat_le, nat_lt, Bool, true, false, if◌then◌else◌, Option, None, Some}
+use Rattle.std.specs.Prelude.{ℕ, ◌+◌, ◌-◌, ◌<◌, ◌≤◌, ◌==◌, ◌&&◌, ◌||◌, nat_le, nat_lt, Bool, true, false, if◌then◌else◌}
+use Rattle.std.specs.Prelude.{Option, None, Some}
 use Rattle.vt_term.specs.Color.{Color}
 use Rattle.vt_term.specs.Look.{Look, blank}
 use Rattle.vt_term.specs.Look.{Rendition}

@@ -1,12 +1,18 @@
 -- Which effect a string has from every state of a start, token by token. A token that has no one effect from all of
 -- them has no record, and then the string has none.
-use Rattle.std.specs.Prelude.{ℕ, ◌≡◌, ◌+◌, ◌-◌, ◌*◌, ◌/◌, ◌==◌, ◌&&◌, nat_le, nat_lt, min, Bool, true, false, List, [], ◌∷◌, if◌then◌else◌, Option, None, Some}
+use Rattle.std.specs.Prelude.{ℕ, ◌≡◌, ◌+◌, ◌-◌, ◌*◌, ◌/◌, ◌==◌, ◌&&◌, nat_le, nat_lt, min, Bool, true, false, List, []}
+use Rattle.std.specs.Prelude.{◌∷◌, if◌then◌else◌, Option, None, Some}
 use Rattle.std.specs.Option.{unwrap_or, option_and_then}
 use Rattle.vt_term.specs.Color.{Color}
 use Rattle.vt_term.specs.Text.{Splits}
 use Rattle.vt_term.specs.Rendition.{RenditionChange, change_of}
 use Rattle.vt_term.specs.Rendition as changes
-use Rattle.vt_term.specs.Function.{CodeElement, G0, G1, ModeKind, Standard, Private, EraseExtent, ToEnd, FromStart, function_of, Function, Print, LineFeed, CarriageReturn, Backspace, Tab, ShiftOut, ShiftIn, ReverseIndex, NextLine, CursorUp, CursorDown, CursorForward, CursorBack, CursorColumn, CursorRow, CursorPosition, EraseLine, EraseDisplay, EraseCells, InsertCells, DeleteCells, InsertLines, DeleteLines, ScrollUp, ScrollDown, Designate, SelectRendition, Modes, Ignored}
+use Rattle.vt_term.specs.Function.{CodeElement, G0, G1, ModeKind, Standard, Private, EraseExtent, ToEnd, FromStart}
+use Rattle.vt_term.specs.Function.{function_of, Function, Print, LineFeed, CarriageReturn, Backspace, Tab, ShiftOut}
+use Rattle.vt_term.specs.Function.{ShiftIn, ReverseIndex, NextLine, CursorUp, CursorDown, CursorForward, CursorBack}
+use Rattle.vt_term.specs.Function.{CursorColumn, CursorRow, CursorPosition, EraseLine, EraseDisplay, EraseCells}
+use Rattle.vt_term.specs.Function.{InsertCells, DeleteCells, InsertLines, DeleteLines, ScrollUp, ScrollDown, Designate}
+use Rattle.vt_term.specs.Function.{SelectRendition, Modes, Ignored}
 use Rattle.vt_term.specs.Function as functions
 use Rattle.vt_effects.specs.declared.effects.Move.{Move}
 use Rattle.vt_effects.specs.declared.effects.Move.TheVariants as moves

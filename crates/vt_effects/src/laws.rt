@@ -4,7 +4,8 @@ ghost use Rattle.vt_term.specs.Size.{IsSize};
 ghost use Rattle.vt_effects.specs.declared.starts.Start.{Start};
 ghost use Rattle.vt_term.specs.Moves.{cursor_to};
 ghost use Rattle.vt_effects.specs.Settings.{RecordsTellSettings};
-ghost use Rattle.vt_effects.specs.Basic.{HasRecord, home_text, clear_text, el_text, sgr0_text, placed_at, cleared, tail_erased, made_plain};
+ghost use Rattle.vt_effects.specs.Basic.{HasRecord, home_text, clear_text, el_text, sgr0_text, placed_at, cleared};
+ghost use Rattle.vt_effects.specs.Basic.{tail_erased, made_plain};
 
 /// The strings of the plainest terminals have their records from every start: to clear, to go to a
 /// place, to make the rendition plain, to go home, and to erase to the line's end.

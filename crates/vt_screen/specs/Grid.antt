@@ -2,7 +2,9 @@
 use Rattle.std.specs.Prelude.{ℕ, List}
 use Rattle.grids.specs.Grids.{cell_at, filled, one}
 use Rattle.vt_screen.specs.Look.{Look, space}
-pub use Rattle.grids.specs.Grids.{uniform, line_at, line_drawn, drawn_from, drawn, scrolled_up, scrolled_down, part_filled, cells_inserted, cells_deleted, line_changed, lines_filled, written, HasEvenLines}
+pub use Rattle.grids.specs.Grids.{uniform, line_at, line_drawn, drawn_from, drawn, scrolled_up, scrolled_down}
+pub use Rattle.grids.specs.Grids.{part_filled, cells_inserted, cells_deleted, line_changed, lines_filled, written}
+pub use Rattle.grids.specs.Grids.{HasEvenLines}
 
 abbrev pub Grid : Type 0
 Grid = List (List Look)

@@ -3,7 +3,10 @@ use Rattle.std.specs.Prelude.{ℕ, ◌-◌, ◌==◌, ◌&&◌, nat_le, true, fa
 use Rattle.std.specs.Option.{unwrap_or}
 use Rattle.vt_screen.specs.declared.renditions.Rendition.{Rendition}
 use Rattle.vt_screen.specs.declared.renditions.RenditionChange.{RenditionChange}
-use Rattle.vt_screen.specs.declared.renditions.RenditionChange.TheVariants.{Plain, Bold, Faint, Underline, Blink, Negative, Concealed, NormalIntensity, NotUnderlined, Steady, Positive, Revealed, Foreground, Background}
+use Rattle.vt_screen.specs.declared.renditions.RenditionChange.TheVariants.{Plain, Bold, Faint, Underline, Blink}
+use Rattle.vt_screen.specs.declared.renditions.RenditionChange.TheVariants.{Negative, Concealed, NormalIntensity}
+use Rattle.vt_screen.specs.declared.renditions.RenditionChange.TheVariants.{NotUnderlined, Steady, Positive, Revealed}
+use Rattle.vt_screen.specs.declared.renditions.RenditionChange.TheVariants.{Foreground, Background}
 use Rattle.vt_screen.specs.Color.{color}
 use Rattle.vt_screen.specs.Look.{plain}
 

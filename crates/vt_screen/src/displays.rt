@@ -1,6 +1,7 @@
 //! `Display`: the cells, the cursor and the modes, and what each function does to them.
 
-ghost use Rattle.std.specs.Prelude.{◌≡◌, ◌==◌, ◌+◌, ◌-◌, ◌^◌, ◌<◌, ◌≤◌, min, max, nat_le, ◌&&◌, if◌then◌else◌, length, take, IfOk};
+ghost use Rattle.std.specs.Prelude.{◌≡◌, ◌==◌, ◌+◌, ◌-◌, ◌^◌, ◌<◌, ◌≤◌, min, max, nat_le, ◌&&◌, if◌then◌else◌, length};
+ghost use Rattle.std.specs.Prelude.{take, IfOk};
 ghost use Rattle.std.specs.List.{AllByRecursion, prefix_len};
 ghost use Rattle.vt_screen.specs.Grid.{look_at};
 ghost use Rattle.vt_screen.specs.Step as spec;

@@ -1,5 +1,6 @@
 -- A file of cases, a line for each, and the answers to them.
-use Rattle.std.specs.Prelude.{◌≡◌, ◌==◌, ◌&&◌, ◌+◌, ◌<◌, ℕ, not, nat_le, Bool, List, [], ◌∷◌, ◌++◌, length, take, drop, bytes_eq, codes, if◌then◌else◌, Option, None, Some, option_map, Result, Ok, Err}
+use Rattle.std.specs.Prelude.{◌≡◌, ◌==◌, ◌&&◌, ◌+◌, ◌<◌, ℕ, not, nat_le, Bool, List, [], ◌∷◌, ◌++◌, length, take, drop}
+use Rattle.std.specs.Prelude.{bytes_eq, codes, if◌then◌else◌, Option, None, Some, option_map, Result, Ok, Err}
 use Rattle.std.specs.List.{AllByRecursion, flat_map, list_all, position}
 use Rattle.hex.specs.Hex.{decode_of}
 use Rattle.hex.specs.declared.error.FromHexError.{FromHexError}
@@ -60,7 +61,8 @@ ended line = line ++ 10 ∷ []
 
 abbrev pub EachAnswers : ℕ → ℕ → List (List ℕ) → List (List ℕ) → Type 0
 EachAnswers rows cols [] [] = Unit {0}
-EachAnswers rows cols (line ∷ lines) (answer ∷ answers) = Answers rows cols line answer × EachAnswers rows cols lines answers
+EachAnswers rows cols (line ∷ lines) (answer ∷ answers) = Answers rows cols line answer
+    × EachAnswers rows cols lines answers
 EachAnswers rows cols _ _ = ⊥
 
 -- the text has a line of answer for each line of the file

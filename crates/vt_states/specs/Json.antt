@@ -1,5 +1,6 @@
 -- The whole state as the members of a JSON object (RFC 8259), in the order of their names and without a space.
-use Rattle.std.specs.Prelude.{ℕ, ◌+◌, ◌==◌, ◌||◌, Bool, List, [], ◌∷◌, ◌++◌, length, codes, if◌then◌else◌, Option, None, Some, zero, suc}
+use Rattle.std.specs.Prelude.{ℕ, ◌+◌, ◌==◌, ◌||◌, Bool, List, [], ◌∷◌, ◌++◌, length, codes, if◌then◌else◌, Option, None}
+use Rattle.std.specs.Prelude.{Some, zero, suc}
 use Rattle.std.specs.Fmt.{decimal}
 use Rattle.std.specs.List.{flat_map}
 use Rattle.hex.specs.Hex.{encode_lower}

@@ -1,6 +1,7 @@
--- What T is shown of a recording of today, in place of characters and strings that it doesn't have (ECMA-48 5.6, command
--- strings and character strings; xterm's control sequences, OSC; Unicode, table 3-7).
-use Rattle.std.specs.Prelude.{ℕ, ◌+◌, ◌==◌, ◌&&◌, ◌||◌, nat_le, Bool, List, [], ◌∷◌, length, take, drop, slice_index_or, if◌then◌else◌, zero, suc}
+-- What T is shown of a recording of today, in place of characters and strings that it doesn't have (ECMA-48 5.6,
+-- command strings and character strings; xterm's control sequences, OSC; Unicode, table 3-7).
+use Rattle.std.specs.Prelude.{ℕ, ◌+◌, ◌==◌, ◌&&◌, ◌||◌, nat_le, Bool, List, [], ◌∷◌, length, take, drop, slice_index_or}
+use Rattle.std.specs.Prelude.{if◌then◌else◌, zero, suc}
 use Rattle.std.specs.List.{flat_map}
 
 -- ---- characters above 127, in UTF-8
@@ -24,7 +25,8 @@ begins_three a b =
 
 abbrev pub begins_four : ℕ → ℕ → Bool
 begins_four a b =
-    ((a == 240) && is_between 144 191 b) || ((a == 244) && is_between 128 143 b) || (is_between 241 243 a && continues b)
+    ((a == 240) && is_between 144 191 b) || ((a == 244) && is_between 128 143 b)
+    || (is_between 241 243 a && continues b)
 
 -- the bytes of the character in front, 1 where none is valid
 abbrev pub character_length : List ℕ → ℕ
@@ -67,7 +69,8 @@ part_length bytes =
 abbrev pub parts : ℕ → List ℕ → List (List ℕ)
 parts zero bytes = []
 parts (suc n) [] = []
-parts (suc n) (b ∷ bytes) = take (part_length (b ∷ bytes)) (b ∷ bytes) ∷ parts n (drop (part_length (b ∷ bytes)) (b ∷ bytes))
+parts (suc n) (b ∷ bytes) =
+    take (part_length (b ∷ bytes)) (b ∷ bytes) ∷ parts n (drop (part_length (b ∷ bytes)) (b ∷ bytes))
 
 -- what T is shown of a part: nothing of a string, a question mark for a character above 127
 abbrev pub shown : List ℕ → List ℕ

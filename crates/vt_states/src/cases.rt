@@ -1,6 +1,7 @@
 //! Many cases in one run.
 
-ghost use Rattle.std.specs.Prelude.{◌≡◌, ◌<◌, ◌≤◌, ◌/◌, ◌==◌, ◌++◌, ◌∷◌, [], ℕ, List, length, nat_le, ◌&&◌, Some, None, option_map, IfErr, IfOk, IfSome, OnOk, if◌then◌else◌};
+ghost use Rattle.std.specs.Prelude.{◌≡◌, ◌<◌, ◌≤◌, ◌/◌, ◌==◌, ◌++◌, ◌∷◌, [], ℕ, List, length, nat_le, ◌&&◌, Some, None};
+ghost use Rattle.std.specs.Prelude.{option_map, IfErr, IfOk, IfSome, OnOk, if◌then◌else◌};
 ghost use Rattle.std.specs.List.{position};
 ghost use Rattle.hex.specs.Hex.{decode_of};
 ghost use Rattle.vt_states.specs.Cases as spec;
@@ -49,8 +50,8 @@ impl<T: Drop> From<AllocFailed<T>> for CaseFault {
     }
 }
 
-/// The answers to the cases of a file, a line for each: the state that the case's bytes leave of a terminal of this size
-/// that was reset, as a JSON object that begins with the case's name and, if its bytes are stuck, the place.
+/// The answers to the cases of a file, a line for each: the state that the case's bytes leave of a terminal of this
+/// size that was reset, as a JSON object that begins with the case's name and, if its bytes are stuck, the place.
 ///
 /// # Errors
 /// The first line that is no case, or out of memory.
@@ -111,7 +112,8 @@ fn push_state(
     text: &mut Vec<u8>,
 ) -> Result<(), AllocError>
     ensures { OnOk result ((answer : List ℕ) × (text.new.items ≡ text.old.items ++ answer)
-        × ((line : List ℕ) → spec.fed_in line ≡ Some (record { name = case.now.name.now; bytes = case.now.bytes.items }) →
+        × ((line : List ℕ)
+        → spec.fed_in line ≡ Some (record { name = case.now.name.now; bytes = case.now.bytes.items }) →
         spec.Answers size.rows size.cols line answer)) }
 {
     let (snapshot, stuck) = Snapshot::after(alloc, size, case.bytes.as_slice())?;

@@ -10,8 +10,8 @@ use crate::styles::letters_of;
 use std::alloc::{AllocError, Global};
 
 impl Snapshot<'_> {
-    /// Adds the state to `text` as a JSON object, of which `front` are the first members, each with its comma. Fails only
-    /// when out of memory.
+    /// Adds the state to `text` as a JSON object, of which `front` are the first members, each with its comma. Fails
+    /// only when out of memory.
     pub fn push_object(
         &self,
         alloc: Global,
@@ -109,7 +109,8 @@ impl Snapshot<'_> {
     }
 }
 
-/// The first members of the object of a case: its `name`, and where it is stuck if it is. Fails only when out of memory.
+/// The first members of the object of a case: its `name`, and where it is stuck if it is. Fails only when out of
+/// memory.
 pub fn case_members(alloc: Global, name: &[u8], stuck: Option<usize>) -> Result<Vec<u8>, AllocError>
     ensures { IfOk result (λ front. front.items ≡ spec.case_members name.now stuck) }
 {

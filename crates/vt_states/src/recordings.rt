@@ -17,8 +17,8 @@ pub struct Recording {
     pub replaced: usize,
 }
 
-/// The recording `bytes` with a question mark for each character above 127, and without strings (DCS, SOS, OSC, PM, APC).
-/// Fails only when out of memory.
+/// The recording `bytes` with a question mark for each character above 127, and without strings (DCS, SOS, OSC, PM,
+/// APC). Fails only when out of memory.
 pub fn plain_recording(alloc: Global, bytes: &[u8]) -> Result<Recording, AllocError>
     ensures text { IfOk result (λ r. r.text.items ≡ spec.plain_text bytes.now) }
     ensures dropped { IfOk result (λ r. r.dropped ≡ spec.total spec.dropped (spec.all_parts bytes.now)) }

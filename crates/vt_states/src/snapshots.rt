@@ -30,8 +30,8 @@ impl<'a> Model for Snapshot<'a> {
 }
 
 impl<'a> Snapshot<'a> {
-    /// The state that `bytes` leave of a terminal in its reset state, and where they are stuck if they are: then the state
-    /// is that of the bytes before. Fails only when out of memory.
+    /// The state that `bytes` leave of a terminal in its reset state, and where they are stuck if they are: then the
+    /// state is that of the bytes before. Fails only when out of memory.
     pub fn after(
         alloc: Global,
         size: Size,

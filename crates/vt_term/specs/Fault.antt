@@ -6,7 +6,8 @@ use Rattle.vt_term.specs.declared.tokenizer.TokenFault.{TokenFault}
 use Rattle.vt_term.specs.declared.tokenizer.TokenFaultKind.{TokenFaultKind}
 use Rattle.vt_term.specs.declared.tokenizer.TokenFaultKind.TheVariants.{Unfinished, Stuck, NoMemory}
 use Rattle.vt_screen.specs.Look.{IsPrinted}
-use Rattle.vt_term.specs.Text.{IsControl, IsParameter, IsIntermediate, IsFinal, IsEscapeFinal, IsIntroducer, IsOpen, IsWhole, IsSplit, IsStuck, IsUnfinished}
+use Rattle.vt_term.specs.Text.{IsControl, IsParameter, IsIntermediate, IsFinal, IsEscapeFinal, IsIntroducer, IsOpen}
+use Rattle.vt_term.specs.Text.{IsWhole, IsSplit, IsStuck, IsUnfinished}
 
 -- the byte goes on or ends, or what is open is cut off, and the byte is read for itself
 abbrev pub IsTransition : List ℕ → ℕ → Transition → Type 0

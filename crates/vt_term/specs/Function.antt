@@ -1,5 +1,6 @@
 -- What a token asks for (ECMA-48 8.3; VT100 user guide for DECSTBM, DECAWM and the character sets).
-use Rattle.std.specs.Prelude.{ℕ, ◌-◌, ◌==◌, ◌&&◌, ◌||◌, nat_le, max, true, false, List, [], ◌∷◌, length, take, if◌then◌else◌, Option, None, Some}
+use Rattle.std.specs.Prelude.{ℕ, ◌-◌, ◌==◌, ◌&&◌, ◌||◌, nat_le, max, true, false, List, [], ◌∷◌, length, take}
+use Rattle.std.specs.Prelude.{if◌then◌else◌, Option, None, Some}
 use Rattle.std.specs.Option.{unwrap_or}
 use Rattle.std.specs.List.{list_all, slice_index}
 pub use Rattle.vt_screen.specs.declared.functions.EraseExtent.{EraseExtent}
@@ -9,7 +10,14 @@ pub use Rattle.vt_screen.specs.declared.functions.CodeElement.TheVariants.{G0, G
 pub use Rattle.vt_screen.specs.declared.functions.ModeKind.{ModeKind}
 pub use Rattle.vt_screen.specs.declared.functions.ModeKind.TheVariants.{Standard, Private}
 pub use Rattle.vt_screen.specs.declared.functions.Function.{Function}
-pub use Rattle.vt_screen.specs.declared.functions.Function.TheVariants.{Print, LineFeed, CarriageReturn, Backspace, Tab, ShiftOut, ShiftIn, ReverseIndex, NextLine, CursorUp, CursorDown, CursorForward, CursorBack, CursorColumn, CursorRow, CursorPosition, EraseLine, EraseDisplay, EraseCells, InsertCells, DeleteCells, InsertLines, DeleteLines, ScrollUp, ScrollDown, Margins, Designate, SelectRendition, Modes, Ignored}
+pub use Rattle.vt_screen.specs.declared.functions.Function.TheVariants.{Print, LineFeed, CarriageReturn, Backspace, Tab}
+pub use Rattle.vt_screen.specs.declared.functions.Function.TheVariants.{ShiftOut, ShiftIn, ReverseIndex, NextLine}
+pub use Rattle.vt_screen.specs.declared.functions.Function.TheVariants.{CursorUp, CursorDown, CursorForward, CursorBack}
+pub use Rattle.vt_screen.specs.declared.functions.Function.TheVariants.{CursorColumn, CursorRow, CursorPosition}
+pub use Rattle.vt_screen.specs.declared.functions.Function.TheVariants.{EraseLine, EraseDisplay, EraseCells}
+pub use Rattle.vt_screen.specs.declared.functions.Function.TheVariants.{InsertCells, DeleteCells, InsertLines}
+pub use Rattle.vt_screen.specs.declared.functions.Function.TheVariants.{DeleteLines, ScrollUp, ScrollDown, Margins}
+pub use Rattle.vt_screen.specs.declared.functions.Function.TheVariants.{Designate, SelectRendition, Modes, Ignored}
 use Rattle.vt_term.specs.Parameters.{numbers, is_numeral}
 
 -- where the default is 1 and 0 counts as 1

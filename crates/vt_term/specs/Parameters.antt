@@ -1,5 +1,6 @@
 -- The numbers of a control sequence (ECMA-48 5.4.1 and 5.4.2, parameter representation).
-use Rattle.std.specs.Prelude.{ℕ, ◌+◌, ◌-◌, ◌*◌, ◌==◌, ◌&&◌, ◌||◌, nat_le, min, Bool, List, [], ◌∷◌, map, if◌then◌else◌, Option, None, Some}
+use Rattle.std.specs.Prelude.{ℕ, ◌+◌, ◌-◌, ◌*◌, ◌==◌, ◌&&◌, ◌||◌, nat_le, min, Bool, List, [], ◌∷◌, map, if◌then◌else◌}
+use Rattle.std.specs.Prelude.{Option, None, Some}
 
 -- a byte put in front of the first piece
 abbrev pub onto_first : ℕ → List (List ℕ) → List (List ℕ)

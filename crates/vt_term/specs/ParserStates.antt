@@ -1,9 +1,12 @@
 -- (Serves the code alone.) What each stage of the parser says of the bytes so far. Only the parser's own clauses cite
 -- this file.
-use Rattle.std.specs.Prelude.{◌≡◌, ◌≢◌, ℕ, ◌-◌, ◌<◌, ◌≤◌, ◌==◌, ◌&&◌, Bool, true, false, List, [], ◌∷◌, ◌++◌, length, take, slice_index, Option, None, Some}
+use Rattle.std.specs.Prelude.{◌≡◌, ◌≢◌, ℕ, ◌-◌, ◌<◌, ◌≤◌, ◌==◌, ◌&&◌, Bool, true, false, List, [], ◌∷◌, ◌++◌, length}
+use Rattle.std.specs.Prelude.{take, slice_index, Option, None, Some}
 use Rattle.std.specs.List.{list_all}
 use Rattle.vt_term.specs.declared.parser.ParserState.{ParserState}
-use Rattle.vt_term.specs.declared.parser.ParserState.TheVariants.{Outside, Escape, DesignatesG0, DesignatesG1, Intermediate, Introduced, Parameters, PrivateParameters, OtherParameters, Closed}
+use Rattle.vt_term.specs.declared.parser.ParserState.TheVariants.{Outside, Escape, DesignatesG0, DesignatesG1}
+use Rattle.vt_term.specs.declared.parser.ParserState.TheVariants.{Intermediate, Introduced, Parameters}
+use Rattle.vt_term.specs.declared.parser.ParserState.TheVariants.{PrivateParameters, OtherParameters, Closed}
 use Rattle.vt_term.specs.Parameters.{numbers, is_numeral}
 use Rattle.vt_term.specs.Text.{sequence_limit, IsFinal, IsIntermediate, IsOpen, IsWhole}
 use Rattle.vt_term.specs.Function.{function_of}

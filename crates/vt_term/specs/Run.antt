@@ -1,5 +1,6 @@
 -- What a terminal becomes over a text, in whatever pieces the text comes.
-use Rattle.std.specs.Prelude.{ℕ, ◌+◌, ◌<◌, ◌≡◌, List, [], ◌∷◌, ◌++◌, length, take, Bool, true, false, Option, None, Some, min, ◌-◌}
+use Rattle.std.specs.Prelude.{ℕ, ◌+◌, ◌<◌, ◌≡◌, List, [], ◌∷◌, ◌++◌, length, take, Bool, true, false, Option, None}
+use Rattle.std.specs.Prelude.{Some, min, ◌-◌}
 use Rattle.vt_screen.specs.Screen.{Screen, IsScreen}
 use Rattle.vt_term.specs.Screen.{State, IsOfSize, IsAtRest}
 use Rattle.vt_term.specs.Text.{Splits}

@@ -1,11 +1,13 @@
 //! The parser: what each byte does to an open sequence, and the function that a finished one names.
 
-ghost use Rattle.std.specs.Prelude.{◌≡◌, ℕ, ◌+◌, ◌-◌, ◌*◌, ◌<◌, ◌≤◌, min, true, false, List, [], ◌∷◌, ◌++◌, length, IfOk, Option, vec_capacity};
+ghost use Rattle.std.specs.Prelude.{◌≡◌, ℕ, ◌+◌, ◌-◌, ◌*◌, ◌<◌, ◌≤◌, min, true, false, List, [], ◌∷◌, ◌++◌, length};
+ghost use Rattle.std.specs.Prelude.{IfOk, Option, vec_capacity};
 ghost use Rattle.std.specs.Option.{unwrap_or};
 ghost use Rattle.vt_term.specs.Parameters as spec;
 ghost use Rattle.vt_term.specs.Text.{IsOpen, IsWhole, Cuts};
 ghost use Rattle.vt_term.specs.Function.{function_of};
-ghost use Rattle.vt_term.specs.Fault.{IsTransition, IsOutsideTransition, IsIntroducerTransition, IsEscapeTransition, IsInsideTransition};
+ghost use Rattle.vt_term.specs.Fault.{IsTransition, IsOutsideTransition, IsIntroducerTransition, IsEscapeTransition};
+ghost use Rattle.vt_term.specs.Fault.{IsInsideTransition};
 ghost use Rattle.vt_term.specs.ParserStates.{IsAt, NamesNothing};
 
 use crate::functions::{designation, escape_final, of_numbers, of_private_numbers, single};

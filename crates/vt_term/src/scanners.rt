@@ -1,6 +1,7 @@
 //! A text gone over token by token, in place.
 
-ghost use Rattle.std.specs.Prelude.{◌≡◌, ◌++◌, ◌∷◌, ◌-◌, ◌<◌, ◌≤◌, [], drop, length, take, IfErr, IfOk, IfSome, List, None, Some, ◌+◌, ℕ};
+ghost use Rattle.std.specs.Prelude.{◌≡◌, ◌++◌, ◌∷◌, ◌-◌, ◌<◌, ◌≤◌, [], drop, length, take, IfErr, IfOk, IfSome, List};
+ghost use Rattle.std.specs.Prelude.{None, Some, ◌+◌, ℕ};
 ghost use Rattle.vt_term.specs.Function.{function_of};
 ghost use Rattle.vt_term.specs.ParserStates.{IsTold};
 ghost use Rattle.vt_term.specs.Text.{IsOpen};
