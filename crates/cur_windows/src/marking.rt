@@ -16,6 +16,7 @@ impl Desk {
             (spec.slot_of self.now id) }
         ensures legal { IsDesk self.now }
     {
+        // a look at a field brings in the invariant: the desk is a legal one
         let _ = &self.rows;
         if let Ok(slot) = self.find(id) {
             self.mark_slot(&slot, touched);

@@ -25,6 +25,7 @@ pub(crate) fn are_bytes(bytes: &[u8])
     ensures { AllByRecursion (λ b. b < 256) bytes.now }
 {
     for byte in bytes {
+        // reading a byte brings in its range
         let _byte = *byte;
     }
 }

@@ -10,11 +10,9 @@ use Rattle.ti_lines.specs.declared.row_lines.RowLine.{RowLine}
 use Rattle.ti_lines.specs.Heads.{size_text}
 use Rattle.ti_lines.specs.RowLines.{IsLine, line_text}
 use Rattle.ti_lines.specs.Texts.{row_lines, ended}
-use Rattle.ti_lines.specs.Judgements.{fault_at}
-use Rattle.ti_cert.specs.Certificates.{Said, Ended}
+use Rattle.ti_cert.specs.Certificates.{Said, Ended, CertFault}
 use Rattle.ti_cert.specs.Texts.{StandInOrder, IsCertificate, IsRefused}
 use Rattle.ti_cert.specs.Basic.{basic_line, places, only_if, basic_rows, basic_text, BasicAccepted, IsStopped}
-use Rattle.ti_cert.specs.declared.faults.CertFault.{CertFault}
 use Rattle.ti_cert.specs.declared.faults.CertFaultKind.{CertFaultKind}
 use Rattle.ti_cert.specs.declared.faults.CertFaultKind.TheVariants.{NoMemory}
 use Rattle.ti_lines.specs.declared.judgements.LineFault.{LineFault}
@@ -131,8 +129,8 @@ never_both said fault x y e f h = cc
 pub stopped : (rows cols : ℕ) (home el : Bool) (Failed : Type 0) (fault : CertFault) → IsSize rows cols → IsRefused rows cols (basic_text rows cols home el) Failed fault → IsStopped Failed fault
 stopped rows cols home el Failed fault size (inl h) =
     let said : Said = Ended None (reverse (map basic_line (basic_rows rows cols home el))) in
-    absurd (never_both said (fault_at fault.line fault.kind) (Ok said) (Err (fault_at fault.line fault.kind)) refl refl
-    (one_answer rows cols (basic_text rows cols home el) (Ok said) (Err (fault_at fault.line fault.kind)) (basic_accepted rows cols home el size) h))
+    absurd (never_both said fault (Ok said) (Err fault) refl refl
+    (one_answer rows cols (basic_text rows cols home el) (Ok said) (Err fault) (basic_accepted rows cols home el size) h))
 stopped rows cols home el Failed fault size (inr stop) = stop
 
 pub out_of_memory : (fault : CertFault) → IsStopped ⊥ fault → fault.kind ≡ NoMemory

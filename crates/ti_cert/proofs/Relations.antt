@@ -9,7 +9,7 @@ use Rattle.ti_lines.specs.declared.judgements.LineFault.{LineFault}
 use Rattle.ti_cert.specs.Clashes.{kind_of}
 use Rattle.ti_cert.specs.declared.clashes.Clash.{Clash}
 use Rattle.ti_cert.specs.declared.clashes.Clash.TheVariants as clashes
-use Rattle.ti_cert.specs.Certificates.{Said, Nothing, Sized, Listing, Ended, Mislooks, Misdoes, JudgesRow, NotAllowed, TooLate, TooEarly, Cut, Wild, Untrue, Unasked, Stands, JudgesLast, Lacks, Clashes, Closes, JudgesLater, IsLast, IsRow, IsMisplaced, IsNone, HasPairs, HasNoPairs, HasSize, HasNoSize, JudgesLine, JudgesEnd, rules_of, limit, IsAnswer}
+use Rattle.ti_cert.specs.Certificates.{Said, Nothing, Sized, Listing, Ended, Mislooks, Misdoes, JudgesRow, NotAllowed, TooLate, TooEarly, Cut, Wild, Untrue, Unasked, Stands, JudgesLast, Lacks, Clashes, Closes, JudgesLater, IsLast, IsRow, IsMisplaced, IsNone, HasPairs, HasNoPairs, HasSize, HasNoSize, JudgesLine, JudgesEnd, rules_of, limit, IsAnswer, CertFault}
 use Rattle.ti_cert.specs.Table.{CheckedTable}
 use Rattle.ti_cert.specs.Strings.{row_string, total}
 use Rattle.ti_cert.specs.Known.{Known}
@@ -18,7 +18,6 @@ use Rattle.ti_cert.specs.declared.faults.VerifyFault.{VerifyFault}
 use Rattle.ti_cert.specs.declared.faults.VerifyFault.TheVariants.{Cert, Agree}
 use Rattle.ti_cert.specs.Audits.{TellsNow, Steps, AnswersEnd, progress_rules, Starts, IsWholeRead, IsTableMade}
 use Rattle.ti_cert.specs.declared.audits.Progress.{Progress}
-use Rattle.ti_cert.specs.declared.faults.CertFault.{CertFault}
 use Rattle.ti_cert.specs.declared.faults.CertFaultKind.{CertFaultKind}
 use Rattle.ti_cert.specs.declared.faults.CertFaultKind.TheVariants.{BadLine, NoMemory, ReadFailed}
 use Rattle.ti_cert.proofs.AuditSteps.{sized, stands_at}
@@ -141,7 +140,7 @@ pub few_of_table : (q : Progress) (rows cols : ℕ) (table : CheckedTable) → R
 few_of_table q rows cols table w made = subst (λ (k : Known). total k.strings < limit) (sym made.known) w.few
 
 pub text_refused : (p q : Progress) (rows cols : ℕ) (text : List ℕ) (Failed : Type 0) (fault : LineFault CertFaultKind) → Starts rows cols p
-    → GivesOr {X = Unit {0}} progress_rules Failed q (Err fault) (Judged progress_rules limit p text) → IsRefused rows cols text Failed (record { line = fault.line; kind = fault.kind })
+    → GivesOr {X = Unit {0}} progress_rules Failed q (Err fault) (Judged progress_rules limit p text) → IsRefused rows cols text Failed fault
 text_refused p q rows cols text Failed fault s (inl (inl h)) = inl (text_related p rows cols text (Err fault) s h)
 text_refused p q rows cols text Failed fault s (inl (inr e)) = inr (inl e)
 text_refused p q rows cols text Failed fault s (inr e) = inr (inr e)
@@ -276,7 +275,7 @@ pub taken : {R : Type 0} (p q : Progress) (rows cols : ℕ) (left : R → List �
 taken p q rows cols left failures reader after table s r = takes_by left failures reader after (AtLineRead (read)) (λ n. IfErr (Ok table) (IsLineRead n)) (λ n t. tt) (takes p q rows cols left failures reader after (read) s r)
 
 pub failed_at : {R : Type 0} (p q : Progress) (rows cols : ℕ) (left : R → List ℕ → Type 0) (failures : R → ℕ) (reader after : R) (fault : LineFault CertFaultKind) → Starts rows cols p
-    → Reports {X = Unit {0}} progress_rules limit p q left failures reader after (Err fault) → Takes left failures reader after (λ n. IsLineRead n (record { line = fault.line; kind = fault.kind }))
+    → Reports {X = Unit {0}} progress_rules limit p q left failures reader after (Err fault) → Takes left failures reader after (λ n. IsLineRead n fault)
 failed_at p q rows cols left failures reader after fault s r = takes p q rows cols left failures reader after (Err fault) s r
 
 -- nothing was read

@@ -26,9 +26,8 @@ use Rattle.ti_cert.specs.Order.{Precedes, GivesBytes, IsFirstLacking, IsComplete
 use Rattle.ti_cert.specs.Clashes.{Misswitches, StaysGraphic, BeginsOpen, IsClash, GoesTogether, kind_of, OfLines}
 use Rattle.ti_cert.specs.declared.clashes.Clash.{Clash}
 use Rattle.ti_cert.specs.declared.clashes.Clash.TheVariants as clashes
-use Rattle.ti_cert.specs.Certificates.{missing_line, Said, Nothing, Sized, Listing, Ended, IsWholeText, HasEffect, HasNoEffect, IsMisfit, Mislooks, Misdoes, IsAskedFor, JudgesRow, NotAllowed, TooLate, TooEarly, Cut, Wild, Untrue, Unasked, Stands, JudgesLast, Lacks, Clashes, Closes, JudgesLater, IsLast, IsRow, IsMisplaced, IsNone, JudgesSecond, HasPairs, HasNoPairs, JudgesFirst, HasSize, HasNoSize, JudgesLine, JudgesEnd, rules_of, limit, IsAnswer}
+use Rattle.ti_cert.specs.Certificates.{missing_line, Said, Nothing, Sized, Listing, Ended, IsWholeText, HasEffect, HasNoEffect, IsMisfit, Mislooks, Misdoes, IsAskedFor, JudgesRow, NotAllowed, TooLate, TooEarly, Cut, Wild, Untrue, Unasked, Stands, JudgesLast, Lacks, Clashes, Closes, JudgesLater, IsLast, IsRow, IsMisplaced, IsNone, JudgesSecond, HasPairs, HasNoPairs, JudgesFirst, HasSize, HasNoSize, JudgesLine, JudgesEnd, rules_of, limit, IsAnswer, CertFault}
 use Rattle.ti_cert.specs.Texts.{OneTable, OneFault, NoOther}
-use Rattle.ti_cert.specs.declared.faults.CertFault.{CertFault}
 use Rattle.ti_cert.specs.declared.faults.CertFaultKind.{CertFaultKind}
 use Rattle.ti_cert.specs.declared.faults.CertFaultKind.TheVariants.{BadLine, OutOfOrder, NotWhole, NotTame, NotShown}
 
@@ -454,8 +453,8 @@ never_ends a l e x y ex ey h = cc
 
 pub no_other : NoOther
 no_other rows cols text t fault p (inl h) =
-    absurd (never_ends t.acsc p.lines (fault_at fault.line fault.kind) (Ok (Ended t.acsc p.lines)) (Err (fault_at fault.line fault.kind)) refl refl
-    (one_answer rows cols text (Ok (Ended t.acsc p.lines)) (Err (fault_at fault.line fault.kind)) p.says h))
+    absurd (never_ends t.acsc p.lines fault (Ok (Ended t.acsc p.lines)) (Err fault) refl refl
+    (one_answer rows cols text (Ok (Ended t.acsc p.lines)) (Err fault) p.says h))
 no_other rows cols text t fault p (inr (inl e)) = e
 no_other rows cols text t fault p (inr (inr e)) = absurd e.1
 
@@ -463,14 +462,7 @@ same_err : (e f : LineFault CertFaultKind) → (x y : Answer) → x ≡ Err e �
 same_err e f x y ex ey h = cc
 
 pub one_fault : OneFault
-one_fault rows cols text a b (inl p) (inl q) = inl (whole a b (same_err (fault_at a.line a.kind) (fault_at b.line b.kind) (Err (fault_at a.line a.kind)) (Err (fault_at b.line b.kind)) refl refl
-    (one_answer rows cols text (Err (fault_at a.line a.kind)) (Err (fault_at b.line b.kind)) p q)))
-  where
-    made : LineFault CertFaultKind → CertFault
-    made f = record { line = f.line; kind = f.kind }
-
-    whole : (c d : CertFault) → fault_at c.line c.kind ≡ fault_at d.line d.kind → c ≡ d
-    whole c d e = ap made e
+one_fault rows cols text a b (inl p) (inl q) = inl (same_err a b (Err a) (Err b) refl refl (one_answer rows cols text (Err a) (Err b) p q))
 one_fault rows cols text a b (inr (inl e)) q = inr (inl e)
 one_fault rows cols text a b (inr (inr e)) q = absurd e.1
 one_fault rows cols text a b (inl p) (inr (inl e)) = inr (inr e)

@@ -22,9 +22,8 @@ use Rattle.ti_conforms.specs.Charsets.{IsAmong}
 use Rattle.ti_cert.specs.Order.{HasLine}
 use Rattle.ti_cert.specs.Strings.{row_string}
 use Rattle.ti_cert.specs.Table as tables
-use Rattle.ti_cert.specs.Certificates.{Ended, IsAnswer}
+use Rattle.ti_cert.specs.Certificates.{Ended, IsAnswer, CertFault}
 use Rattle.ti_cert.specs.Texts.{IsTableOf}
-use Rattle.ti_cert.specs.declared.faults.CertFault.{CertFault}
 use Rattle.ti_cert.specs.declared.faults.CertFaultKind.TheVariants.{NoMemory, ReadFailed}
 use Rattle.ti_cert.specs.declared.faults.AgreeFault.TheVariants as agreeing
 use Rattle.ti_cert.specs.declared.faults.VerifyFault.{VerifyFault}

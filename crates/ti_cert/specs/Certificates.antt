@@ -162,6 +162,10 @@ rules_of rows cols = record {
 abbrev pub limit : ℕ
 limit = 67108864
 
+-- a fault of a certificate, with its line
+abbrev pub CertFault : Type 0
+CertFault = LineFault CertFaultKind
+
 -- what a whole text says, or its first fault with its line
-abbrev pub IsAnswer : ℕ → ℕ → List ℕ → Result Said (LineFault CertFaultKind) → Type 0
+abbrev pub IsAnswer : ℕ → ℕ → List ℕ → Result Said CertFault → Type 0
 IsAnswer rows cols text answer = Judged (rules_of rows cols) limit Nothing text answer

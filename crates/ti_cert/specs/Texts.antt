@@ -7,14 +7,12 @@ use Rattle.ti_lines.specs.declared.row_lines.RowLine.{RowLine}
 use Rattle.ti_lines.specs.Texts.{IsCertificateText}
 use Rattle.ti_lines.specs.Reader.{Gave}
 use Rattle.ti_lines.specs.Text.{cut_of}
-use Rattle.ti_lines.specs.Judgements.{fault_at, LastCall}
-use Rattle.ti_lines.specs.declared.judgements.LineFault.{LineFault}
+use Rattle.ti_lines.specs.Judgements.{LastCall}
 use Rattle.ti_cert.specs.Strings.{row_string}
 use Rattle.ti_cert.specs.Table.{CheckedTable}
 use Rattle.ti_cert.specs.Clashes.{GoesTogether, OfLines}
 use Rattle.ti_cert.specs.Order.{GivesBytes, IsComplete, IsInPlace}
-use Rattle.ti_cert.specs.Certificates.{Said, Ended, HasEffect, IsAskedFor, IsAnswer, limit}
-use Rattle.ti_cert.specs.declared.faults.CertFault.{CertFault}
+use Rattle.ti_cert.specs.Certificates.{Said, Ended, HasEffect, IsAskedFor, IsAnswer, limit, CertFault}
 use Rattle.ti_cert.specs.declared.faults.CertFaultKind.{CertFaultKind}
 use Rattle.ti_cert.specs.declared.faults.CertFaultKind.TheVariants.{NoMemory, ReadFailed}
 use Rattle.ti_cert.specs.declared.faults.VerifyFault.{VerifyFault}
@@ -31,7 +29,7 @@ pub record IsTableOf (rows cols : ℕ) (text : List ℕ) (table : CheckedTable) 
 -- the text's first fault, at its line; or memory ran out, or the reader failed
 abbrev pub IsRefused : ℕ → ℕ → List ℕ → Type 0 → CertFault → Type 0
 IsRefused rows cols text Failed fault =
-    IsAnswer rows cols text (Err (fault_at fault.line fault.kind))
+    IsAnswer rows cols text (Err fault)
     ⊎ ((fault.kind ≡ NoMemory) ⊎ ((fault.kind ≡ ReadFailed) × Failed))
 
 -- the same of a refusal to verify, where it is one of the certificate
@@ -61,7 +59,7 @@ pub record Takes {R : Type 0} (left : R → List ℕ → Type 0) (failures : R �
 -- No text has two answers.
 abbrev pub OneAnswer : Type 0
 OneAnswer =
-    (rows cols : ℕ) (text : List ℕ) (one other : Result Said (LineFault CertFaultKind)) → IsAnswer rows cols text one
+    (rows cols : ℕ) (text : List ℕ) (one other : Result Said CertFault) → IsAnswer rows cols text one
     → IsAnswer rows cols text other → one ≡ other
 
 -- So tables of the same text have the same pairs and the same strings,

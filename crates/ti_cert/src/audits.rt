@@ -23,7 +23,8 @@ use std::mem;
 use ti_caps::Bytes;
 use ti_conforms::Charsets;
 use ti_lines::{
-    Judge, Reader, RowLine, is_end_line, judge_lines, read_acsc_line, read_row_line, read_size_line,
+    Judge, LineFault, Reader, RowLine, is_end_line, judge_lines, read_acsc_line, read_row_line,
+    read_size_line,
 };
 use ti_rows::CAPABILITIES;
 use vt_term::{Scanner, Size};
@@ -245,7 +246,7 @@ fn started(alloc: Global, size: Size) -> Result<Progress, CertFault>
 {
     match Progress::new(alloc, size) {
         Ok(progress) => Ok(progress),
-        Err(_) => Err(CertFault {
+        Err(_) => Err(LineFault {
             line: 1,
             kind: CertFaultKind::NoMemory,
         }),
@@ -275,10 +276,7 @@ pub fn audit_from<R: Reader>(alloc: Global, reader: &mut R, size: Size) -> Resul
     let mut progress = started(alloc, size)?;
     match judge_lines(alloc, LIMIT, reader, &mut progress) {
         Ok(()) => Ok(progress.into_table()),
-        Err(fault) => Err(CertFault {
-            line: fault.line,
-            kind: fault.kind,
-        }),
+        Err(fault) => Err(fault),
     }
 }
 

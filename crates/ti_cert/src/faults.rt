@@ -5,6 +5,7 @@ ghost use Rattle.ti_cert.specs.Certificates.{missing_line};
 
 use std::alloc::AllocError;
 use ti_caps::Cap;
+use ti_lines::LineFault;
 use ti_rows::{Params, Row};
 
 /// What is wrong with a line of a certificate.
@@ -55,11 +56,7 @@ impl From<AllocError> for CertFaultKind {
 }
 
 /// The first fault of a certificate, with its line, counted from 1.
-#[derive(Debug, Drop, PartialEq, Eq)]
-pub struct CertFault {
-    pub line: u64,
-    pub kind: CertFaultKind,
-}
+pub type CertFault = LineFault<CertFaultKind>;
 
 /// Why a certificate isn't that of an entry.
 #[derive(Debug, Drop)]

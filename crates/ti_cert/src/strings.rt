@@ -90,6 +90,7 @@ impl Strings {
         ensures none { result ≡ false → (other : rows.Row) → order other ≡ order row
             → spec.row_string self.now other ≡ None }
     {
+        // a look at a field brings in the invariant: each checked capability has its group
         let _ = &self.size;
         self.count(row) != 0
     }

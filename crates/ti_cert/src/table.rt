@@ -73,6 +73,7 @@ impl Table {
         ensures lines { IsJudged (spec.table_of self.now) }
         ensures looks { LooksStand (spec.table_of self.now) }
     {
+        // a look at a field brings in the invariant: what was judged of the lines
         let _ = &self.settled;
     }
 }

@@ -110,6 +110,7 @@ impl Checked {
         ensures cols { result.cols ≡ self.now.known.strings.cols }
         ensures verified { spec.IsVerified self.now }
     {
+        // a look at a field brings in the invariant: the lines are verified
         let _ = &self.resync;
         self.table.size()
     }

@@ -32,6 +32,7 @@ pub fn check(alloc: Global, entry: &Entry, size: Size) -> Result<Vec<u8>, No>
         → IfErr result (λ refusal. refusal.cause ≡ Cause.NoMemory) }
     ensures refused { IfErr result (spec.IsNo entry.now size.rows size.cols) }
 {
+    // only this call's contract says that the entry's strings fit
     let _ = entry.names();
     check_fitness(entry)?;
     let written = draft_of(alloc, entry, size)?;

@@ -90,6 +90,7 @@ impl Draft {
         ensures seen { IfOk result (λ draft. IsSeen entry.now size.rows size.cols draft.seen.reach
             draft.seen.changes.items 0 0) }
     {
+        // only this call's contract says that the entry's strings fit
         let _ = entry.names();
         let mut text = Vec::with_capacity(alloc, ROOM)?;
         push_head(alloc, entry, size, &mut text)?;

@@ -175,6 +175,7 @@ impl Lines {
         ensures { self.new
             ≡ record { unread = drop (count + 1) self.old.unread; budget = self.old.budget - (count + 1) } }
     {
+        // a look at a field brings in the invariant: the buffer's bounds and the budget
         let _ = &self.budget;
         let passed = count as u32 + 1;
         self.budget -= passed;

@@ -4,7 +4,7 @@ use Rattle.ti_caps.specs.Entry.{Content}
 use Rattle.ti_cert.specs.Disagreements.{IsAgreeRefused}
 use Rattle.ti_cert.specs.Texts.{IsCertRefused, IsRefused}
 use Rattle.ti_cert.specs.declared.faults.AgreeFault.{AgreeFault}
-use Rattle.ti_cert.specs.declared.faults.CertFault.{CertFault}
+use Rattle.ti_cert.specs.Certificates.{CertFault}
 use Rattle.ti_cert.specs.declared.faults.CertFaultKind.{CertFaultKind}
 use Rattle.ti_cert.specs.declared.faults.VerifyFault.{VerifyFault}
 use Rattle.ti_cert.specs.declared.faults.VerifyFault.TheVariants.{Cert, Agree}

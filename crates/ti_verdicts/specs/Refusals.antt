@@ -4,7 +4,7 @@ use Rattle.std.specs.Prelude.{◌≡◌, ℕ, List, [], ◌++◌, codes}
 use Rattle.std.specs.Fmt.{decimal}
 use Rattle.ti_caps.specs.Table.{name_at}
 use Rattle.ti_cert.specs.declared.faults.AgreeFault.TheVariants as agree_faults
-use Rattle.ti_cert.specs.declared.faults.CertFault.{CertFault}
+use Rattle.ti_cert.specs.Certificates.{CertFault}
 use Rattle.ti_cert.specs.declared.faults.CertFaultKind.{CertFaultKind}
 use Rattle.ti_cert.specs.declared.faults.CertFaultKind.TheVariants.{BadLine, Missing, OutOfOrder, NotWhole, NotTame}
 use Rattle.ti_cert.specs.declared.faults.CertFaultKind.TheVariants.{NotShown, NoResync, BadLook, NoMemory, ReadFailed}
