@@ -1,12 +1,17 @@
-//! Cutting a line at its first space.
+//! Cutting a text at the first byte of a kind.
 ghost use Rattle.std.specs.List.{position};
-ghost use Rattle.std.specs.Prelude.{◌≡◌, ◌==◌, ◌<◌, ◌+◌, length, take, drop, option_map, IfSome};
+ghost use Rattle.std.specs.Prelude.{◌≡◌, ◌==◌, ◌<◌, ◌+◌, ◌∷◌, [], length, take, drop, option_map, IfNone, IfSome};
 ghost use Rattle.ti_lines.specs.Cut.{cut_at};
+ghost use Rattle.ti_lines.specs.EffectReader.{parts_of};
 
-/// What stands before and after the first such byte.
-#[tactic(auto, using(crate::proofs::CutFacts::cut_found))]
+/// What is before and after the first `byte` of `text`, if it has one. Then these are the first of the text's parts and
+/// the text of the others; otherwise the text is one part.
+#[tactic(auto, using(std::proofs::lemmas::List::take_rest, crate::proofs::CutFacts::cut_found, crate::proofs::TextCuts::cut_found, crate::proofs::TextCuts::cut_none))]
 pub(crate) fn cut(byte: u8, text: &[u8]) -> Option<(&[u8], &[u8])>
-    ensures { option_map (λ x. (x.0.now, x.1.now)) result ≡ cut_at byte text.now }
+    ensures value { option_map (λ x. (x.0.now, x.1.now)) result ≡ cut_at byte text.now }
+    ensures found { IfSome result (λ x. parts_of byte text.now ≡ x.0.now ∷ parts_of byte x.1.now) }
+    ensures shorter { IfSome result (λ x. length x.1.now < length text.now) }
+    ensures none { IfNone result (parts_of byte text.now ≡ text.now ∷ []) }
 {
     match place_of(byte, text) {
         None => None,
@@ -14,6 +19,7 @@ pub(crate) fn cut(byte: u8, text: &[u8]) -> Option<(&[u8], &[u8])>
     }
 }
 
+/// The place of the first `byte` of `text`.
 fn place_of(byte: u8, text: &[u8]) -> Option<usize>
     ensures value { result ≡ position (λ b. b == byte) text.now }
     ensures range { IfSome result (λ at. at < length text.now) }

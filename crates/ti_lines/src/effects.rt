@@ -1,11 +1,10 @@
 //! Reading an effect's text.
-ghost use Rattle.std.specs.Prelude.{◌≡◌, ◌∷◌, [], ◌<◌, ◌==◌, ℕ, Some, IfSome, IfNone, option_map, length, take, drop};
-ghost use Rattle.std.specs.Prelude.{◌+◌};
-ghost use Rattle.std.specs.List.{position};
+ghost use Rattle.std.specs.Prelude.{◌≡◌, ◌<◌, Some, IfSome, option_map};
 ghost use Rattle.vt_effects.specs.declared.effects.Effect as declared;
 ghost use Rattle.ti_lines.specs.EffectText.{spelled, IsPlain};
 ghost use Rattle.ti_lines.specs.EffectReader as spec;
 
+use crate::cuts::cut;
 use crate::letters::{are_dots, ink_at, switch_at};
 use crate::numbers::{number_at, positive_at};
 use crate::words::{Found, Marks, Word};
@@ -51,27 +50,6 @@ fn read_behind(found: Found, text: &[u8]) -> Option<Found>
         rest = behind;
     }
     with_word(found, rest)
-}
-
-/// The place of the first such byte.
-fn position_of(byte: u8, text: &[u8]) -> Option<usize>
-    ensures value { result ≡ position (λ b. b == byte) text.now }
-    ensures range { IfSome result (λ at. at < length text.now) }
-{
-    text.iter().position(|other| *other == byte)
-}
-
-/// What stands before the first such byte, and what after it.
-#[tactic(auto, using(std::proofs::lemmas::List::take_rest, crate::proofs::TextCuts::cut_found, crate::proofs::TextCuts::cut_none))]
-fn cut(byte: u8, text: &[u8]) -> Option<(&[u8], &[u8])>
-    ensures found { IfSome result (λ x. spec.parts_of byte text.now ≡ x.0.now ∷ spec.parts_of byte x.1.now) }
-    ensures shorter { IfSome result (λ x. length x.1.now < length text.now) }
-    ensures none { IfNone result (spec.parts_of byte text.now ≡ text.now ∷ []) }
-{
-    match position_of(byte, text) {
-        None => None,
-        Some(at) => Some((&text[..at], &text[at + 1..])),
-    }
 }
 
 /// What is found with one word more.
