@@ -39,17 +39,28 @@ def missing(script, *tools):
     return bool(lacking)
 
 
-def installed(work):
-    """Installs the library in the folder and gives its prefix. The gate leaves it unbuilt, and to build it proves the
-    crates below it once more, so that where it is neither built nor kept nothing is tried."""
-    if not is_there(LIBRARY):
-        script = os.path.basename(sys.argv[0]).partition(".")[0]
-        print(f"{script}: the library for C isn't built: `./install` or `./test --library` builds it; nothing of this is tried")
-        sys.exit(0)
+def is_built(script, left_out="nothing of this is tried"):
+    """Whether the library for C is there, or else a line that says it isn't, and what is left out. The gate leaves it unbuilt, and to build it
+    proves the crates below it once more, so that where it is neither built nor kept nothing is tried."""
+    built = is_there(LIBRARY)
+    if not built:
+        print(f"{script}: the library for C isn't built: `./install` or `./test --library` builds it; {left_out}")
+    return built
+
+
+def installed_at(work):
+    """Installs the library, which is built, in the folder and gives its prefix."""
     run = subprocess.run([f"{TOP}/install", f"PREFIX={work}/prefix"], stdout=subprocess.PIPE)
     if run.returncode:
         sys.exit(f"./install ended with status {run.returncode}")
     return f"{work}/prefix"
+
+
+def installed(work):
+    """The prefix of the installed library, for a script that tries nothing without it."""
+    if not is_built(os.path.basename(sys.argv[0]).partition(".")[0]):
+        sys.exit(0)
+    return installed_at(work)
 
 
 def compiled(prefix, source, program, *words, language="c"):

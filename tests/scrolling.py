@@ -28,10 +28,10 @@ class Window:
 class Script:
     """A script of calls none of which is refused, and the screen that it leaves: the screen's window is full, and shown."""
 
-    def __init__(self, seed):
-        self.pick = random.Random(seed)
-        self.windows = {0: Window(0, 0, ROWS, COLS)}
-        self.virtual = [" " * COLS for _ in range(ROWS)]
+    def __init__(self, seed, rows=ROWS, cols=COLS):
+        self.pick, self.rows, self.cols = random.Random(seed), rows, cols
+        self.windows = {0: Window(0, 0, rows, cols)}
+        self.virtual = [" " * cols for _ in range(rows)]
         self.shown, self.lines = list(self.virtual), ["scrollok 0 1", "idlok 0 1"]
         self.fill(0)
         self.refresh(0)
@@ -85,15 +85,15 @@ class Script:
 
     def newwin(self):
         number, pick = len(self.windows), self.pick
-        rows, cols = pick.randrange(2, ROWS + 1), pick.choice([COLS, COLS, pick.randrange(2, COLS)])
-        window = Window(pick.randrange(ROWS - rows + 1), pick.randrange(COLS - cols + 1), rows, cols)
+        rows, cols = pick.randrange(2, self.rows + 1), pick.choice([self.cols, self.cols, pick.randrange(2, self.cols)])
+        window = Window(pick.randrange(self.rows - rows + 1), pick.randrange(self.cols - cols + 1), rows, cols)
         self.windows[number] = window
         self.lines += [f"newwin {number} {rows} {cols} {window.top} {window.left}", f"scrollok {number} 1"]
         self.fill(number)
 
     def move_window(self, w):
         window = self.windows[w]
-        window.top, window.left = self.pick.randrange(ROWS - window.rows + 1), self.pick.randrange(COLS - window.cols + 1)
+        window.top, window.left = self.pick.randrange(self.rows - window.rows + 1), self.pick.randrange(self.cols - window.cols + 1)
         self.lines.append(f"mvwin {w} {window.top} {window.left}")
 
     def copy(self, w, call):
