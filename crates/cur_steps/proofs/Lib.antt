@@ -2,6 +2,7 @@ pub mod Actions
 pub mod Answers
 pub mod Prints
 pub mod Sameness
+pub mod SetFacts
 pub mod SingleFacts
 pub mod StretchFacts
 pub mod Turns

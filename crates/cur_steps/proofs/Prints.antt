@@ -29,7 +29,7 @@ use Rattle.cur_steps.proofs.Actions.{agrees_lost}
 use Rattle.cur_steps.proofs.Turns.{drawn_look, look_at-drawn, one_place, stands_at, calmly}
 
 -- a token is run where nothing is open
-token_runs : (s : State) (token : List ℕ) (x : Screen) → s.rest ≡ [] → IsWhole token → act (function_of token) s.screen ≡ x → Runs s token (record { screen = x; rest = [] })
+pub token_runs : (s : State) (token : List ℕ) (x : Screen) → s.rest ≡ [] → IsWhole token → act (function_of token) s.screen ≡ x → Runs s token (record { screen = x; rest = [] })
 token_runs s token x e h is =
     subst (λ (x : Screen). Runs s token (record { screen = x; rest = [] })) is
     (text_runs s token (token ∷ []) e ([], sym (append-nil token), inl h, (refl, empty_open)))

@@ -13,11 +13,11 @@ alike_equal false false h = refl
 alike_equal true false h = sym h
 alike_equal false true h = h
 
-both : (a b : Bool) → (a && b) ≡ true → (a ≡ true) × (b ≡ true)
+pub both : (a b : Bool) → (a && b) ≡ true → (a ≡ true) × (b ≡ true)
 both true b h = (refl, h)
 both false b h = (h, absurd (cc))
 
-equal_numbers : (m n : ℕ) → (m == n) ≡ true → m ≡ n
+pub equal_numbers : (m n : ℕ) → (m == n) ≡ true → m ≡ n
 equal_numbers m n h = grind (arith, nat_tests)
 
 color_known : (c : Color) → color (color_number c) ≡ c

@@ -3,6 +3,7 @@ pub mod Beliefs
 pub mod Gaps
 pub mod Inks
 pub mod Pieces
+pub mod Sets
 pub mod Singles
 pub mod Steps
 pub mod Stretches

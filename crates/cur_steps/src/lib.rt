@@ -5,6 +5,7 @@ mod beliefs;
 mod inks;
 mod lines;
 mod modes;
+mod sets;
 mod singles;
 mod steps;
 mod stretches;
@@ -14,7 +15,8 @@ pub use inks::{
     Blank, Brush, Cells, Ink, Picture, byte_as, is_plain_ink, is_same, same_attributes, same_brush,
 };
 pub use lines::send_line;
-pub use modes::show_as;
+pub use modes::{is_mode, show_as};
+pub use singles::strip;
 pub use steps::{
     attributes_as, background_as, colors_off, erase_tail, foreground_as, is_active, print_at,
     set_as, stands,

@@ -84,7 +84,7 @@ fn show_prominently<C: Certificate, W: Wire>(
 }
 
 /// Whether the mode `now` is known and is `wanted`.
-fn is_mode(now: Option<Mode>, wanted: Mode) -> bool
+pub fn is_mode(now: Option<Mode>, wanted: Mode) -> bool
     ensures so { result ≡ true → now ≡ Some wanted }
     ensures counted { result ≡ false → changes now wanted ≡ 1 }
 {

@@ -10,6 +10,7 @@ ghost use Rattle.cur_steps.specs.Steps.{Keeps};
 use crate::beliefs::Belief;
 use crate::inks::Brush;
 use crate::lines::send_line;
+use crate::sets::set_behind;
 use cur_wires::{Wire, WireFault};
 use ti_conforms::Certificate;
 use ti_rows::{Attributes, Row};
@@ -48,20 +49,21 @@ fn turned_on(attributes: Attributes, row: Row) -> Attributes
     attributes
 }
 
-/// Makes attributes and colours plain.
-fn make_plain<C: Certificate, W: Wire>(
+/// Makes attributes and colours plain by `sgr0`.
+pub fn strip<C: Certificate, W: Wire>(
     checked: &C,
     belief: &mut Belief,
     wire: &mut W,
 ) -> Result<(), WireFault>
     requires checked { IsChecked (C.table checked.now) }
-    ensures belief { belief.new ≡ record belief.old { brush = plain_brush; graphic = None } }
+    ensures belief { belief.new ≡ record belief.old { brush = plain_brush; graphic = belief.new.graphic } }
     ensures step { Keeps W.went W.failures wire.old wire.new result (C.table checked.now)
         (length (text_of (C.table checked.now) Sgr0)) belief.old belief.new }
 {
+    let line = checked.line(Row::Sgr0).unwrap();
     belief.brush = Brush::plain();
-    belief.graphic = None;
-    send_line(checked, Row::Sgr0, checked.line(Row::Sgr0).unwrap(), wire)
+    belief.graphic = set_behind(checked, line, belief.graphic);
+    send_line(checked, Row::Sgr0, line, wire)
 }
 
 /// Adds the attribute of the string of `row`, if it is `wanted`. One without a string can't be seen.
@@ -132,7 +134,9 @@ pub(crate) fn attributes_singly<C: Certificate, W: Wire>(
         (C.table checked.now).longest.sgr belief.old belief.new }
     ensures mode { OnOk result (belief.new.mode ≡ belief.old.mode) }
 {
-    make_plain(checked, belief, wire)?;
+    strip(checked, belief, wire)?;
+    // the strings of single attributes may switch the set
+    belief.graphic = None;
     let rows = [
         Row::Smul,
         Row::Rev,

@@ -12,6 +12,7 @@ ghost use Rattle.cur_steps.specs.Steps.{IsGoal, Keeps, Makes};
 use crate::beliefs::{Belief, Place};
 use crate::inks::{Brush, Ink, same_attributes, same_color};
 use crate::lines::send_line;
+use crate::sets::set_behind;
 use crate::singles::attributes_singly;
 use cur_wires::{Wire, WireFault, send_all};
 use ti_conforms::Certificate;
@@ -105,7 +106,7 @@ fn attributes_at_once<C: Certificate, W: Wire>(
     ensures mode { OnOk result (belief.new.mode ≡ belief.old.mode) }
 {
     belief.brush.attributes = wanted;
-    belief.graphic = None;
+    belief.graphic = set_behind(checked, line, belief.graphic);
     send_line(checked, Row::Sgr(wanted), line, wire)
 }
 

@@ -1,0 +1,10 @@
+use Rattle.std.proofs.Common.{◌≡◌, ℕ, ◌++◌, List, Option, Some, None, Bor, true, false, sym, subst}
+use Rattle.std.proofs.lemmas.Bool.Decides.{Decides-eqb}
+use Rattle.std.proofs.lemmas.Slice.Eq.{strip_suffix_is}
+use Rattle.cur_steps.specs.Sets.{Before}
+use Rattle.cur_steps.proofs.sets.ends_with.Goals as goal
+
+pub returns-in-Some : goal.returns-in-Some
+returns-in-Some c h =
+    let is = strip_suffix_is Decides-eqb c.args.bytes.now c.args.other.now (Some c.in-Some.rest) c.in-Some.ensures.cases in
+    Before c.in-Some.rest.now (c.is_rendition.ensures h) is
