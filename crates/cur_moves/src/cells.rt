@@ -1,7 +1,7 @@
 //! A cell, and the end of a line, each in as few of the single steps as its look needs.
-ghost use Rattle.std.specs.Prelude.{◌≡◌, ◌<◌, ℕ, true, Some, None, OnOk, IfOk};
-ghost use Rattle.ti_rows.specs.declared.rows.Row.TheVariants.{El};
-ghost use Rattle.ti_conforms.specs.Certified.{IsChecked, cell_limit};
+ghost use Rattle.std.specs.Prelude.{◌≡◌, ◌<◌, ◌≤◌, ℕ, length, true, Some, None, OnOk, IfOk};
+ghost use Rattle.ti_rows.specs.declared.rows.Row.TheVariants.{El, Sgr0};
+ghost use Rattle.ti_conforms.specs.Certified.{IsChecked, cell_limit, text_of};
 ghost use Rattle.cur_steps.specs.Inks.{CanShow, IsInk, IsColored, put_at, tail_blank, plain_brush};
 ghost use Rattle.cur_steps.specs.Beliefs.{IsNext, plain_limit, colors_limit, brush_limit, ready_limit, stamp_limit, ink_limit};
 ghost use Rattle.cur_steps.specs.Steps.{IsGoal, Keeps, KeepsFrom, Makes, MakesFrom};
@@ -11,11 +11,11 @@ use crate::routes::is_alike;
 use crate::targets::Target;
 use cur_steps::{
     Belief, Brush, Ink, Picture, Place, attributes_as, background_as, colors_off, erase_tail,
-    foreground_as, print_at, same_attributes, set_as, stands,
+    foreground_as, print_at, same_attributes, same_brush, set_as, stands, strip,
 };
 use cur_wires::{Wire, WireFault};
 use ti_conforms::Certificate;
-use ti_rows::Attributes;
+use ti_rows::{Attributes, Row};
 use vt_term::Color;
 
 /// Makes the attributes `wanted`, and the colours the default ones.
@@ -104,6 +104,49 @@ pub fn brush_as<C: Certificate, W: Wire>(
     }
     plainly_as(checked, belief, wire, wanted.attributes)?;
     colors_as(checked, belief, wire, wanted)
+}
+
+/// Whether `brush` is the plain one.
+#[tactic(auto, using(cur_steps::proofs::Sameness::brush_equal))]
+fn is_plain(brush: Brush) -> bool
+    ensures plain { result ≡ true → brush ≡ plain_brush }
+{
+    same_brush(brush, Brush::plain())
+}
+
+/// Whether `sgr0` has no more bytes than the string that `sgr` sends for no attributes, or than those of all single
+/// attributes.
+fn has_short_plain<C: Certificate>(checked: &C) -> bool
+    requires checked { IsChecked (C.table checked.now) }
+    ensures short { result ≡ true → length (text_of (C.table checked.now) Sgr0) ≤ (C.table checked.now).longest.sgr }
+{
+    let plain = checked.line(Row::Sgr0).unwrap().len();
+    match checked.line(Row::Sgr(Brush::plain().attributes)) {
+        Some(line) => plain <= line.len(),
+        None => true,
+    }
+}
+
+/// Makes the brush the plain one, if it isn't: by `sgr0`, unless the other strings for that have fewer bytes.
+pub fn make_plain<C: Certificate, W: Wire>(
+    checked: &C,
+    belief: &mut Belief,
+    wire: &mut W,
+) -> Result<(), WireFault>
+    requires checked { IsChecked (C.table checked.now) }
+    ensures brush { OnOk result (belief.new.brush ≡ plain_brush) }
+    ensures place { OnOk result (belief.new.place ≡ belief.old.place) }
+    ensures step { Keeps W.went W.failures wire.old wire.new result (C.table checked.now)
+        (plain_limit (C.table checked.now)) belief.old belief.new }
+    ensures mode { OnOk result (belief.new.mode ≡ belief.old.mode) }
+{
+    if is_plain(belief.brush) {
+        return Ok(());
+    }
+    if has_short_plain(checked) {
+        return strip(checked, belief, wire);
+    }
+    plainly_as(checked, belief, wire, Brush::plain().attributes)
 }
 
 /// Moves the cursor to `at`, in a line that is shown as far as that place, and makes the brush `wanted`.

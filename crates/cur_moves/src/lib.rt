@@ -13,7 +13,7 @@ mod scrolls;
 mod targets;
 mod texts;
 
-pub use cells::{blank_tail, brush_as, put_cell};
+pub use cells::{blank_tail, brush_as, make_plain, put_cell};
 pub use erasures::{ErasedPart, erase_at, erase_from, erasing_line};
 pub use pictures::Shifted;
 pub use reaches::{line_bytes, reach};
