@@ -11,7 +11,7 @@ use Rattle.ti_conforms.specs.Certified.{Table, IsLost, IsChecked, IsCheckedLine,
 use Rattle.cur_steps.specs.Beliefs.{Agrees, Turns}
 use Rattle.cur_steps.proofs.Actions.{agrees_lost}
 use Rattle.cur_steps.proofs.Turns.{free_of, by_screen}
-use Rattle.cur_paint.specs.Update.{Fits, IsFresh}
+use Rattle.cur_paint.specs.Update.{Meets, IsFresh}
 use Rattle.cur_paint.specs.declared.updates.Status.{Status}
 use Rattle.cur_paint.specs.declared.updates.Status.TheVariants.{Fresh, Known, Lost}
 use Rattle.cur_steps.proofs.Actions.{line_ends}
@@ -44,12 +44,12 @@ rung_fresh t checked line is s h =
     }))
     (its.drives.right s h.rest (record { any = record { screen = h.lost.sized.state.screen; rows_are = h.lost.sized.rows; cols_are = h.lost.sized.cols; tame = h.lost.tame }; top = h.whole.top; bottom = h.whole.bottom }))
 
-pub rung_fits : (t : Table) → IsChecked t → (line : List ℕ) → t.line_of Bel ≡ Some line → (status : Status) → (status ≡ Lost → ⊥) → (b : Belief) (g : ℕ → ℕ → Ink) (s : State) → Fits t g status b s → Ends s line (Fits t g status b)
+pub rung_fits : (t : Table) → IsChecked t → (line : List ℕ) → t.line_of Bel ≡ Some line → (status : Status) → (status ≡ Lost → ⊥) → (b : Belief) (g : ℕ → ℕ → Ink) (s : State) → Meets t g status b s → Ends s line (Meets t g status b)
 rung_fits t checked line is Fresh some b g s h = rung_fresh t checked line is s h
 rung_fits t checked line is Known some b g s h = line_ends t checked Bel line is g g b b (rung t g b) s h
 rung_fits t checked line is Lost some b g s h = absurd (some refl)
 
-pub rung_short : (t : Table) → IsChecked t → (line : List ℕ) → t.line_of Bel ≡ Some line → (status : Status) → (status ≡ Lost → ⊥) → (b : Belief) (front back : List ℕ) → line ≡ front ++ back → (g : ℕ → ℕ → Ink) (s : State) → Fits t g status b s → Ends s front (IsLost t)
+pub rung_short : (t : Table) → IsChecked t → (line : List ℕ) → t.line_of Bel ≡ Some line → (status : Status) → (status ≡ Lost → ⊥) → (b : Belief) (front back : List ℕ) → line ≡ front ++ back → (g : ℕ → ℕ → Ink) (s : State) → Meets t g status b s → Ends s front (IsLost t)
 rung_short t checked line is Fresh some b front back e g s h = (checked.lines Bel line is).drives.fronts s h.rest h.lost front back e
 rung_short t checked line is Known some b front back e g s h = (checked.lines Bel line is).drives.fronts s h.ready.rest (agrees_lost t checked g b s h) front back e
 rung_short t checked line is Lost some b front back e g s h = absurd (some refl)

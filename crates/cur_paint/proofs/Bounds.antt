@@ -4,61 +4,24 @@ use Rattle.std.proofs.lemmas.Bool.Decides.{nat_tests}
 use Rattle.vt_term.specs.Screen.{State}
 use Rattle.ti_conforms.specs.Certified.{Table, cell_limit}
 use Rattle.cur_steps.specs.Inks.{same}
-use Rattle.cur_steps.specs.Beliefs.{Agrees, moves, changes, modes_limit, same_mode}
+use Rattle.cur_steps.specs.Beliefs.{Agrees, moves, changes, same_mode}
 use Rattle.cur_steps.specs.declared.beliefs.Belief.{Belief}
 use Rattle.cur_steps.specs.declared.beliefs.Place.{Place}
 use Rattle.cur_steps.specs.declared.beliefs.Mode.{Mode}
 use Rattle.cur_steps.specs.declared.beliefs.Mode.TheVariants.{Hidden, Normal, Prominent}
 use Rattle.cur_steps.specs.declared.inks.Ink.{Ink}
-use Rattle.cur_steps.proofs.Answers.{moves_few, changes_few}
 use Rattle.cur_steps.proofs.Turns.{stands_at}
 use Rattle.cur_paint.specs.Differ.{differs, span, all_differ}
-use Rattle.cur_paint.specs.Limits.{IsCursor, IsPlaced, IsWithin, seen_at, last_move, cursor_limit, is_settled, paint_limit, fresh_limit}
+use Rattle.cur_paint.specs.Limits.{IsCursor, IsPlaced, IsWithin, seen_at, last_move, is_settled, paint_limit, renewal_limit, fresh_limit}
+use Rattle.cur_paint.specs.Rests.{IsAt}
 use Rattle.cur_paint.proofs.Mixtures.{times_grows}
 
-pub last_few : (cols : ℕ) (now : Place) (cursor : Option Place) → last_move cols now cursor ≤ 1
-last_few cols now None = omega arith
-last_few cols now (Some p) = moves_few (seen_at cols now) p.row p.col
-
-both_few : (x y k m l : ℕ) → x ≤ 1 → y ≤ 1 → m + k ≤ l → y * m + x * k ≤ (if (x == 0) && (y == 0) then 0 else 1) * l
-both_few zero zero k m l p q le = omega arith
-both_few zero (suc zero) k m l p q le = omega (arith, le)
-both_few (suc zero) zero k m l p q le = omega (arith, le)
-both_few (suc zero) (suc zero) k m l p q le = omega (arith, le)
-both_few (suc (suc x)) y k m l p q le = absurd (omega arith)
-both_few zero (suc (suc y)) k m l p q le = absurd (omega arith)
-both_few (suc zero) (suc (suc y)) k m l p q le = absurd (omega arith)
-
-pub cursor_few : (t : Table) (b : Belief) (cursor : Option Place) (mode : Mode) → cursor_limit t b cursor mode ≤ (if is_settled t.cols b cursor mode then 0 else 1) * cell_limit t
-cursor_few t b cursor mode = both_few (last_move t.cols b.place cursor) (changes b.mode mode) t.longest.cup (modes_limit t) (cell_limit t) (last_few t.cols b.place cursor) (changes_few b.mode mode) (omega arith)
+pub once_more : (d l : ℕ) → (d + 1) * l ≡ d * l + l
+once_more d l = grind arith
 
 one_most : (b : Bool) (l : ℕ) → (if b then 0 else 1) * l ≤ l
 one_most true l = omega arith
 one_most false l = omega arith
-
-step_most : (d l s : ℕ) (settled : Bool) → s ≤ (if settled then 0 else 1) * l → d * l + s ≤ d * l + (if (d == 0) && settled then 0 else 1) * l
-step_most zero l s settled le = omega (arith, le)
-step_most (suc d) l s settled le =
-    let f : (suc d == 0) ≡ false = grind (arith, nat_tests) in
-    let P : Bool → Type 0 = λ x. suc d * l + s ≤ suc d * l + (if x && settled then 0 else 1) * l in
-    subst P (sym f) (omega (arith, le, one_most settled l))
-
-zero_or_more : (d l : ℕ) (s s' : ℕ) (settled : Bool) → (d ≡ 0 → s ≡ s') → s ≤ l → s' ≤ (if settled then 0 else 1) * l → d * l + s ≤ d * l + (if (d == 0) && settled then 0 else 1) * l
-zero_or_more zero l s s' settled same le le' = let P : ℕ → Type 0 = λ n. zero * l + n ≤ zero * l + (if settled then 0 else 1) * l in subst P (sym (same refl)) (omega (arith, le'))
-zero_or_more (suc d) l s s' settled same le le' =
-    let f : (suc d == 0) ≡ false = grind (arith, nat_tests) in
-    let P : Bool → Type 0 = λ x. suc d * l + s ≤ suc d * l + (if x && settled then 0 else 1) * l in
-    subst P (sym f) (omega (arith, le))
-
-pub limit_sum : (t : Table) (old new : ℕ → ℕ → Ink) (now after : Belief) (cursor : Option Place) (mode : Mode) → (all_differ old new t.cols t.rows ≡ 0 → after ≡ now)
-    → all_differ old new t.cols t.rows * cell_limit t + cursor_limit t after cursor mode ≤ paint_limit t old new now cursor mode
-limit_sum t old new now after cursor mode same =
-    let h : cursor_limit t after cursor mode ≤ cell_limit t = omega (arith, cursor_few t after cursor mode, one_most (is_settled t.cols after cursor mode) (cell_limit t)) in
-    zero_or_more (all_differ old new t.cols t.rows) (cell_limit t) (cursor_limit t after cursor mode) (cursor_limit t now cursor mode) (is_settled t.cols now cursor mode)
-    (λ e. ap (λ (b : Belief). cursor_limit t b cursor mode) (same e)) h (cursor_few t now cursor mode)
-
-pub limit_more : (t : Table) (old new : ℕ → ℕ → Ink) (now : Belief) (cursor : Option Place) (mode : Mode) → all_differ old new t.cols t.rows * cell_limit t ≤ paint_limit t old new now cursor mode
-limit_more t old new now cursor mode = omega arith
 
 pub most : (t : Table) (old new : ℕ → ℕ → Ink) (b : Belief) (cursor : Option Place) (mode : Mode) → paint_limit t old new b cursor mode ≤ (all_differ old new t.cols t.rows + 1) * cell_limit t
 most t old new b cursor mode =
@@ -81,11 +44,12 @@ stays cols now (Some p) h =
 pub reached : (cols : ℕ) (p : Place) → p.col < cols → IsPlaced cols (Some p) (record { row = p.row; col = p.col })
 reached cols p lt = (refl, sym (stands_at cols p.row p.col lt).1)
 
-pub reached_as : (t : Table) (cursor : Option Place) (at now : Place) → IsWithin t cursor → cursor ≡ Some at → now ≡ at → IsPlaced t.cols cursor now
-reached_as t cursor at now within e f =
-    let P : Option Place → Type 0 = λ o. IsWithin t o → IsPlaced t.cols o now in
-    let Q : Place → Type 0 = λ p. IsPlaced t.cols (Some at) p in
-    subst P (sym e) (λ w. subst Q (sym f) (reached t.cols at w.1)) within
+pub placed_at : (t : Table) (cursor : Option Place) (now : Place) → IsWithin t cursor → IsAt cursor now → IsPlaced t.cols cursor now
+placed_at t None now w e = tt
+placed_at t (Some p) now w e = let Q : Place → Type 0 = λ q. IsPlaced t.cols (Some p) q in subst Q (sym e) (reached t.cols p w.1)
+
+pub at_as : (cursor : Option Place) (at now : Place) → cursor ≡ Some at → now ≡ at → IsAt cursor now
+at_as cursor at now e f = subst (λ (o : Option Place). IsAt o now) (sym e) f
 
 -- it is where every state that agrees has it
 pub placed_as : (t : Table) (g : ℕ → ℕ → Ink) (b : Belief) (cursor : Option Place) (s : State) → Agrees t g b s → IsCursor cursor s.screen.row s.screen.col → IsPlaced t.cols cursor b.place
@@ -109,9 +73,50 @@ nothing d x y l e f h =
     let R : ℕ → Type 0 = λ n. 0 * l + (if (n == 0) then 0 else 1) * l ≡ 0 in
     subst P (sym e) (subst Q (sym f) (subst R (sym h) (omega arith)))
 
+-- once more where a cell differs, where the cursor is to move, and where its mode is to change
+due : (d l : ℕ) (s : Bool) → ((d == 0) && s) ≡ false → (d + 1) * l ≤ d * l + (if (d == 0) && s then 0 else 1) * l
+due d l s e =
+    let P : Bool → Type 0 = λ x. (d + 1) * l ≤ d * l + (if x then 0 else 1) * l in
+    let c : (d + 1) * l ≡ d * l + l = grind arith in
+    subst P (sym e) (omega (arith, c))
+
+refuted : (x y : Bool) → y ≡ false → (x && y) ≡ false
+refuted true y e = e
+refuted false y e = refl
+
+refuted_first : (x y : Bool) → x ≡ false → (x && y) ≡ false
+refuted_first true y e = absurd (cc)
+refuted_first false y e = refl
+
+not_none : (n : ℕ) → n ≡ 1 → (n == 0) ≡ false
+not_none n e = ap (λ (k : ℕ). k == 0) e
+
+pub due_moved : (t : Table) (old new : ℕ → ℕ → Ink) (b : Belief) (cursor : Option Place) (mode : Mode) → last_move t.cols b.place cursor ≡ 1 → renewal_limit t old new ≤ paint_limit t old new b cursor mode
+due_moved t old new b cursor mode e =
+    let d = all_differ old new t.cols t.rows in
+    due d (cell_limit t) (is_settled t.cols b cursor mode) (refuted (d == 0) (is_settled t.cols b cursor mode) (refuted_first (last_move t.cols b.place cursor == 0) (changes b.mode mode == 0) (not_none _ e)))
+
+pub due_shown : (t : Table) (old new : ℕ → ℕ → Ink) (b : Belief) (cursor : Option Place) (mode : Mode) → changes b.mode mode ≡ 1 → renewal_limit t old new ≤ paint_limit t old new b cursor mode
+due_shown t old new b cursor mode e =
+    let d = all_differ old new t.cols t.rows in
+    due d (cell_limit t) (is_settled t.cols b cursor mode) (refuted (d == 0) (is_settled t.cols b cursor mode) (refuted (last_move t.cols b.place cursor == 0) (changes b.mode mode == 0) (not_none _ e)))
+
+some_left : (n : ℕ) → 0 < n → (n == 0) ≡ false
+some_left zero lt = absurd (omega (arith, lt))
+some_left (suc n) lt = grind (arith, nat_tests)
+
+pub due_changed : (t : Table) (old new : ℕ → ℕ → Ink) (b : Belief) (cursor : Option Place) (mode : Mode) → 0 < all_differ old new t.cols t.rows → renewal_limit t old new ≤ paint_limit t old new b cursor mode
+due_changed t old new b cursor mode lt =
+    let d = all_differ old new t.cols t.rows in
+    due d (cell_limit t) (is_settled t.cols b cursor mode) (refuted_first (d == 0) (is_settled t.cols b cursor mode) (some_left d lt))
+
+-- nothing is due where nothing is to be done
+pub none_due : (t : Table) (old new : ℕ → ℕ → Ink) (b : Belief) (cursor : Option Place) (mode : Mode) → all_differ old new t.cols t.rows ≡ 0 → IsPlaced t.cols cursor b.place → b.mode ≡ Some mode → paint_limit t old new b cursor mode ≡ 0
+none_due t old new b cursor mode e p k = nothing (all_differ old new t.cols t.rows) (last_move t.cols b.place cursor) (changes b.mode mode) (cell_limit t) e (stays t.cols b.place cursor p) (unchanged b.mode mode k)
+
 pub none : (t : Table) (old new : ℕ → ℕ → Ink) (b : Belief) (cursor : Option Place) (mode : Mode) → all_differ old new t.cols t.rows ≡ 0 → b.mode ≡ Some mode
     → (s : State) → Agrees t old b s → IsCursor cursor s.screen.row s.screen.col → paint_limit t old new b cursor mode ≡ 0
-none t old new b cursor mode e k s h at = nothing (all_differ old new t.cols t.rows) (last_move t.cols b.place cursor) (changes b.mode mode) (cell_limit t) e (stays t.cols b.place cursor (placed_as t old b cursor s h at)) (unchanged b.mode mode k)
+none t old new b cursor mode e k s h at = none_due t old new b cursor mode e (placed_as t old b cursor s h at) k
 
 few : (b : Bool) → (if b then 0 else 1) ≤ 1
 few true = omega arith
@@ -125,11 +130,11 @@ all_few : (old new : ℕ → ℕ → Ink) (cols n : ℕ) → all_differ old new 
 all_few old new cols zero = omega arith
 all_few old new cols (suc n) = let h : all_differ old new cols n ≤ n * cols = all_few old new cols n in let k : span old new n 0 cols ≤ cols = span_few old new n 0 cols in omega (arith, h, k)
 
-pub fresh_enough : (t : Table) (n : ℕ) (old new : ℕ → ℕ → Ink) (b : Belief) (cursor : Option Place) (mode : Mode) → n ≤ length t.resync → n + paint_limit t old new b cursor mode ≤ fresh_limit t
-fresh_enough t n old new b cursor mode le =
+pub fresh_enough : (t : Table) (n : ℕ) (old new : ℕ → ℕ → Ink) → n ≤ length t.resync → n + renewal_limit t old new ≤ fresh_limit t
+fresh_enough t n old new le =
     let d = all_differ old new t.cols t.rows in
     let a : (d + 1) * cell_limit t ≤ (t.rows * t.cols + 1) * cell_limit t = times_grows (d + 1) (t.rows * t.cols + 1) (cell_limit t) (omega (arith, all_few old new t.cols t.rows)) in
-    omega (arith, a, le, most t old new b cursor mode)
+    omega (arith, a, le)
 
 no_less : (n l : ℕ) → 1 ≤ l → n ≤ n * l
 no_less n l le = let h : 1 * n ≤ l * n = times_grows 1 l n le in let c : l * n ≡ n * l = grind arith in omega (arith, h, c)
@@ -142,9 +147,9 @@ one_more (suc d) l settled lt =
     subst P (sym f) (omega arith)
 
 -- some bytes, and then what fewer cells take by more than so many
-pub fewer_enough : (t : Table) (n : ℕ) (blank old new : ℕ → ℕ → Ink) (b d : Belief) (cursor : Option Place) (mode : Mode) → n + all_differ blank new t.cols t.rows < all_differ old new t.cols t.rows
-    → n + paint_limit t blank new d cursor mode ≤ paint_limit t old new b cursor mode
-fewer_enough t n blank old new b d cursor mode lt =
+pub fewer_enough : (t : Table) (n : ℕ) (blank old new : ℕ → ℕ → Ink) (b : Belief) (cursor : Option Place) (mode : Mode) → n + all_differ blank new t.cols t.rows < all_differ old new t.cols t.rows
+    → n + renewal_limit t blank new ≤ paint_limit t old new b cursor mode
+fewer_enough t n blank old new b cursor mode lt =
     let x = all_differ blank new t.cols t.rows in
     let y = all_differ old new t.cols t.rows in
     let l = cell_limit t in
@@ -153,12 +158,12 @@ fewer_enough t n blank old new b d cursor mode lt =
     let k : n ≤ n * l = no_less n l (omega arith) in
     let c : (x + 1) * l ≡ x * l + l = grind arith in
     let m : y * l + l ≤ paint_limit t old new b cursor mode = one_more y l (is_settled t.cols b cursor mode) (omega (arith, lt)) in
-    omega (arith, a, e, k, c, m, most t blank new d cursor mode)
+    omega (arith, a, e, k, c, m)
 
 -- a scroll, and then what fewer cells take by as many as it counts for
-pub scrolled_enough : (t : Table) (k : ℕ) (moved old new : ℕ → ℕ → Ink) (b d : Belief) (cursor : Option Place) (mode : Mode) → 0 < k → k + all_differ moved new t.cols t.rows ≤ all_differ old new t.cols t.rows
-    → k * cell_limit t + paint_limit t moved new d cursor mode ≤ paint_limit t old new b cursor mode
-scrolled_enough t k moved old new b d cursor mode some le =
+pub scrolled_enough : (t : Table) (k : ℕ) (moved old new : ℕ → ℕ → Ink) (b : Belief) (cursor : Option Place) (mode : Mode) → 0 < k → k + all_differ moved new t.cols t.rows ≤ all_differ old new t.cols t.rows
+    → k * cell_limit t + renewal_limit t moved new ≤ paint_limit t old new b cursor mode
+scrolled_enough t k moved old new b cursor mode some le =
     let x = all_differ moved new t.cols t.rows in
     let y = all_differ old new t.cols t.rows in
     let l = cell_limit t in
@@ -166,4 +171,4 @@ scrolled_enough t k moved old new b d cursor mode some le =
     let e : (k + x) * l ≡ k * l + x * l = grind arith in
     let c : (x + 1) * l ≡ x * l + l = grind arith in
     let m : y * l + l ≤ paint_limit t old new b cursor mode = one_more y l (is_settled t.cols b cursor mode) (omega (arith, le, some)) in
-    omega (arith, a, e, c, m, most t moved new d cursor mode)
+    omega (arith, a, e, c, m)

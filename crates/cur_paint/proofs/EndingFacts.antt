@@ -19,7 +19,7 @@ use Rattle.ti_conforms.specs.Certified.{Table, IsLost, IsReady, IsChecked, IsChe
 use Rattle.cur_steps.proofs.Actions.{ready_lost}
 use Rattle.cur_steps.proofs.Turns.{any_of, free_of, by_screen}
 use Rattle.cur_paint.specs.Cleared.{IsLeft}
-use Rattle.cur_paint.specs.Update.{Fits, IsFresh}
+use Rattle.cur_paint.specs.Update.{Meets, IsFresh}
 use Rattle.cur_paint.specs.Finish.{from_cnorm_text, from_cup_text, from_rmacs_text, end_text, finish_text}
 use Rattle.cur_paint.specs.declared.updates.Status.{Status}
 use Rattle.cur_paint.specs.declared.updates.Status.TheVariants.{Fresh, Known, Lost}
@@ -118,11 +118,11 @@ end_leads t checked =
     let bcdf = leads_then P _ _ D R R (IsFresh t) (text_of t Rmacs) (from_cup_text t) b cdf in
     record { most = _; leads = leads_then P _ _ D R R (IsFresh t) (text_of t Sgr0) (from_rmacs_text t) a bcdf }
 
-pub finish_leads : (t : Table) → IsChecked t → (g : ℕ → ℕ → Ink) (status : Status) (b : Belief) → SomeLeads (IsPiece t) (IsLost t) (Fits t g status b) (finish_text t status) (IsFresh t)
+pub finish_leads : (t : Table) → IsChecked t → (g : ℕ → ℕ → Ink) (status : Status) (b : Belief) → SomeLeads (IsPiece t) (IsLost t) (Meets t g status b) (finish_text t status) (IsFresh t)
 finish_leads t checked g Fresh b = record { most = 0; leads = still (IsPiece t) (IsLost t) (IsFresh t) (IsFresh t) (λ s h. h.rest) (λ s h. h) (λ s h. h.lost) }
 finish_leads t checked g Known b =
     let k = end_leads t checked in
-    record { most = k.most; leads = leads_wider (IsPiece t) k.most k.most (IsLost t) (IsReady t) (IsFresh t) (Fits t g Known b) (IsFresh t) (end_text t) (omega arith) (λ s h. h.ready) (λ s h. h) k.leads }
+    record { most = k.most; leads = leads_wider (IsPiece t) k.most k.most (IsLost t) (IsReady t) (IsFresh t) (Meets t g Known b) (IsFresh t) (end_text t) (omega arith) (λ s h. h.ready) (λ s h. h) k.leads }
 finish_leads t checked g Lost b =
     let k = end_leads t checked in
     let r = leads_wider (IsPiece t) (length t.resync) (length t.resync) (IsLost t) (IsLeft t None) _ (IsLost t) (IsReady t) t.resync (omega arith) (λ s h. record { lost = h; seen = tt }) (λ s h. h.ready) (resync_leads t checked None) in

@@ -120,6 +120,18 @@ all_grows old new cols n (suc m) le = elim (cases_lt n (suc m)) [
 ]
 
 -- columns that are shown already
+zero_same : (b : Bool) → ◌≡◌ {A = ℕ} (if b then 0 else 1) 0 → b ≡ true
+zero_same true e = refl
+zero_same false e = absurd (omega (arith, e))
+
+-- the screens are the same where no place differs
+pub all_same : (old new : ℕ → ℕ → Ink) (cols rows : ℕ) → all_differ old new cols rows ≡ 0 → (i j : ℕ) → i < rows → j < cols → old i j ≡ new i j
+all_same old new cols rows e i j li lj =
+    let line : span old new i 0 cols ≡ 0 = omega (arith, e, all_grows old new cols (i + 1) rows (omega (arith, li)), all_more old new cols i) in
+    let place : differs old new i (0 + j) ≡ 0 = omega (arith, line, span_grows old new i 0 (j + 1) cols (omega (arith, lj)), span_more old new i 0 j) in
+    let here : differs old new i (0 + j) ≡ differs old new i j = ap (λ (n : ℕ). differs old new i n) (omega arith) in
+    same_equal (old i j) (new i j) (zero_same (same (old i j) (new i j)) (sym here ∙ place))
+
 pub front_shown : (t : Table) (old new : ℕ → ℕ → Ink) (r c : ℕ) (b : Belief) → ((k : ℕ) → k < c → old r k ≡ new r k) → (s : State) → Agrees t (mixed old new r 0) b s → Agrees t (mixed old new r c) b s
 front_shown t old new r c b e s h = agrees_as t (mixed old new r 0) (mixed old new r c) b (λ i j li lj. mixed_front old new r c i j e) s h
 

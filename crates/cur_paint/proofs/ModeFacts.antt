@@ -1,5 +1,5 @@
 -- The cursor's mode, as the last thing but its place that is set, and what paints before and after that.
-use Rattle.std.proofs.Common.{ℕ, ◌+◌, ◌*◌, ◌≤◌, List, [], ◌++◌, Option, Some, None, Result, Ok, Err, refl, sym, ap, ◌∙◌, arith, append_assoc}
+use Rattle.std.proofs.Common.{◌≡◌, ℕ, ◌+◌, ◌*◌, ◌≤◌, List, [], ◌++◌, Option, Some, None, Result, Ok, Err, refl, sym, ap, ◌∙◌, arith, append_assoc}
 use Rattle.std.specs.Prelude.{OnOk}
 use Rattle.std.specs.List.{concat}
 use Rattle.vt_term.specs.Screen.{State}
@@ -8,20 +8,19 @@ use Rattle.cur_wires.specs.Steps.{Spells, Steps, then_kind}
 use Rattle.cur_wires.specs.Leads.{Leads}
 use Rattle.cur_wires.proofs.Leads.{all_append, concat-append, leads_then, leads_wider}
 use Rattle.cur_wires.proofs.Paints.{sends_then}
-use Rattle.cur_wires.proofs.Stops.{leads_each, on_ok_map}
+use Rattle.cur_wires.proofs.Stops.{leads_each, on_ok_map, spells_nothing}
 use Rattle.ti_conforms.specs.Certified.{Table, IsLost, IsPiece, Line, Character}
 use Rattle.cur_steps.specs.Pieces.{IsPaint, Stroke, Printed}
 use Rattle.cur_steps.specs.Beliefs.{mode_text}
+use Rattle.cur_steps.proofs.Answers.{text_same}
 use Rattle.cur_steps.specs.declared.beliefs.Mode.{Mode}
 use Rattle.cur_steps.specs.declared.beliefs.Place.{Place}
-use Rattle.cur_steps.proofs.Answers.{at_most, moves_few}
-use Rattle.cur_paint.specs.Limits.{last_move, seen_at}
 use Rattle.cur_paint.specs.Modes.{IsPainted, OnlyPaints, move_limit}
 use Rattle.cur_paint.specs.Scenes.{Sets}
 
-pub move_short : (t : Table) (now : Place) (cursor : Option Place) → last_move t.cols now cursor * t.longest.cup ≤ move_limit t cursor
-move_short t now None = omega arith
-move_short t now (Some p) = at_most (last_move t.cols now (Some p)) t.longest.cup (moves_few (seen_at t.cols now) p.row p.col)
+pub move_short : (t : Table) (cursor : Option Place) → move_limit t cursor ≤ t.longest.cup
+move_short t None = omega arith
+move_short t (Some p) = omega arith
 
 -- ---- what paints
 
@@ -146,6 +145,23 @@ sets_after went failures laws a m z v answer t j k limit now cursor mode A B C l
         sends = sends_then went failures laws a m z h.bytes s.step.bytes answer h.sends s.step.sends;
       };
       quiet = on_ok_map answer (OnlyPaints t [] now cursor mode s.step.bytes) (OnlyPaints t [] now cursor mode (h.bytes ++ s.step.bytes)) (quiet_more t now cursor mode h.bytes s.step.bytes (painted t j (IsLost t) A B h.bytes h.leads)) s.quiet;
+    }
+
+-- nothing at all
+pub sets_nothing : {W T E : Type 0} (went : W → W → List ℕ → Type 0) (failures : W → ℕ) → IsWire went failures → (a : W) (v : T) (t : Table) (limit : ℕ) (now : Option Mode) (cursor : Option Place) (mode : Mode) (A B : State → Type 0)
+    → now ≡ Some mode → ((s : State) → A s → s.rest ≡ []) → ((s : State) → A s → B s) → ((s : State) → A s → IsLost t s) → Sets {T = T} {E = E} went failures a a (Ok v) t limit now cursor mode A B
+sets_nothing went failures laws a v t limit now cursor mode A B e rest f d =
+    let h = spells_nothing went failures laws a v (IsPiece t) limit (IsLost t) A B rest f d in
+    record {
+      step = h.step;
+      quiet = record {
+        front = [];
+        back = [];
+        parts = h.all ∙ sym (ap (λ (l : List ℕ). l ++ []) (text_same t now mode e));
+        before = painted_none t;
+        after = painted_none t;
+        short = omega arith;
+      };
     }
 
 -- under a greater limit

@@ -1,5 +1,5 @@
 -- All anew: what begins with the resynchronization, or with the clearing.
-use Rattle.std.proofs.Common.{◌≡◌, ℕ, ◌+◌, ◌≤◌, Bool, true, false, List, [], ◌++◌, length, Option, Some, None, Result, Err, refl, sym, ap, subst, ◌∙◌, arith}
+use Rattle.std.proofs.Common.{◌≡◌, ℕ, ◌+◌, ◌≤◌, Bool, true, false, List, [], ◌++◌, length, Option, Some, None, Result, Err, refl, sym, ap, subst, ◌∙◌, inl, arith}
 use Rattle.std.proofs.lemmas.List.{append-nil}
 use Rattle.std.specs.Prelude.{OnOk}
 use Rattle.vt_term.specs.Look.{Rendition, blank}
@@ -10,17 +10,20 @@ use Rattle.cur_wires.specs.Leads.{Leads}
 use Rattle.cur_wires.specs.Steps.{then_kind}
 use Rattle.cur_wires.proofs.Leads.{leads_then, leads_wider}
 use Rattle.cur_wires.proofs.Paints.{sends_then}
+use Rattle.cur_wires.proofs.Stops.{on_ok_map}
 use Rattle.cur_wires.proofs.Completion.{ends_as}
 use Rattle.ti_rows.specs.declared.rows.Row.TheVariants.{Clear}
 use Rattle.cur_steps.specs.declared.beliefs.Belief.{Belief}
 use Rattle.cur_steps.specs.declared.inks.Ink.{Ink}
 use Rattle.ti_conforms.specs.Certified.{Table, IsLost, IsBlank, IsChecked, IsPiece, Line, or_nothing}
-use Rattle.cur_steps.specs.Inks.{blank_ink}
+use Rattle.cur_steps.specs.Inks.{blank_ink, plain_brush, rendition_of}
+use Rattle.cur_steps.specs.declared.inks.Brush.{Brush}
 use Rattle.cur_steps.specs.Beliefs.{Agrees, Turns}
 use Rattle.cur_steps.specs.declared.beliefs.Mode.{Mode}
 use Rattle.cur_steps.specs.declared.beliefs.Mode.TheVariants.{Normal}
 use Rattle.cur_steps.proofs.Turns.{free_of, by_screen, look_at-drawn, stands_at}
-use Rattle.cur_paint.specs.Cleared.{IsLeft, at_start, cleared}
+use Rattle.cur_paint.specs.Cleared.{IsLeft, at_corner, at_start}
+use Rattle.cur_paint.specs.Rests.{EndsAt, IsAt, IsRested}
 use Rattle.cur_paint.specs.Limits.{fresh_limit, IsPlaced, paint_limit}
 use Rattle.cur_paint.specs.Modes.{OnlyPaints}
 use Rattle.cur_paint.specs.Scenes.{Sets}
@@ -72,17 +75,18 @@ resync_leads t checked mode = record {
   cut = λ front back e s a. checked.resync_fronts s a.lost front back e;
 }
 
--- all is erased on the background that is set
-pub all_cleared : (t : Table) (g : ℕ → ℕ → Ink) (b : Belief) → Turns t Clear g b (cleared b.brush.background) (record b { place = record { row = 0; col = 0 } })
-all_cleared t g b = record {
+-- all is erased in the default rendition
+pub all_cleared : (t : Table) (g : ℕ → ℕ → Ink) (b : Belief) → b.brush ≡ plain_brush → Turns t Clear g b (λ i j. blank_ink) (at_corner b)
+all_cleared t g b plain = record {
   starts = λ s h. free_of t s h.ready;
-  ends = λ s u h sized closed w. by_screen t (Agrees t (cleared b.brush.background) (record b { place = record { row = 0; col = 0 } })) u
+  ends = λ s u h sized closed w. by_screen t (Agrees t (λ i j. blank_ink) (at_corner b)) u
       (record s.screen { grid = drawn (λ i j old. blank s.screen.rendition) s.screen.grid; row = 0; col = 0; pending = false }) sized closed w.wants
       (λ k. record {
         ready = record { sized = k; rest = refl; tame = record { autowrap = h.ready.tame.autowrap; inserting = h.ready.tame.inserting }; whole = record { top = h.ready.whole.top; bottom = h.ready.whole.bottom }; settled = h.ready.settled; visible = h.ready.visible };
         cells = λ i j li lj.
             look_at-drawn (λ i j old. blank s.screen.rendition) s.screen.grid i j (omega (arith, h.ready.sized.state.screen.columns i (omega (arith, h.ready.sized.rows)), h.ready.sized.cols))
-            ∙ ap (λ (r : Rendition). blank r) h.brush;
+            ∙ ap (λ (r : Rendition). blank r) h.brush
+            ∙ ap (λ (x : Brush). blank (rendition_of t.looks x)) plain;
         place = stands_at t.cols 0 0 (omega (arith, h.ready.sized.state.screen.col, h.ready.sized.cols));
         brush = h.brush;
         colored = h.colored;
@@ -91,32 +95,36 @@ all_cleared t g b = record {
       });
 }
 
-pub clear_leads : (t : Table) → IsChecked t → (line : List ℕ) → t.line_of Clear ≡ Some line → (g : ℕ → ℕ → Ink) (b : Belief)
-    → Leads (IsPiece t) (length line) (IsLost t) (Agrees t g b) line (Agrees t (cleared b.brush.background) (record b { place = record { row = 0; col = 0 } }))
-clear_leads t checked line is g b = line_leads (IsPiece t) t checked Clear line is (Line Clear is) (length line) (omega arith) g (cleared b.brush.background) b (record b { place = record { row = 0; col = 0 } }) (all_cleared t g b)
+pub clear_leads : (t : Table) → IsChecked t → (line : List ℕ) → t.line_of Clear ≡ Some line → (g : ℕ → ℕ → Ink) (b : Belief) → b.brush ≡ plain_brush
+    → Leads (IsPiece t) (length line) (IsLost t) (Agrees t g b) line (Agrees t (λ i j. blank_ink) (at_corner b))
+clear_leads t checked line is g b plain = line_leads (IsPiece t) t checked Clear line is (Line Clear is) (length line) (omega arith) g (λ i j. blank_ink) b (at_corner b) (all_cleared t g b plain)
 
 pub draws_fresh : {W T E : Type 0} (went : W → W → List ℕ → Type 0) (failures : W → ℕ) (a z : W) (answer : Result T E) (t : Table) (shown g : ℕ → ℕ → Ink) (w : Wanted) (status : Status) (b after : Belief) → status ≡ Fresh
-    → Anew went failures a z answer t (fresh_limit t) (IsLeft t (Some Normal)) (Agrees t g after) t.resync (Some Normal) w → OnOk answer (IsPlaced t.cols w.cursor after.place) → OnOk answer (after.mode ≡ Some w.mode) → Draws went failures a z answer t shown g w status b after
-draws_fresh went failures a z answer t shown g w status b after e h there mode =
+    → Anew went failures a z answer t (fresh_limit t) (IsLeft t (Some Normal)) (Agrees t g after) t.resync (Some Normal) w → OnOk answer (IsPlaced t.cols w.cursor after.place) → OnOk answer (IsAt w.cursor after.place) → OnOk answer (IsRested after) → OnOk answer (after.mode ≡ Some w.mode) → Draws went failures a z answer t shown g w status b after
+draws_fresh went failures a z answer t shown g w status b after e h there at plainly mode =
     let D : State → Type 0 = then_kind answer (Agrees t g after) (IsLost t) in
     let P : Status → Type 0 = λ x. Draws went failures a z answer t shown g w x b after in
     subst P (sym e) (record {
       step = record { bytes = h.step.bytes; leads = leads_wider (IsPiece t) (fresh_limit t) (fresh_limit t) (IsLost t) (IsLeft t (Some Normal)) D (IsFresh t) D h.step.bytes (omega arith) (λ s x. record { lost = x.lost; seen = x.visible }) (λ s x. x) h.step.leads; sends = h.step.sends };
       begins = h.begins;
       there = there;
+      at = on_ok_map answer (IsAt w.cursor after.place) (EndsAt w.cursor _ after.place) (λ x. inl x) at;
+      rested = plainly;
       mode = mode;
       quiet = h.quiet;
     })
 
 pub draws_lost : {W T E : Type 0} (went : W → W → List ℕ → Type 0) (failures : W → ℕ) (a z : W) (answer : Result T E) (t : Table) (shown g : ℕ → ℕ → Ink) (w : Wanted) (status : Status) (b after : Belief) → status ≡ Lost
-    → Anew went failures a z answer t (fresh_limit t) (IsLeft t None) (Agrees t g after) t.resync None w → OnOk answer (IsPlaced t.cols w.cursor after.place) → OnOk answer (after.mode ≡ Some w.mode) → Draws went failures a z answer t shown g w status b after
-draws_lost went failures a z answer t shown g w status b after e h there mode =
+    → Anew went failures a z answer t (fresh_limit t) (IsLeft t None) (Agrees t g after) t.resync None w → OnOk answer (IsPlaced t.cols w.cursor after.place) → OnOk answer (IsAt w.cursor after.place) → OnOk answer (IsRested after) → OnOk answer (after.mode ≡ Some w.mode) → Draws went failures a z answer t shown g w status b after
+draws_lost went failures a z answer t shown g w status b after e h there at plainly mode =
     let D : State → Type 0 = then_kind answer (Agrees t g after) (IsLost t) in
     let P : Status → Type 0 = λ x. Draws went failures a z answer t shown g w x b after in
     subst P (sym e) (record {
       step = record { bytes = h.step.bytes; leads = leads_wider (IsPiece t) (fresh_limit t) (fresh_limit t) (IsLost t) (IsLeft t None) D (IsLost t) D h.step.bytes (omega arith) (λ s x. record { lost = x; seen = tt }) (λ s x. x) h.step.leads; sends = h.step.sends };
       begins = h.begins;
       there = there;
+      at = on_ok_map answer (IsAt w.cursor after.place) (EndsAt w.cursor _ after.place) (λ x. inl x) at;
+      rested = plainly;
       mode = mode;
       quiet = h.quiet;
     })
@@ -126,16 +134,16 @@ as_wanted w x e = ap (λ (y : Bool). record w { clear = y }) e
 
 pub draws_known : {W T E : Type 0} (went : W → W → List ℕ → Type 0) (failures : W → ℕ) (a z : W) (answer : Result T E) (t : Table) (shown g : ℕ → ℕ → Ink) (w : Wanted) (status : Status) (b after : Belief) → status ≡ Known → w.clear ≡ false
     → Sets went failures a z answer t (paint_limit t shown g b w.cursor w.mode) b.mode w.cursor w.mode (Agrees t shown b) (Agrees t g after)
-    → OnOk answer (IsPlaced t.cols w.cursor after.place) → OnOk answer (after.mode ≡ Some w.mode) → Draws went failures a z answer t shown g w status b after
-draws_known went failures a z answer t shown g w status b after e f h there mode =
+    → OnOk answer (IsPlaced t.cols w.cursor after.place) → OnOk answer (EndsAt w.cursor (paint_limit t shown g b w.cursor w.mode) after.place) → OnOk answer (IsRested after) → OnOk answer (after.mode ≡ Some w.mode) → Draws went failures a z answer t shown g w status b after
+draws_known went failures a z answer t shown g w status b after e f h there at plainly mode =
     let P : Status → Type 0 = λ x. Draws went failures a z answer t shown g w x b after in
     let Q : Wanted → Type 0 = λ x. Draws went failures a z answer t shown g x Known b after in
-    subst P (sym e) (subst Q (sym (as_wanted w false f)) (record { step = h.step; begins = tt; there = there; mode = mode; quiet = h.quiet }))
+    subst P (sym e) (subst Q (sym (as_wanted w false f)) (record { step = h.step; begins = tt; there = there; at = at; rested = plainly; mode = mode; quiet = h.quiet }))
 
 pub draws_clear : {W T E : Type 0} (went : W → W → List ℕ → Type 0) (failures : W → ℕ) (a z : W) (answer : Result T E) (t : Table) (shown g : ℕ → ℕ → Ink) (w : Wanted) (status : Status) (b after : Belief) → status ≡ Known → w.clear ≡ true
     → (line : List ℕ) → t.line_of Clear ≡ Some line → (n : ℕ) → n ≤ fresh_limit t → Anew went failures a z answer t n (Agrees t shown b) (Agrees t g after) line b.mode w
-    → OnOk answer (IsPlaced t.cols w.cursor after.place) → OnOk answer (after.mode ≡ Some w.mode) → Draws went failures a z answer t shown g w status b after
-draws_clear went failures a z answer t shown g w status b after e f line is n le h there mode =
+    → OnOk answer (IsPlaced t.cols w.cursor after.place) → OnOk answer (IsAt w.cursor after.place) → OnOk answer (IsRested after) → OnOk answer (after.mode ≡ Some w.mode) → Draws went failures a z answer t shown g w status b after
+draws_clear went failures a z answer t shown g w status b after e f line is n le h there at plainly mode =
     let P : Status → Type 0 = λ x. Draws went failures a z answer t shown g w x b after in
     let Q : Wanted → Type 0 = λ x. Draws went failures a z answer t shown g x Known b after in
     let D : State → Type 0 = then_kind answer (Agrees t g after) (IsLost t) in
@@ -143,6 +151,8 @@ draws_clear went failures a z answer t shown g w status b after e f line is n le
       step = record { bytes = h.step.bytes; leads = leads_wider (IsPiece t) n (fresh_limit t) (IsLost t) (Agrees t shown b) D (Agrees t shown b) D h.step.bytes le (λ s x. x) (λ s x. x) h.step.leads; sends = h.step.sends };
       begins = record { line = line; is = is; begins = h.begins };
       there = there;
+      at = on_ok_map answer (IsAt w.cursor after.place) (EndsAt w.cursor _ after.place) (λ x. inl x) at;
+      rested = plainly;
       mode = mode;
       quiet = subst (λ (l : List ℕ). OnOk answer (OnlyPaints t l b.mode w.cursor w.mode h.step.bytes)) (sym (ap or_nothing is)) h.quiet;
     }))

@@ -20,11 +20,11 @@ pub record Rang {W : Type 0} (went : W → W → List ℕ → Type 0) (old new :
   pub sent : went old new line
   pub same : after ≡ before
   pub held : before.status ≡ Lost → ⊥
-  pub fits : (g : ℕ → ℕ → Ink) (s : State) → Fits t g before.status before.belief s
-      → Ends s line (Fits t g before.status before.belief)
+  pub fits : (g : ℕ → ℕ → Ink) (s : State) → Fits t g before.status before.cursor s
+      → Ends s line (Fits t g before.status before.cursor)
   -- a front of it leads to a state that fits a lost session
   pub cut : (front back : List ℕ) → line ≡ front ++ back → (g : ℕ → ℕ → Ink) (s : State)
-      → Fits t g before.status before.belief s → Ends s front (IsLost t)
+      → Fits t g before.status before.cursor s → Ends s front (IsLost t)
 
 -- a front of it, and not all of it, went out, and the session is lost
 pub record RangShort {W : Type 0} (went : W → W → List ℕ → Type 0) (failures : W → ℕ) (old new : W) (t : Table)
@@ -37,9 +37,9 @@ pub record RangShort {W : Type 0} (went : W → W → List ℕ → Type 0) (fail
   pub sent : went old new front
   pub failed : Rose (failures old) (failures new)
   pub held : before.status ≡ Lost → ⊥
-  pub fits : (g : ℕ → ℕ → Ink) (s : State) → Fits t g before.status before.belief s → Ends s front (IsLost t)
+  pub fits : (g : ℕ → ℕ → Ink) (s : State) → Fits t g before.status before.cursor s → Ends s front (IsLost t)
   -- and so does a front of this front
-  pub cut : (x y : List ℕ) → front ≡ x ++ y → (g : ℕ → ℕ → Ink) (s : State) → Fits t g before.status before.belief s
+  pub cut : (x y : List ℕ) → front ≡ x ++ y → (g : ℕ → ℕ → Ink) (s : State) → Fits t g before.status before.cursor s
       → Ends s x (IsLost t)
   pub lost : after.status ≡ Lost
   pub some_left : 0 < length back

@@ -1,17 +1,11 @@
--- What is on the screen, and known of the terminal, after all was erased.
+-- What is known of the terminal after all was erased.
 use Rattle.std.specs.Prelude.{ℕ, false, Option, Some}
-use Rattle.vt_term.specs.Color.{Color}
 use Rattle.vt_term.specs.Screen.{State}
 use Rattle.ti_conforms.specs.Certified.{Table, IsLost}
-use Rattle.cur_steps.specs.Inks.{blank_ink, plain_brush}
+use Rattle.cur_steps.specs.Inks.{plain_brush}
 use Rattle.cur_steps.specs.Beliefs.{IsSeen}
 use Rattle.cur_steps.specs.declared.beliefs.Mode.{Mode}
 use Rattle.cur_steps.specs.declared.beliefs.Belief.{Belief}
-use Rattle.cur_steps.specs.declared.inks.Ink.{Ink}
-
--- spaces on this background
-abbrev pub cleared : Option Color → ℕ → ℕ → Ink
-cleared background i j = record blank_ink { brush = record plain_brush { background = background } }
 
 -- after the resynchronization, which leaves the cursor as visible as it was
 abbrev pub at_start : Option Mode → Belief

@@ -33,11 +33,11 @@ finish_text t Lost = t.resync ++ end_text t
 pub record Finished {W : Type 0} (went : W → W → List ℕ → Type 0) (old new : W) (t : Table)
     (before after : Knowledge) : Type 0 where
   pub sent : went old new (finish_text t before.status)
-  pub fits : (g : ℕ → ℕ → Ink) (s : State) → Fits t g before.status before.belief s
+  pub fits : (g : ℕ → ℕ → Ink) (s : State) → Fits t g before.status before.cursor s
       → Ends s (finish_text t before.status) (IsFresh t)
   -- a front of it leads to a state that fits a lost session
   pub cut : (front back : List ℕ) → finish_text t before.status ≡ front ++ back → (g : ℕ → ℕ → Ink) (s : State)
-      → Fits t g before.status before.belief s → Ends s front (IsLost t)
+      → Fits t g before.status before.cursor s → Ends s front (IsLost t)
   pub fresh : after.status ≡ Fresh
 
 -- a front of that, and not all of it, went out, and the session is lost
@@ -48,9 +48,9 @@ pub record FinishedShort {W : Type 0} (went : W → W → List ℕ → Type 0) (
   pub parts : finish_text t before.status ≡ front ++ back
   pub sent : went old new front
   pub failed : Rose (failures old) (failures new)
-  pub fits : (g : ℕ → ℕ → Ink) (s : State) → Fits t g before.status before.belief s → Ends s front (IsLost t)
+  pub fits : (g : ℕ → ℕ → Ink) (s : State) → Fits t g before.status before.cursor s → Ends s front (IsLost t)
   -- and so does a front of this front
-  pub cut : (x y : List ℕ) → front ≡ x ++ y → (g : ℕ → ℕ → Ink) (s : State) → Fits t g before.status before.belief s
+  pub cut : (x y : List ℕ) → front ≡ x ++ y → (g : ℕ → ℕ → Ink) (s : State) → Fits t g before.status before.cursor s
       → Ends s x (IsLost t)
   pub lost : after.status ≡ Lost
   pub some_left : 0 < length back

@@ -3,6 +3,7 @@ pub mod Blanks
 pub mod Limits
 pub mod Modes
 pub mod Lasting
+pub mod Rests
 pub mod Cleared
 pub mod Scenes
 pub mod Update

@@ -1,7 +1,7 @@
 -- Where the cursor is wanted, and the most that is sent.
 use Rattle.std.specs.Prelude.{ℕ, ◌+◌, ◌-◌, ◌*◌, ◌<◌, ◌≡◌, ◌==◌, ◌&&◌, Bool, Option, Some, None, length, min, if◌then◌else◌}
 use Rattle.ti_conforms.specs.Certified.{Table, cell_limit}
-use Rattle.cur_steps.specs.Beliefs.{moves, changes, modes_limit}
+use Rattle.cur_steps.specs.Beliefs.{moves, changes, modes_limit, plain_limit}
 use Rattle.cur_steps.specs.declared.beliefs.Belief.{Belief}
 use Rattle.cur_steps.specs.declared.beliefs.Place.{Place}
 use Rattle.cur_steps.specs.declared.beliefs.Mode.{Mode}
@@ -31,8 +31,12 @@ last_move cols now None = 0
 last_move cols now (Some p) = moves (seen_at cols now) p.row p.col
 
 -- the last things to do: the cursor's mode and its place
-abbrev pub cursor_limit : Table → Belief → Option Place → Mode → ℕ
-cursor_limit t b cursor mode = changes b.mode mode * modes_limit t + last_move t.cols b.place cursor * t.longest.cup
+abbrev pub cursor_limit : Table → ℕ
+cursor_limit t = modes_limit t + t.longest.cup
+
+-- before them, the default rendition and the plain set
+abbrev pub rest_limit : Table → ℕ
+rest_limit t = plain_limit t + t.longest.sets
 
 abbrev pub is_settled : ℕ → Belief → Option Place → Mode → Bool
 is_settled cols b cursor mode = (last_move cols b.place cursor == 0) && (changes b.mode mode == 0)
@@ -43,6 +47,10 @@ abbrev pub paint_limit : Table → (ℕ → ℕ → Ink) → (ℕ → ℕ → In
 paint_limit t old new b cursor mode =
     let d = all_differ old new t.cols t.rows in
     d * cell_limit t + (if (d == 0) && is_settled t.cols b cursor mode then 0 else 1) * cell_limit t
+
+-- a cell's limit for each place that differs and once more
+abbrev pub renewal_limit : Table → (ℕ → ℕ → Ink) → (ℕ → ℕ → Ink) → ℕ
+renewal_limit t old new = (all_differ old new t.cols t.rows + 1) * cell_limit t
 
 -- where all is painted anew
 abbrev pub fresh_limit : Table → ℕ

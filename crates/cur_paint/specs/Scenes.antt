@@ -12,7 +12,7 @@ use Rattle.cur_steps.specs.declared.beliefs.Place.{Place}
 use Rattle.cur_steps.specs.declared.inks.Cells.{Cells}
 use Rattle.cur_steps.specs.declared.inks.Ink.{Ink}
 use Rattle.cur_paint.specs.Differ.{differs, span, all_differ}
-use Rattle.cur_paint.specs.Limits.{paint_limit}
+use Rattle.cur_paint.specs.Limits.{paint_limit, renewal_limit}
 use Rattle.cur_paint.specs.Modes.{OnlyPaints}
 use Rattle.cur_paint.specs.declared.screens.Screens.{Screens}
 
@@ -129,7 +129,14 @@ pub record Sets {W T E : Type 0} (went : W → W → List ℕ → Type 0) (failu
   pub step : Steps went failures old new answer (IsPiece t) limit (IsLost t) before after
   pub quiet : OnOk answer (OnlyPaints t [] now cursor mode step.bytes)
 
--- all becomes new, and then the cursor gets its mode and its place
+-- all becomes new, and then the rendition becomes the default one and the cursor gets its mode and its place
+abbrev pub Renews : {W T E : Type 0} → (W → W → List ℕ → Type 0) → (W → ℕ) → W → W → Result T E → Scene
+    → Option Place → Mode → Belief → Belief → Type 0
+Renews went failures before after answer s cursor mode b c =
+    Sets went failures before after answer s.table (renewal_limit s.table s.old s.new) b.mode cursor mode
+    (Agrees s.table s.old b) (Agrees s.table s.new c)
+
+-- the same by no byte where nothing is to be done
 abbrev pub Paints : {W T E : Type 0} → (W → W → List ℕ → Type 0) → (W → ℕ) → W → W → Result T E → Scene
     → Option Place → Mode → Belief → Belief → Type 0
 Paints went failures before after answer s cursor mode b c =

@@ -16,6 +16,8 @@ use Rattle.cur_steps.specs.declared.beliefs.Mode.{Mode}
 use Rattle.cur_steps.specs.declared.inks.Ink.{Ink}
 use Rattle.cur_paint.specs.Limits.{paint_limit, fresh_limit, IsCursor, IsPlaced}
 use Rattle.cur_paint.specs.Modes.{OnlyPaints, shown_mode}
+use Rattle.cur_paint.specs.Rests.{rested, IsRested, IsPlain, HasNoWrap, EndsAt}
+use Rattle.cur_paint.specs.declared.updates.Cursor.{Cursor}
 use Rattle.cur_paint.specs.declared.updates.Wanted.{Wanted}
 use Rattle.cur_paint.specs.declared.updates.Knowledge.{Knowledge}
 use Rattle.cur_paint.specs.declared.updates.Status.{Status}
@@ -28,12 +30,17 @@ pub record IsFresh (t : Table) (s : State) : Type 0 where
   pub whole : IsWhole s.screen
   pub visible : s.screen.visible ≡ true
 
--- the states that the terminal may be in: with the cells of the last refresh that was done and what is believed where
--- it is known
-abbrev pub Fits : Table → (ℕ → ℕ → Ink) → Status → Belief → State → Type 0
-Fits t shown Fresh b s = IsFresh t s
-Fits t shown Known b s = Agrees t shown b s
-Fits t shown Lost b s = IsLost t s
+-- the states that the terminal may be in while this is believed of it: with the cells of the last refresh that was done
+-- and what is believed where it is known
+abbrev pub Meets : Table → (ℕ → ℕ → Ink) → Status → Belief → State → Type 0
+Meets t shown Fresh b s = IsFresh t s
+Meets t shown Known b s = Agrees t shown b s
+Meets t shown Lost b s = IsLost t s
+
+-- The states that the terminal may be in between two calls: where it is known, its cursor is as is known, its rendition
+-- is the default one, and its active set is the plain one.
+abbrev pub Fits : Table → (ℕ → ℕ → Ink) → Status → Cursor → State → Type 0
+Fits t shown status c = Meets t shown status (rested c)
 
 -- nothing is open, each cell has the look of the screen's, the cursor is where it is wanted, if a place is, and visible
 -- as is wanted
@@ -75,6 +82,10 @@ pub record Lawful (t : Table) (kind : State → Type 0) (status : Status) (now :
   pub begins : Begins t status w.clear bytes
   pub shows : (s : State) → kind s → Ends s bytes (Shows t g w)
   pub quiet : OnlyPaints t (opening t status w.clear) now w.cursor w.mode bytes
+  -- they leave the default rendition and the plain set, for whatever is sent next
+  pub plain : (s : State) → kind s → Ends s bytes IsPlain
+  -- and no pending wrap where the cursor is wanted, unless there are none: some terminals don't draw it there
+  pub unwrapped : 0 < length bytes → (s : State) → kind s → Ends s bytes (λ u. HasNoWrap w.cursor u.screen.pending)
 
 abbrev pub refresh_limit : Table → (ℕ → ℕ → Ink) → (ℕ → ℕ → Ink) → Status → Belief → Wanted → ℕ
 refresh_limit t shown g Known b w = if w.clear then fresh_limit t else paint_limit t shown g b w.cursor w.mode
@@ -85,9 +96,11 @@ pub record Draws {W T E : Type 0} (went : W → W → List ℕ → Type 0) (fail
     (answer : Result T E) (t : Table) (shown g : ℕ → ℕ → Ink) (w : Wanted) (status : Status)
     (b after : Belief) : Type 0 where
   pub step : Steps went failures old new answer (IsPiece t) (refresh_limit t shown g status b w) (IsLost t)
-      (Fits t shown status b) (Agrees t g after)
+      (Meets t shown status b) (Agrees t g after)
   pub begins : Begins t status w.clear step.bytes
   pub there : OnOk answer (IsPlaced t.cols w.cursor after.place)
+  pub at : OnOk answer (EndsAt w.cursor (refresh_limit t shown g status b w) after.place)
+  pub rested : OnOk answer (IsRested after)
   pub mode : OnOk answer (after.mode ≡ Some w.mode)
   pub quiet : OnOk answer
       (OnlyPaints t (opening t status w.clear) (shown_mode status b.mode) w.cursor w.mode step.bytes)
@@ -107,10 +120,12 @@ pub record Made {W T E : Type 0} (went : W → W → List ℕ → Type 0) (failu
     (b after : Belief) : Type 0 where
   pub bytes : List ℕ
   pub sends : Sends went failures old new bytes answer
-  pub leads : Leads (IsPiece t) (refresh_limit t shown g status b w) (IsLost t) (Fits t shown status b) bytes
+  pub leads : Leads (IsPiece t) (refresh_limit t shown g status b w) (IsLost t) (Meets t shown status b) bytes
       (Agrees t g after)
   pub begins : Begins t status w.clear bytes
   pub there : IsPlaced t.cols w.cursor after.place
+  pub at : EndsAt w.cursor (refresh_limit t shown g status b w) after.place
+  pub rested : IsRested after
   pub mode : after.mode ≡ Some w.mode
   pub quiet : OnlyPaints t (opening t status w.clear) (shown_mode status b.mode) w.cursor w.mode bytes
 
@@ -120,16 +135,16 @@ pub record Refreshed {W : Type 0} (went : W → W → List ℕ → Type 0) (old 
     (w : Wanted) (before after : Knowledge) : Type 0 where
   pub bytes : List ℕ
   pub sent : went old new bytes
-  pub bound : length bytes ≤ refresh_limit t shown g before.status before.belief w
-  pub lawful : Lawful t (Fits t shown before.status before.belief) before.status
-      (shown_mode before.status before.belief.mode) bytes g w
-  pub fits : (s : State) → Fits t shown before.status before.belief s → Ends s bytes (Fits t g Known after.belief)
+  pub bound : length bytes ≤ refresh_limit t shown g before.status (rested before.cursor) w
+  pub lawful : Lawful t (Fits t shown before.status before.cursor) before.status
+      (shown_mode before.status before.cursor.mode) bytes g w
+  pub fits : (s : State) → Fits t shown before.status before.cursor s → Ends s bytes (Fits t g Known after.cursor)
   -- a front of them leads to a state that fits a lost session
-  pub cut : (front back : List ℕ) → bytes ≡ front ++ back → (s : State) → Fits t shown before.status before.belief s
+  pub cut : (front back : List ℕ) → bytes ≡ front ++ back → (s : State) → Fits t shown before.status before.cursor s
       → Ends s front (IsLost t)
   pub known : after.status ≡ Known
-  pub there : IsPlaced t.cols w.cursor after.belief.place
-  pub mode : after.belief.mode ≡ Some w.mode
+  pub there : IsPlaced t.cols w.cursor after.cursor.place
+  pub mode : after.cursor.mode ≡ Some w.mode
 
 -- A refresh that the wire cut short: a front of lawful bytes, and not all of them, went out, and the terminal may be in
 -- any state that fits a lost session.
@@ -139,12 +154,12 @@ pub record CutShort {W : Type 0} (went : W → W → List ℕ → Type 0) (failu
   pub back : List ℕ
   pub sent : went old new front
   pub failed : Rose (failures old) (failures new)
-  pub bound : length front ≤ refresh_limit t shown g before.status before.belief w
-  pub lawful : Lawful t (Fits t shown before.status before.belief) before.status
-      (shown_mode before.status before.belief.mode) (front ++ back) g w
-  pub fits : (s : State) → Fits t shown before.status before.belief s → Ends s front (IsLost t)
+  pub bound : length front ≤ refresh_limit t shown g before.status (rested before.cursor) w
+  pub lawful : Lawful t (Fits t shown before.status before.cursor) before.status
+      (shown_mode before.status before.cursor.mode) (front ++ back) g w
+  pub fits : (s : State) → Fits t shown before.status before.cursor s → Ends s front (IsLost t)
   -- and so does a front of this front
-  pub cut : (x y : List ℕ) → front ≡ x ++ y → (s : State) → Fits t shown before.status before.belief s
+  pub cut : (x y : List ℕ) → front ≡ x ++ y → (s : State) → Fits t shown before.status before.cursor s
       → Ends s x (IsLost t)
   pub lost : after.status ≡ Lost
   pub some_left : 0 < length back

@@ -1,5 +1,5 @@
 //! In how many cells two screens differ.
-ghost use Rattle.std.specs.Prelude.{◌≡◌, ◌+◌, ◌-◌, ◌<◌, ◌≤◌, true};
+ghost use Rattle.std.specs.Prelude.{◌≡◌, ◌+◌, ◌-◌, ◌<◌, ◌≤◌, true, false};
 ghost use Rattle.cur_paint.specs.Differ.{differs, span};
 ghost use Rattle.cur_paint.specs.Scenes.{IsPaintable, all_changed, scene};
 
@@ -79,7 +79,8 @@ pub(crate) fn differ_in_more<C: Certificate, O: Picture, N: Picture, D: Changes>
 ) -> bool
     requires scene { IsPaintable (scene C.table O.cells N.cells screens.now) }
     requires changes { D.between changes.now (O.cells screens.now.old.now) (N.cells screens.now.new.now) }
-    ensures { result ≡ true → least < all_changed (scene C.table O.cells N.cells screens.now) }
+    ensures more { result ≡ true → least < all_changed (scene C.table O.cells N.cells screens.now) }
+    ensures within { result ≡ false → all_changed (scene C.table O.cells N.cells screens.now) ≤ least }
 {
     let cols = screens.checked.cols();
     let rows = screens.checked.rows();

@@ -1,16 +1,20 @@
-//! What differs, then the cursor's mode and place.
-ghost use Rattle.std.specs.Prelude.{◌≡◌, ◌*◌, true, false, Some, OnOk};
+//! What differs, then the default rendition, the cursor's mode and its place.
+ghost use Rattle.std.specs.Prelude.{◌≡◌, ◌≤◌, true, false, Some, OnOk};
+ghost use Rattle.ti_conforms.specs.Certified.{IsChecked, cell_limit};
 ghost use Rattle.cur_steps.specs.Beliefs.{Agrees, CanHide};
-ghost use Rattle.cur_steps.specs.Steps.{Acts};
-ghost use Rattle.cur_paint.specs.Limits.{IsWithin, IsPlaced, last_move, cursor_limit};
-ghost use Rattle.cur_paint.specs.Scenes.{IsPaintable, Paints, Sets, scene};
+ghost use Rattle.cur_steps.specs.Steps.{Acts, Keeps};
+ghost use Rattle.cur_paint.specs.Limits.{IsWithin, IsPlaced, cursor_limit, last_move, paint_limit, renewal_limit, rest_limit};
+ghost use Rattle.cur_paint.specs.Modes.{move_limit};
+ghost use Rattle.cur_paint.specs.Rests.{IsAt, IsRested};
+ghost use Rattle.cur_paint.specs.Scenes.{IsPaintable, Renews, Sets, all_changed, scene};
 
 use crate::changes::Changes;
+use crate::counts::differ_in_more;
 use crate::rows::mend_screen;
 use crate::screens::Screens;
 use crate::updates::Wanted;
-use cur_moves::{Target, reach};
-use cur_steps::{Belief, Picture, Place, show_as};
+use cur_moves::{Target, make_plain, reach};
+use cur_steps::{Belief, Picture, Place, is_mode, set_as, show_as};
 use cur_wires::{Wire, WireFault};
 use ti_conforms::Certificate;
 
@@ -23,7 +27,44 @@ fn is_seen(now: Place, cols: usize, at: Place) -> bool
     now.row == at.row && now.col.min(cols.saturating_sub(1)) == at.col
 }
 
-/// Moves the cursor to the place `cursor`, if there is one and it isn't there.
+/// Whether the cursor is at the place `cursor`, if there is one.
+fn is_in_place(now: Place, cols: usize, cursor: Option<Place>) -> bool
+    ensures seen { result ≡ true → IsPlaced cols cursor now }
+    ensures counted { result ≡ false → last_move cols now cursor ≡ 1 }
+{
+    match cursor {
+        Some(at) => is_seen(now, cols, at),
+        None => true,
+    }
+}
+
+/// Whether nothing is to be sent from a known state: no cell differs, and the cursor is where `wanted` says and is shown
+/// so.
+pub(crate) fn is_still<C: Certificate, O: Picture, N: Picture, D: Changes>(
+    screens: &Screens<'_, C, O, N>,
+    belief: Belief,
+    changes: &D,
+    wanted: Wanted,
+) -> bool
+    requires scene { IsPaintable (scene C.table O.cells N.cells screens.now) }
+    requires changes { D.between changes.now (O.cells screens.now.old.now) (N.cells screens.now.new.now) }
+    ensures there { result ≡ true → IsPlaced (C.table screens.now.checked.now).cols wanted.cursor belief.place }
+    ensures mode { result ≡ true → belief.mode ≡ Some wanted.mode }
+    ensures same { result ≡ true → all_changed (scene C.table O.cells N.cells screens.now) ≡ 0 }
+    ensures due { result ≡ false → renewal_limit (C.table screens.now.checked.now) (O.cells screens.now.old.now)
+        (N.cells screens.now.new.now) ≤ paint_limit (C.table screens.now.checked.now) (O.cells screens.now.old.now)
+        (N.cells screens.now.new.now) belief wanted.cursor wanted.mode }
+{
+    if !is_in_place(belief.place, screens.checked.cols(), wanted.cursor) {
+        return false;
+    }
+    if !is_mode(belief.mode, wanted.mode) {
+        return false;
+    }
+    !differ_in_more(screens, changes, 0)
+}
+
+/// Moves the cursor to the place `cursor`, if there is one, so that no wrap is pending there.
 fn place_cursor<C: Certificate, O: Picture, N: Picture, W: Wire>(
     screens: &Screens<'_, C, O, N>,
     belief: &mut Belief,
@@ -32,19 +73,15 @@ fn place_cursor<C: Certificate, O: Picture, N: Picture, W: Wire>(
 ) -> Result<(), WireFault>
     requires scene { IsPaintable (scene C.table O.cells N.cells screens.now) }
     requires cursor { IsWithin (C.table screens.now.checked.now) cursor }
-    ensures there { OnOk result (IsPlaced (C.table screens.now.checked.now).cols cursor belief.new.place) }
-    ensures mode { OnOk result (belief.new.mode ≡ belief.old.mode) }
+    ensures at { OnOk result (IsAt cursor belief.new.place) }
+    ensures belief { OnOk result (belief.new ≡ record belief.old { place = belief.new.place }) }
     ensures step { Acts W.went W.failures wire.old wire.new result (C.table screens.now.checked.now)
-        (last_move (C.table screens.now.checked.now).cols belief.old.place cursor
-        * (C.table screens.now.checked.now).longest.cup)
+        (move_limit (C.table screens.now.checked.now) cursor)
         (N.cells screens.now.new.now) (N.cells screens.now.new.now) belief.old belief.new }
 {
     let Some(at) = cursor else {
         return Ok(());
     };
-    if is_seen(belief.place, screens.checked.cols(), at) {
-        return Ok(());
-    }
     let target = Target {
         checked: screens.checked,
         shown: screens.new,
@@ -62,11 +99,11 @@ fn set_cursor<C: Certificate, O: Picture, N: Picture, W: Wire>(
     requires scene { IsPaintable (scene C.table O.cells N.cells screens.now) }
     requires cursor { IsWithin (C.table screens.now.checked.now) wanted.cursor }
     requires lines { CanHide (C.table screens.now.checked.now) wanted.mode }
-    ensures there { OnOk result (IsPlaced (C.table screens.now.checked.now).cols wanted.cursor belief.new.place) }
+    ensures at { OnOk result (IsAt wanted.cursor belief.new.place) }
     ensures mode { OnOk result (belief.new.mode ≡ Some wanted.mode) }
+    ensures rested { IsRested belief.old → OnOk result (IsRested belief.new) }
     ensures step { Sets W.went W.failures wire.old wire.new result (C.table screens.now.checked.now)
-        (cursor_limit (C.table screens.now.checked.now) belief.old wanted.cursor wanted.mode)
-        belief.old.mode wanted.cursor wanted.mode
+        (cursor_limit (C.table screens.now.checked.now)) belief.old.mode wanted.cursor wanted.mode
         (Agrees (C.table screens.now.checked.now) (N.cells screens.now.new.now) belief.old)
         (Agrees (C.table screens.now.checked.now) (N.cells screens.now.new.now) belief.new) }
 {
@@ -74,7 +111,46 @@ fn set_cursor<C: Certificate, O: Picture, N: Picture, W: Wire>(
     place_cursor(screens, belief, wire, wanted.cursor)
 }
 
-/// Mends all that differs, in the columns that may by `changes`, and then sets the cursor as `wanted` says.
+/// Makes the rendition the default one, and the plain set the active one, if they aren't.
+fn rest<C: Certificate, W: Wire>(
+    checked: &C,
+    belief: &mut Belief,
+    wire: &mut W,
+) -> Result<(), WireFault>
+    requires checked { IsChecked (C.table checked.now) }
+    ensures rested { OnOk result (IsRested belief.new) }
+    ensures mode { OnOk result (belief.new.mode ≡ belief.old.mode) }
+    ensures step { Keeps W.went W.failures wire.old wire.new result (C.table checked.now)
+        (rest_limit (C.table checked.now)) belief.old belief.new }
+{
+    make_plain(checked, belief, wire)?;
+    set_as(checked, belief, wire, false)
+}
+
+/// The end of a refresh that is not still: the default rendition and the plain set, and the cursor as `wanted` says.
+fn settle<C: Certificate, O: Picture, N: Picture, W: Wire>(
+    screens: &Screens<'_, C, O, N>,
+    belief: &mut Belief,
+    wire: &mut W,
+    wanted: Wanted,
+) -> Result<(), WireFault>
+    requires scene { IsPaintable (scene C.table O.cells N.cells screens.now) }
+    requires cursor { IsWithin (C.table screens.now.checked.now) wanted.cursor }
+    requires lines { CanHide (C.table screens.now.checked.now) wanted.mode }
+    ensures at { OnOk result (IsAt wanted.cursor belief.new.place) }
+    ensures mode { OnOk result (belief.new.mode ≡ Some wanted.mode) }
+    ensures rested { OnOk result (IsRested belief.new) }
+    ensures step { Sets W.went W.failures wire.old wire.new result (C.table screens.now.checked.now)
+        (cell_limit (C.table screens.now.checked.now)) belief.old.mode wanted.cursor wanted.mode
+        (Agrees (C.table screens.now.checked.now) (N.cells screens.now.new.now) belief.old)
+        (Agrees (C.table screens.now.checked.now) (N.cells screens.now.new.now) belief.new) }
+{
+    rest(screens.checked, belief, wire)?;
+    set_cursor(screens, belief, wire, wanted)
+}
+
+/// Mends all that differs, in the columns that may by `changes`, and then makes the rendition the default one and sets
+/// the cursor as `wanted` says.
 pub(crate) fn paint<C: Certificate, O: Picture, N: Picture, D: Changes, W: Wire>(
     screens: &Screens<'_, C, O, N>,
     belief: &mut Belief,
@@ -87,10 +163,12 @@ pub(crate) fn paint<C: Certificate, O: Picture, N: Picture, D: Changes, W: Wire>
     requires cursor { IsWithin (C.table screens.now.checked.now) wanted.cursor }
     requires lines { CanHide (C.table screens.now.checked.now) wanted.mode }
     ensures there { OnOk result (IsPlaced (C.table screens.now.checked.now).cols wanted.cursor belief.new.place) }
+    ensures at { OnOk result (IsAt wanted.cursor belief.new.place) }
+    ensures rested { OnOk result (IsRested belief.new) }
     ensures mode { OnOk result (belief.new.mode ≡ Some wanted.mode) }
-    ensures step { Paints W.went W.failures wire.old wire.new result (scene C.table O.cells N.cells screens.now)
+    ensures step { Renews W.went W.failures wire.old wire.new result (scene C.table O.cells N.cells screens.now)
         wanted.cursor wanted.mode belief.old belief.new }
 {
     mend_screen(screens, belief, wire, changes)?;
-    set_cursor(screens, belief, wire, wanted)
+    settle(screens, belief, wire, wanted)
 }

@@ -21,4 +21,4 @@ pub use changes::{Changes, Columns, LineRange};
 pub use endings::finish;
 pub use laws::{bounded, reset_is_fresh};
 pub use screens::Screens;
-pub use updates::{Knowledge, Status, Wanted, update};
+pub use updates::{Cursor, Knowledge, Status, Wanted, update};

@@ -4,6 +4,7 @@ ghost use Rattle.cur_steps.specs.Beliefs.{CanHide};
 ghost use Rattle.cur_moves.specs.Scrolls.{CanScroll, shifted};
 ghost use Rattle.cur_paint.specs.Differ.{all_differ};
 ghost use Rattle.cur_paint.specs.Limits.{IsWithin, IsPlaced};
+ghost use Rattle.cur_paint.specs.Rests.{IsAt, IsRested};
 ghost use Rattle.cur_paint.specs.Scenes.{IsPaintable, Paints, all_changed, scene};
 
 use crate::changes::{Changes, Moved};
@@ -90,6 +91,8 @@ pub(crate) fn scroll_first<C: Certificate, O: Picture, N: Picture, D: Changes, W
     requires cursor { IsWithin (C.table screens.now.checked.now) wanted.cursor }
     requires modes { CanHide (C.table screens.now.checked.now) wanted.mode }
     ensures there { OnOk result (IsPlaced (C.table screens.now.checked.now).cols wanted.cursor belief.new.place) }
+    ensures at { OnOk result (IsAt wanted.cursor belief.new.place) }
+    ensures rested { OnOk result (IsRested belief.new) }
     ensures mode { OnOk result (belief.new.mode ≡ Some wanted.mode) }
     ensures step { Paints W.went W.failures wire.old wire.new result (scene C.table O.cells N.cells screens.now)
         wanted.cursor wanted.mode belief.old belief.new }

@@ -18,7 +18,9 @@ use Rattle.cur_steps.specs.declared.beliefs.Place.{Place}
 use Rattle.cur_steps.specs.declared.inks.Ink.{Ink}
 use Rattle.cur_paint.specs.Finish.{finish_text}
 use Rattle.cur_paint.specs.Limits.{IsCursor, paint_limit, fresh_limit}
-use Rattle.cur_paint.specs.Update.{Fits, refresh_limit}
+use Rattle.cur_paint.specs.Rests.{rested}
+use Rattle.cur_paint.specs.Update.{Fits, Meets, refresh_limit}
+use Rattle.cur_paint.specs.declared.updates.Cursor.{Cursor}
 use Rattle.cur_paint.specs.declared.updates.Knowledge.{Knowledge}
 use Rattle.cur_paint.specs.declared.updates.Status.{Status}
 use Rattle.cur_paint.specs.declared.updates.Status.TheVariants.{Fresh, Known, Lost}
@@ -41,15 +43,15 @@ pub record IsBound : Type 0 where
   pub none : (t : Table) (partners : ℕ → Option ℕ) (v w : Screen) (b : Belief) (cursor : Option Place) (mode : Mode) → v.rows ≡ w.rows → v.cols ≡ w.cols
       → in_lines v w t.cols t.rows ≡ 0 → b.mode ≡ Some mode → (s : State) → Agrees t (ink_at t partners v) b s → IsCursor cursor s.screen.row s.screen.col → paint_limit t (ink_at t partners v) (ink_at t partners w) b cursor mode ≡ 0
 
-fits_open : (t : Table) (g : ℕ → ℕ → Ink) (status : Status) (b : Belief) (s : State) → Fits t g status b s → IsOpen s.rest
-fits_open t g Fresh b s f = f.lost.sized.state.rest
-fits_open t g Known b s f = f.ready.sized.state.rest
-fits_open t g Lost b s f = f.sized.state.rest
+fits_open : (t : Table) (g : ℕ → ℕ → Ink) (status : Status) (c : Cursor) (s : State) → Fits t g status c s → IsOpen s.rest
+fits_open t g Fresh c s f = f.lost.sized.state.rest
+fits_open t g Known c s f = f.ready.sized.state.rest
+fits_open t g Lost c s f = f.sized.state.rest
 
-pub fits_lost : (t : Table) → IsChecked t → (g : ℕ → ℕ → Ink) (status : Status) (b : Belief) (s : State) → Fits t g status b s → IsLost t s
-fits_lost t checked g Fresh b s f = f.lost
-fits_lost t checked g Known b s f = agrees_lost t checked g b s f
-fits_lost t checked g Lost b s f = f
+pub fits_lost : (t : Table) → IsChecked t → (g : ℕ → ℕ → Ink) (status : Status) (c : Cursor) (s : State) → Fits t g status c s → IsLost t s
+fits_lost t checked g Fresh c s f = f.lost
+fits_lost t checked g Known c s f = agrees_lost t checked g (rested c) s f
+fits_lost t checked g Lost c s f = f
 
 only_nothing : (front back : List ℕ) → [] ≡ front ++ back → front ≡ []
 only_nothing [] back e = refl
@@ -60,14 +62,14 @@ cut_nothing : {C : Type 0} (t : Table) → IsChecked t → (partners : ℕ → O
 cut_nothing t checked partners before front back e s f =
     let g = ink_at t partners before.shown in
     subst (λ (l : List ℕ). Ends s l (IsLost t)) (sym (only_nothing front back e))
-    (record { after = s; runs = runs_nothing s (fits_open t g before.session.status before.session.belief s f); there = fits_lost t checked g before.session.status before.session.belief s f })
+    (record { after = s; runs = runs_nothing s (fits_open t g before.session.status before.session.cursor s f); there = fits_lost t checked g before.session.status before.session.cursor s f })
 
 -- nothing went out
 stays : {C : Type 0} (t : Table) (partners : ℕ → Option ℕ) (before after : Painted C) → after.session ≡ before.session → after.shown ≡ before.shown → (s : State) → FitsIn t partners before s → Ends s [] (FitsIn t partners after)
 stays t partners before after e f s p =
-    let P : Knowledge → Type 0 = λ x. Fits t (ink_at t partners after.shown) x.status x.belief s in
-    let Q : Screen → Type 0 = λ d. Fits t (ink_at t partners d) before.session.status before.session.belief s in
-    record { after = s; runs = runs_nothing s (fits_open t (ink_at t partners before.shown) before.session.status before.session.belief s p); there = subst P (sym e) (subst Q (sym f) p) }
+    let P : Knowledge → Type 0 = λ x. Fits t (ink_at t partners after.shown) x.status x.cursor s in
+    let Q : Screen → Type 0 = λ d. Fits t (ink_at t partners d) before.session.status before.session.cursor s in
+    record { after = s; runs = runs_nothing s (fits_open t (ink_at t partners before.shown) before.session.status before.session.cursor s p); there = subst P (sym e) (subst Q (sym f) p) }
 
 -- the screen shown last where nothing was shown
 keeps_last : {C : Type 0} (t : Table) (partners : ℕ → Option ℕ) (before after : Painted C) (last : Screen) → (after.session.status ≡ Known → before.session.status ≡ Known) → after.shown ≡ before.shown
@@ -87,8 +89,8 @@ mode_kept End answer last m e = refl
 settled_on : {C : Type 0} (before after : Painted C) (o : Emission) (answer : Answer) (last_mode : Mode) → is_shown o answer ≡ false
     → (after.session.status ≡ Known → after.session ≡ before.session) → IsSettled before last_mode → IsSettled after (mode_after o answer last_mode before.mode)
 settled_on before after o answer last_mode none kept h known =
-    let P : Knowledge → Type 0 = λ x. x.status ≡ Known → x.belief.mode ≡ Some last_mode in
-    let R : Mode → Type 0 = λ x. after.session.belief.mode ≡ Some x in
+    let P : Knowledge → Type 0 = λ x. x.status ≡ Known → x.cursor.mode ≡ Some last_mode in
+    let R : Mode → Type 0 = λ x. after.session.cursor.mode ≡ Some x in
     let here : P after.session = subst P (sym (kept known)) h in
     subst R (sym (mode_kept o answer last_mode before.mode none)) (here known)
 
@@ -109,7 +111,7 @@ most_of laws t partners shown v Known b mode false last rows cols h =
     subst P (sym (h refl)) (laws.most t partners last v b (place_of v.cursor) mode rows cols)
 
 none_of : (laws : IsBound) (t : Table) (partners : ℕ → Option ℕ) (shown : ℕ → ℕ → Ink) (v : Screen) (status : Status) (b : Belief) (mode : Mode) (clear : Bool) (last : Screen) → last.rows ≡ v.rows → last.cols ≡ v.cols
-    → (status ≡ Known → shown ≡ ink_at t partners last) → status ≡ Known → in_lines last v t.cols t.rows ≡ 0 → b.mode ≡ Some mode → clear ≡ false → (s : State) → Fits t shown status b s → IsCursor (place_of v.cursor) s.screen.row s.screen.col
+    → (status ≡ Known → shown ≡ ink_at t partners last) → status ≡ Known → in_lines last v t.cols t.rows ≡ 0 → b.mode ≡ Some mode → clear ≡ false → (s : State) → Meets t shown status b s → IsCursor (place_of v.cursor) s.screen.row s.screen.col
     → refresh_limit t shown (ink_at t partners v) status b (record { cursor = place_of v.cursor; mode = mode; clear = clear }) ≡ 0
 none_of laws t partners shown v Fresh b mode clear last rows cols h k n m c s f p = absurd (cc)
 none_of laws t partners shown v Lost b mode clear last rows cols h k n m c s f p = absurd (cc)
@@ -164,7 +166,7 @@ otherwise went failures old new t partners v o answer before after bytes none sa
 }
 
 -- a state that fits a session of this status, with these cells
-refit : (t : Table) (g h : ℕ → ℕ → Ink) (a b : Status) (k : Belief) (bytes : List ℕ) (s : State) → h ≡ g → b ≡ a → Ends s bytes (Fits t g a k) → Ends s bytes (Fits t h b k)
+refit : (t : Table) (g h : ℕ → ℕ → Ink) (a b : Status) (k : Cursor) (bytes : List ℕ) (s : State) → h ≡ g → b ≡ a → Ends s bytes (Fits t g a k) → Ends s bytes (Fits t h b k)
 refit t g h a b k bytes s e f x =
     let P : (ℕ → ℕ → Ink) → Type 0 = λ y. Fits t y b k x.after in
     let Q : Status → Type 0 = λ y. Fits t g y k x.after in
@@ -174,52 +176,52 @@ showed : {W C : Type 0} (went : W → W → List ℕ → Type 0) (failures : W �
     → Showed went old new t partners v bytes before after → Carries went failures old new t partners v Update Done before after
 showed went failures old new t partners v bytes before after laws size small high wide p =
     let r = p.refreshed in
-    let limit : ℕ = refresh_limit t (ink_at t partners before.shown) (ink_at t partners v) before.session.status before.session.belief (wanted_of v before.mode) in
+    let limit : ℕ = refresh_limit t (ink_at t partners before.shown) (ink_at t partners v) before.session.status (rested before.session.cursor) (wanted_of v before.mode) in
     let le : length r.bytes ≤ limit = r.bound in
     record {
       bytes = r.bytes;
       sent = r.sent;
       puts = puts_as went failures old new t partners v Update Done bytes r.bytes before after p.all p;
-      fits = λ s f. refit t (ink_at t partners v) (ink_at t partners after.shown) Known after.session.status after.session.belief r.bytes s (ap (ink_at t partners) p.shown) r.known (r.fits s f);
+      fits = λ s f. refit t (ink_at t partners v) (ink_at t partners after.shown) Known after.session.status after.session.cursor r.bytes s (ap (ink_at t partners) p.shown) r.known (r.fits s f);
       cut = r.cut;
       shows = λ e s f. r.lawful.shows s f;
       last = λ last h k. ap (ink_at t partners) p.shown;
       settled = λ m h k. r.mode;
-      bound = λ e last rows cols h. (let m = most_of laws t partners (ink_at t partners before.shown) v before.session.status before.session.belief before.mode v.clearok last (rows ∙ sym high) (cols ∙ sym wide) h in omega (arith, le, m));
-      idle = λ e last rows cols h s k. (let z = none_of laws t partners (ink_at t partners before.shown) v before.session.status before.session.belief before.mode v.clearok last (rows ∙ sym high) (cols ∙ sym wide) h k.known k.same k.mode k.clear s k.fits k.cursor in omega (arith, le, z));
+      bound = λ e last rows cols h. (let m = most_of laws t partners (ink_at t partners before.shown) v before.session.status (rested before.session.cursor) before.mode v.clearok last (rows ∙ sym high) (cols ∙ sym wide) h in omega (arith, le, m));
+      idle = λ e last rows cols h s k. (let z = none_of laws t partners (ink_at t partners before.shown) v before.session.status (rested before.session.cursor) before.mode v.clearok last (rows ∙ sym high) (cols ∙ sym wide) h k.known k.same k.mode k.clear s k.fits k.cursor in omega (arith, le, z));
       quiet = λ e. absurd (cc);
-      few = (let f = refresh_few t (ink_at t partners before.shown) (ink_at t partners v) before.session.status before.session.belief (wanted_of v before.mode) size small in omega (arith, le, f));
+      few = (let f = refresh_few t (ink_at t partners before.shown) (ink_at t partners v) before.session.status (rested before.session.cursor) (wanted_of v before.mode) size small in omega (arith, le, f));
     }
 
 showed_short : {W C : Type 0} (went : W → W → List ℕ → Type 0) (failures : W → ℕ) (old new : W) (t : Table) (partners : ℕ → Option ℕ) (v : Screen) (bytes : List ℕ) (before after : Painted C) → IsBound → IsSize t.rows t.cols → IsSmall t → v.rows ≡ t.rows → v.cols ≡ t.cols
     → ShowedShort went failures old new t partners v bytes before after → Carries went failures old new t partners v Update WireFailed before after
 showed_short went failures old new t partners v bytes before after laws size small high wide p =
     let r = p.cut in
-    let limit : ℕ = refresh_limit t (ink_at t partners before.shown) (ink_at t partners v) before.session.status before.session.belief (wanted_of v before.mode) in
+    let limit : ℕ = refresh_limit t (ink_at t partners before.shown) (ink_at t partners v) before.session.status (rested before.session.cursor) (wanted_of v before.mode) in
     let le : length r.front ≤ limit = r.bound in
     record {
       bytes = r.front;
       sent = r.sent;
       puts = puts_as went failures old new t partners v Update WireFailed bytes r.front before after p.all p;
-      fits = λ s f. refit t (ink_at t partners after.shown) (ink_at t partners after.shown) Lost after.session.status after.session.belief r.front s refl r.lost (r.fits s f);
+      fits = λ s f. refit t (ink_at t partners after.shown) (ink_at t partners after.shown) Lost after.session.status after.session.cursor r.front s refl r.lost (r.fits s f);
       cut = r.cut;
       shows = λ e. absurd (cc);
       last = λ last h k. absurd (lost_unknown after.session.status r.lost k);
       settled = λ m h k. absurd (lost_unknown after.session.status r.lost k);
-      bound = λ e last rows cols h. (let m = most_of laws t partners (ink_at t partners before.shown) v before.session.status before.session.belief before.mode v.clearok last (rows ∙ sym high) (cols ∙ sym wide) h in omega (arith, le, m));
-      idle = λ e last rows cols h s k. (let z = none_of laws t partners (ink_at t partners before.shown) v before.session.status before.session.belief before.mode v.clearok last (rows ∙ sym high) (cols ∙ sym wide) h k.known k.same k.mode k.clear s k.fits k.cursor in omega (arith, le, z));
+      bound = λ e last rows cols h. (let m = most_of laws t partners (ink_at t partners before.shown) v before.session.status (rested before.session.cursor) before.mode v.clearok last (rows ∙ sym high) (cols ∙ sym wide) h in omega (arith, le, m));
+      idle = λ e last rows cols h s k. (let z = none_of laws t partners (ink_at t partners before.shown) v before.session.status (rested before.session.cursor) before.mode v.clearok last (rows ∙ sym high) (cols ∙ sym wide) h k.known k.same k.mode k.clear s k.fits k.cursor in omega (arith, le, z));
       quiet = λ e. absurd (cc);
-      few = (let f = refresh_few t (ink_at t partners before.shown) (ink_at t partners v) before.session.status before.session.belief (wanted_of v before.mode) size small in omega (arith, le, f));
+      few = (let f = refresh_few t (ink_at t partners before.shown) (ink_at t partners v) before.session.status (rested before.session.cursor) (wanted_of v before.mode) size small in omega (arith, le, f));
     }
 
 to_lost : {C : Type 0} (t : Table) (partners : ℕ → Option ℕ) (after : Painted C) (bytes : List ℕ) (s : State) → after.session.status ≡ Lost → Ends s bytes (IsLost t) → Ends s bytes (FitsIn t partners after)
-to_lost t partners after bytes s e x = refit t (ink_at t partners after.shown) (ink_at t partners after.shown) Lost after.session.status after.session.belief bytes s refl e x
+to_lost t partners after bytes s e x = refit t (ink_at t partners after.shown) (ink_at t partners after.shown) Lost after.session.status after.session.cursor bytes s refl e x
 
 -- the session is the same
 same_session : {C : Type 0} (t : Table) (partners : ℕ → Option ℕ) (before after : Painted C) (bytes : List ℕ) (s : State) → after.session ≡ before.session → after.shown ≡ before.shown → Ends s bytes (FitsIn t partners before) → Ends s bytes (FitsIn t partners after)
 same_session t partners before after bytes s e f x =
-    let P : Knowledge → Type 0 = λ y. Fits t (ink_at t partners after.shown) y.status y.belief x.after in
-    let Q : Screen → Type 0 = λ d. Fits t (ink_at t partners d) before.session.status before.session.belief x.after in
+    let P : Knowledge → Type 0 = λ y. Fits t (ink_at t partners after.shown) y.status y.cursor x.after in
+    let Q : Screen → Type 0 = λ d. Fits t (ink_at t partners d) before.session.status before.session.cursor x.after in
     record { after = x.after; runs = x.runs; there = subst P (sym e) (subst Q (sym f) x.there) }
 
 pub carries : {W C : Type 0} (went : W → W → List ℕ → Type 0) (failures : W → ℕ) → IsWire went failures → IsBound → (old new : W) (t : Table) (partners : ℕ → Option ℕ) (v : Screen) (o : Emission) (answer : Answer) (bytes : List ℕ) (before after : Painted C) → IsChecked t → v.rows ≡ t.rows → v.cols ≡ t.cols
@@ -246,7 +248,7 @@ carries went failures wire laws old new t partners v Bell WireFailed bytes befor
 carries went failures wire laws old new t partners v End Done bytes before after checked high wide p =
     let r = p.sends in
     otherwise went failures old new t partners v End Done before after (finish_text t before.session.status) refl (λ l. refl) (λ e. cc) (λ e. cc) r.sent
-    (λ s f. refit t (ink_at t partners after.shown) (ink_at t partners after.shown) Fresh after.session.status after.session.belief _ s refl r.fresh (r.fits (ink_at t partners before.shown) s f)) (λ x y e. r.cut x y e (ink_at t partners before.shown)) (λ k. absurd (fresh_unknown after.session.status r.fresh k)) p.shown (finish_few t before.session.status checked.small)
+    (λ s f. refit t (ink_at t partners after.shown) (ink_at t partners after.shown) Fresh after.session.status after.session.cursor _ s refl r.fresh (r.fits (ink_at t partners before.shown) s f)) (λ x y e. r.cut x y e (ink_at t partners before.shown)) (λ k. absurd (fresh_unknown after.session.status r.fresh k)) p.shown (finish_few t before.session.status checked.small)
     (puts_as went failures old new t partners v End Done bytes (finish_text t before.session.status) before after p.all p)
 carries went failures wire laws old new t partners v End WireFailed bytes before after checked high wide p =
     let r = p.sends in

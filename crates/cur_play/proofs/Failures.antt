@@ -108,7 +108,7 @@ narrowed : (t : Table) (A B : State → Type 0) (status : Status) (m n : Option 
 narrowed t A B status m n x y g w f same e h =
     let P : List ℕ → Type 0 = λ b. Lawful t B status n b g w in
     let Q : Option Mode → Type 0 = λ o. OnlyPaints t (opening t status w.clear) o w.cursor w.mode x in
-    subst P e (record { pieces = h.pieces; made = h.made; each = h.each; begins = h.begins; shows = λ s b. h.shows s (f s b); quiet = subst Q same h.quiet })
+    subst P e (record { pieces = h.pieces; made = h.made; each = h.each; begins = h.begins; shows = λ s b. h.shows s (f s b); quiet = subst Q same h.quiet; plain = λ s b. h.plain s (f s b); unwrapped = λ some s b. h.unwrapped some s (f s b) })
 
 -- the mode matters in a known session alone
 pub shown_same : (status : Status) (m n : Option Mode) → (status ≡ Known → m ≡ n) → shown_mode status m ≡ shown_mode status n
@@ -121,7 +121,7 @@ not_sent e = cc
 
 -- from the states that may be met to some of them
 pub emitted : {W C : Type 0} (went : W → W → List ℕ → Type 0) (failures : W → ℕ) (old new : W) (t : Table) (partners : ℕ → Option ℕ) (v : Screen) (o : Emission) (answer : Answer) (bytes : List ℕ) (before after : Painted C)
-    (kind : State → Type 0) (now : Option Mode) → ((s : State) → kind s → FitsIn t partners before s) → shown_mode before.session.status before.session.belief.mode ≡ now
+    (kind : State → Type 0) (now : Option Mode) → ((s : State) → kind s → FitsIn t partners before s) → shown_mode before.session.status before.session.cursor.mode ≡ now
     → (answer ≡ WireFailed → is_sent o ≡ true) → Puts went failures old new t partners v o answer bytes before after → Emits (Says t partners kind before.session.status now v before.mode o) answer bytes
 emitted went failures old new t partners v Nothing Done bytes before after kind now f same cut p = p.none
 emitted went failures old new t partners v Nothing WireFailed bytes before after kind now f same cut p = absurd (not_sent (cut refl))

@@ -7,9 +7,9 @@ use Rattle.ti_rows.specs.declared.rows.Row.TheVariants.{Cup, Sgr0, Rmacs, Cnorm,
 use Rattle.ti_conforms.specs.Certified.{Table, IsSmall, cell_limit, or_nothing, text_of}
 use Rattle.cur_steps.specs.declared.beliefs.Belief.{Belief}
 use Rattle.cur_steps.specs.declared.inks.Ink.{Ink}
-use Rattle.cur_paint.proofs.Bounds.{fresh_enough}
+use Rattle.cur_paint.proofs.Bounds.{fresh_enough, most}
 use Rattle.cur_paint.specs.Finish.{end_text, finish_text, from_cnorm_text, from_cup_text, from_rmacs_text}
-use Rattle.cur_paint.specs.Limits.{fresh_limit, paint_limit}
+use Rattle.cur_paint.specs.Limits.{fresh_limit, paint_limit, renewal_limit}
 use Rattle.cur_paint.specs.Update.{refresh_limit}
 use Rattle.cur_paint.specs.declared.updates.Status.{Status}
 use Rattle.cur_paint.specs.declared.updates.Status.TheVariants.{Fresh, Known, Lost}
@@ -29,8 +29,9 @@ refresh_fresh : (t : Table) (shown g : ℕ → ℕ → Ink) (status : Status) (b
 refresh_fresh t shown g Fresh b w = omega arith
 refresh_fresh t shown g Lost b w = omega arith
 refresh_fresh t shown g Known b w =
-    let paint : 0 + paint_limit t shown g b w.cursor w.mode ≤ fresh_limit t = fresh_enough t 0 shown g b w.cursor w.mode (omega arith) in
-    either w.clear (fresh_limit t) (paint_limit t shown g b w.cursor w.mode) (fresh_limit t) (omega arith) (omega (arith, paint))
+    let all : 0 + renewal_limit t shown g ≤ fresh_limit t = fresh_enough t 0 shown g (omega arith) in
+    let paint : paint_limit t shown g b w.cursor w.mode ≤ renewal_limit t shown g = most t shown g b w.cursor w.mode in
+    either w.clear (fresh_limit t) (paint_limit t shown g b w.cursor w.mode) (fresh_limit t) (omega arith) (omega (arith, all, paint))
 
 pub refresh_few : (t : Table) (shown g : ℕ → ℕ → Ink) (status : Status) (b : Belief) (w : Wanted) → IsSize t.rows t.cols → IsSmall t → refresh_limit t shown g status b w < 2 ^ 60
 refresh_few t shown g status b w size small = omega (arith, refresh_fresh t shown g status b w, fresh_few t size small)

@@ -192,7 +192,7 @@ log_more {W} {V} {C} about laws wire count a m n z calls i call before after log
       counted = (let exact : count z ≡ 0 + length bytes = out.counted (omega (arith, few, small)) in omega (arith, exact));
       emits = emitted {W = V} (λ x y c. Counts about.went (wire x) (wire y) (count x) (count y) c) (λ x. about.failures (wire x).now) m n t about.partners d.screen (output_of call) answer b (poised t before call) after.painter
           (IsAfter t l.bytes) (shown_mode before.painter.session.status (Some l.last_mode)) known
-          (shown_same before.painter.session.status before.painter.session.belief.mode (Some l.last_mode) l.settled)
+          (shown_same before.painter.session.status before.painter.session.cursor.mode (Some l.last_mode) l.settled)
           (cut_sends t (scene_of before) call answer (scene_of after) step) carries.puts;
       rests = rests;
       failed = λ k. rose_sooner (about.failures (wire m).now) (about.failures (wire n).now) (about.failures (wire z).now)
@@ -201,7 +201,7 @@ log_more {W} {V} {C} about laws wire count a m n z calls i call before after log
       takes = λ s f. (let x = ends s f in record {
         after = x.after;
         runs = x.runs;
-        there = fits_lost t checked (ink_at t about.partners after.painter.shown) after.painter.session.status after.painter.session.belief x.after x.there;
+        there = fits_lost t checked (ink_at t about.partners after.painter.shown) after.painter.session.status after.painter.session.cursor x.after x.there;
       });
       shows = λ k s f. (
           let S : State → Type 0 = Shows t (ink_at t about.partners d.screen) (wanted_of d.screen d.mode) in
@@ -259,7 +259,7 @@ log_none {W} about laws a to calls stage log none begins empty =
     record {
       bytes = [];
       out = record { inner = laws.nothing a.now; counted = λ lt. omega (arith, none); same = refl };
-      fits = λ s f. (let P : Status → Type 0 = λ x. Fits t (ink_at t about.partners stage.painter.shown) x stage.painter.session.belief s in
+      fits = λ s f. (let P : Status → Type 0 = λ x. Fits t (ink_at t about.partners stage.painter.shown) x stage.painter.session.cursor s in
           record { after = s; runs = runs_nothing s (nothing_open t s f); there = subst P (sym status) f });
       sized = record {
         rows = ap (λ (x : Screen). x.rows) screen;

@@ -19,7 +19,7 @@ use Rattle.cur_play.specs.declared.sends.Emission.TheVariants.{Nothing, Update}
 
 -- the states that the terminal may be in
 abbrev pub FitsIn : {C : Type 0} → Table → (ℕ → Option ℕ) → Painted C → State → Type 0
-FitsIn t partners p s = Fits t (ink_at t partners p.shown) p.session.status p.session.belief s
+FitsIn t partners p s = Fits t (ink_at t partners p.shown) p.session.status p.session.cursor s
 
 -- where the terminal is known, this screen was shown last
 abbrev pub IsLast : {C : Type 0} → Table → (ℕ → Option ℕ) → Painted C → Screen → Type 0
@@ -27,7 +27,7 @@ IsLast t partners p last = p.session.status ≡ Known → ink_at t partners p.sh
 
 -- where the terminal is known, the cursor was shown last in this mode
 abbrev pub IsSettled : {C : Type 0} → Painted C → Mode → Type 0
-IsSettled p last_mode = p.session.status ≡ Known → p.session.belief.mode ≡ Some last_mode
+IsSettled p last_mode = p.session.status ≡ Known → p.session.cursor.mode ≡ Some last_mode
 
 -- the terminal is known, may be in this state and then shows this screen with the cursor and its mode, and isn't to be
 -- cleared
@@ -37,7 +37,7 @@ pub record IsShown {C : Type 0} (t : Table) (partners : ℕ → Option ℕ) (v :
   pub same : in_lines last v t.cols t.rows ≡ 0
   pub fits : FitsIn t partners p s
   pub cursor : IsCursor (place_of v.cursor) s.screen.row s.screen.col
-  pub mode : p.session.belief.mode ≡ Some p.mode
+  pub mode : p.session.cursor.mode ≡ Some p.mode
   pub clear : v.clearok ≡ false
 
 -- v is the virtual screen when the sending begins, and the painter before has the cursor's mode at that time

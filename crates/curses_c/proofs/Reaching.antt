@@ -76,13 +76,13 @@ noted mid k line sent s e r = subst (λ (x : Held). Reached x sent s) (sym e) (r
 
 nothing_sent : {C : Type 0} (t : Table) → IsChecked t → (partners : ℕ → Option ℕ) (p : Painted C) (s : State) → FitsIn t partners p s → Ends s [] (FitsIn t partners p)
 nothing_sent t checked partners p s f =
-    let lost = fits_lost t checked (ink_at t partners p.shown) p.session.status p.session.belief s f in
+    let lost = fits_lost t checked (ink_at t partners p.shown) p.session.status p.session.cursor s f in
     record { after = s; runs = runs_nothing s lost.sized.state.rest; there = f }
 
 begun : (h : Held) (s : State) → Begins h s → Reached h ([] ++ h.outbox.waiting) s
 begun h s b =
     let t = certified h.session.painter.checked in
-    let still : Ends s [] (IsLost t) = (let lost = fits_lost t b.checked (ink_at t (partner_in h.session.painter.checked) h.session.painter.shown) h.session.painter.session.status h.session.painter.session.belief s b.fits in
+    let still : Ends s [] (IsLost t) = (let lost = fits_lost t b.checked (ink_at t (partner_in h.session.painter.checked) h.session.painter.shown) h.session.painter.session.status h.session.painter.session.cursor s b.fits in
     record { after = s; runs = runs_nothing s lost.sized.state.rest; there = lost }) in
     let cut : (front back : List ℕ) → [] ≡ front ++ back → Ends s front (IsLost t) = λ front back e. subst (λ (l : List ℕ). Ends s l (IsLost t)) (sym (only_nothing front back e)) still in
     subst (λ (l : List ℕ). Reached h l s) (sym b.nothing) (record { whole = nothing_sent t b.checked (partner_in h.session.painter.checked) h.session.painter s b.fits; cut = cut; checked = b.checked })
@@ -140,5 +140,5 @@ openings_begin h s scene nothing checked fresh =
     record {
       nothing = nothing;
       checked = checked;
-      fits = subst (λ (x : Status). Fits t (ink_at t (partner_in p.checked) p.shown) x p.session.belief s) (sym status) fresh;
+      fits = subst (λ (x : Status). Fits t (ink_at t (partner_in p.checked) p.shown) x p.session.cursor s) (sym status) fresh;
     }

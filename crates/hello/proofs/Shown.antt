@@ -3,7 +3,7 @@ use Rattle.std.proofs.Common.{◌≡◌, ℕ, List, Option, sym, subst}
 use Rattle.curses.specs.Terminals.Screen.{State}
 use Rattle.curses.specs.Windows.VirtualScreen.{Screen}
 use Rattle.curses.specs.Terminals.Certified.{Table}
-use Rattle.curses.specs.Painters.{Belief, Ink, Mode, Knowledge, Status}
+use Rattle.curses.specs.Painters.{Cursor, Ink, Mode, Knowledge, Status}
 use Rattle.curses.specs.Painters.modes.{Normal}
 use Rattle.curses.specs.Painters.Update.{Fits, IsFresh, Refreshed}
 use Rattle.curses.specs.Painters.statuses.{Fresh}
@@ -12,8 +12,8 @@ use Rattle.curses.specs.Painters.Painters.{Painted, wanted_of}
 use Rattle.hello.specs.Greeting.{IsGreeting}
 use Rattle.hello.specs.Displays.{Greets}
 
-fresh_fits : (t : Table) (shown : ℕ → ℕ → Ink) (status : Status) (b : Belief) (s : State) → status ≡ Fresh → IsFresh t s → Fits t shown status b s
-fresh_fits t shown status b s e h = subst (λ (x : Status). Fits t shown x b s) (sym e) h
+fresh_fits : (t : Table) (shown : ℕ → ℕ → Ink) (status : Status) (c : Cursor) (s : State) → status ≡ Fresh → IsFresh t s → Fits t shown status c s
+fresh_fits t shown status c s e h = subst (λ (x : Status). Fits t shown x c s) (sym e) h
 
 sized : (rows cols : ℕ) (t : Table) (v : Screen) → rows ≡ t.rows → cols ≡ t.cols → IsGreeting rows cols v → IsGreeting t.rows t.cols v
 sized rows cols t v e f h = subst (λ (n : ℕ). IsGreeting t.rows n v) f (subst (λ (n : ℕ). IsGreeting n cols v) e h)
@@ -32,5 +32,5 @@ greets {W} {C} went old new table partners checked p after rows cols v same fres
       greeting = sized rows cols (table checked) v rows_same cols_same greeting;
       bytes = done.bytes;
       sent = done.sent;
-      shows = λ s first. done.lawful.shows s (fresh_fits (table checked) (ink_at (table checked) (partners checked) p.shown) p.session.status p.session.belief s fresh first);
+      shows = λ s first. done.lawful.shows s (fresh_fits (table checked) (ink_at (table checked) (partners checked) p.shown) p.session.status p.session.cursor s fresh first);
     }

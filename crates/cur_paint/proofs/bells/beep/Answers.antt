@@ -1,6 +1,7 @@
 use Rattle.std.proofs.Common.{◌≡◌, ℕ, true, false, List, ◌++◌, Some, refl, sym, ◌∙◌}
 use Rattle.ti_rows.specs.declared.rows.Row.TheVariants.{Bel}
 use Rattle.cur_paint.specs.declared.updates.Status.TheVariants.{Lost}
+use Rattle.cur_paint.specs.Rests.{rested}
 use Rattle.cur_paint.proofs.BellFacts.{rung_fits, rung_short}
 use Rattle.cur_paint.proofs.UpdateFacts.{front_of_front}
 use Rattle.cur_paint.proofs.bells.beep.Goals as goal
@@ -22,8 +23,8 @@ returns-in-Ok g c =
         sent = c.in-Ok.ensures.sends;
         same = refl;
         held = some;
-        fits = rung_fits t c.rows.ensures.checked line is before.status some before.belief;
-        cut = λ x y e. rung_short t c.rows.ensures.checked line is before.status some before.belief x y e;
+        fits = rung_fits t c.rows.ensures.checked line is before.status some (rested before.cursor);
+        cut = λ x y e. rung_short t c.rows.ensures.checked line is before.status some (rested before.cursor) x y e;
       };
     }
 
@@ -45,8 +46,8 @@ returns-in-Err g c =
         sent = stops.sent;
         failed = stops.failed;
         held = some;
-        fits = rung_short t c.rows.ensures.checked line is before.status some before.belief stops.front stops.back stops.parts;
-        cut = λ x y e. rung_short t c.rows.ensures.checked line is before.status some before.belief x (y ++ stops.back)
+        fits = rung_short t c.rows.ensures.checked line is before.status some (rested before.cursor) stops.front stops.back stops.parts;
+        cut = λ x y e. rung_short t c.rows.ensures.checked line is before.status some (rested before.cursor) x (y ++ stops.back)
             (front_of_front line stops.front stops.back x y stops.parts e);
         lost = refl;
         some_left = stops.some_left;

@@ -1,8 +1,11 @@
-use Rattle.std.proofs.Common.{◌*◌, ap, arith}
+use Rattle.std.proofs.Common.{◌≡◌, ◌*◌, Some, ap, ◌∙◌, arith}
 use Rattle.std.proofs.lemmas.Result.{err_from_is_err_and}
+use Rattle.cur_wires.proofs.Stops.{on_ok_map}
 use Rattle.cur_steps.specs.Beliefs.{Agrees, changes, modes_limit}
 use Rattle.cur_steps.specs.declared.beliefs.Belief.{Belief}
-use Rattle.cur_paint.specs.Limits.{last_move, cursor_limit}
+use Rattle.cur_steps.proofs.Answers.{at_most, changes_few}
+use Rattle.cur_paint.specs.Limits.{cursor_limit}
+use Rattle.cur_paint.specs.Modes.{move_limit}
 use Rattle.cur_paint.proofs.ModeFacts.{move_short, sets_last, sets_unfinished}
 use Rattle.cur_paint.proofs.cursors.set_cursor.Goals as goal
 
@@ -12,8 +15,9 @@ returns-in_err-show_as-clause-step g c =
     let e = err_from_is_err_and c.from_residual.result c.from_residual.ensures.1 in
     let t = g.C.Certificate.table c.args.screens.now.checked.now in
     let b = c.args.belief.now in
-    rw e.1 (sets_unfinished g.W.Wire.went g.W.Wire.failures c.args.wire.now c.show_as.new.wire _ _ t (changes b.mode c.args.wanted.mode * modes_limit t) (cursor_limit t b c.args.wanted.cursor c.args.wanted.mode) b.mode c.args.wanted.cursor c.args.wanted.mode
-    (Agrees t h b) (Agrees t h c.show_as.new.belief) (Agrees t h c.show_as.new.belief) (omega arith) (c.in_err-show_as.ensures.step h))
+    let few = at_most (changes b.mode c.args.wanted.mode) (modes_limit t) (changes_few b.mode c.args.wanted.mode) in
+    rw e.1 (sets_unfinished g.W.Wire.went g.W.Wire.failures c.args.wire.now c.show_as.new.wire _ _ t (changes b.mode c.args.wanted.mode * modes_limit t) (cursor_limit t) b.mode c.args.wanted.cursor c.args.wanted.mode
+    (Agrees t h b) (Agrees t h c.show_as.new.belief) (Agrees t h c.show_as.new.belief) (omega (arith, few)) (c.in_err-show_as.ensures.step h))
 
 pub returns-clause-step : goal.returns-clause-step
 returns-clause-step g c =
@@ -22,7 +26,8 @@ returns-clause-step g c =
     let b = c.args.belief.now in
     let w = c.args.wanted in
     let d : Belief = c.show_as.new.belief in
+    let few = at_most (changes b.mode w.mode) (modes_limit t) (changes_few b.mode w.mode) in
     sets_last g.W.Wire.went g.W.Wire.failures g.met.W.Wire.lawful c.args.wire.now c.show_as.new.wire c.place_cursor.new.wire _ c.place_cursor.result t
-    (changes b.mode w.mode * modes_limit t) (last_move t.cols d.place w.cursor * t.longest.cup) (cursor_limit t b w.cursor w.mode) b.mode w.cursor w.mode
-    (Agrees t h b) (Agrees t h d) (Agrees t h c.place_cursor.new.belief) (omega (arith, ap (λ (x : Belief). last_move t.cols x.place w.cursor * t.longest.cup) c.in_ok-show_as.ensures.belief))
-    (move_short t d.place w.cursor) (c.in_ok-show_as.ensures.step h) c.place_cursor.ensures.step
+    (changes b.mode w.mode * modes_limit t) (move_limit t w.cursor) (cursor_limit t) b.mode w.cursor w.mode
+    (Agrees t h b) (Agrees t h d) (Agrees t h c.place_cursor.new.belief) (omega (arith, few, move_short t w.cursor))
+    (omega arith) (c.in_ok-show_as.ensures.step h) c.place_cursor.ensures.step

@@ -1,6 +1,7 @@
 use Rattle.std.proofs.lemmas.Result.{err_from_is_err_and}
 use Rattle.std.proofs.Common.{refl, ◌++◌}
 use Rattle.cur_paint.specs.Finish.{finish_text}
+use Rattle.cur_paint.specs.Rests.{rested}
 use Rattle.cur_paint.proofs.UpdateFacts.{front_of_front}
 use Rattle.cur_paint.proofs.EndingFacts.{finish_leads}
 use Rattle.cur_paint.proofs.endings.finish.Goals as goal
@@ -18,8 +19,8 @@ returns-in_err-send_finish g c =
         parts = stops.parts;
         sent = stops.sent;
         failed = stops.failed;
-        fits = λ h s fit. (finish_leads t c.rows.ensures.checked h before.status before.belief).leads.cut stops.front stops.back stops.parts s fit;
-        cut = λ x y e h s fit. (finish_leads t c.rows.ensures.checked h before.status before.belief).leads.cut x (y ++ stops.back)
+        fits = λ h s fit. (finish_leads t c.rows.ensures.checked h before.status (rested before.cursor)).leads.cut stops.front stops.back stops.parts s fit;
+        cut = λ x y e h s fit. (finish_leads t c.rows.ensures.checked h before.status (rested before.cursor)).leads.cut x (y ++ stops.back)
             (front_of_front (finish_text t before.status) stops.front stops.back x y stops.parts e) s fit;
         lost = refl;
         some_left = stops.some_left;
@@ -33,8 +34,8 @@ returns g c =
     record {
       finishes = record {
         sent = c.in_ok-send_finish.ensures.sends;
-        fits = λ h s fit. (finish_leads t c.rows.ensures.checked h before.status before.belief).leads.ends s fit;
-        cut = λ x y e h s fit. (finish_leads t c.rows.ensures.checked h before.status before.belief).leads.cut x y e s fit;
+        fits = λ h s fit. (finish_leads t c.rows.ensures.checked h before.status (rested before.cursor)).leads.ends s fit;
+        cut = λ x y e h s fit. (finish_leads t c.rows.ensures.checked h before.status (rested before.cursor)).leads.cut x y e s fit;
         fresh = refl;
       };
     }

@@ -6,7 +6,7 @@ use Rattle.cur_steps.specs.declared.beliefs.Belief.{Belief}
 use Rattle.cur_steps.specs.declared.beliefs.Mode.{Mode}
 use Rattle.cur_steps.specs.declared.inks.Ink.{Ink}
 use Rattle.cur_moves.specs.Scrolls.{shifted}
-use Rattle.cur_paint.specs.Limits.{paint_limit}
+use Rattle.cur_paint.specs.Limits.{paint_limit, renewal_limit}
 use Rattle.cur_paint.specs.Scenes.{Sets}
 use Rattle.cur_paint.proofs.Bounds.{scrolled_enough}
 use Rattle.cur_paint.proofs.ModeFacts.{sets_after, sets_cut}
@@ -23,8 +23,8 @@ returns-in_err-scroll_lines-clause-step g c =
     let moved : ℕ → ℕ → Ink = shifted c.args.scroll old in
     let a : Belief = c.scroll_lines.new.belief in
     let k : ℕ = c.args.scroll.count + 4 in
-    let enough : k * cell_limit t + paint_limit t moved new a w.cursor w.mode ≤ paint_limit t old new b w.cursor w.mode =
-    scrolled_enough t k moved old new b a w.cursor w.mode (omega arith) c.requires.fewer in
+    let enough : k * cell_limit t + renewal_limit t moved new ≤ paint_limit t old new b w.cursor w.mode =
+    scrolled_enough t k moved old new b w.cursor w.mode (omega arith) c.requires.fewer in
     rw e.1 (sets_cut g.W.Wire.went g.W.Wire.failures c.args.wire.now c.scroll_lines.new.wire _ _ t (k * cell_limit t) (paint_limit t old new b w.cursor w.mode) b.mode w.cursor w.mode
     (Agrees t old b) (Agrees t moved a) (Agrees t new a) (omega (arith, enough)) (c.in_err-scroll_lines.ensures.step old))
 
@@ -38,8 +38,8 @@ returns-clause-step g c =
     let moved : ℕ → ℕ → Ink = shifted c.args.scroll old in
     let a : Belief = c.scroll_lines.new.belief in
     let k : ℕ = c.args.scroll.count + 4 in
-    let P : Option Mode → Type 0 = λ o. Sets g.W.Wire.went g.W.Wire.failures c.scroll_lines.new.wire c.paint.new.wire c.paint.result t (paint_limit t moved new a w.cursor w.mode) o w.cursor w.mode (Agrees t moved a) (Agrees t new c.paint.new.belief) in
+    let P : Option Mode → Type 0 = λ o. Sets g.W.Wire.went g.W.Wire.failures c.scroll_lines.new.wire c.paint.new.wire c.paint.result t (renewal_limit t moved new) o w.cursor w.mode (Agrees t moved a) (Agrees t new c.paint.new.belief) in
     sets_after g.W.Wire.went g.W.Wire.failures g.met.W.Wire.lawful c.args.wire.now c.scroll_lines.new.wire c.paint.new.wire _ c.paint.result t
-    (k * cell_limit t) (paint_limit t moved new a w.cursor w.mode) (paint_limit t old new b w.cursor w.mode) b.mode w.cursor w.mode
+    (k * cell_limit t) (renewal_limit t moved new) (paint_limit t old new b w.cursor w.mode) b.mode w.cursor w.mode
     (Agrees t old b) (Agrees t moved a) (Agrees t new c.paint.new.belief)
-    (scrolled_enough t k moved old new b a w.cursor w.mode (omega arith) c.requires.fewer) (c.in_ok-scroll_lines.ensures.step old) (subst P c.in_ok-scroll_lines.ensures.mode c.paint.ensures.step)
+    (scrolled_enough t k moved old new b w.cursor w.mode (omega arith) c.requires.fewer) (c.in_ok-scroll_lines.ensures.step old) (subst P c.in_ok-scroll_lines.ensures.mode c.paint.ensures.step)

@@ -1,6 +1,7 @@
-use Rattle.std.proofs.Common.{◌+◌, ◌≤◌, length}
-use Rattle.cur_paint.specs.Cleared.{at_corner, cleared}
-use Rattle.cur_paint.specs.Limits.{paint_limit}
+use Rattle.std.proofs.Common.{ℕ, ◌+◌, ◌≤◌, length}
+use Rattle.cur_steps.specs.declared.inks.Ink.{Ink}
+use Rattle.cur_steps.specs.Inks.{blank_ink}
+use Rattle.cur_paint.specs.Limits.{renewal_limit}
 use Rattle.cur_paint.proofs.Bounds.{fresh_enough}
 use Rattle.ti_rows.specs.declared.rows.Row.TheVariants.{Clear}
 use Rattle.cur_paint.proofs.Agreeing.{IsThere, there}
@@ -13,13 +14,11 @@ returns-in-Known-true g c =
     let old = g.O.Picture.cells c.args.screens.now.old.now in
     let new = g.N.Picture.cells c.args.screens.now.new.now in
     let k : IsThere (t.line_of Clear) = there (t.line_of Clear) c.requires.scene.checked.clears in
-    let b = c.args.belief.now in
-    let w = c.args.wanted in
     let short : length k.bytes ≤ length t.resync = (c.requires.scene.checked.lines Clear k.bytes k.is).short in
-    let shown = cleared b.brush.background in
+    let blank : ℕ → ℕ → Ink = λ i j. blank_ink in
     record {
       draws = draws_clear g.W.Wire.went g.W.Wire.failures c.args.wire.now c.clear_first.new.wire c.clear_first.result t old new c.args.wanted c.args.status c.args.belief.now c.clear_first.new.belief
-          c.in-Known-true.is-0 c.in-Known-true.is-1 k.bytes k.is (length k.bytes + paint_limit t shown new (at_corner b) w.cursor w.mode) (fresh_enough t (length k.bytes) shown new (at_corner b) w.cursor w.mode short) (c.clear_first.ensures.step k.bytes k.is old) c.clear_first.ensures.there c.clear_first.ensures.mode;
+          c.in-Known-true.is-0 c.in-Known-true.is-1 k.bytes k.is (length k.bytes + renewal_limit t blank new) (fresh_enough t (length k.bytes) blank new short) (c.clear_first.ensures.step k.bytes k.is old) c.clear_first.ensures.there c.clear_first.ensures.at c.clear_first.ensures.rested c.clear_first.ensures.mode;
     }
 
 pub returns-in-Known-false : goal.returns-in-Known-false
@@ -29,7 +28,7 @@ returns-in-Known-false g c =
     let new = g.N.Picture.cells c.args.screens.now.new.now in
     record {
       draws = draws_known g.W.Wire.went g.W.Wire.failures c.args.wire.now c.mend.new.wire c.mend.result t old new c.args.wanted c.args.status c.args.belief.now c.mend.new.belief
-          c.in-Known-false.is-0 c.in-Known-false.is-1 c.mend.ensures.step c.mend.ensures.there c.mend.ensures.mode;
+          c.in-Known-false.is-0 c.in-Known-false.is-1 c.mend.ensures.step c.mend.ensures.there c.mend.ensures.at c.mend.ensures.rested c.mend.ensures.mode;
     }
 
 pub returns-in-Fresh-default : goal.returns-in-Fresh-default
@@ -39,7 +38,7 @@ returns-in-Fresh-default g c =
     let new = g.N.Picture.cells c.args.screens.now.new.now in
     record {
       draws = draws_fresh g.W.Wire.went g.W.Wire.failures c.args.wire.now c.repaint.new.wire c.repaint.result t old new c.args.wanted c.args.status c.args.belief.now c.repaint.new.belief
-          c.in-Fresh-default.is-0 c.repaint.ensures.step c.repaint.ensures.there c.repaint.ensures.mode;
+          c.in-Fresh-default.is-0 c.repaint.ensures.step c.repaint.ensures.there c.repaint.ensures.at c.repaint.ensures.rested c.repaint.ensures.mode;
     }
 
 pub returns-in-Lost-default : goal.returns-in-Lost-default
@@ -49,5 +48,5 @@ returns-in-Lost-default g c =
     let new = g.N.Picture.cells c.args.screens.now.new.now in
     record {
       draws = draws_lost g.W.Wire.went g.W.Wire.failures c.args.wire.now c.repaint-in-Lost-default.new.wire c.repaint-in-Lost-default.result t old new c.args.wanted c.args.status c.args.belief.now c.repaint-in-Lost-default.new.belief
-          c.in-Lost-default.is-0 c.repaint-in-Lost-default.ensures.step c.repaint-in-Lost-default.ensures.there c.repaint-in-Lost-default.ensures.mode;
+          c.in-Lost-default.is-0 c.repaint-in-Lost-default.ensures.step c.repaint-in-Lost-default.ensures.there c.repaint-in-Lost-default.ensures.at c.repaint-in-Lost-default.ensures.rested c.repaint-in-Lost-default.ensures.mode;
     }

@@ -5,7 +5,7 @@ use Rattle.cur_steps.specs.Inks.{blank_ink}
 use Rattle.cur_steps.specs.Beliefs.{Agrees}
 use Rattle.cur_steps.proofs.Actions.{agrees_lost}
 use Rattle.cur_paint.specs.Cleared.{IsLeft, at_start}
-use Rattle.cur_paint.specs.Limits.{fresh_limit, paint_limit}
+use Rattle.cur_paint.specs.Limits.{fresh_limit, renewal_limit}
 use Rattle.cur_paint.proofs.Bounds.{fresh_enough}
 use Rattle.cur_paint.proofs.Renewals.{anew_failed, anew_then, resync_leads}
 use Rattle.cur_paint.proofs.updates.repaint.Goals as goal
@@ -30,4 +30,4 @@ returns-clause-step g c =
     let sends = rw c.resync.ensures.value at c.in_ok-send_all.ensures.sends in
     let steps = rw c.start_belief.ensures.value at c.paint.ensures.step in
     anew_then g.W.Wire.went g.W.Wire.failures g.met.W.Wire.lawful c.args.wire.now c.send_all.new.wire c.paint.new.wire c.paint.result t (fresh_limit t) (IsLeft t c.args.shown_as) (Agrees t blank start) (Agrees t new c.paint.new.belief) t.resync c.args.shown_as w
-    (paint_limit t blank new start w.cursor w.mode) (fresh_enough t (length t.resync) blank new start w.cursor w.mode (omega arith)) (resync_leads t c.requires.scene.checked c.args.shown_as) sends steps
+    (renewal_limit t blank new) (fresh_enough t (length t.resync) blank new (omega arith)) (resync_leads t c.requires.scene.checked c.args.shown_as) sends steps
