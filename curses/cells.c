@@ -1,0 +1,49 @@
+/* Cells as they are: written without the window's attributes and background, by way of a pad of one line. The cursor
+ * stays. */
+#include "private.h"
+
+#include "calls.h"
+
+/* What can't stand in a cell is a space where it is nothing, and else a question mark. */
+static chtype drawable(chtype cell) {
+    unsigned byte = TCU_BYTE(cell);
+    chtype known = cell & (TCU_MARKS & 0x00ff0000u);
+    if (PAIR_NUMBER(cell) < 64) known |= cell & A_COLOR;
+    return known | (byte == 0 ? ' ' : byte < 32 || byte > 126 ? '?' : byte);
+}
+
+/* Puts cells in a place of a window; those past its line's end are left out. */
+int tcu_put_cells(WINDOW *window, int line, int column, const chtype *cells, int count) {
+    if (count > window->columns - column) count = window->columns - column;
+    if (count < 1) return OK;
+    if (session_move(TCU_SCRATCH, 0, 0) != OK) return ERR;
+    /* the last one may be the pad's last, past which the cursor can't go */
+    for (int at = 0; at < count; at++) session_addch(TCU_SCRATCH, drawable(cells[at]));
+    tcu_touch(window, line, column, column + count - 1);
+    return session_copywin(TCU_SCRATCH, window->number, 0, 0, line, column, line, column + count - 1, false);
+}
+
+int waddchnstr(WINDOW *window, const chtype *cells, int count) {
+    int y, x, len = 0;
+    if (!tcu_is_own(window) || !cells || session_cursor(window->number, &y, &x) != OK) return ERR;
+    while ((count < 0 || len < count) && len < window->columns - x && cells[len]) len++;
+    return tcu_changed(window, tcu_put_cells(window, y, x, cells, len));
+}
+
+int waddchstr(WINDOW *window, const chtype *cells) {
+    return waddchnstr(window, cells, -1);
+}
+
+/* Gives cells of the cursor's line other attributes and another pair. */
+int wchgat(WINDOW *window, int count, attr_t attrs, short pair, const void *options) {
+    chtype cells[TCU_PAD_MAX];
+    int y, x;
+    if (!tcu_is_own(window) || options || pair < 0 || pair > 63) return ERR;
+    if (session_cursor(window->number, &y, &x) != OK) return ERR;
+    if (count < 0 || count > window->columns - x) count = window->columns - x;
+    for (int at = 0; at < count; at++) {
+        if (session_cell(window->number, y, x + at, &cells[at]) != OK) return ERR;
+        cells[at] = (cells[at] & (A_CHARTEXT | A_ALTCHARSET)) | (attrs & TCU_MARKS) | COLOR_PAIR(pair);
+    }
+    return tcu_changed(window, tcu_put_cells(window, y, x, cells, count));
+}

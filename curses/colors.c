@@ -1,0 +1,89 @@
+/* Colors: eight of them, and 64 pairs, of which the first one has the terminal's own. */
+#include "private.h"
+
+#include "calls.h"
+
+enum { PAIRS = 64, SHADES = 8 };
+
+static short pairs[PAIRS][2];
+static bool has_pair[PAIRS];
+
+/* Whether the program has said what the pair is. */
+bool tcu_has_pair(int pair) {
+    return has_pair[pair];
+}
+
+bool has_colors(void) {
+    return tcu.is_open && entry_number("colors") >= SHADES && entry_string("setaf") && entry_string("setab") &&
+           entry_string("op");
+}
+
+bool can_change_color(void) {
+    return false;
+}
+
+int start_color(void) {
+    if (!tcu.is_open) return ERR;
+    if (tcu.has_colors) return OK;
+    /* programs count pairs also on terminals without colors */
+    if (!has_colors()) return ERR;
+    tcu.has_colors = true;
+    COLORS = SHADES;
+    COLOR_PAIRS = PAIRS;
+    for (int pair = 0; pair < PAIRS; pair++) {
+        pairs[pair][0] = pair == 0 ? COLOR_WHITE : 0;
+        pairs[pair][1] = 0;
+        has_pair[pair] = false;
+    }
+    return OK;
+}
+
+static bool is_color(short color) {
+    return color >= (tcu.has_default_colors ? -1 : 0) && color < SHADES;
+}
+
+int init_pair(short pair, short foreground, short background) {
+    if (!tcu.has_colors || pair < 1 || pair >= PAIRS || !is_color(foreground) || !is_color(background)) return ERR;
+    if (session_init_pair(pair, foreground, background) != OK) return ERR;
+    pairs[pair][0] = foreground;
+    pairs[pair][1] = background;
+    has_pair[pair] = true;
+    return OK;
+}
+
+int pair_content(short pair, short *foreground, short *background) {
+    if (!tcu.has_colors || pair < 0 || pair >= PAIRS) return ERR;
+    if (foreground) *foreground = pairs[pair][0];
+    if (background) *background = pairs[pair][1];
+    return OK;
+}
+
+int init_color(short color, short red, short green, short blue) {
+    (void)color;
+    (void)red;
+    (void)green;
+    (void)blue;
+    return ERR;
+}
+
+/* What the eight are called says how much they have of each. */
+int color_content(short color, short *red, short *green, short *blue) {
+    enum { FULL = 680 };
+    if (!tcu.has_colors || color < 0 || color >= SHADES) return ERR;
+    if (red) *red = color & 1 ? FULL : 0;
+    if (green) *green = color & 2 ? FULL : 0;
+    if (blue) *blue = color & 4 ? FULL : 0;
+    return OK;
+}
+
+int use_default_colors(void) {
+    return assume_default_colors(-1, -1);
+}
+
+/* The first pair has the terminal's own colors, and no others. */
+int assume_default_colors(int foreground, int background) {
+    if (!tcu.has_colors || !session_has_default_colors() || foreground != -1 || background != -1) return ERR;
+    tcu.has_default_colors = true;
+    pairs[0][0] = pairs[0][1] = -1;
+    return OK;
+}

@@ -1,0 +1,145 @@
+/* The beginning and the end: initscr, newterm, endwin and what comes after it. */
+#define _POSIX_C_SOURCE 200809L
+#include "private.h"
+
+#include <stdlib.h>
+#include <string.h>
+#include <sys/select.h>
+#include <unistd.h>
+
+#include "../include/ticurses.h"
+#include "../include/ticurses_terminal.h"
+#include "calls.h"
+
+struct ticurses_screen tcu;
+WINDOW *stdscr, *curscr, *newscr;
+int LINES, COLS, COLORS, COLOR_PAIRS, TABSIZE = 8, ESCDELAY = 1000;
+chtype acs_map[128];
+
+/* Says why there is no terminal. */
+static char fault[512];
+
+static bool found(const char *type) {
+    if (!type) type = getenv("TERM");
+    if (!type || !*type) {
+        snprintf(fault, sizeof fault, "TERM is not set");
+        return false;
+    }
+    snprintf(tcu.type, sizeof tcu.type, "%s", type);
+    if (entry_find(type)) return true;
+    snprintf(fault, sizeof fault, "there is no terminfo entry for %s", tcu.type);
+    return false;
+}
+
+/* Makes the windows that are there from the beginning. */
+static bool has_windows(void) {
+    if (session_newwin(TCU_NEWSCR, 0, 0, 0, 0) != OK || session_newpad(TCU_SCRATCH, 1, TCU_PAD_MAX) != OK) return false;
+    stdscr = tcu_made(0, LINES, COLS, NULL);
+    if (!stdscr) return false;
+    memset(&tcu.newscr, 0, sizeof tcu.newscr);
+    tcu.newscr.number = TCU_NEWSCR;
+    tcu.newscr.lines = LINES;
+    tcu.newscr.columns = COLS;
+    tcu.newscr.delay = -1;
+    tcu.newscr.background = ' ';
+    tcu.newscr.region_bottom = LINES - 1;
+    tcu.curscr = tcu.newscr;
+    newscr = &tcu.newscr;
+    curscr = &tcu.curscr;
+    return true;
+}
+
+static bool is_begun(const char *type) {
+    uint16_t lines, columns;
+    int code;
+    fflush(tcu.stream);
+    if (!found(type)) return false;
+    code = ticurses_size(tcu.output, &lines, &columns);
+    if (code != TICURSES_OK) snprintf(fault, sizeof fault, "%s", ticurses_text(code));
+    if (code != TICURSES_OK || session_open(lines, columns, fault, sizeof fault) != OK) return false;
+    LINES = lines;
+    COLS = columns;
+    tcu.is_ended = tcu.is_cursor_left = tcu.has_colors = tcu.has_default_colors = false;
+    tcu.visibility = 1;
+    if (!has_windows()) {
+        snprintf(fault, sizeof fault, "%s", ticurses_text(TICURSES_NO_MEMORY));
+        session_close();
+        return false;
+    }
+    for (unsigned letter = 0; letter < 128; letter++) acs_map[letter] = letter | A_ALTCHARSET;
+    signals_begin();
+    tcu.is_open = true;
+    modes_begin();
+    return true;
+}
+
+SCREEN *newterm(const char *type, FILE *output, FILE *input) {
+    if (tcu.is_open || !output || !input) return NULL;
+    tcu.stream = output;
+    tcu.output = fileno(output);
+    tcu.input = fileno(input);
+    /* getch waits by pselect */
+    if (tcu.output < 0 || tcu.input < 0 || tcu.input >= FD_SETSIZE) return NULL;
+    return is_begun(type) ? &tcu : NULL;
+}
+
+WINDOW *initscr(void) {
+    if (tcu.is_open) return stdscr;
+    if (newterm(NULL, stdout, stdin)) return stdscr;
+    fprintf(stderr, "Error opening terminal: %s\n", *fault ? fault : "no standard input or output");
+    exit(EXIT_FAILURE);
+}
+
+SCREEN *set_term(SCREEN *screen) {
+    (void)screen;
+    return tcu.is_open ? &tcu : NULL;
+}
+
+void delscreen(SCREEN *screen) {
+    if (!tcu.is_open || screen != &tcu) return;
+    if (!tcu.is_ended) endwin();
+    for (int number = TCU_WINDOWS - 1; number >= 0; number--) tcu_freed(tcu.windows[number]);
+    session_close();
+    tcu_forget_keys();
+    stdscr = curscr = newscr = NULL;
+    tcu.is_open = tcu.is_ended = false;
+}
+
+/* Leaves the terminal as other programs want it. */
+int tcu_suspend(void) {
+    int code = tcu_keypad(false);
+    if (session_endwin() != OK || session_send(tcu.output) != OK) code = ERR;
+    if (modes_are_known() && modes_shell() != OK) code = ERR;
+    tcu.is_ended = true;
+    return code;
+}
+
+/* Goes on after endwin: the terminal may have another size, and may show anything. */
+void tcu_resume(void) {
+    uint16_t lines, columns;
+    bool wants_keys = stdscr && stdscr->has_keypad;
+    if (!tcu.is_open || !tcu.is_ended) return;
+    tcu.is_ended = false;
+    fflush(tcu.stream);
+    modes_program();
+    session_lost();
+    for (int number = 0; number < TCU_WINDOWS; number++)
+        if (tcu.windows[number] && tcu.windows[number]->has_keypad) wants_keys = true;
+    if (wants_keys) tcu_keypad(true);
+    if (ticurses_size(tcu.output, &lines, &columns) == TICURSES_OK && (lines != LINES || columns != COLS))
+        resize_term(lines, columns);
+}
+
+int endwin(void) {
+    if (!tcu.is_open) return ERR;
+    return tcu.is_ended ? OK : tcu_suspend();
+}
+
+bool isendwin(void) {
+    return tcu.is_open && tcu.is_ended;
+}
+
+void exit_curses(int status) {
+    delscreen(&tcu);
+    exit(status);
+}

@@ -1,0 +1,154 @@
+/* Keys: what is typed, one byte or one function key at a time. */
+#define _POSIX_C_SOURCE 200809L
+#include "private.h"
+
+#include <errno.h>
+#include <string.h>
+#include <termios.h>
+#include <unistd.h>
+
+#include "calls.h"
+
+enum { QUEUED = 1024, LONGEST = 64 };
+
+/* What was given back, the last one first, and the bytes that were read as the beginning of a key and are none. */
+static int given[QUEUED];
+static size_t given_count;
+static bool is_keypad_on;
+
+/* Sends the string that has the keypad send keys, or the one that ends it. */
+int tcu_keypad(bool is_on) {
+    const char *text = entry_string(is_on ? "smkx" : "rmkx");
+    if (is_on == is_keypad_on) return OK;
+    is_keypad_on = is_on;
+    return text ? beside_send(text, false) : OK;
+}
+
+void tcu_forget_keys(void) {
+    given_count = 0;
+}
+
+int keypad(WINDOW *window, bool is_on) {
+    if (!tcu_is_own(window)) return ERR;
+    window->has_keypad = is_on;
+    return tcu.is_ended ? OK : tcu_keypad(is_on);
+}
+
+static bool is_meta_off;
+
+int meta(WINDOW *window, bool is_on) {
+    (void)window;
+    if (!tcu.is_open) return ERR;
+    is_meta_off = !is_on;
+    return OK;
+}
+
+int ungetch(int ch) {
+    if (!tcu.is_open || given_count == QUEUED) return ERR;
+    given[given_count++] = ch;
+    return OK;
+}
+
+int flushinp(void) {
+    if (!tcu.is_open) return ERR;
+    tcu_forget_keys();
+    tcflush(tcu.input, TCIFLUSH);
+    return OK;
+}
+
+/* A byte of the terminal. ERR where none comes in time, KEY_RESIZE where the size has changed. */
+static int next_byte(int milliseconds) {
+    unsigned char byte;
+    ssize_t count;
+    do {
+        if (signals_wait(tcu.input, milliseconds) <= 0) return signals_has_size_changed() ? KEY_RESIZE : ERR;
+        count = read(tcu.input, &byte, 1);
+        /* another program was given the byte, or a signal came first */
+    } while (count < 0 && (errno == EINTR || errno == EAGAIN));
+    return count == 1 ? byte : ERR;
+}
+
+/* The key that these bytes are, 0 where they are none; and whether longer ones begin so. */
+static int key_of(const char *bytes, size_t count, bool *is_beginning) {
+    int found = 0;
+    *is_beginning = false;
+    for (size_t at = 0; at < tcu_key_count; at++) {
+        const char *text = entry_string(tcu_keys[at].name);
+        if (!text || strncmp(text, bytes, count) != 0) continue;
+        if (strlen(text) > count) *is_beginning = true;
+        else if (found == 0) found = tcu_keys[at].key;
+    }
+    return found;
+}
+
+/* How long the rest of a key is waited for. */
+static int patience(const WINDOW *window) {
+    return window->waits_in_keys ? -1 : ESCDELAY;
+}
+
+/* Reads on from a byte that may begin a key. What is no key is given byte by byte. */
+static int read_key(const WINDOW *window, int first) {
+    char bytes[LONGEST];
+    size_t count = 0;
+    bool is_beginning = true;
+    int byte = first, key = 0;
+    while (byte > 0 && byte < 256 && is_beginning && count < sizeof bytes) {
+        bytes[count++] = (char)byte;
+        key = key_of(bytes, count, &is_beginning);
+        if (key > 0) return key;
+        if (is_beginning) byte = next_byte(patience(window));
+    }
+    if (count == 0) return first;
+    while (count > 1 && given_count < QUEUED) given[given_count++] = (unsigned char)bytes[--count];
+    return (unsigned char)bytes[0];
+}
+
+static int patience_of(const WINDOW *window) {
+    if (window->delay >= 0) return window->delay;
+    return tcu_modes.half_delay > 0 ? tcu_modes.half_delay * 100 : -1;
+}
+
+static bool is_eight_bits(void) {
+    return !is_meta_off && modes_keep_meta();
+}
+
+/* A key, as it comes. */
+static int read_one(const WINDOW *window) {
+    int key;
+    if (given_count > 0) return given[--given_count];
+    if (signals_has_size_changed()) return KEY_RESIZE;
+    key = next_byte(patience_of(window));
+    if (key == ERR || key == KEY_RESIZE) return key;
+    if (window->has_keypad) key = read_key(window, key);
+    return key < 256 && !is_eight_bits() ? key & 127 : key;
+}
+
+/* In the mode that reads lines, a whole one is read and shown, and given key by key. */
+static int read_line(WINDOW *window) {
+    char line[512];
+    int code = wgetnstr(window, line, (int)sizeof line - 1);
+    if (code == KEY_RESIZE) return code;
+    if (code != OK) return ERR;
+    ungetch('\n');
+    for (size_t at = strlen(line); at > 0; at--) ungetch((unsigned char)line[at - 1]);
+    return read_one(window);
+}
+
+static void show_before(WINDOW *window) {
+    if (!window->is_pad && (window->is_moved || is_wintouched(window))) wrefresh(window);
+}
+
+int wgetch(WINDOW *window) {
+    int key;
+    if (!tcu_is_own(window)) return ERR;
+    show_before(window);
+    if (given_count == 0 && !tcu_modes.is_cbreak && modes_are_known()) return read_line(window);
+    key = read_one(window);
+    if (key == KEY_RESIZE && signals_take_size_change()) {
+        tcu_resize();
+        return key;
+    }
+    if (key == '\r' && tcu_modes.reads_newlines) key = '\n';
+    if (tcu_modes.echoes && key >= 0 && key < 256) wechochar(window, (chtype)key);
+    return key;
+}

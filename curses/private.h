@@ -1,0 +1,133 @@
+/* What the files of this folder share. No name of it is exported: the library's objects are linked into one, in which
+ * all but the names of <curses.h> become local. */
+#ifndef TICURSES_CURSES_PRIVATE_H
+#define TICURSES_CURSES_PRIVATE_H
+
+#include <stddef.h>
+
+#include "../include/ticurses/curses.h"
+
+/* The numbers of windows in the proved session: 0 is stdscr, and these two are the library's own. */
+enum {
+    TCU_NEWSCR = 63,  /* as large as the screen: what is to be shown next */
+    TCU_SCRATCH = 62, /* a pad of one line, from which cells are copied as they are */
+    TCU_WINDOWS = 62  /* so many are the program's, with stdscr */
+};
+/* a pad has at most so many lines and columns */
+enum { TCU_PAD_MAX = 1000 };
+/* attributes and pair of a chtype */
+#define TCU_MARKS (A_ATTRIBUTES & ~A_COLOR)
+#define TCU_BYTE(ch) ((unsigned)((ch) & A_CHARTEXT))
+
+/* The touched columns of a line; none where `first` is above `last`. */
+struct tcu_line {
+    int first, last;
+};
+
+struct ticurses_window {
+    int number;            /* of the window in the proved session */
+    int lines, columns;
+    int y, x;              /* the place on the screen, or of a pad's part in its parent */
+    int parent_y, parent_x;
+    WINDOW *parent;
+    struct tcu_line *touched;
+    chtype attrs, background;
+    int region_top, region_bottom;
+    int delay;             /* so many milliseconds a key is waited for; below 0 without end */
+    bool is_pad;           /* of the program: it has no place on the screen */
+    bool is_below_pad;     /* of the session: a pad, or a part of one */
+    bool is_moved;         /* the cursor was moved since the last refresh */
+    bool clears, leaves, scrolls, shifts_lines, shifts_characters, shows_changes, syncs;
+    bool has_keypad, waits_in_keys;
+    int shown[6];          /* the part of a pad that was shown last, for pechochar */
+    bool is_shown;
+};
+
+/* All of the one screen. */
+struct ticurses_screen {
+    bool is_open;          /* there is a session */
+    bool is_ended;         /* endwin was the last word, and a refresh goes on */
+    int input, output;     /* descriptors */
+    FILE *stream;          /* the output as the program has it */
+    char type[128];        /* the terminal's name */
+    WINDOW *windows[TCU_WINDOWS];
+    WINDOW newscr, curscr;
+    bool is_cursor_left;   /* leaveok of what was copied last */
+    int visibility;        /* of the cursor */
+    bool has_colors;       /* start_color was done */
+    bool has_default_colors;
+};
+extern struct ticurses_screen tcu;
+
+/* windows.c */
+bool tcu_is_own(const WINDOW *window);
+int tcu_make_part(int number, const WINDOW *parent, int lines, int columns, int y, int x);
+WINDOW *tcu_made(int number, int lines, int columns, WINDOW *parent);
+void tcu_freed(WINDOW *window);
+void tcu_restored(WINDOW *window, int cursor_y, int cursor_x);
+
+/* touch.c */
+void tcu_touch(WINDOW *window, int line, int first, int last);
+void tcu_touch_lines(WINDOW *window, int top, int bottom);
+int tcu_changed(WINDOW *window, int code);
+
+/* cells.c */
+int tcu_put_cells(WINDOW *window, int line, int column, const chtype *cells, int count);
+
+/* colors.c */
+bool tcu_has_pair(int pair);
+
+/* entry.c */
+bool entry_find(const char *type);
+const void *entry_bytes(size_t *len);
+const char *entry_string(const char *name);
+int entry_number(const char *name);
+const char *entry_long_name(void);
+
+/* beside.c */
+int beside_send(const char *text, bool is_waiting);
+size_t beside_plain(const char *text, char *room, size_t room_len);
+
+/* keys.c */
+struct tcu_key {
+    const char *name; /* the capability */
+    int key;
+};
+extern const struct tcu_key tcu_keys[];
+extern const size_t tcu_key_count;
+
+/* input.c */
+int tcu_keypad(bool is_on);
+void tcu_forget_keys(void);
+
+/* modes.c */
+struct tcu_modes {
+    bool is_raw, is_cbreak, echoes, reads_newlines;
+    int half_delay; /* tenths of a second; 0 without */
+};
+extern struct tcu_modes tcu_modes;
+void modes_begin(void);
+int modes_program(void);
+int modes_shell(void);
+bool modes_are_known(void);
+bool modes_keep_meta(void);
+
+/* init.c */
+void tcu_resume(void);
+int tcu_suspend(void);
+
+/* resize.c */
+int tcu_resize(void);
+
+/* signals.c */
+void signals_begin(void);
+void signals_forget(void);
+void signals_enter(void);
+void signals_leave(void);
+bool signals_is_ending(void);
+int signals_wait(int fd, int milliseconds);
+bool signals_has_size_changed(void);
+bool signals_take_size_change(void);
+void signals_heed(void);
+
+#endif

@@ -1,0 +1,160 @@
+/* Another size of the terminal: a session of that size takes the place of the one before. Windows are made anew in it
+ * and get back what they held, as far as it fits, and the next refresh draws all of it. */
+#include "private.h"
+
+#include <stdlib.h>
+
+#include "../include/ticurses_terminal.h"
+#include "calls.h"
+
+static int smaller(int one, int other) {
+    return one < other ? one : other;
+}
+
+/* What a window is to be: those that were as large as the screen go on being so, and none is larger. */
+struct size {
+    int lines, columns;
+};
+
+static struct size size_of(const WINDOW *window, struct size before, struct size now) {
+    struct size size = {window->lines, window->columns};
+    if (window->is_pad) return size;
+    if (window->parent) {
+        size.lines = smaller(size.lines, window->parent->lines - window->parent_y);
+        size.columns = smaller(size.columns, window->parent->columns - window->parent_x);
+        return size;
+    }
+    size.lines = size.lines == before.lines ? now.lines : smaller(size.lines, now.lines);
+    size.columns = size.columns == before.columns ? now.columns : smaller(size.columns, now.columns);
+    return size;
+}
+
+/* Makes it in the new session. A part of which nothing is left is made of its parent's last place. */
+static int made_again(WINDOW *window, struct size size) {
+    bool is_on_screen = window->y + size.lines <= LINES && window->x + size.columns <= COLS;
+    if (window->parent)
+        return tcu_make_part(window->number, window->parent, size.lines, size.columns, window->parent_y, window->parent_x);
+    window->is_below_pad = window->is_pad || !is_on_screen;
+    if (window->is_below_pad) return session_newpad(window->number, size.lines, size.columns);
+    return session_newwin(window->number, size.lines, size.columns, window->y, window->x);
+}
+
+/* Gives a window that has its own cells those that it had in the session before. */
+static void fill(WINDOW *window, struct size size) {
+    chtype cells[TCU_PAD_MAX];
+    int lines = smaller(size.lines, window->lines), columns = smaller(size.columns, window->columns);
+    if (window->parent) return;
+    session_bkgdset(window->number, window->background);
+    session_erase(window->number);
+    for (int line = 0; line < lines; line++) {
+        int count = 0;
+        while (count < columns && session_former_cell(window->number, line, count, &cells[count]) == OK) count++;
+        tcu_put_cells(window, line, 0, cells, count);
+    }
+}
+
+static bool has_room(WINDOW *window, struct size size) {
+    struct tcu_line *touched = calloc((size_t)size.lines, sizeof *touched);
+    if (!touched) return false;
+    free(window->touched);
+    window->touched = touched;
+    return true;
+}
+
+/* Where a part lies in a parent that became smaller. */
+static void hold_in_parent(WINDOW *window) {
+    WINDOW *parent = window->parent;
+    if (!parent) return;
+    window->parent_y = smaller(window->parent_y, parent->lines - 1);
+    window->parent_x = smaller(window->parent_x, parent->columns - 1);
+    window->is_below_pad = parent->is_below_pad;
+}
+
+static int rebuild(WINDOW *window, int y, int x, struct size before, struct size now) {
+    struct size size;
+    hold_in_parent(window);
+    size = size_of(window, before, now);
+    if (!has_room(window, size)) return ERR;
+    if (window->number > 0 && made_again(window, size) != OK) return ERR;
+    fill(window, size);
+    if (window->region_bottom >= smaller(window->lines, size.lines) - 1) window->region_bottom = size.lines - 1;
+    if (window->region_top >= window->region_bottom) window->region_top = 0;
+    window->lines = size.lines;
+    window->columns = size.columns;
+    tcu_restored(window, smaller(y, size.lines - 1), smaller(x, size.columns - 1));
+    tcu_touch_lines(window, 0, size.lines - 1);
+    return OK;
+}
+
+/* How many windows are above it. */
+static int depth_of(const WINDOW *window) {
+    int depth = 0;
+    for (; window->parent; window = window->parent) depth++;
+    return depth;
+}
+
+static int rebuild_all(const int cursors[TCU_WINDOWS][2], struct size before, struct size now) {
+    int code = OK;
+    bool is_deeper = true;
+    /* parents come before their parts */
+    for (int depth = 0; is_deeper; depth++) {
+        is_deeper = false;
+        for (int number = 0; number < TCU_WINDOWS; number++) {
+            WINDOW *window = tcu.windows[number];
+            if (!window || depth_of(window) < depth) continue;
+            is_deeper = true;
+            if (depth_of(window) == depth && rebuild(window, cursors[number][0], cursors[number][1], before, now) != OK)
+                code = ERR;
+        }
+    }
+    return code;
+}
+
+/* The library's own windows, and what the session knows beside windows. */
+static int begin_anew(struct size now) {
+    int code = OK;
+    if (session_newwin(TCU_NEWSCR, 0, 0, 0, 0) != OK || session_newpad(TCU_SCRATCH, 1, TCU_PAD_MAX) != OK) code = ERR;
+    tcu.newscr.lines = tcu.curscr.lines = now.lines;
+    tcu.newscr.columns = tcu.curscr.columns = now.columns;
+    if (tcu.is_cursor_left) session_leaveok(TCU_NEWSCR, true);
+    session_curs_set(tcu.visibility);
+    for (short pair = 1; tcu.has_colors && pair < COLOR_PAIRS; pair++) {
+        short foreground, background;
+        if (tcu_has_pair(pair) && pair_content(pair, &foreground, &background) == OK)
+            session_init_pair(pair, foreground, background);
+    }
+    return code;
+}
+
+int resize_term(int lines, int columns) {
+    int cursors[TCU_WINDOWS][2] = {{0}};
+    struct size before = {LINES, COLS}, now = {lines, columns};
+    int code;
+    if (!tcu.is_open) return ERR;
+    if (lines == LINES && columns == COLS) return OK;
+    for (int number = 0; number < TCU_WINDOWS; number++)
+        if (tcu.windows[number]) session_cursor(number, &cursors[number][0], &cursors[number][1]);
+    if (session_send(tcu.output) != OK || session_reopen(lines, columns) != OK) return ERR;
+    LINES = lines;
+    COLS = columns;
+    code = begin_anew(now);
+    if (rebuild_all((const int(*)[2])cursors, before, now) != OK) code = ERR;
+    session_forget_former();
+    return code;
+}
+
+int resizeterm(int lines, int columns) {
+    if (resize_term(lines, columns) != OK) return ERR;
+    return ungetch(KEY_RESIZE);
+}
+
+bool is_term_resized(int lines, int columns) {
+    return tcu.is_open && (lines != LINES || columns != COLS);
+}
+
+/* The size that the terminal has now. One that no session fits leaves all as it is. */
+int tcu_resize(void) {
+    uint16_t lines, columns;
+    if (ticurses_size(tcu.output, &lines, &columns) != TICURSES_OK) return ERR;
+    return resize_term(lines, columns);
+}

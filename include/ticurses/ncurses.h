@@ -1,0 +1,2 @@
+/* The name by which programs for ncurses include it. */
+#include "curses.h"

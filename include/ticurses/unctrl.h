@@ -1,0 +1,2 @@
+/* unctrl, which <curses.h> has. */
+#include "curses.h"
