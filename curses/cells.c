@@ -12,15 +12,20 @@ static chtype drawable(chtype cell) {
     return known | (byte == 0 ? ' ' : byte < 32 || byte > 126 ? '?' : byte);
 }
 
-/* Puts cells in a place of a window; those past its line's end are left out. */
-int tcu_put_cells(WINDOW *window, int line, int column, const chtype *cells, int count) {
-    if (count > window->columns - column) count = window->columns - column;
+/* Puts cells in a place of a window of the session. */
+int tcu_put_row(int number, int line, int column, const chtype *cells, int count) {
     if (count < 1) return OK;
     if (session_move(TCU_SCRATCH, 0, 0) != OK) return ERR;
     /* the last one may be the pad's last, past which the cursor can't go */
     for (int at = 0; at < count; at++) session_addch(TCU_SCRATCH, drawable(cells[at]));
+    return session_copywin(TCU_SCRATCH, number, 0, 0, line, column, line, column + count - 1, false);
+}
+
+/* The same of the program's window; cells past its line's end are left out. */
+int tcu_put_cells(WINDOW *window, int line, int column, const chtype *cells, int count) {
+    if (count > window->columns - column) count = window->columns - column;
     tcu_touch(window, line, column, column + count - 1);
-    return session_copywin(TCU_SCRATCH, window->number, 0, 0, line, column, line, column + count - 1, false);
+    return tcu_put_row(window->number, line, column, cells, count);
 }
 
 int waddchnstr(WINDOW *window, const chtype *cells, int count) {

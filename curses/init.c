@@ -59,7 +59,7 @@ static bool is_begun(const char *type) {
     if (code != TICURSES_OK || session_open(lines, columns, fault, sizeof fault) != OK) return false;
     LINES = lines;
     COLS = columns;
-    tcu.is_ended = tcu.is_cursor_left = tcu.has_colors = tcu.has_default_colors = false;
+    tcu.is_ended = tcu.is_current = tcu.is_cursor_left = tcu.has_colors = tcu.has_default_colors = false;
     tcu.visibility = 1;
     if (!has_windows()) {
         snprintf(fault, sizeof fault, "%s", ticurses_text(TICURSES_NO_MEMORY));
@@ -107,10 +107,11 @@ void delscreen(SCREEN *screen) {
 
 /* Leaves the terminal as other programs want it. */
 int tcu_suspend(void) {
-    int code = tcu_keypad(false);
-    if (session_endwin() != OK || session_send(tcu.output) != OK) code = ERR;
+    int code = session_endwin();
+    if (session_send(tcu.output) != OK || tcu_keypad(false) != OK) code = ERR;
     if (modes_are_known() && modes_shell() != OK) code = ERR;
     tcu.is_ended = true;
+    tcu.is_current = false;
     return code;
 }
 

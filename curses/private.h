@@ -47,6 +47,7 @@ struct ticurses_window {
 struct ticurses_screen {
     bool is_open;          /* there is a session */
     bool is_ended;         /* endwin was the last word, and a refresh goes on */
+    bool is_current;       /* the terminal shows what the last refresh was to show */
     int input, output;     /* descriptors */
     FILE *stream;          /* the output as the program has it */
     char type[128];        /* the terminal's name */
@@ -72,6 +73,7 @@ void tcu_touch_lines(WINDOW *window, int top, int bottom);
 int tcu_changed(WINDOW *window, int code);
 
 /* cells.c */
+int tcu_put_row(int number, int line, int column, const chtype *cells, int count);
 int tcu_put_cells(WINDOW *window, int line, int column, const chtype *cells, int count);
 
 /* colors.c */

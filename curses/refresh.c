@@ -72,7 +72,9 @@ int doupdate(void) {
     pass_on_clearing(newscr);
     code = session_noutrefresh(TCU_NEWSCR);
     if (code == OK) code = session_doupdate();
-    return session_send(tcu.output) == OK ? code : ERR;
+    if (session_send(tcu.output) != OK) code = ERR;
+    tcu.is_current = code == OK;
+    return code;
 }
 
 int wrefresh(WINDOW *window) {

@@ -31,25 +31,22 @@ static struct size size_of(const WINDOW *window, struct size before, struct size
 
 /* Makes it in the new session. A part of which nothing is left is made of its parent's last place. */
 static int made_again(WINDOW *window, struct size size) {
+    const WINDOW *parent = window->parent;
     bool is_on_screen = window->y + size.lines <= LINES && window->x + size.columns <= COLS;
-    if (window->parent)
-        return tcu_make_part(window->number, window->parent, size.lines, size.columns, window->parent_y, window->parent_x);
+    if (parent)
+        return tcu_make_part(window->number, parent, size.lines, size.columns, window->parent_y, window->parent_x);
     window->is_below_pad = window->is_pad || !is_on_screen;
     if (window->is_below_pad) return session_newpad(window->number, size.lines, size.columns);
     return session_newwin(window->number, size.lines, size.columns, window->y, window->x);
 }
 
-/* Gives a window that has its own cells those that it had in the session before. */
-static void fill(WINDOW *window, struct size size) {
+/* Gives a window those cells that it had in the session before. */
+static void fill(int number, struct size size) {
     chtype cells[TCU_PAD_MAX];
-    int lines = smaller(size.lines, window->lines), columns = smaller(size.columns, window->columns);
-    if (window->parent) return;
-    session_bkgdset(window->number, window->background);
-    session_erase(window->number);
-    for (int line = 0; line < lines; line++) {
+    for (int line = 0; line < size.lines; line++) {
         int count = 0;
-        while (count < columns && session_former_cell(window->number, line, count, &cells[count]) == OK) count++;
-        tcu_put_cells(window, line, 0, cells, count);
+        while (count < size.columns && session_former_cell(number, line, count, &cells[count]) == OK) count++;
+        tcu_put_row(number, line, 0, cells, count);
     }
 }
 
@@ -76,7 +73,12 @@ static int rebuild(WINDOW *window, int y, int x, struct size before, struct size
     size = size_of(window, before, now);
     if (!has_room(window, size)) return ERR;
     if (window->number > 0 && made_again(window, size) != OK) return ERR;
-    fill(window, size);
+    /* a part has its parent's cells */
+    if (!window->parent) {
+        session_bkgdset(window->number, window->background);
+        session_erase(window->number);
+        fill(window->number, size);
+    }
     if (window->region_bottom >= smaller(window->lines, size.lines) - 1) window->region_bottom = size.lines - 1;
     if (window->region_top >= window->region_bottom) window->region_top = 0;
     window->lines = size.lines;
@@ -114,6 +116,7 @@ static int rebuild_all(const int cursors[TCU_WINDOWS][2], struct size before, st
 static int begin_anew(struct size now) {
     int code = OK;
     if (session_newwin(TCU_NEWSCR, 0, 0, 0, 0) != OK || session_newpad(TCU_SCRATCH, 1, TCU_PAD_MAX) != OK) code = ERR;
+    fill(TCU_NEWSCR, now);
     tcu.newscr.lines = tcu.curscr.lines = now.lines;
     tcu.newscr.columns = tcu.curscr.columns = now.columns;
     if (tcu.is_cursor_left) session_leaveok(TCU_NEWSCR, true);
@@ -129,15 +132,18 @@ static int begin_anew(struct size now) {
 int resize_term(int lines, int columns) {
     int cursors[TCU_WINDOWS][2] = {{0}};
     struct size before = {LINES, COLS}, now = {lines, columns};
-    int code;
+    int code, y, x;
     if (!tcu.is_open) return ERR;
     if (lines == LINES && columns == COLS) return OK;
     for (int number = 0; number < TCU_WINDOWS; number++)
         if (tcu.windows[number]) session_cursor(number, &cursors[number][0], &cursors[number][1]);
+    if (session_cursor(TCU_NEWSCR, &y, &x) != OK) return ERR;
     if (session_send(tcu.output) != OK || session_reopen(lines, columns) != OK) return ERR;
+    tcu.is_current = false;
     LINES = lines;
     COLS = columns;
     code = begin_anew(now);
+    session_move(TCU_NEWSCR, smaller(y, lines - 1), smaller(x, columns - 1));
     if (rebuild_all((const int(*)[2])cursors, before, now) != OK) code = ERR;
     session_forget_former();
     return code;

@@ -17,7 +17,8 @@
 
 #include "calls.h"
 
-static const int ending_signals[] = {SIGHUP, SIGINT, SIGQUIT, SIGTERM};
+enum { ENDING = 4 };
+static const int ending_signals[ENDING] = {SIGHUP, SIGINT, SIGQUIT, SIGTERM};
 
 static volatile sig_atomic_t depth, ending, is_stop_wanted, has_size_changed;
 static bool has_begun, heeds_stop;
@@ -100,8 +101,7 @@ void signals_begin(void) {
     has_shell = tcgetattr(tcu.input, &shell) == 0;
     if (has_begun) return;
     has_begun = true;
-    for (size_t at = 0; at < sizeof ending_signals / sizeof *ending_signals; at++)
-        handled(ending_signals[at], on_ending, SA_RESTART);
+    for (size_t at = 0; at < ENDING; at++) handled(ending_signals[at], on_ending, SA_RESTART);
     heeds_stop = handled(SIGTSTP, on_stop, SA_RESTART);
     /* a program that waits by itself sees that the size has changed */
     handled(SIGWINCH, on_size, 0);
@@ -188,11 +188,11 @@ static bool is_left(const struct timespec *end, struct timespec *left) {
 
 /* Waits for bytes of a descriptor, at most so many milliseconds, below 0 without end; below 0 no descriptor, and the
  * time alone counts. Gives 1 where there are some, 0 where the time is over or the size has changed, -1 where the
- * descriptor is none. The two signals that are noted come only while the system waits, so that none is missed. */
+ * descriptor is none. Signals that are noted come only while the system waits, so that none is missed. */
 int signals_wait(int fd, int milliseconds) {
     struct timespec end, left;
     sigset_t noted, before;
-    int found = 0;
+    int found = 0, error = 0;
     bool is_time_left = true;
     clock_gettime(CLOCK_MONOTONIC, &end);
     if (milliseconds >= 0) {
@@ -206,21 +206,26 @@ int signals_wait(int fd, int milliseconds) {
     sigemptyset(&noted);
     sigaddset(&noted, SIGTSTP);
     sigaddset(&noted, SIGWINCH);
+    for (size_t at = 0; at < ENDING; at++) sigaddset(&noted, ending_signals[at]);
     do {
         fd_set ready;
         signals_heed();
         FD_ZERO(&ready);
         if (fd >= 0) FD_SET(fd, &ready);
         if (milliseconds >= 0) is_time_left = is_left(&end, &left);
+        signals_enter();
         sigprocmask(SIG_BLOCK, &noted, &before);
-        if ((heeds_stop && is_stop_wanted) || (fd >= 0 && has_size_changed)) {
+        if (ending || (heeds_stop && is_stop_wanted) || (fd >= 0 && has_size_changed)) {
             found = -1;
-            errno = EINTR;
+            error = EINTR;
         } else {
             found = pselect(fd + 1, &ready, NULL, NULL, milliseconds < 0 ? NULL : &left, &before);
+            error = errno;
         }
         sigprocmask(SIG_SETMASK, &before, NULL);
+        /* here a signal ends the program */
+        signals_leave();
         if (fd >= 0 && has_size_changed) return 0;
-    } while (found < 0 && errno == EINTR && is_time_left);
-    return found < 0 && errno == EINTR ? 0 : found;
+    } while (found < 0 && error == EINTR && is_time_left);
+    return found < 0 && error == EINTR ? 0 : found;
 }

@@ -3,6 +3,10 @@
 
 #include "calls.h"
 
+#ifndef TCU_VERSION
+#define TCU_VERSION "of a checkout"
+#endif
+
 /* While it isn't known what the terminal shows, the session rings no bell; the string is sent beside it then. */
 int beep(void) {
     if (!tcu.is_open) return ERR;
@@ -17,12 +21,12 @@ int flash(void) {
     return entry_string("flash") ? beside_send(entry_string("flash"), true) : beep();
 }
 
-/* The terminal shows it at once. */
+/* Once there was a refresh, the terminal shows it at once. */
 int curs_set(int visibility) {
     int before = tcu.visibility;
     if (!tcu.is_open || visibility < 0 || visibility > 2 || session_curs_set(visibility) != OK) return ERR;
     tcu.visibility = visibility;
-    if (visibility != before && !tcu.is_ended) doupdate();
+    if (visibility != before && tcu.is_current) doupdate();
     return before;
 }
 
@@ -76,7 +80,7 @@ bool has_il(void) {
 }
 
 const char *curses_version(void) {
-    return "ticurses-curses 1.0.0";
+    return "ticurses-curses " TCU_VERSION;
 }
 
 int set_escdelay(int milliseconds) {

@@ -194,8 +194,9 @@ static int smaller(int one, int other) {
 
 /* Has the session make the window once more, of another size, under a number that is free. */
 static int made_anew(const WINDOW *window, int number, int lines, int columns, bool *is_pad) {
+    const WINDOW *parent = window->parent;
     *is_pad = window->is_below_pad;
-    if (window->parent) return tcu_make_part(number, window->parent, lines, columns, window->parent_y, window->parent_x);
+    if (parent) return tcu_make_part(number, parent, lines, columns, window->parent_y, window->parent_x);
     if (window->is_pad) return session_newpad(number, lines, columns);
     return make(number, lines, columns, window->y, window->x, is_pad);
 }

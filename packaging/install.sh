@@ -56,13 +56,13 @@ library=$PREFIX/lib/libticurses.so.@MAJOR@
 files=$(cd -- "$here" && find bin include lib python share \( -type f -o -type l \) | LC_ALL=C sort)
 
 if [ "$does" = uninstall ]; then
-    for file in $files lib/pkgconfig/ticurses.pc; do
+    for file in $files lib/pkgconfig/ticurses.pc lib/pkgconfig/ticurses-curses.pc; do
         rm -f -- "$(place_of "$file")"
     done
     rm -rf -- "$DESTDIR$PYTHONDIR/ticurses/__pycache__"
     for folder in "$DESTDIR$PYTHONDIR/ticurses" "$DESTDIR$PREFIX/share/doc/ticurses/examples/c" \
         "$DESTDIR$PREFIX/share/doc/ticurses/examples/python" "$DESTDIR$PREFIX/share/doc/ticurses/examples" \
-        "$DESTDIR$PREFIX/share/doc/ticurses"; do
+        "$DESTDIR$PREFIX/share/doc/ticurses" "$DESTDIR$PREFIX/include/ticurses"; do
         # one that has files of others stays
         rmdir -- "$folder" 2>/dev/null || :
     done
@@ -94,18 +94,23 @@ made=$(mktemp)
 trap 'rm -f -- "$made"' EXIT
 found=" -Wl,-rpath,\${libdir}"
 case $PREFIX in /usr | /) found= ;; esac
-cat >"$made" <<END
+# a .pc file: its name, what it describes, the folder of its headers and its libraries
+configure() {
+    cat >"$made" <<END
 prefix=$PREFIX
 includedir=\${prefix}/include
 libdir=\${prefix}/lib
 
-Name: ticurses
-Description: Curses sessions with a proved refresh
+Name: $1
+Description: $2
 Version: @VERSION@
-Cflags: -I\${includedir}
-Libs: -L\${libdir}$found -lticurses
+Cflags: -I\${includedir}$3
+Libs: -L\${libdir}$found $4
 END
-put lib/pkgconfig/ticurses.pc "$made"
+    put "lib/pkgconfig/$1.pc" "$made"
+}
+configure ticurses "Curses sessions with a proved refresh" "" -lticurses
+configure ticurses-curses "X/Open Curses over sessions with a proved refresh" /ticurses "-lticurses_curses -lticurses"
 printf '"""Where the library is installed, as install.sh wrote it."""\n\nLIBRARY: str = "%s"\n' "$library" >"$made"
 put python/ticurses/_installed.py "$made"
 echo "install.sh: ticurses @VERSION@ is installed in $DESTDIR$PREFIX, its Python package in $DESTDIR$PYTHONDIR"

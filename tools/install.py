@@ -5,9 +5,9 @@ same words has placed.
     ./install [uninstall] [PREFIX=/usr/local] [DESTDIR=] [LIBDIR=PREFIX/lib] [PYTHONDIR=..]
 
 Without PREFIX it is /usr/local. Files go below DESTDIR, but are made for PREFIX: the headers, libticurses.a,
-libticurses.so, ticurses.pc for pkg-config, the manual pages, and the Python package, in the folder below PREFIX in
-which python3 looks for packages. The program comes along where it is built. CC, AR and OBJCOPY are the C
-compiler, the archiver and the copier of objects, cc, ar and objcopy if they aren't set.
+libticurses.so, ticurses.pc for pkg-config, the same of ticurses-curses, the manual pages, and the Python package, in
+the folder below PREFIX in which python3 looks for packages. The program comes along where it is built. CC, AR and
+OBJCOPY are the C compiler, the archiver and the copier of objects, cc, ar and objcopy if they aren't set.
 
 The status is 0, 1 if a file could not be written, 2 for other words than these and for folders that a .pc file can't
 have, 125 if a crate, the compiler or the archiver failed, 127 without one of them, and 128 and the number of a signal
@@ -23,6 +23,7 @@ import sysconfig
 import tempfile
 
 import build
+import curses_library as curses
 from crates import TOP
 from ending import Ended, heed, say, why
 from linking import Failed
@@ -66,13 +67,17 @@ class Where:
             if not re.fullmatch(r"[\w/.+@=~-]*", folder):
                 raise Failed(2, f"{name} is {folder!r}; a name there may have letters, digits and _ . + @ = ~ - alone")
 
-    def pkgconfig(self):
-        """The text of ticurses.pc."""
+    def is_known(self):
+        """Whether programs find the libraries by themselves."""
+        return self.libdir in KNOWN
+
+    def pkgconfig(self, form):
+        """The text of a .pc file of this form."""
         libdir, prefix = self.libdir, self.prefix.rstrip("/")
         if libdir.startswith(f"{prefix}/"):
             libdir = f"${{prefix}}{libdir[len(prefix) :]}"
-        found = "" if self.libdir in KNOWN else " -Wl,-rpath,${libdir}"
-        return PKGCONFIG.format(prefix=prefix, libdir=libdir, version=VERSION, found=found)
+        found = "" if self.is_known() else " -Wl,-rpath,${libdir}"
+        return form.format(prefix=prefix, libdir=libdir, version=VERSION, found=found)
 
 
 def python_folder(prefix):
@@ -112,15 +117,19 @@ class File:
             return file.read()
 
 
-def files(where):
-    """All files but the program, in the order in which they are placed."""
+def files(where, room="."):
+    """All files but the program, in the order in which they are placed. In the room is the library of curses.h."""
     top, libdir = f"{where.destination}{where.prefix}", f"{where.destination}{where.libdir}"
     package = f"{where.destination}{where.python}/ticurses"
     archive, shared = LIBRARY.files
     found = [File(f"{top}/include/{it}", f"{TOP}/include/{it}") for it in ("ticurses.h", "ticurses_terminal.h")]
     found += [File(f"{libdir}/libticurses.a", archive), File(f"{libdir}/{SONAME}", shared, mode=0o755)]
-    found.append(File(f"{libdir}/pkgconfig/ticurses.pc", text=where.pkgconfig()))
-    for page in ("ticurses.1", "ticurses.3", "ticurses-script.5"):
+    found.append(File(f"{libdir}/pkgconfig/ticurses.pc", text=where.pkgconfig(PKGCONFIG)))
+    found += [File(f"{top}/include/ticurses/{it}", f"{curses.INCLUDE}/{it}") for it in curses.HEADERS]
+    found.append(File(f"{libdir}/{curses.ARCHIVE}", f"{room}/{curses.ARCHIVE}"))
+    found.append(File(f"{libdir}/{curses.SONAME}", f"{room}/{curses.SONAME}", mode=0o755))
+    found.append(File(f"{libdir}/pkgconfig/ticurses-curses.pc", text=where.pkgconfig(curses.PKGCONFIG)))
+    for page in ("ticurses.1", "ticurses.3", "ticurses-curses.3", "ticurses-script.5"):
         found.append(File(f"{top}/share/man/man{page[-1]}/{page}", f"{TOP}/man/{page}"))
     names = sorted(it for it in os.listdir(BINDING) if it.endswith((".py", "py.typed")) and it != "_installed.py")
     found += [File(f"{package}/{it}", f"{BINDING}/{it}") for it in names]
@@ -133,39 +142,43 @@ def program(where):
 
 
 def links(where):
-    """The link by which -lticurses finds the shared library."""
-    return f"{where.destination}{where.libdir}/libticurses.so"
+    """The links by which -lticurses and -lticurses_curses find the shared libraries, and where they lead."""
+    libdir = f"{where.destination}{where.libdir}"
+    return {f"{libdir}/{it.partition('.so')[0]}.so": it for it in (SONAME, curses.SONAME)}
 
 
 def install(where):
     """Places all files."""
     # what is installed is for all users
     os.umask(0o022)
-    placed = files(where)
-    if PROVED.is_current():
-        placed.append(program(where))
-    else:
-        print("install: the program isn't built (./build makes it), and is left out")
-    for file in placed:
-        file.place()
-    link_at = links(where)
-    if os.path.lexists(link_at):
-        os.remove(link_at)
-    os.symlink(SONAME, link_at)
-    print(f"install: {link_at}")
+    with tempfile.TemporaryDirectory() as room:
+        curses.built(room, LIBRARY.files[1], "" if where.is_known() else "$ORIGIN")
+        placed = files(where, room)
+        if PROVED.is_current():
+            placed.append(program(where))
+        else:
+            print("install: the program isn't built (./build makes it), and is left out")
+        for file in placed:
+            file.place()
+    for at, to in links(where).items():
+        if os.path.lexists(at):
+            os.remove(at)
+        os.symlink(to, at)
+        print(f"install: {at}")
 
 
 def uninstall(where):
     """Removes what `install` places. What isn't there is no error."""
     package = f"{where.destination}{where.python}/ticurses"
-    for at in [*(it.at for it in files(where)), program(where).at, links(where)]:
+    for at in [*(it.at for it in files(where)), program(where).at, *links(where)]:
         if os.path.lexists(at):
             os.remove(at)
             print(f"install: {at} is removed")
     shutil.rmtree(f"{package}/__pycache__", ignore_errors=True)
     # a folder that has files of others stays
-    with contextlib.suppress(OSError):
-        os.rmdir(package)
+    for folder in (package, f"{where.destination}{where.prefix}/include/ticurses"):
+        with contextlib.suppress(OSError):
+            os.rmdir(folder)
 
 
 def brought():

@@ -23,6 +23,7 @@ import tempfile
 import time
 
 import build
+import curses_library as curses
 import kept
 import verdicts
 from crates import TOP
@@ -111,6 +112,16 @@ def zipped(held, age=0):
     return packed.getvalue()
 
 
+class Curses:
+    """The library of curses.h, whose shared form looks for that of sessions where this says."""
+
+    def __init__(self, searched):
+        with tempfile.TemporaryDirectory() as room:
+            curses.built(room, LIBRARY.files[1], searched)
+            self.archive = read(f"{room}/{curses.ARCHIVE}")
+            self.shared = stripped(f"{room}/{curses.SONAME}")
+
+
 class Proved:
     """The program and the library, what the toolchain said of them, and the checksums of what was proved."""
 
@@ -134,6 +145,16 @@ class Proved:
             raise Failed(125, f"no package is known that has {', '.join(sorted(unknown))}")
         names = {PACKAGED[it] for it in self.libraries}
         return ", ".join(f"libc6 (>= {self.glibc})" if it == "libc6" else it for it in sorted(names))
+
+
+def add_curses(tree, prefix, libdir, searched):
+    """The library of curses.h and its headers."""
+    made = Curses(searched)
+    for header in curses.HEADERS:
+        tree.add(f"{prefix}include/ticurses/{header}", read(f"{curses.INCLUDE}/{header}"))
+    tree.add(f"{libdir}/{curses.ARCHIVE}", made.archive)
+    tree.add(f"{libdir}/{curses.SONAME}", made.shared)
+    tree.links[f"{libdir}/{curses.ARCHIVE[:-2]}.so"] = curses.SONAME
 
 
 def add_common(tree, proved, prefix, libdir, python, pages_zipped):
@@ -162,7 +183,9 @@ def tarball(proved, age):
     """The archive that installs itself."""
     tree = Tree()
     add_common(tree, proved, "", "lib", "python", False)
-    made = [(f"{name}", tree.files[name][0]) for name in ("bin/ticurses", "lib/libticurses.a", f"lib/{SONAME}")]
+    add_curses(tree, "", "lib", "$ORIGIN")
+    names = ("bin/ticurses", "lib/libticurses.a", f"lib/{SONAME}", f"lib/{curses.ARCHIVE}", f"lib/{curses.SONAME}")
+    made = [(name, tree.files[name][0]) for name in names]
     tree.add(f"{DOC}/PROVED", proved.verdicts)
     tree.add(f"{DOC}/SHA256SUMS", proved.sums)
     tree.add(f"{DOC}/BUILT", "".join(f"{hashlib.sha256(held).hexdigest()}  {name}\n" for name, held in made))
@@ -204,8 +227,10 @@ def debian(proved, age):
     tree = Tree()
     libdir = f"usr/lib/{MULTIARCH}"
     add_common(tree, proved, "usr/", libdir, "usr/lib/python3/dist-packages", True)
-    pkgconfig = PKGCONFIG.format(prefix="/usr", libdir=f"${{prefix}}/lib/{MULTIARCH}", version=VERSION, found="")
-    tree.add(f"{libdir}/pkgconfig/ticurses.pc", pkgconfig)
+    add_curses(tree, "usr/", libdir, "")
+    for name, form in (("ticurses", PKGCONFIG), ("ticurses-curses", curses.PKGCONFIG)):
+        text = form.format(prefix="/usr", libdir=f"${{prefix}}/lib/{MULTIARCH}", version=VERSION, found="")
+        tree.add(f"{libdir}/pkgconfig/{name}.pc", text)
     tree.add(
         "usr/lib/python3/dist-packages/ticurses/_installed.py",
         INSTALLED.format(path=f"/{libdir}/{SONAME}").replace("./install", "the package"),
@@ -223,7 +248,8 @@ def debian(proved, age):
         "md5sums",
         "".join(f"{hashlib.md5(held).hexdigest()}  {path}\n" for path, (held, _) in sorted(tree.files.items())),
     )
-    control.add("shlibs", f"libticurses {VERSION.split('.')[0]} ticurses (>= {VERSION})\n")
+    names = [it.partition(".so")[0] for it in (SONAME, curses.SONAME)]
+    control.add("shlibs", "".join(f"{it} {VERSION.split('.')[0]} ticurses (>= {VERSION})\n" for it in names))
     control.add("triggers", "activate-noawait ldconfig\n")
     members = [
         ("debian-binary", b"2.0\n"),

@@ -1,0 +1,293 @@
+"""The library of <ticurses/curses.h>: docs/CURSES.md beside the header, and programs that are compiled for ncurses and
+for this library and run in tmux with the same keys and a clock that stands still. After each key the text, the
+attributes, the colors and the cursor of both are compared.
+
+    python3 -B tests/curses.py [PREFIX] [NAME..]
+
+takes the library from where ./install put it; with names, only these programs are run, and what differs is printed.
+NCURSES_TESTS names a folder with the sources of ncurses' test programs, which are no part of this repository."""
+
+import os
+import re
+import shutil
+import subprocess
+import sys
+import time
+from concurrent.futures import ThreadPoolExecutor
+
+from linked import STRICT, installed, missing, rooms
+from trying import TOP, held_in
+
+sys.path.append(f"{TOP}/tools")
+
+import curses_library
+
+PAGE = f"{TOP}/docs/CURSES.md"
+HERE = f"{TOP}/tests/curses"
+ROWS, COLS = 24, 80
+# a screen that hasn't changed for so long is compared; no program draws longer by itself than the second
+QUIET, LONGEST = 0.3, 5
+MACROS = {"getyx", "getbegyx", "getmaxyx", "getparyx", "COLOR_PAIR", "PAIR_NUMBER"}
+
+# The programs, their words and their keys: of tmux, or texts behind =; @N waits for N milliseconds. {tests} is the
+# folder of their sources.
+PROGRAMS = {
+    "background": ([], "Space Space q"),
+    "blue": ([], "=a =b q"),
+    "bs": ([], "@500 Space Right Down h Space v Down Space q"),
+    "chgat": ([], "Down Right Right v c q"),
+    "color_set": ([], "Space Space Space"),
+    "echochar": ([], "@500 Space @500 q"),
+    "firstlast": ([], "Space @2500 Space"),
+    "gdc": ([], "@800 q"),
+    "hanoi": (["3"], "1 =3 Enter @500 q"),
+    "inchs": (["{tests}/README"], "Down Down w q"),
+    "insdelln": ([], "Down Down i d I D w q"),
+    "inserts": ([], "=hello Left Left =xx q"),
+    "knight": ([], "@300 Down Right Enter Down l Enter q"),
+    "lrtest": ([], "=q"),
+    "movewindow": ([], "c c Down Down Right Right c t q"),
+    "newdemo": ([], "@1500 Space @1500 Space q"),
+    "padview": (["{tests}/Makefile.in"], "Down Down Right Right Down PageDown q"),
+    "redraw": ([], "Space r q"),
+    "tclock": ([], "@800 q"),
+    "test_addchstr": ([], "=abc Down =de q"),
+    "test_addstr": ([], "=hello Down =more q"),
+    "test_delwin": ([], "Space Space q"),
+    "test_instr": (["{tests}/README"], "Down w q"),
+    "testaddch": ([], "Space"),
+    "testcurs": ([], "Down Down Up q"),
+    "view": (["{tests}/bs.c"], "Down Down Down Right Right Up n n p q"),
+    "xmas": ([], "@4000 q"),
+}
+# what differs, and is explained on the page
+EXPLAINED = set()
+# files that programs are linked with, by what their sources include
+PARTS = ("popup_msg", "dump_window")
+
+
+def fail(text):
+    sys.exit(f"curses: {text}")
+
+
+# -- the page and the header --
+
+
+def rows_of_page():
+    """The names of the page's table, each with what it says of them."""
+    rows = re.findall(r"^\| (`\w+`(?:, `\w+`)*) \| (same|differs: |not there: |not there)(.*) \|$", held_in(PAGE).decode(), re.M)
+    found = {}
+    for names, kind, rest in rows:
+        for name in re.findall(r"`(\w+)`", names):
+            if name in found:
+                fail(f"docs/CURSES.md has {name} twice")
+            found[name] = kind.strip(": ") if kind != "not there: " or not rest.startswith("answers") else "answers ERR"
+    return found
+
+
+def judge_page():
+    page = rows_of_page()
+    functions, variables = curses_library.declared()
+    header = functions | variables | MACROS
+    absent = set(re.findall(r"^#define (\w+)\(\.\.\.\)", held_in(f"{curses_library.INCLUDE}/not_there.h").decode(), re.M))
+    past = set(re.findall(r"`(\w+)`", held_in(PAGE).decode().partition("\n## Past the standard\n")[2].partition("\n## ")[0]))
+    wrong = {it for it, kind in page.items() if (it in absent) != (kind == "not there") or (it in header) == (it in absent)}
+    if wrong or not header - set(page) <= past or len(page) < 350:
+        fail(f"docs/CURSES.md and the headers differ in {sorted(wrong)}, {sorted(header - set(page) - past)}")
+    print(f"curses: docs/CURSES.md has the {len(page)} names of its table as the headers have them")
+
+
+def judge_headers(work):
+    """Both compilers take the headers in each of these standards; what isn't there is said by the compiler."""
+    at = f"-I{curses_library.INCLUDE}"
+    for name in ("curses", "ncurses", "unctrl"):
+        with open(f"{work}/{name}.c", "w", encoding="ascii") as file:
+            file.write(f"#include <{name}.h>\nint main(void) {{ return initscr() == 0; }}\n")
+    tries = [(it, "c", f"-std={standard}") for it in ("gcc", "clang") for standard in ("c99", "c11", "gnu17")]
+    tries += [(it, "c++", f"-std={standard}") for it in ("g++", "clang++") for standard in ("c++11", "c++17")]
+    tries = [it for it in tries if shutil.which(it[0])]
+    for compiler, language, standard in tries:
+        for name in ("curses", "ncurses", "unctrl"):
+            words = [compiler, standard, *STRICT, "-Wshadow", "-Wconversion", at, "-x", language, "-c", f"{work}/{name}.c"]
+            if subprocess.run([*words, "-o", f"{work}/object"]).returncode:
+                fail(f"{' '.join(words)} is refused")
+    with open(f"{work}/wide.c", "w", encoding="ascii") as file:
+        file.write("#include <curses.h>\nint main(void) { return add_wch(0); }\n")
+    ran = subprocess.run(["cc", at, "-c", f"{work}/wide.c", "-o", f"{work}/object"], capture_output=True, text=True)
+    if ran.returncode == 0 or "has no wide characters" not in ran.stderr:
+        fail(f"of a call of wide characters the compiler says {ran.stderr}")
+    print(f"curses: the headers compile without a warning in {len(tries)} ways, and a call that isn't there is an error")
+
+
+def judge_library(prefix):
+    """Both forms export what the header declares, and no other name."""
+    declared = set().union(*curses_library.declared())
+    for words in (["-D"], ["-g"]):
+        form = "libticurses_curses.so" if words == ["-D"] else "libticurses_curses.a"
+        ran = subprocess.run(["nm", *words, "--defined-only", f"{prefix}/lib/{form}"], stdout=subprocess.PIPE, text=True, check=True)
+        exported = {it[2] for it in map(str.split, ran.stdout.splitlines()) if len(it) == 3}
+        if exported != declared:
+            fail(f"{form} exports {sorted(exported ^ declared)} differently from curses.h")
+    print(f"curses: both forms of the library export the {len(declared)} names of curses.h alone")
+
+
+# -- programs --
+
+
+class Compiled:
+    """Programs for ncurses, and for this library by the words of its .pc file or, without pkg-config, the same."""
+
+    def __init__(self, work, prefix):
+        self.work = work
+        words = [f"-I{prefix}/include/ticurses", f"-L{prefix}/lib", f"-Wl,-rpath,{prefix}/lib", "-lticurses_curses", "-lticurses"]
+        if shutil.which("pkg-config"):
+            given = {**os.environ, "PKG_CONFIG_PATH": f"{prefix}/lib/pkgconfig"}
+            ran = subprocess.run(["pkg-config", "--cflags", "--libs", "ticurses-curses"], env=given, stdout=subprocess.PIPE, text=True)
+            words = ran.stdout.split()
+        self.words = {"ncurses": ["-lncurses", "-ltinfo"], "ticurses": words}
+        for name in self.words:
+            os.makedirs(f"{work}/{name}", exist_ok=True)
+        subprocess.run(["cc", "-shared", "-fPIC", "-o", f"{work}/still.so", f"{HERE}/still.c"], check=True)
+
+    def make(self, name, sources, *words):
+        """Compiles a program for both; gives what a compiler says where it refuses."""
+        for library, own in self.words.items():
+            line = ["cc", "-w", "-O1", *words, *sources, "-o", f"{self.work}/{library}/{name}", *own, "-lm"]
+            ran = subprocess.run(line, stdin=subprocess.DEVNULL, capture_output=True, text=True)
+            if ran.returncode:
+                return f"{library}: {ran.stderr}"
+        return None
+
+
+class Pane:
+    """A program in a pane of tmux."""
+
+    def __init__(self, work, name, words, term="screen"):
+        self.socket = f"{work}/{name}"
+        line = ["env", f"LD_PRELOAD={work}/still.so", "LC_ALL=C", f"TERM={term}", *words]
+        quoted = " ".join("'" + it.replace("'", "'\\''") + "'" for it in line)
+        self.run("new-session", "-d", "-x", str(COLS), "-y", str(ROWS), f"{quoted}; echo ended $?; sleep 600")
+        self.run("set", "-g", "status", "off")
+        self.run("resize-window", "-x", str(COLS), "-y", str(ROWS))
+
+    def run(self, *words):
+        given = {**os.environ, "LC_ALL": "C.UTF-8", "TERM": "screen"}
+        line = ["tmux", "-f", "/dev/null", "-u", "-S", self.socket, *words]
+        return subprocess.run(line, env=given, stdout=subprocess.PIPE, stderr=subprocess.PIPE).stdout.decode("utf-8", "replace")
+
+    def seen(self):
+        cursor = self.run("display", "-p", "#{cursor_y} #{cursor_x} #{cursor_flag}").strip()
+        return self.run("capture-pane", "-p", "-e"), cursor
+
+    def quiet(self):
+        """What is seen once it doesn't change any more."""
+        end, last, since = time.monotonic() + LONGEST, self.seen(), time.monotonic()
+        while time.monotonic() < min(end, since + QUIET):
+            time.sleep(0.05)
+            now = self.seen()
+            if now != last:
+                last, since = now, time.monotonic()
+        return last
+
+    def press(self, key):
+        if key.startswith("@"):
+            time.sleep(int(key[1:]) / 1000)
+        elif key.startswith("="):
+            self.run("send-keys", "-l", key[1:])
+        elif key.startswith("%"):
+            self.run("resize-window", *key[1:].split(","))
+        else:
+            self.run("send-keys", key)
+
+    def shots(self, keys):
+        """What is seen at the beginning and after each key."""
+        time.sleep(0.5)
+        found = [self.quiet()]
+        for key in keys:
+            self.press(key)
+            found.append(self.quiet())
+        self.run("kill-server")
+        return found
+
+
+def compared(made, tests, name):
+    """Runs both; gives how many shots there are and those that differ."""
+    words, keys = PROGRAMS[name]
+    words, keys = [it.replace("{tests}", tests) for it in words], keys.split()
+    with ThreadPoolExecutor(2) as pool:
+        panes = [Pane(made.work, f"{library[0]}-{name}", [f"{made.work}/{library}/{name}", *words]) for library in made.words]
+        one, other = pool.map(lambda it: it.shots(keys), panes)
+    return len(one), [(at, *pair) for at, pair in enumerate(zip(one, other)) if pair[0] != pair[1]]
+
+
+def judge_programs(made, tests, names):
+    """The programs of ncurses' test directory."""
+    counts, differing = [], {}
+    for name in names or sorted(PROGRAMS):
+        text = held_in(f"{tests}/{name}.c").decode("latin-1")
+        sources = [f"{tests}/{it}.c" for it in (name, *PARTS) if it == name or f'"{it}.h"' in text or f"<{it}.h>" in text]
+        refused = made.make(name, sources, f"-I{HERE}", f"-I{tests}")
+        if refused:
+            fail(f"{name} doesn't compile: {refused}")
+    with ThreadPoolExecutor(len(os.sched_getaffinity(0))) as pool:
+        for name, (count, bad) in zip(names or sorted(PROGRAMS), pool.map(lambda it: compared(made, tests, it), names or sorted(PROGRAMS))):
+            counts.append(count)
+            if bad:
+                differing[name] = (count, bad)
+    for name, (count, bad) in differing.items():
+        print(f"curses: {name}: {len(bad)} of {count} screens differ")
+        if names:
+            show(bad[0])
+    if set(differing) - EXPLAINED and not names:
+        fail(f"{sorted(set(differing) - EXPLAINED)} differ, and the page doesn't say why")
+    print(f"curses: {len(counts) - len(differing)} of {len(counts)} programs of ncurses show the same in all {sum(counts)} screens")
+
+
+def show(bad):
+    at, one, other = bad
+    for library, (text, cursor) in (("ncurses", one), ("ticurses", other)):
+        print(f"--- screen {at}, {library}, cursor {cursor}")
+        print(text.replace("\033", "^"))
+
+
+def judge_answers(made):
+    """One program of many calls writes what each answers, and what is then seen; for both libraries the same."""
+    refused = made.make("answers", [f"{HERE}/answers.c"], "-std=c99")
+    if refused:
+        fail(f"answers.c doesn't compile: {refused}")
+    told, shots = [], []
+    for library in made.words:
+        log = f"{made.work}/{library}.log"
+        pane = Pane(made.work, f"answers-{library}", [f"{made.work}/{library}/answers", log])
+        shots.append(pane.shots(["a", "Left", "F5", "=word", "BSpace", "Enter", "=12 34", "Enter", "x"]))
+        told.append(held_in(log, b"").decode("latin-1").splitlines())
+    if told[0] != told[1] or len(told[0]) < 100:
+        lines = [f"{one} | {other}" for one, other in zip(*told) if one != other]
+        fail(f"the calls answer otherwise than ncurses (ncurses | here), {[len(it) for it in told]} lines:\n" + "\n".join(lines))
+    if shots[0] != shots[1]:
+        show(next((at, *pair) for at, pair in enumerate(zip(*shots)) if pair[0] != pair[1]))
+        fail("after the same calls something else is seen")
+    print(f"curses: {len(told[0])} calls answer what they answer in ncurses, and {len(shots[0])} screens are the same")
+
+
+def main():
+    given = sys.argv[1:]
+    judge_page()
+    with rooms() as work:
+        judge_headers(work)
+        prefix = given[0] if given else installed(work)
+        judge_library(prefix)
+        if missing("curses", "tmux") or not os.path.exists("/usr/include/curses.h"):
+            print("curses: tmux or ncurses' header is not installed; the programs are left out")
+            return
+        made = Compiled(work, prefix)
+        judge_answers(made)
+        tests = os.environ.get("NCURSES_TESTS", "")
+        if not os.path.isfile(f"{tests}/test.priv.h"):
+            print("curses: NCURSES_TESTS names no folder of ncurses' test programs (docs/CURSES.md); they are left out")
+            return
+        judge_programs(made, os.path.abspath(tests), given[1:])
+
+
+if __name__ == "__main__":
+    main()
