@@ -61,7 +61,8 @@ if [ "$does" = uninstall ]; then
     done
     rm -rf -- "$DESTDIR$PYTHONDIR/ticurses/__pycache__"
     for folder in "$DESTDIR$PYTHONDIR/ticurses" "$DESTDIR$PREFIX/share/doc/ticurses/examples/c" \
-        "$DESTDIR$PREFIX/share/doc/ticurses/examples/python" "$DESTDIR$PREFIX/share/doc/ticurses/examples" \
+        "$DESTDIR$PREFIX/share/doc/ticurses/examples/curses" "$DESTDIR$PREFIX/share/doc/ticurses/examples/python" \
+        "$DESTDIR$PREFIX/share/doc/ticurses/examples" \
         "$DESTDIR$PREFIX/share/doc/ticurses" "$DESTDIR$PREFIX/include/ticurses"; do
         # one that has files of others stays
         rmdir -- "$folder" 2>/dev/null || :
