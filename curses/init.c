@@ -67,6 +67,7 @@ static bool is_begun(const char *type) {
         return false;
     }
     for (unsigned letter = 0; letter < 128; letter++) acs_map[letter] = letter | A_ALTCHARSET;
+    tcu_learn_keys();
     signals_begin();
     tcu.is_open = true;
     modes_begin();

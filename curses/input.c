@@ -16,6 +16,23 @@ static int given[QUEUED];
 static size_t given_count;
 static bool is_keypad_on;
 
+/* The strings of the entry's keys. */
+static struct {
+    const char *text;
+    int key;
+} known[256];
+static size_t known_count;
+
+void tcu_learn_keys(void) {
+    known_count = 0;
+    for (size_t at = 0; at < tcu_key_count && known_count < sizeof known / sizeof *known; at++) {
+        const char *text = entry_string(tcu_keys[at].name);
+        if (!text || !*text) continue;
+        known[known_count].text = text;
+        known[known_count++].key = tcu_keys[at].key;
+    }
+}
+
 /* Sends the string that has the keypad send keys, or the one that ends it. */
 int tcu_keypad(bool is_on) {
     const char *text = entry_string(is_on ? "smkx" : "rmkx");
@@ -72,11 +89,10 @@ static int next_byte(int milliseconds) {
 static int key_of(const char *bytes, size_t count, bool *is_beginning) {
     int found = 0;
     *is_beginning = false;
-    for (size_t at = 0; at < tcu_key_count; at++) {
-        const char *text = entry_string(tcu_keys[at].name);
-        if (!text || strncmp(text, bytes, count) != 0) continue;
-        if (strlen(text) > count) *is_beginning = true;
-        else if (found == 0) found = tcu_keys[at].key;
+    for (size_t at = 0; at < known_count; at++) {
+        if (strncmp(known[at].text, bytes, count) != 0) continue;
+        if (strlen(known[at].text) > count) *is_beginning = true;
+        else if (found == 0) found = known[at].key;
     }
     return found;
 }

@@ -12,22 +12,28 @@ int wmove(WINDOW *window, int y, int x) {
     return OK;
 }
 
-/* Touches what was written from a place on, by where the cursor is now. A text of so many characters may have scrolled
- * the window, where it ends on the last line that scrolls. */
-static void touch_written(WINDOW *window, int y, int x, size_t count, bool has_newlines) {
-    int last = window->columns - 1, end_y, end_x;
-    if (session_cursor(window->number, &end_y, &end_x) != OK) return;
-    if (end_y == y && end_x > x) {
-        tcu_touch(window, y, x, end_x - 1);
-    } else if (end_y == y) {
-        /* the last column, or back to an earlier one */
-        tcu_touch(window, y, end_x < x ? end_x : x, last);
+/* What was written: from a place on, so many bytes, of which some may move the cursor far. */
+struct written {
+    int y, x;
+    size_t count;
+    bool has_moves;
+};
+
+/* Touches it, by where the cursor is now. The window may have scrolled where that is the last line that scrolls. Of a
+ * refused text the cell at the cursor is written. */
+static void touch_written(WINDOW *window, struct written text, int code) {
+    int last = window->columns - 1, from = text.has_moves ? 0 : text.x, y, x;
+    if (text.count == 0 || session_cursor(window->number, &y, &x) != OK) return;
+    if (y != text.y) {
+        tcu_touch(window, text.y, from, last);
+        tcu_touch_lines(window, text.y + 1, y - 1);
+        tcu_touch(window, y, 0, code == OK ? x - 1 : last);
+    } else if (x > text.x && code == OK && !text.has_moves) {
+        tcu_touch(window, y, from, x - 1);
     } else {
-        tcu_touch(window, y, x, last);
-        tcu_touch_lines(window, y + 1, end_y - 1);
-        tcu_touch(window, end_y, 0, end_x - 1);
+        tcu_touch(window, y, from, last);
     }
-    if (window->scrolls && end_y == window->region_bottom && (has_newlines || count > (size_t)(last - x)))
+    if (window->scrolls && y == window->region_bottom && (text.has_moves || text.count > (size_t)(last - text.x)))
         tcu_touch_lines(window, window->region_top, window->region_bottom);
 }
 
@@ -54,11 +60,16 @@ static int add_tab(WINDOW *window, chtype marks) {
 }
 
 int waddch(WINDOW *window, chtype ch) {
-    int code, y, x;
+    struct written text = {0, 0, 1, false};
+    int code;
     unsigned byte = TCU_BYTE(ch);
-    if (!tcu_is_own(window) || session_cursor(window->number, &y, &x) != OK) return ERR;
+    if (!tcu_is_own(window) || session_cursor(window->number, &text.y, &text.x) != OK) return ERR;
     code = byte == '\t' ? add_tab(window, ch & ~A_CHARTEXT) : add(window, ch);
-    touch_written(window, y, x, byte == '\t' ? 8 : 4, byte == '\n');
+    if (byte == '\r' || byte == '\b') return code;
+    text.has_moves = byte == '\n';
+    /* others than letters may have gone past the line's end */
+    if (byte < 32 || byte > 126) text.count = (size_t)TABSIZE + 4;
+    touch_written(window, text, code);
     return tcu_changed(window, code);
 }
 
@@ -91,12 +102,14 @@ static int add_text(WINDOW *window, const char *text, size_t len) {
 }
 
 int waddnstr(WINDOW *window, const char *text, int count) {
-    size_t len;
-    int code, y, x;
-    if (!tcu_is_own(window) || !text || session_cursor(window->number, &y, &x) != OK) return ERR;
-    len = count < 0 ? strlen(text) : strnlen(text, (size_t)count);
-    code = add_text(window, text, len);
-    touch_written(window, y, x, len, memchr(text, '\n', len) || memchr(text, '\t', len));
+    struct written what = {0, 0, 0, false};
+    int code;
+    if (!tcu_is_own(window) || !text || session_cursor(window->number, &what.y, &what.x) != OK) return ERR;
+    what.count = count < 0 ? strlen(text) : strnlen(text, (size_t)count);
+    for (size_t at = 0; at < what.count && !what.has_moves; at++)
+        what.has_moves = (unsigned char)text[at] < 32 || (unsigned char)text[at] > 126;
+    code = add_text(window, text, what.count);
+    touch_written(window, what, code);
     return tcu_changed(window, code);
 }
 

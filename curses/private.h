@@ -100,6 +100,7 @@ extern const size_t tcu_key_count;
 
 /* input.c */
 int tcu_keypad(bool is_on);
+void tcu_learn_keys(void);
 void tcu_forget_keys(void);
 
 /* modes.c */

@@ -82,6 +82,13 @@ int wrefresh(WINDOW *window) {
     return wnoutrefresh(window) == OK ? doupdate() : ERR;
 }
 
+/* The session knows where the cursor is. */
+int mvcur(int y, int x, int new_y, int new_x) {
+    (void)y;
+    (void)x;
+    return tcu.is_open && session_move(TCU_NEWSCR, new_y, new_x) == OK ? doupdate() : ERR;
+}
+
 /* The terminal is cleared and drawn anew, all of it. */
 int wredrawln(WINDOW *window, int first, int count) {
     if (!window || !tcu.is_open || first < 0 || count < 0 || first >= window->lines) return ERR;

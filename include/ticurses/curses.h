@@ -318,6 +318,7 @@ int refresh(void);
 int wrefresh(WINDOW *window);
 int wnoutrefresh(WINDOW *window);
 int doupdate(void);
+int mvcur(int y, int x, int new_y, int new_x);
 int prefresh(WINDOW *pad, int pad_y, int pad_x, int y, int x, int last_y, int last_x);
 int pnoutrefresh(WINDOW *pad, int pad_y, int pad_x, int y, int x, int last_y, int last_x);
 int redrawwin(WINDOW *window);

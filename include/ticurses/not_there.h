@@ -121,7 +121,6 @@ int ticurses_has_no_terminfo_calls(void)
 #define scr_set(...) ticurses_has_no_window_files()
 
 #define del_curterm(...) ticurses_has_no_terminfo_calls()
-#define mvcur(...) ticurses_has_no_terminfo_calls()
 #define putp(...) ticurses_has_no_terminfo_calls()
 #define restartterm(...) ticurses_has_no_terminfo_calls()
 #define set_curterm(...) ticurses_has_no_terminfo_calls()
