@@ -4,6 +4,7 @@
 
 #include <errno.h>
 #include <poll.h>
+#include <signal.h>
 #include <string.h>
 #include <unistd.h>
 
@@ -17,13 +18,29 @@ struct text {
     char at[24];
 };
 
+/* A call is being made, or bytes are being written. */
+static volatile sig_atomic_t is_busy;
+
+bool session_is_busy(void) {
+    return is_busy != 0;
+}
+
+/* Whether a call may be made now: not where a handler of the program has come in between. */
+static bool is_begun(void) {
+    if (is_busy) return false;
+    is_busy = 1;
+    signals_enter();
+    return true;
+}
+
+/* Here a signal may end the program. */
 static int done(int code) {
+    is_busy = 0;
     signals_leave();
     return code == TICURSES_OK ? OK : ERR;
 }
 
-/* A call of the session, between which and the next a signal may end the program. */
-#define CALL(...) (signals_enter(), done(ticurses_callf(&session, __VA_ARGS__)))
+#define CALL(...) (is_begun() ? done(ticurses_callf(&session, __VA_ARGS__)) : ERR)
 
 static char *add_letters(char *at, chtype attrs) {
     static const char letters[] = "SURKDBIA";
@@ -72,7 +89,7 @@ int session_open(int lines, int columns, char *reason, size_t room_len) {
     size_t len, told = 0;
     const void *entry = entry_bytes(&len);
     char why[256];
-    signals_enter();
+    if (!is_begun()) return ERR;
     code = opened(&session, lines, columns);
     if (code == TICURSES_NO_CERTIFICATE)
         ticurses_reason(entry, len, NULL, 0, (uint16_t)lines, (uint16_t)columns, why, sizeof why, &told);
@@ -87,7 +104,7 @@ int session_open(int lines, int columns, char *reason, size_t room_len) {
 int session_reopen(int lines, int columns) {
     ticurses next = {0};
     int code;
-    signals_enter();
+    if (!is_begun()) return ERR;
     code = opened(&next, lines, columns);
     if (code == TICURSES_OK) {
         ticurses_close(&former);
@@ -99,15 +116,15 @@ int session_reopen(int lines, int columns) {
 }
 
 void session_forget_former(void) {
-    signals_enter();
+    if (!is_begun()) return;
     ticurses_close(&former);
-    signals_leave();
+    done(TICURSES_OK);
 }
 
 void session_close(void) {
-    signals_enter();
+    if (!is_begun()) return;
     ticurses_close(&session);
-    signals_leave();
+    done(TICURSES_OK);
 }
 
 /* Writes bytes; -1 where it fails, or where a signal is to end the program. */
@@ -131,40 +148,38 @@ static int put(int fd, const char *bytes, size_t count) {
 int session_send(int fd) {
     char piece[4096];
     size_t count;
-    int code = OK;
-    signals_enter();
-    while (code == OK && (count = ticurses_output(&session, piece, sizeof piece)) > 0) {
+    int code = TICURSES_OK;
+    if (!is_begun()) return ERR;
+    while (code == TICURSES_OK && (count = ticurses_output(&session, piece, sizeof piece)) > 0) {
         if (put(fd, piece, count) != 0) {
             ticurses_lost(&session);
-            code = ERR;
+            code = TICURSES_OUTPUT_FAILED;
         }
     }
-    signals_leave();
-    return code;
+    return done(code);
 }
 
 int session_send_beside(int fd, const char *bytes, size_t count) {
-    int code = session_send(fd);
-    signals_enter();
-    if (code == OK && put(fd, bytes, count) != 0) {
+    int code = TICURSES_OK;
+    if (session_send(fd) != OK || !is_begun()) return ERR;
+    if (put(fd, bytes, count) != 0) {
         ticurses_lost(&session);
-        code = ERR;
+        code = TICURSES_OUTPUT_FAILED;
     }
-    signals_leave();
-    return code;
+    return done(code);
 }
 
 void session_lost(void) {
-    signals_enter();
+    if (!is_begun()) return;
     ticurses_lost(&session);
-    signals_leave();
+    done(TICURSES_OK);
 }
 
 /* -- questions -- */
 
 int session_cursor(int window, int *y, int *x) {
     uint16_t row, col;
-    if (ticurses_cursor(&session, (size_t)window, &row, &col) != TICURSES_OK) return ERR;
+    if (is_busy || ticurses_cursor(&session, (size_t)window, &row, &col) != TICURSES_OK) return ERR;
     *y = row;
     *x = col;
     return OK;
@@ -172,7 +187,7 @@ int session_cursor(int window, int *y, int *x) {
 
 static int cell_of(ticurses *at, int window, int y, int x, chtype *cell) {
     ticurses_cell found;
-    if (y < 0 || x < 0 || y >= TCU_PAD_MAX || x >= TCU_PAD_MAX) return ERR;
+    if (is_busy || y < 0 || x < 0 || y >= TCU_PAD_MAX || x >= TCU_PAD_MAX) return ERR;
     if (ticurses_cell_at(at, (size_t)window, (uint16_t)y, (uint16_t)x, &found) != TICURSES_OK) return ERR;
     *cell = (chtype)found.byte | (chtype)found.attrs << 16 | COLOR_PAIR(found.pair);
     return OK;
@@ -227,8 +242,7 @@ int session_addch(int window, chtype cell) {
 }
 
 int session_addstr(int window, const char *text, size_t len) {
-    signals_enter();
-    return done(ticurses_addstr(&session, (size_t)window, text, len));
+    return !is_begun() ? ERR : done(ticurses_addstr(&session, (size_t)window, text, len));
 }
 
 int session_insch(int window, chtype cell) {
@@ -377,13 +391,13 @@ size_t session_ignored(const char *text, char *room, size_t room_len) {
         len += snprintf(source + len, sizeof source - (size_t)len, "\\%03o", (unsigned)(unsigned char)*text);
     if (*text) return 0;
     len += snprintf(source + len, sizeof source - (size_t)len, ",\n");
-    signals_enter();
+    if (!is_begun()) return 0;
     if (ticurses_check(source, (size_t)len, "x", 1, 2, 2, certificate, sizeof certificate, &needed) == TICURSES_OK) {
         for (size_t at = 0; at + 5 < needed; at++) {
             if (memcmp(certificate + at, "\nbel ", 5) == 0)
                 count = bytes_of(certificate + at + 5, certificate + needed, room, room_len);
         }
     }
-    signals_leave();
+    done(TICURSES_OK);
     return count > 0 ? (size_t)count : 0;
 }

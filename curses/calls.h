@@ -5,6 +5,9 @@
 
 #include "private.h"
 
+/* Whether one of them is being made, which a handler of the program has interrupted: all of them are ERR then. */
+bool session_is_busy(void);
+
 /* Opens the session for the entry and a size. Where it can't, the reason is written to the room. */
 int session_open(int lines, int columns, char *reason, size_t room_len);
 /* Opens one of another size in its place. The one before stays for session_former_cell until it is forgotten. */

@@ -127,6 +127,7 @@ void signals_begin(void);
 void signals_forget(void);
 void signals_enter(void);
 void signals_leave(void);
+void signals_leave_terminal(void);
 bool signals_is_ending(void);
 int signals_wait(int fd, int milliseconds);
 bool signals_has_size_changed(void);

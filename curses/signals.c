@@ -28,8 +28,8 @@ static size_t farewell_len;
 static struct termios shell;
 static bool has_shell;
 
-/* Writes what the handler may, and sets the modes back; both are safe in a handler. */
-static void leave_terminal(void) {
+/* Leaves the terminal as other programs want it, by calls that are safe in a handler. */
+void signals_leave_terminal(void) {
     size_t sent = 0;
     if (tcu.is_ended) return;
     while (sent < farewell_len) {
@@ -57,7 +57,7 @@ static void on_ending(int number) {
     int error = errno;
     ending = number;
     if (depth == 0) {
-        leave_terminal();
+        signals_leave_terminal();
         end_by(number);
     }
     errno = error;
@@ -131,7 +131,7 @@ void signals_leave(void) {
         /* no handler writes meanwhile, and what is cut off here doesn't go on */
         depth = 1;
         ending = 0;
-        if (tcu_suspend() != OK) leave_terminal();
+        if (tcu_suspend() != OK) signals_leave_terminal();
         depth = 0;
     }
     end_by(number);

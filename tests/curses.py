@@ -159,6 +159,33 @@ class Compiled:
         return None
 
 
+def cells_of(text):
+    """The cells that tmux writes with sequences for their looks: each a character, its attributes and its two colors.
+    White on black is as the terminal's own colors: ncurses has the first pair so once colors are on, and here it is the
+    terminal's own (docs/CURSES.md)."""
+    rows, marks, ink = [], frozenset(), ["39", "49"]
+    for line in text.split("\n")[:ROWS]:
+        row = []
+        for sent, char in re.findall(r"\x1b\[([\d;]*)m|(.)", re.sub(r"[\x0e\x0f]", lambda it: f"\x1b[{ord(it[0])}00m", line)):
+            if char:
+                own = tuple(ink)
+                row.append((char, marks, ("39", "49") if own == ("37", "40") else own))
+                continue
+            for word in (sent or "0").split(";"):
+                if word in ("0", ""):
+                    marks, ink = marks & {"set"}, ["39", "49"]
+                elif word in ("1400", "1500"):
+                    marks = marks | {"set"} if word == "1400" else marks - {"set"}
+                elif word[0] in "34" and len(word) == 2:
+                    ink[word[0] == "4"] = word
+                else:
+                    marks = marks | {word}
+        while row and row[-1] == (" ", frozenset(), ("39", "49")):
+            row.pop()
+        rows.append(row)
+    return rows
+
+
 class Pane:
     """A program in a pane of tmux."""
 
@@ -177,7 +204,7 @@ class Pane:
 
     def seen(self):
         cursor = self.run("display", "-p", "#{cursor_y} #{cursor_x} #{cursor_flag}").strip()
-        return self.run("capture-pane", "-p", "-e"), cursor
+        return self.run("capture-pane", "-p", "-e", "-N"), cursor
 
     def quiet(self):
         """What is seen once it doesn't change any more."""
@@ -217,12 +244,18 @@ def compared(made, tests, name):
     with ThreadPoolExecutor(2) as pool:
         panes = [Pane(made.work, f"{library[0]}-{name}", [f"{made.work}/{library}/{name}", *words]) for library in made.words]
         one, other = pool.map(lambda it: it.shots(keys), panes)
-    return len(one), [(at, *pair) for at, pair in enumerate(zip(one, other)) if pair[0] != pair[1]]
+    return len(one), differing(one, other)
+
+
+def differing(one, other):
+    """The shots that differ: in a cell, or in the cursor."""
+    pairs = enumerate(zip(one, other))
+    return [(at, a, b) for at, (a, b) in pairs if a[1] != b[1] or cells_of(a[0]) != cells_of(b[0])]
 
 
 def judge_programs(made, tests, names):
     """The programs of ncurses' test directory."""
-    counts, differing = [], {}
+    counts, others = [], {}
     for name in names or sorted(PROGRAMS):
         text = held_in(f"{tests}/{name}.c").decode("latin-1")
         sources = [f"{tests}/{it}.c" for it in (name, *PARTS) if it == name or f'"{it}.h"' in text or f"<{it}.h>" in text]
@@ -233,14 +266,17 @@ def judge_programs(made, tests, names):
         for name, (count, bad) in zip(names or sorted(PROGRAMS), pool.map(lambda it: compared(made, tests, it), names or sorted(PROGRAMS))):
             counts.append(count)
             if bad:
-                differing[name] = (count, bad)
-    for name, (count, bad) in differing.items():
+                others[name] = (count, bad)
+    for name, (count, bad) in others.items():
         print(f"curses: {name}: {len(bad)} of {count} screens differ")
         if names:
             show(bad[0])
-    if set(differing) - EXPLAINED and not names:
-        fail(f"{sorted(set(differing) - EXPLAINED)} differ, and the page doesn't say why")
-    print(f"curses: {len(counts) - len(differing)} of {len(counts)} programs of ncurses show the same in all {sum(counts)} screens")
+    if set(others) - EXPLAINED and not names:
+        fail(f"{sorted(set(others) - EXPLAINED)} differ, and the page doesn't say why")
+    print(
+        f"curses: {len(counts) - len(others)} of {len(counts)} programs of ncurses show the same on all of their screens, "
+        f"which are {sum(counts)} with those that differ"
+    )
 
 
 def show(bad):
@@ -259,13 +295,14 @@ def judge_answers(made):
     for library in made.words:
         log = f"{made.work}/{library}.log"
         pane = Pane(made.work, f"answers-{library}", [f"{made.work}/{library}/answers", log])
-        shots.append(pane.shots(["a", "Left", "F5", "=word", "BSpace", "Enter", "=12 34", "Enter", "x"]))
+        shots.append(pane.shots(["a", "Left", "F5", "=word", "BSpace", "Enter", "=12 34", "Enter", "x", "%-x,70,-y,20", "y"]))
         told.append(held_in(log, b"").decode("latin-1").splitlines())
     if told[0] != told[1] or len(told[0]) < 100:
         lines = [f"{one} | {other}" for one, other in zip(*told) if one != other]
         fail(f"the calls answer otherwise than ncurses (ncurses | here), {[len(it) for it in told]} lines:\n" + "\n".join(lines))
-    if shots[0] != shots[1]:
-        show(next((at, *pair) for at, pair in enumerate(zip(*shots)) if pair[0] != pair[1]))
+    bad = differing(*shots)
+    if bad:
+        show(bad[0])
         fail("after the same calls something else is seen")
     print(f"curses: {len(told[0])} calls answer what they answer in ncurses, and {len(shots[0])} screens are the same")
 

@@ -66,12 +66,19 @@ def what_is_proved():
 def what_runs():
     """The unproved edge."""
     python = below("bindings/python", ".py")
+    of_curses = [*below("curses", ".c"), *below("curses", ".h"), *below("include/ticurses", ".h")]
+    headers = [it for it in below("include", ".h") if it not in of_curses]
     scripts = [*below("tools", ".py"), "build", "install", "package", "ticurses", "packaging/install.sh"]
     rows = [
         row(
             "headers for C",
-            f"about {about(lines_in(*below('include', '.h')))} lines",
+            f"about {about(lines_in(*headers))} lines",
             "they pass pointers and lengths on; compiled into your program",
+        ),
+        row(
+            "`<ticurses/curses.h>` and `curses/`",
+            f"about {about(lines_in(*of_curses))} lines",
+            "in programs that were written for curses: they make calls of sessions, and read keys",
         ),
         row("Python package", f"about {about(lines_in(*python))} lines", "it loads the library and passes values on"),
         row("scripts", f"about {about(lines_in(*scripts))} lines", "they build, install and package what was proved"),

@@ -299,6 +299,32 @@ static void keys(void) {
     SAY(getch());
 }
 
+/* The terminal becomes smaller. */
+static void resizing(void) {
+    WINDOW *tall = newwin(LINES, 10, 0, 60), *small = newwin(3, 10, 2, 2), *part = derwin(small, 1, 8, 1, 1);
+    mvwaddstr(tall, 3, 1, "tall");
+    box(small, 0, 0);
+    waddstr(part, "small");
+    wnoutrefresh(tall);
+    wnoutrefresh(small);
+    doupdate();
+    SAY(wgetch(small) == KEY_RESIZE);
+    SAY(LINES);
+    SAY(COLS);
+    place("stdscr", stdscr);
+    place("tall", tall);
+    place("small", small);
+    place("part", part);
+    touchwin(tall);
+    touchwin(small);
+    cells("small", small);
+    wnoutrefresh(stdscr);
+    wnoutrefresh(tall);
+    wnoutrefresh(small);
+    SAY(doupdate());
+    SAY(wgetch(small));
+}
+
 int main(int count, char **words) {
     told = count > 1 ? fopen(words[1], "w") : NULL;
     if (!told) return 1;
@@ -311,6 +337,7 @@ int main(int count, char **words) {
     touching();
     pads();
     keys();
+    resizing();
     SAY(endwin());
     SAY(isendwin());
     fclose(told);
