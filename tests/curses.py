@@ -15,7 +15,7 @@ import sys
 import time
 from concurrent.futures import ThreadPoolExecutor
 
-from linked import STRICT, installed, missing, rooms
+from linked import SANITIZED, STRICT, installed, missing, rooms
 from trying import TOP, held_in
 
 sys.path.append(f"{TOP}/tools")
@@ -75,7 +75,8 @@ def fail(text):
 
 def rows_of_page():
     """The names of the page's table, each with what it says of them."""
-    rows = re.findall(r"^\| (`\w+`(?:, `\w+`)*) \| (same|differs: |not there: |not there)(.*) \|$", held_in(PAGE).decode(), re.M)
+    form = r"^\| (`\w+`(?:, `\w+`)*) \| (same|differs: |not there: |not there)(.*) \|$"
+    rows = re.findall(form, held_in(PAGE).decode(), re.M)
     found = {}
     for names, kind, rest in rows:
         for name in re.findall(r"`(\w+)`", names):
@@ -89,11 +90,14 @@ def judge_page():
     page = rows_of_page()
     functions, variables = curses_library.declared()
     header = functions | variables | MACROS
-    absent = set(re.findall(r"^#define (\w+)\(\.\.\.\)", held_in(f"{curses_library.INCLUDE}/not_there.h").decode(), re.M))
-    past = set(re.findall(r"`(\w+)`", held_in(PAGE).decode().partition("\n## Past the standard\n")[2].partition("\n## ")[0]))
-    wrong = {it for it, kind in page.items() if (it in absent) != (kind == "not there") or (it in header) == (it in absent)}
-    if wrong or not header - set(page) <= past or len(page) < 350:
-        fail(f"docs/CURSES.md and the headers differ in {sorted(wrong)}, {sorted(header - set(page) - past)}")
+    absent = held_in(f"{curses_library.INCLUDE}/not_there.h").decode()
+    absent = set(re.findall(r"^#define (\w+)\(\.\.\.\)", absent, re.M))
+    past = held_in(PAGE).decode().partition("\n## Past the standard\n")[2].partition("\n## ")[0]
+    past = set(re.findall(r"`(\w+)`", past))
+    wrong = {it for it, kind in page.items() if (it in absent) != (kind == "not there")}
+    wrong |= {it for it in page if (it in header) == (it in absent)} | (header - set(page) - past)
+    if wrong or len(page) < 350:
+        fail(f"docs/CURSES.md and the headers differ in {sorted(wrong)}")
     print(f"curses: docs/CURSES.md has the {len(page)} names of its table as the headers have them")
 
 
@@ -108,7 +112,8 @@ def judge_headers(work):
     tries = [it for it in tries if shutil.which(it[0])]
     for compiler, language, standard in tries:
         for name in ("curses", "ncurses", "unctrl"):
-            words = [compiler, standard, *STRICT, "-Wshadow", "-Wconversion", at, "-x", language, "-c", f"{work}/{name}.c"]
+            words = [compiler, standard, *STRICT, "-Wshadow", "-Wconversion", at, "-x", language, "-c"]
+            words.append(f"{work}/{name}.c")
             if subprocess.run([*words, "-o", f"{work}/object"]).returncode:
                 fail(f"{' '.join(words)} is refused")
     with open(f"{work}/wide.c", "w", encoding="ascii") as file:
@@ -124,7 +129,8 @@ def judge_library(prefix):
     declared = set().union(*curses_library.declared())
     for words in (["-D"], ["-g"]):
         form = "libticurses_curses.so" if words == ["-D"] else "libticurses_curses.a"
-        ran = subprocess.run(["nm", *words, "--defined-only", f"{prefix}/lib/{form}"], stdout=subprocess.PIPE, text=True, check=True)
+        words = ["nm", *words, "--defined-only", f"{prefix}/lib/{form}"]
+        ran = subprocess.run(words, stdout=subprocess.PIPE, text=True, check=True)
         exported = {it[2] for it in map(str.split, ran.stdout.splitlines()) if len(it) == 3}
         if exported != declared:
             fail(f"{form} exports {sorted(exported ^ declared)} differently from curses.h")
@@ -139,11 +145,12 @@ class Compiled:
 
     def __init__(self, work, prefix):
         self.work = work
-        words = [f"-I{prefix}/include/ticurses", f"-L{prefix}/lib", f"-Wl,-rpath,{prefix}/lib", "-lticurses_curses", "-lticurses"]
+        words = [f"-I{prefix}/include/ticurses", f"-L{prefix}/lib", f"-Wl,-rpath,{prefix}/lib"]
+        words += ["-lticurses_curses", "-lticurses"]
         if shutil.which("pkg-config"):
             given = {**os.environ, "PKG_CONFIG_PATH": f"{prefix}/lib/pkgconfig"}
-            ran = subprocess.run(["pkg-config", "--cflags", "--libs", "ticurses-curses"], env=given, stdout=subprocess.PIPE, text=True)
-            words = ran.stdout.split()
+            line = ["pkg-config", "--cflags", "--libs", "ticurses-curses"]
+            words = subprocess.run(line, env=given, stdout=subprocess.PIPE, text=True).stdout.split()
         self.words = {"ncurses": ["-lncurses", "-ltinfo"], "ticurses": words}
         for name in self.words:
             os.makedirs(f"{work}/{name}", exist_ok=True)
@@ -166,7 +173,9 @@ def cells_of(text):
     rows, marks, ink = [], frozenset(), ["39", "49"]
     for line in text.split("\n")[:ROWS]:
         row = []
-        for sent, char in re.findall(r"\x1b\[([\d;]*)m|(.)", re.sub(r"[\x0e\x0f]", lambda it: f"\x1b[{ord(it[0])}00m", line)):
+        # shifts in and out as if they were attributes
+        line = re.sub(r"[\x0e\x0f]", lambda it: f"\x1b[{ord(it[0])}00m", line)
+        for sent, char in re.findall(r"\x1b\[([\d;]*)m|(.)", line):
             if char:
                 own = tuple(ink)
                 row.append((char, marks, ("39", "49") if own == ("37", "40") else own))
@@ -200,7 +209,7 @@ class Pane:
     def run(self, *words):
         given = {**os.environ, "LC_ALL": "C.UTF-8", "TERM": "screen"}
         line = ["tmux", "-f", "/dev/null", "-u", "-S", self.socket, *words]
-        return subprocess.run(line, env=given, stdout=subprocess.PIPE, stderr=subprocess.PIPE).stdout.decode("utf-8", "replace")
+        return subprocess.run(line, env=given, capture_output=True).stdout.decode("utf-8", "replace")
 
     def seen(self):
         cursor = self.run("display", "-p", "#{cursor_y} #{cursor_x} #{cursor_flag}").strip()
@@ -242,7 +251,8 @@ def compared(made, tests, name):
     words, keys = PROGRAMS[name]
     words, keys = [it.replace("{tests}", tests) for it in words], keys.split()
     with ThreadPoolExecutor(2) as pool:
-        panes = [Pane(made.work, f"{library[0]}-{name}", [f"{made.work}/{library}/{name}", *words]) for library in made.words]
+        lines = {library[0]: [f"{made.work}/{library}/{name}", *words] for library in made.words}
+        panes = [Pane(made.work, f"{library}-{name}", line) for library, line in lines.items()]
         one, other = pool.map(lambda it: it.shots(keys), panes)
     return len(one), differing(one, other)
 
@@ -255,23 +265,23 @@ def differing(one, other):
 
 def judge_programs(made, tests, names):
     """The programs of ncurses' test directory."""
-    counts, others = [], {}
-    for name in names or sorted(PROGRAMS):
+    counts, others, names, all_names = [], {}, names or sorted(PROGRAMS), not names
+    for name in names:
         text = held_in(f"{tests}/{name}.c").decode("latin-1")
         sources = [f"{tests}/{it}.c" for it in (name, *PARTS) if it == name or f'"{it}.h"' in text or f"<{it}.h>" in text]
         refused = made.make(name, sources, f"-I{HERE}", f"-I{tests}")
         if refused:
             fail(f"{name} doesn't compile: {refused}")
     with ThreadPoolExecutor(len(os.sched_getaffinity(0))) as pool:
-        for name, (count, bad) in zip(names or sorted(PROGRAMS), pool.map(lambda it: compared(made, tests, it), names or sorted(PROGRAMS))):
+        for name, (count, bad) in zip(names, pool.map(lambda it: compared(made, tests, it), names)):
             counts.append(count)
             if bad:
                 others[name] = (count, bad)
     for name, (count, bad) in others.items():
         print(f"curses: {name}: {len(bad)} of {count} screens differ")
-        if names:
+        if not all_names:
             show(bad[0])
-    if set(others) - EXPLAINED and not names:
+    if set(others) - EXPLAINED and all_names:
         fail(f"{sorted(set(others) - EXPLAINED)} differ, and the page doesn't say why")
     print(
         f"curses: {len(counts) - len(others)} of {len(counts)} programs of ncurses show the same on all of their screens, "
@@ -299,12 +309,31 @@ def judge_answers(made):
         told.append(held_in(log, b"").decode("latin-1").splitlines())
     if told[0] != told[1] or len(told[0]) < 100:
         lines = [f"{one} | {other}" for one, other in zip(*told) if one != other]
-        fail(f"the calls answer otherwise than ncurses (ncurses | here), {[len(it) for it in told]} lines:\n" + "\n".join(lines))
+        counts = [len(it) for it in told]
+        fail(f"the calls answer otherwise than ncurses (ncurses | here), {counts} lines:\n" + "\n".join(lines))
     bad = differing(*shots)
     if bad:
         show(bad[0])
         fail("after the same calls something else is seen")
     print(f"curses: {len(told[0])} calls answer what they answer in ncurses, and {len(shots[0])} screens are the same")
+
+
+def judge_random(work, prefix):
+    """Random calls on a terminal that isn't there, with the sanitizers and under valgrind."""
+    made, tries = f"{work}/random", []
+    sources = [f"{curses_library.SOURCES}/{it}" for it in curses_library.sources()]
+    words = ["cc", "-std=c99", "-O1", "-w", f"-I{curses_library.INCLUDE}", f"{HERE}/random.c"]
+    for name, own in ((f"{made}_sanitized", SANITIZED), (made, ["-g"])):
+        if subprocess.run([*words, *own, *sources, f"{prefix}/lib/libticurses.a", "-o", name]).returncode:
+            fail("random.c doesn't compile")
+    tries += [[f"{made}_sanitized", str(seed), "60000"] for seed in range(4)]
+    if not missing("curses", "valgrind"):
+        tries.append(["valgrind", "-q", "--error-exitcode=9", "--leak-check=full", made, "5", "6000"])
+    with ThreadPoolExecutor(len(os.sched_getaffinity(0))) as pool:
+        for ran in pool.map(lambda it: subprocess.run(it, capture_output=True, text=True, errors="replace"), tries):
+            if ran.returncode:
+                fail(f"{' '.join(ran.args)} ends with status {ran.returncode}: {ran.stderr[-4000:]}")
+    print(f"curses: random calls, {len(tries)} runs with the sanitizers and valgrind, find nothing wrong")
 
 
 def main():
@@ -314,6 +343,7 @@ def main():
         judge_headers(work)
         prefix = given[0] if given else installed(work)
         judge_library(prefix)
+        judge_random(work, prefix)
         if missing("curses", "tmux") or not os.path.exists("/usr/include/curses.h"):
             print("curses: tmux or ncurses' header is not installed; the programs are left out")
             return

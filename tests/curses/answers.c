@@ -256,7 +256,8 @@ static void options(void) {
     SAY(curs_set(3));
     SAY(isendwin());
     SAY(has_key(KEY_LEFT));
-    fprintf(told, "%s %s %s %s %s\n", keyname(KEY_LEFT), keyname(KEY_F(3)), keyname(1), keyname('a'), keyname(KEY_RESIZE));
+    fprintf(told, "%s %s %s %s %s\n", keyname(KEY_LEFT), keyname(KEY_F(3)), keyname(1), keyname('a'),
+            keyname(KEY_RESIZE));
     fprintf(told, "%s %s %s %s\n", unctrl(1), unctrl('a'), unctrl(127), unctrl(27));
     fprintf(told, "%s\n", termname());
     SAY(LINES);
