@@ -7,6 +7,7 @@ int whline(WINDOW *window, chtype ch, int count) {
     int y, x;
     if (!tcu_is_own(window) || session_cursor(window->number, &y, &x) != OK) return ERR;
     if (count > window->columns - x) count = window->columns - x;
+    if (count < 1) return OK;
     tcu_touch(window, y, x, x + count - 1);
     return tcu_changed(window, session_hline(window->number, ch, count));
 }
@@ -15,6 +16,7 @@ int wvline(WINDOW *window, chtype ch, int count) {
     int y, x;
     if (!tcu_is_own(window) || session_cursor(window->number, &y, &x) != OK) return ERR;
     if (count > window->lines - y) count = window->lines - y;
+    if (count < 1) return OK;
     for (int line = y; line < y + count; line++) tcu_touch(window, line, x, x);
     return tcu_changed(window, session_vline(window->number, ch, count));
 }

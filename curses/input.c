@@ -164,7 +164,7 @@ int wgetch(WINDOW *window) {
         tcu_resize();
         return key;
     }
-    if (key == '\r' && tcu_modes.reads_newlines) key = '\n';
+    /* shown as it was typed */
     if (tcu_modes.echoes && key >= 0 && key < 256) wechochar(window, (chtype)key);
-    return key;
+    return key == '\r' && tcu_modes.reads_newlines ? '\n' : key;
 }

@@ -22,8 +22,20 @@ static int set(const struct termios *like) {
     return result == 0 ? OK : ERR;
 }
 
-/* Takes the modes that the terminal has now as the shell's. The program's pass on what is written as it is, and show no
- * key by themselves. */
+static void read_at_once(void) {
+    program_modes.c_lflag &= ~(tcflag_t)ICANON;
+    program_modes.c_cc[VMIN] = 1;
+    program_modes.c_cc[VTIME] = 0;
+}
+
+static void read_lines(void) {
+    program_modes.c_lflag |= ICANON;
+    program_modes.c_cc[VMIN] = shell_modes.c_cc[VMIN];
+    program_modes.c_cc[VTIME] = shell_modes.c_cc[VTIME];
+}
+
+/* Takes the modes that the terminal has now as the shell's. The program's pass on what is written as it is, give keys
+ * as they are pressed, as the standard has it from the beginning, and show none by themselves. */
 void modes_begin(void) {
     memset(&tcu_modes, 0, sizeof tcu_modes);
     tcu_modes.echoes = tcu_modes.reads_newlines = true;
@@ -33,6 +45,8 @@ void modes_begin(void) {
     program_modes.c_oflag &= ~(tcflag_t)OPOST;
     program_modes.c_lflag &= ~(tcflag_t)(ECHO | ECHONL);
     program_modes.c_iflag &= ~(tcflag_t)(ICRNL | INLCR | IGNCR);
+    read_at_once();
+    tcu_modes.is_cbreak = true;
     set(&program_modes);
 }
 
@@ -57,18 +71,6 @@ static int changed(void) {
     if (!tcu.is_open) return ERR;
     /* after endwin the next refresh sets them */
     return tcu.is_ended || !are_known ? OK : set(&program_modes);
-}
-
-static void read_at_once(void) {
-    program_modes.c_lflag &= ~(tcflag_t)ICANON;
-    program_modes.c_cc[VMIN] = 1;
-    program_modes.c_cc[VTIME] = 0;
-}
-
-static void read_lines(void) {
-    program_modes.c_lflag |= ICANON;
-    program_modes.c_cc[VMIN] = shell_modes.c_cc[VMIN];
-    program_modes.c_cc[VTIME] = shell_modes.c_cc[VTIME];
 }
 
 int cbreak(void) {

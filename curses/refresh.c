@@ -112,7 +112,7 @@ static bool is_part(const WINDOW *pad, struct part *part) {
     int *const first[] = {&part->pad_y, &part->pad_x, &part->y, &part->x};
     for (int at = 0; at < 4; at++)
         if (*first[at] < 0) *first[at] = 0;
-    if (part->pad_y >= pad->lines || part->pad_x >= pad->columns) return false;
+    if (part->pad_y >= pad->lines || part->pad_x >= pad->columns || part->y >= LINES || part->x >= COLS) return false;
     /* what the pad doesn't have isn't shown */
     part->last_y = smaller(part->last_y, part->y + pad->lines - 1 - part->pad_y);
     part->last_x = smaller(part->last_x, part->x + pad->columns - 1 - part->pad_x);

@@ -7,6 +7,9 @@
 
 #include "calls.h"
 
+/* a window that isn't on the screen is at most so far from it */
+enum { FARTHEST = 10000 };
+
 /* Whether it is a window that the program may draw in. */
 bool tcu_is_own(const WINDOW *window) {
     return window && tcu.is_open && window != &tcu.newscr && window != &tcu.curscr;
@@ -67,7 +70,7 @@ WINDOW *newwin(int lines, int columns, int y, int x) {
     int number = free_number();
     bool is_pad;
     WINDOW *window;
-    if (!tcu.is_open || lines < 0 || columns < 0 || y < 0 || x < 0) return NULL;
+    if (!tcu.is_open || lines < 0 || columns < 0 || y < 0 || x < 0 || y > FARTHEST || x > FARTHEST) return NULL;
     if (lines == 0) lines = LINES - y;
     if (columns == 0) columns = COLS - x;
     if (number == TCU_WINDOWS || lines < 1 || columns < 1) return NULL;
@@ -112,7 +115,8 @@ WINDOW *derwin(WINDOW *parent, int lines, int columns, int y, int x) {
 }
 
 WINDOW *subwin(WINDOW *parent, int lines, int columns, int y, int x) {
-    return tcu_is_own(parent) ? derwin(parent, lines, columns, y - parent->y, x - parent->x) : NULL;
+    if (!tcu_is_own(parent) || y < parent->y || x < parent->x) return NULL;
+    return derwin(parent, lines, columns, y - parent->y, x - parent->x);
 }
 
 WINDOW *subpad(WINDOW *parent, int lines, int columns, int y, int x) {

@@ -37,7 +37,6 @@ PROGRAMS = {
     "bs": ([], "@500 Space Right Down h Space v Down Space q"),
     "chgat": ([], "Down Right Right v c q"),
     "color_set": ([], "Space Space Space"),
-    "echochar": ([], "@500 Space @500 q"),
     "firstlast": ([], "Space @2500 Space"),
     "gdc": ([], "@800 q"),
     "hanoi": (["3"], "1 =3 Enter @500 q"),
@@ -45,7 +44,6 @@ PROGRAMS = {
     "insdelln": ([], "Down Down i d I D w q"),
     "inserts": ([], "=hello Left Left =xx q"),
     "knight": ([], "@300 Down Right Enter Down l Enter q"),
-    "lrtest": ([], "=q"),
     "movewindow": ([], "c c Down Down Right Right c t q"),
     "newdemo": ([], "@1500 Space @1500 Space q"),
     "padview": (["{tests}/Makefile.in"], "Down Down Right Right Down PageDown q"),
@@ -53,10 +51,13 @@ PROGRAMS = {
     "tclock": ([], "@800 q"),
     "test_addchstr": ([], "=abc Down =de q"),
     "test_addstr": ([], "=hello Down =more q"),
-    "test_delwin": ([], "Space Space q"),
+    "test_getstr": (["{tests}/README"], "=w =some BSpace =text Enter Up =s =one Enter q"),
     "test_instr": (["{tests}/README"], "Down w q"),
     "testaddch": ([], "Space"),
-    "testcurs": ([], "Down Down Up q"),
+    "clip_printw": ([], "Space v c Down =3 Space Right q"),
+    "demo_tabs": ([], "q"),
+    "testcurs": ([], "Down Down Up Enter Space Space Space Space Space q"),
+    "testscanw": ([], "=12 Enter =x BSpace =7 Enter =0 Enter"),
     "view": (["{tests}/bs.c"], "Down Down Down Right Right Up n n p q"),
     "xmas": ([], "@4000 q"),
 }
@@ -213,6 +214,8 @@ class Pane:
 
     def seen(self):
         cursor = self.run("display", "-p", "#{cursor_y} #{cursor_x} #{cursor_flag}").strip()
+        # where one is that isn't seen doesn't count
+        cursor = "hidden" if cursor.endswith(" 0") else cursor
         return self.run("capture-pane", "-p", "-e", "-N"), cursor
 
     def quiet(self):

@@ -50,6 +50,7 @@
 #define HAVE_UNISTD_H 1
 #define HAVE_USE_ENV 1
 #define HAVE_VPRINTF 1
+#define HAVE_VW_PRINTW 1
 #define HAVE_WINSDELLN 1
 #define HAVE_WINSNSTR 1
 #define HAVE_WINSSTR 1
