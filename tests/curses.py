@@ -29,8 +29,8 @@ ROWS, COLS = 24, 80
 QUIET, LONGEST = 0.3, 5
 MACROS = {"getyx", "getbegyx", "getmaxyx", "getparyx", "COLOR_PAIR", "PAIR_NUMBER"}
 
-# The programs, their words and their keys: of tmux, or texts behind =; @N waits for N milliseconds. {tests} is the
-# folder of their sources.
+# The programs, their words and their keys: of tmux, or texts behind =; @N waits for N milliseconds, ~ says that what is
+# seen isn't compared, as it depends on the moment. {tests} is the folder of their sources.
 PROGRAMS = {
     "background": ([], "Space Space q"),
     "blue": ([], "=a =b q"),
@@ -44,9 +44,12 @@ PROGRAMS = {
     "insdelln": ([], "Down Down i d I D w q"),
     "inserts": ([], "=hello Left Left =xx q"),
     "knight": ([], "@300 Down Right Enter Down l Enter q"),
+    "lrtest": ([], "~@800 q"),
     "movewindow": ([], "c c Down Down Right Right c t q"),
+    "ncurses": ([], "s Enter c a d b e a f b g a h b i b j a C-q q Enter"),
     "newdemo": ([], "@1500 Space @1500 Space q"),
     "padview": (["{tests}/Makefile.in"], "Down Down Right Right Down PageDown q"),
+    "rain": ([], "~@800 q"),
     "redraw": ([], "Space r q"),
     "tclock": ([], "@800 q"),
     "test_addchstr": ([], "=abc Down =de q"),
@@ -57,8 +60,10 @@ PROGRAMS = {
     "clip_printw": ([], "Space v c Down =3 Space Right q"),
     "demo_tabs": ([], "q"),
     "testcurs": ([], "Down Down Up Enter Space Space Space Space Space q"),
+    "test_opaque": ([], "Down Space Down Space =x q"),
     "testscanw": ([], "=12 Enter =x BSpace =7 Enter =0 Enter"),
     "view": (["{tests}/bs.c"], "Down Down Down Right Right Up n n p q"),
+    "worm": ([], "~@800 q"),
     "xmas": ([], "@4000 q"),
 }
 # what differs, and is explained on the page
@@ -216,7 +221,9 @@ class Pane:
         cursor = self.run("display", "-p", "#{cursor_y} #{cursor_x} #{cursor_flag}").strip()
         # where one is that isn't seen doesn't count
         cursor = "hidden" if cursor.endswith(" 0") else cursor
-        return self.run("capture-pane", "-p", "-e", "-N"), cursor
+        text = self.run("capture-pane", "-p", "-e", "-N")
+        # the name and version of the library
+        return re.sub(r"\b(ticurses-curses|ncurses)( \d[\d.]*\d)?", "curses", text), cursor
 
     def quiet(self):
         """What is seen once it doesn't change any more."""
@@ -241,10 +248,11 @@ class Pane:
     def shots(self, keys):
         """What is seen at the beginning and after each key."""
         time.sleep(0.5)
-        found = [self.quiet()]
+        found = [("", "") if keys[0].startswith("~") else self.quiet()]
         for key in keys:
-            self.press(key)
-            found.append(self.quiet())
+            self.press(key.removeprefix("~"))
+            # an animation is looked at when it has ended
+            found.append(("", "") if key.startswith("~") else self.quiet())
         self.run("kill-server")
         return found
 
