@@ -208,7 +208,7 @@ class Pane:
         self.socket = f"{work}/{name}"
         line = ["env", f"LD_PRELOAD={work}/still.so", "LC_ALL=C", f"TERM={term}", *words]
         quoted = " ".join("'" + it.replace("'", "'\\''") + "'" for it in line)
-        self.run("new-session", "-d", "-x", str(COLS), "-y", str(ROWS), f"{quoted}; echo ended $?; sleep 600")
+        self.run("new-session", "-d", "-x", str(COLS), "-y", str(ROWS), f"trap : INT; {quoted}; echo ended $?; sleep 600")
         self.run("set", "-g", "status", "off")
         self.run("resize-window", "-x", str(COLS), "-y", str(ROWS))
 
@@ -329,6 +329,34 @@ def judge_answers(made):
     print(f"curses: {len(told[0])} calls answer what they answer in ncurses, and {len(shots[0])} screens are the same")
 
 
+# stops and goes on; between, and at the end, says how the terminal is set
+STOPPED = """set -m; "$0"; echo stopped $?; modes; read key; fg >/dev/null; echo again $?; modes"""
+ENDED = """trap : INT; "$0"; echo over $?; modes"""
+MODES = r"""modes() { stty -a | tr ' ;' '\n\n' | grep -xe '-*icanon' -e '-*echo' -e '-*opost' | tr '\n' ' '; echo; }; """
+
+
+def judge_signals(made):
+    """The game of examples/curses: keys that end and stop it leave the terminal as it was, and it draws anew."""
+    if made.make("snake", [f"{TOP}/examples/curses/snake.c"], "-std=c99"):
+        fail("the game of examples/curses doesn't compile")
+    game, modes = f"{made.work}/ticurses/snake", "opost icanon echo"
+
+    def shown(name, script, *keys):
+        # a shell has to know its own number
+        words = ["env", "-u", "LD_PRELOAD", "sh", "-c", MODES + script, game]
+        shots = [re.sub(r"\x1b\[[\d;]*m", "", text) for text, _ in Pane(made.work, name, words).shots(keys)]
+        return [re.sub(" +\n", "\n", it) for it in shots]
+
+    # p has the game wait
+    seen = shown("ended", ENDED, "p", "C-c")
+    if "0 points, q" not in seen[1] or f"over 130\n{modes}" not in seen[2] or "0 points, q" in seen[2]:
+        fail(f"after an interrupt the game leaves\n{seen[2]}")
+    seen = shown("stopped", STOPPED, "p", "C-z", "Enter", "x", "q")
+    if f"stopped 148\n{modes}" not in seen[2] or "0 points, q" not in seen[3] or f"again 0\n{modes}" not in seen[5]:
+        fail("stopped, going on and over, the game leaves\n" + "\n".join(seen[2:]))
+    print("curses: an interrupt ends the game, and ^Z stops it, with the terminal as it was before; it goes on and draws anew")
+
+
 def judge_random(work, prefix):
     """Random calls on a terminal that isn't there, with the sanitizers and under valgrind."""
     made, tries = f"{work}/random", []
@@ -360,6 +388,7 @@ def main():
             return
         made = Compiled(work, prefix)
         judge_answers(made)
+        judge_signals(made)
         tests = os.environ.get("NCURSES_TESTS", "")
         if not os.path.isfile(f"{tests}/test.priv.h"):
             print("curses: NCURSES_TESTS names no folder of ncurses' test programs (docs/CURSES.md); they are left out")

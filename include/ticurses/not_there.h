@@ -106,12 +106,16 @@ int ticurses_has_no_terminfo_calls(void)
 #define wins_wch(...) ticurses_has_no_wide_characters()
 #define mvins_wch(...) ticurses_has_no_wide_characters()
 #define mvwins_wch(...) ticurses_has_no_wide_characters()
-#define key_name(...) ticurses_has_no_wide_characters()
 #define slk_wset(...) ticurses_has_no_wide_characters()
 #define unget_wch(...) ticurses_has_no_wide_characters()
 #define vid_attr(...) ticurses_has_no_wide_characters()
 #define vid_puts(...) ticurses_has_no_wide_characters()
 #define wunctrl(...) ticurses_has_no_wide_characters()
+
+/* a name that programs have for functions of their own, where they ask for no wide characters */
+#if defined(_XOPEN_SOURCE_EXTENDED) || defined(NCURSES_WIDECHAR)
+#define key_name(...) ticurses_has_no_wide_characters()
+#endif
 
 #define getwin(...) ticurses_has_no_window_files()
 #define putwin(...) ticurses_has_no_window_files()
