@@ -2,7 +2,8 @@
 # What a refresh takes of processor time, and how many bytes it sends, for a C program that is compiled against this
 # library and against ncurses (curses_scenes.c): the same calls, with the same entry, into a file; both by turns, the best
 # of five. A refresh is counted with the calls that draw what it shows. The line `open` is opening a session, with the
-# check of the entry in it. The entry is without `rep`, which ticurses doesn't use. Where the two leave other characters
+# check of the entry in it. `chars` and `lines` write each cell by a call of its own, which in ticurses is a function of
+# numbers and a line of text. The entry is without `rep`, which ticurses doesn't use. Where the two leave other characters
 # on the screen, a line says so; colours of blanks and the cursor of a pad are not compared.
 # curses.sh [ROWSxCOLS..]: 24x80 50x132 200x500 if none is given. ENTRY is the terminal, xterm-256color if it isn't set.
 set -eu
@@ -40,7 +41,7 @@ runs() {
 # table ROWS COLS
 table() {
     printf '%-10s %12s %12s %7s %10s %10s\n' "$1 by $2" "ticurses, us" "ncurses, us" "ratio" "bytes" "bytes"
-    for scene in full cell typing log windows pad colours open; do
+    for scene in full chars lines cell typing log windows pad colours open; do
         runs "$1" "$2" "$scene" >"$work/times"
         awk -v scene="$scene" '
             !($1 in best) || $2 < best[$1] { best[$1] = $2; sent[$1] = $3 }

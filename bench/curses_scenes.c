@@ -54,6 +54,10 @@ static void go(int w, int y, int x) {
 static void put(int w, int byte) {
     waddch(windows[w], (chtype)byte);
 }
+/* the same, where ticurses has a line of text for it and a function */
+static void put_by_function(int w, int byte) {
+    put(w, byte);
+}
 static void text(int w, const char *bytes, int len) {
     waddnstr(windows[w], bytes, len);
 }
@@ -149,6 +153,9 @@ static void go(int w, int y, int x) {
 static void put(int w, int byte) {
     done(ticurses_callf(&session, "addch %d %02x", w, (unsigned)byte));
 }
+static void put_by_function(int w, int byte) {
+    done(ticurses_addch(&session, (size_t)w, ticurses_cell_of((uint8_t)byte, 0, 0)));
+}
 static void text(int w, const char *bytes, int len) {
     done(ticurses_addstr(&session, (size_t)w, bytes, (size_t)len));
 }
@@ -240,6 +247,25 @@ static void full(int step) {
     (void)step;
     fill(0);
     show(0);
+}
+
+static void by_characters(void (*each)(int, int)) {
+    for (int row = 0; row < rows; row++) {
+        const char *bytes = words(width(row));
+        go(0, row, 0);
+        for (int col = 0; col < width(row); col++) each(0, bytes[col]);
+    }
+    show(0);
+}
+
+static void chars(int step) {
+    (void)step;
+    by_characters(put_by_function);
+}
+
+static void lines(int step) {
+    (void)step;
+    by_characters(put);
 }
 
 static void one_cell(int step) {
@@ -337,6 +363,8 @@ static const struct scene {
     int by_size;
 } scenes[] = {
     {"full", none, full, 1000, 1},
+    {"chars", none, chars, 500, 1},
+    {"lines", none, lines, 500, 1},
     {"cell", set_page, one_cell, 20000, 0},
     {"typing", set_page, typed, 20000, 0},
     {"log", set_log, logged, 2000, 1},

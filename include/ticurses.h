@@ -1,14 +1,16 @@
 /* ticurses for C: certificates of terminfo entries, and curses sessions with a proved refresh.
  *
  * A session draws on one terminal. It is opened for the terminal's entry and size, takes calls of
- * curses as lines of text, and what a refresh sends waits in it until the program takes it and writes
- * it to the terminal:
+ * curses as functions of numbers or as lines of text, and what a refresh sends waits in it until the
+ * program takes it and writes it to the terminal:
  *
  *     ticurses session = {0};
  *     code = ticurses_open(&session, entry, entry_len, NULL, 0, 24, 80, NULL, 0);
- *     code = ticurses_callf(&session, "move 0 %d %d\naddstr 0 Hello\nrefresh 0", row, col);
+ *     code = ticurses_move(&session, 0, row, col);
+ *     code = ticurses_addstr(&session, 0, "Hello", 5);
+ *     code = ticurses_refresh(&session, 0);        or ticurses_callf(&session, "move 0 %d %d\naddstr ..", row, col)
  *     while ((count = ticurses_output(&session, piece, sizeof piece)) > 0) .. write(fd, piece, count) ..
- *     code = ticurses_call(&session, "endwin", 6);                        and write what waits
+ *     code = ticurses_endwin(&session);                                   and write what waits
  *     ticurses_close(&session);
  *
  * ticurses_terminal.h finds the entry and the size, and does the writing. Link with -lticurses. The headers are C99 and
@@ -81,7 +83,9 @@ enum ticurses_code {
     TICURSES_BAD_CERTIFICATE = 23,  /* the certificate is not one of this entry and size */
     TICURSES_NO_CERTIFICATE = 24,   /* a string of the entry is wrong; ticurses_reason says which */
     TICURSES_NO_ROOM = 25,          /* the buffer is too short; nothing was written to it */
-    TICURSES_NULL = 26              /* a pointer is null, or a length is above PTRDIFF_MAX */
+    TICURSES_NULL = 26,             /* a pointer is null, or a length is above PTRDIFF_MAX */
+    TICURSES_BAD_CALL = 27          /* the numbers are no call: no such kind, an option other than 0 and 1, or
+                                     * attributes outside 0 to 255 */
 };
 
 /* The most bytes that the lines of one call have. */
@@ -104,6 +108,37 @@ enum ticurses_attrs {
     TICURSES_ALTCHARSET = 128  /* A, line drawing */
 };
 
+/* The kinds of calls that have numbers; `addstr` has a function of its own. */
+enum ticurses_kind {
+    TICURSES_NEWWIN = 1, TICURSES_NEWPAD = 2, TICURSES_SUBWIN = 3, TICURSES_DERWIN = 4, TICURSES_SUBPAD = 5,
+    TICURSES_DUPWIN = 6, TICURSES_DELWIN = 7, TICURSES_MVWIN = 8, TICURSES_MOVE = 9, TICURSES_ADDCH = 10,
+    TICURSES_INSCH = 11, TICURSES_DELCH = 12, TICURSES_INSERTLN = 13, TICURSES_DELETELN = 14,
+    TICURSES_CLRTOEOL = 15, TICURSES_CLRTOBOT = 16, TICURSES_ERASE = 17, TICURSES_CLEAR = 18, TICURSES_HLINE = 19,
+    TICURSES_VLINE = 20, TICURSES_BORDER = 21, TICURSES_BOX = 22, TICURSES_SCROLL = 23, TICURSES_SETSCRREG = 24,
+    TICURSES_ATTRON = 25, TICURSES_ATTROFF = 26, TICURSES_ATTRSET = 27, TICURSES_COLOR_SET = 28,
+    TICURSES_BKGDSET = 29, TICURSES_BKGD = 30, TICURSES_OVERLAY = 31, TICURSES_OVERWRITE = 32,
+    TICURSES_COPYWIN = 33, TICURSES_SCROLLOK = 34, TICURSES_LEAVEOK = 35, TICURSES_CLEAROK = 36,
+    TICURSES_IDLOK = 37, TICURSES_TOUCHWIN = 38, TICURSES_TOUCHLINE = 39, TICURSES_NOUTREFRESH = 40,
+    TICURSES_REFRESH = 41, TICURSES_DOUPDATE = 42, TICURSES_PNOUTREFRESH = 43, TICURSES_PREFRESH = 44,
+    TICURSES_CURS_SET = 45, TICURSES_INIT_PAIR = 46, TICURSES_BEEP = 47, TICURSES_ENDWIN = 48
+};
+
+/* The cells of a border. Where byte, attributes and pair are all 0, it is the default cell of that side or corner. */
+typedef struct ticurses_frame {
+    ticurses_cell left, right, top, bottom, top_left, top_right, bottom_left, bottom_right;
+} ticurses_frame;
+
+/* A call as numbers, which the functions of ticurses_calls.h fill. What a call has no number for doesn't count. */
+typedef struct ticurses_request {
+    uint32_t kind;        /* one of enum ticurses_kind */
+    int32_t flag;         /* 0 or 1 */
+    size_t window, other; /* the other is the one that a window is a part or a copy of, or is copied to */
+    int32_t attrs;        /* of enum ticurses_attrs, put together by | */
+    int32_t first, second, third, fourth, fifth, sixth; /* in the order of the call's arguments */
+    ticurses_cell cell;
+    ticurses_frame frame; /* box has its left and its top */
+} ticurses_request;
+
 /* What the library exports. Pointers may not be null: programs call the functions below, which test them. */
 int32_t ticurses_raw_check(const uint8_t *entry, size_t entry_len, const uint8_t *name, size_t name_len, uint16_t rows,
                            uint16_t cols, uint8_t *room, size_t room_len, size_t *needed);
@@ -117,6 +152,7 @@ int32_t ticurses_raw_open(ticurses *session, const uint8_t *entry, size_t entry_
 int32_t ticurses_raw_call(ticurses *session, const uint8_t *text, size_t len);
 int32_t ticurses_raw_failed(ticurses *session, size_t *line);
 int32_t ticurses_raw_addstr(ticurses *session, size_t window, const uint8_t *text, size_t len);
+int32_t ticurses_raw_make(ticurses *session, const ticurses_request *request);
 int32_t ticurses_raw_cursor(ticurses *session, size_t window, uint16_t *row, uint16_t *col);
 int32_t ticurses_raw_size(ticurses *session, size_t window, uint16_t *rows, uint16_t *cols);
 int32_t ticurses_raw_cell(ticurses *session, size_t window, uint16_t row, uint16_t col, ticurses_cell *cell);
@@ -374,6 +410,7 @@ static inline const char *ticurses_text(int code) {
         "a string of the entry is wrong",
         "the buffer is too short",
         "a pointer is null",
+        "the numbers are no call",
     };
     return code >= 0 && code < (int)(sizeof texts / sizeof *texts) ? texts[code] : "no code of ticurses";
 }
@@ -384,4 +421,7 @@ static inline const char *ticurses_text(int code) {
 #endif
 }
 #endif
+
+#include <ticurses_calls.h>
+
 #endif

@@ -38,6 +38,7 @@ REFRESHES = (
     "newwin 2 3 9 2 10\nbox 2 - -\nattron 2 R\nmove 2 1 1\naddstr 2 over\nrefresh 2\n"
 )
 HEADER = f"{TOP}/include/ticurses.h"
+HEADERS = ("ticurses.h", "ticurses_calls.h", "ticurses_terminal.h")
 
 
 def names_of_codes():
@@ -81,26 +82,29 @@ def check_header(prefix, work):
 
 
 def check_manual(prefix, work):
-    """The manual page has the calls of the headers with their arguments, and a program that compiles."""
-    page = held_in(f"{TOP}/man/ticurses.3").decode()
-    headers = [held_in(f"{TOP}/include/{it}").decode() for it in ("ticurses.h", "ticurses_terminal.h")]
+    """The manual pages have the calls of the headers with their arguments, and programs that compile."""
+    pages = [held_in(f"{TOP}/man/{it}").decode() for it in ("ticurses.3", "ticurses-calls.3")]
+    headers = [held_in(f"{TOP}/include/{it}").decode() for it in HEADERS]
     found = r"^static inline ([^()=]*?)(ticurses_\w+)\(([^)]*)\)[^;{]*\{"
     declared = [it for header in headers for it in re.findall(found, header, re.M)]
     declared = {name: (kind.strip(), re.sub(r"\s+", " ", words)) for kind, name, words in declared}
     # what the others are made of
     parts = "bytes is_bad unmade digits format short_at is_entry read entry_in variable set is_full"
-    for name in parts.split():
+    made = "plain numbers window pair flag attrs cell shown"
+    for name in [*parts.split(), *(f"make_{it}" for it in made.split())]:
         del declared[f"ticurses_{name}"]
     written = {}
-    for kind, first, rest in re.findall(r"^\.Ft (.*)\n\.F[no] (\w+)(.*(?:\n\.Fa .*)*)", page, re.M):
+    for kind, first, rest in re.findall(r"^\.Ft (.*)\n\.F[no] (\w+)(.*(?:\n\.Fa .*)*)", "".join(pages), re.M):
         written[first] = (kind.strip('"').strip(), ", ".join(re.findall(r'"([^"]*)"', rest)))
     if declared != written:
         both = [(it, declared.get(it), written.get(it)) for it in sorted({*declared, *written})]
-        sys.exit("the manual page and the headers differ: " + "\n".join(map(str, (it for it in both if it[1] != it[2]))))
-    example = page.partition(".Bd -literal\n")[2].partition(".Ed\n")[0].replace("\\e", "\\")
-    write(f"{work}/example.c", example.encode())
-    compiled(prefix, f"{work}/example.c", f"{work}/example", "-std=c99")
-    print(f"c: man/ticurses.3 has the {len(written)} calls of the headers, and its program compiles")
+        differ = "\n".join(str(it) for it in both if it[1] != it[2])
+        sys.exit(f"the manual pages and the headers differ: {differ}")
+    for page in pages:
+        example = page.partition(".Bd -literal\n")[2].partition(".Ed\n")[0].replace("\\e", "\\")
+        write(f"{work}/example.c", example.encode())
+        compiled(prefix, f"{work}/example.c", f"{work}/example", "-std=c99")
+    print(f"c: the pages in man/ have the {len(written)} calls of the headers, and their programs compile")
 
 
 def play(player, work, entry, rows, cols, script, piece):
@@ -160,6 +164,15 @@ def check_cuts(prefix, work):
             if screen != wanted[refresh - 1]:
                 sys.exit(f"{entry}: after a cut at byte {place} and a repair, {sent!r}, the screen is\n{screen}")
         print(f"c: {entry}: three refreshes cut at each of {len(cuts)} bytes, and the next one repairs the screen")
+
+
+def check_numbers(prefix, work):
+    """Each call by its function and as a line: the same answers, output, cells and cursors."""
+    words = [compiled(prefix, f"{TOP}/tests/c/numbers.c", f"{work}/numbers", *SANITIZED), TERMINALS, "400"]
+    ran = subprocess.run(words, stdout=subprocess.PIPE, stderr=subprocess.STDOUT, text=True, errors="replace")
+    if ran.returncode or ran.stdout:
+        sys.exit(f"numbers: status {ran.returncode}\n{ran.stdout}")
+    print("c: 19,200 random calls of 48 kinds do by their functions what they do as lines of text")
 
 
 def check_answers(prefix, work):
@@ -344,6 +357,7 @@ def main():
         check_manual(prefix, work)
         player = compiled(prefix, f"{TOP}/tests/c/player.c", f"{work}/player", *SANITIZED)
         check_scripts(player, work)
+        check_numbers(prefix, work)
         check_answers(prefix, work)
         check_cuts(prefix, work)
         check_examples(prefix, work)

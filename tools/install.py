@@ -42,6 +42,8 @@ Libs: -L${{libdir}}{found} -lticurses
 """
 # where programs find shared libraries by themselves; elsewhere a program is told where
 KNOWN = ("/lib", "/usr/lib")
+HEADERS = ("ticurses.h", "ticurses_calls.h", "ticurses_terminal.h")
+PAGES = ("ticurses.1", "ticurses.3", "ticurses-calls.3", "ticurses-curses.3", "ticurses-script.5")
 WORDS = ("PREFIX", "DESTDIR", "LIBDIR", "PYTHONDIR")
 BINDING = f"{TOP}/bindings/python/ticurses"
 # where the Python package looks for the library
@@ -122,14 +124,14 @@ def files(where, room="."):
     top, libdir = f"{where.destination}{where.prefix}", f"{where.destination}{where.libdir}"
     package = f"{where.destination}{where.python}/ticurses"
     archive, shared = LIBRARY.files
-    found = [File(f"{top}/include/{it}", f"{TOP}/include/{it}") for it in ("ticurses.h", "ticurses_terminal.h")]
+    found = [File(f"{top}/include/{it}", f"{TOP}/include/{it}") for it in HEADERS]
     found += [File(f"{libdir}/libticurses.a", archive), File(f"{libdir}/{SONAME}", shared, mode=0o755)]
     found.append(File(f"{libdir}/pkgconfig/ticurses.pc", text=where.pkgconfig(PKGCONFIG)))
     found += [File(f"{top}/include/ticurses/{it}", f"{curses.INCLUDE}/{it}") for it in curses.HEADERS]
     found.append(File(f"{libdir}/{curses.ARCHIVE}", f"{room}/{curses.ARCHIVE}"))
     found.append(File(f"{libdir}/{curses.SONAME}", f"{room}/{curses.SONAME}", mode=0o755))
     found.append(File(f"{libdir}/pkgconfig/ticurses-curses.pc", text=where.pkgconfig(curses.PKGCONFIG)))
-    for page in ("ticurses.1", "ticurses.3", "ticurses-curses.3", "ticurses-script.5"):
+    for page in PAGES:
         found.append(File(f"{top}/share/man/man{page[-1]}/{page}", f"{TOP}/man/{page}"))
     names = sorted(it for it in os.listdir(BINDING) if it.endswith((".py", "py.typed")) and it != "_installed.py")
     found += [File(f"{package}/{it}", f"{BINDING}/{it}") for it in names]

@@ -28,7 +28,7 @@ import kept
 import verdicts
 from crates import TOP
 from ending import Ended, heed, say, why
-from install import BINDING, INSTALLED, PKGCONFIG
+from install import BINDING, HEADERS, INSTALLED, PKGCONFIG
 from linking import Failed, run
 from sources import LIBRARY, PROVED
 from version import SONAME, VERSION
@@ -160,7 +160,7 @@ def add_curses(tree, prefix, libdir, searched):
 def add_common(tree, proved, prefix, libdir, python, pages_zipped):
     """The files of both packages, below a prefix."""
     tree.add(f"{prefix}bin/ticurses", proved.program, 0o755)
-    for header in ("ticurses.h", "ticurses_terminal.h"):
+    for header in HEADERS:
         tree.add(f"{prefix}include/{header}", read(f"{TOP}/include/{header}"))
     tree.add(f"{libdir}/libticurses.a", proved.archive)
     tree.add(f"{libdir}/{SONAME}", proved.shared)

@@ -103,6 +103,9 @@ static void nulls(void) {
     IS(TICURSES_NULL, ticurses_failed(&session, NULL));
     IS(TICURSES_NULL, ticurses_addstr(NULL, 0, "a", 1));
     IS(TICURSES_NULL, ticurses_addstr(&session, 0, NULL, 1));
+    IS(TICURSES_NULL, ticurses_make(&session, NULL));
+    IS(TICURSES_NULL, ticurses_border(&session, 0, NULL));
+    IS(TICURSES_NULL, ticurses_move(NULL, 0, 0, 0));
     IS(TICURSES_NULL, ticurses_cursor(NULL, 0, &one, &other));
     IS(TICURSES_NULL, ticurses_cursor(&session, 0, NULL, &other));
     IS(TICURSES_NULL, ticurses_cursor(&session, 0, &one, NULL));
@@ -134,6 +137,8 @@ static void closed(void) {
     IS(TICURSES_CLOSED, ticurses_callf(&session, "%1048577d", 1));
     IS(TICURSES_CLOSED, ticurses_failed(&session, &line));
     IS(TICURSES_CLOSED, ticurses_addstr(&session, 0, "a", 1));
+    IS(TICURSES_CLOSED, ticurses_refresh(&session, 0));
+    IS(TICURSES_CLOSED, ticurses_scrollok(&session, 0, 2));
     IS(TICURSES_CLOSED, ticurses_cursor(&session, 0, &one, &other));
     IS(TICURSES_CLOSED, ticurses_window_size(&session, 0, &one, &other));
     IS(TICURSES_CLOSED, ticurses_cell_at(&session, 0, 0, 0, &found));
@@ -381,6 +386,52 @@ static void strings(void) {
     ticurses_close(&session);
 }
 
+/* What functions of numbers answer where no line says so; numbers.c tries all else. */
+static void numbers(void) {
+    static const uint32_t kinds[] = {0, TICURSES_ENDWIN + 1, UINT32_MAX};
+    const ticurses_cell none = ticurses_cell_of(0, 0, 0), plus = ticurses_cell_of('+', TICURSES_BOLD, 0);
+    ticurses session = {0, 0};
+    ticurses_frame frame = {none, none, none, none, plus, none, none, plus};
+    ticurses_request request = ticurses_request_of(TICURSES_MOVE, 0, 99);
+    IS(TICURSES_OK, OPEN(&session, "vt", 6, 24));
+    /* what a call has no number for doesn't count */
+    request.first = 3, request.second = 4, request.sixth = 9, request.flag = 7, request.attrs = -1;
+    IS(TICURSES_OK, ticurses_make(&session, &request));
+    IS(3004, cursor(&session, 0));
+    /* numbers that are no call, and numbers that are refused, change nothing */
+    for (size_t at = 0; at < sizeof kinds / sizeof *kinds; at++) {
+        request.kind = kinds[at];
+        IS(TICURSES_BAD_CALL, ticurses_make(&session, &request));
+    }
+    IS(TICURSES_BAD_CALL, ticurses_scrollok(&session, 0, 2));
+    IS(TICURSES_BAD_CALL, ticurses_scrollok(&session, 9, -1));
+    IS(TICURSES_BAD_CALL, ticurses_attron(&session, 0, 256));
+    IS(TICURSES_BAD_CALL, ticurses_attrset(&session, 0, -1));
+    IS(TICURSES_BAD_CALL, ticurses_copywin(&session, 0, 0, 0, 0, 0, 0, 1, 1, 2));
+    IS(TICURSES_BAD_PAIR, ticurses_addch(&session, 0, ticurses_cell_of('a', 0, 64)));
+    IS(TICURSES_BAD_CELL, ticurses_insch(&session, 0, none));
+    IS(TICURSES_FULL, ticurses_erase(&session, SIZE_MAX));
+    IS(TICURSES_NO_WINDOW, CALL(&session, "delwin 9"));
+    IS(TICURSES_NO_WINDOW, ticurses_delwin(&session, 9));
+    IS(TICURSES_OK, ticurses_idlok(&session, 0, 1));
+    IS(1, failed(&session));
+    IS(3004, cursor(&session, 0));
+    IS(' ', cell(&session, 0, 3, 4));
+    /* all of a cell 0 is the default in a border, and ^@ elsewhere */
+    IS(TICURSES_OK, ticurses_addch(&session, 0, none));
+    IS('^', cell(&session, 0, 3, 4));
+    IS('@', cell(&session, 0, 3, 5));
+    IS(TICURSES_OK, ticurses_border(&session, 0, &frame));
+    IS(TICURSES_BOLD * 256L + '+', cell(&session, 0, 0, 0));
+    IS(TICURSES_ALTCHARSET * 256L + 'k', cell(&session, 0, 0, 23));
+    IS(TICURSES_ALTCHARSET * 256L + 'x', cell(&session, 0, 1, 0));
+    IS(TICURSES_BAD_CELL, ticurses_box(&session, 0, ticurses_cell_of(0, TICURSES_BOLD, 0), none));
+    IS(0, ticurses_waiting(&session));
+    IS(TICURSES_OK, ticurses_refresh(&session, 0));
+    IS(1, ticurses_waiting(&session) > 9);
+    ticurses_close(&session);
+}
+
 static void output(void) {
     ticurses session = {0, 0};
     IS(TICURSES_OK, OPEN(&session, "vt", 6, 24));
@@ -415,11 +466,11 @@ static void output(void) {
 }
 
 static void texts(void) {
-    for (int code = 0; code <= TICURSES_NULL; code++)
+    for (int code = 0; code <= TICURSES_BAD_CALL; code++)
         for (int other = 0; other < code; other++) IS(1, strcmp(ticurses_text(code), ticurses_text(other)) != 0);
     IS(0, strcmp("out of memory", ticurses_text(TICURSES_NO_MEMORY)));
     IS(0, strcmp("a pointer is null", ticurses_text(TICURSES_NULL)));
-    IS(0, strcmp(ticurses_text(-1), ticurses_text(TICURSES_NULL + 1)));
+    IS(0, strcmp(ticurses_text(-1), ticurses_text(TICURSES_BAD_CALL + 1)));
 }
 
 /* The turn of one session among others: what it sends is kept. */
@@ -516,7 +567,10 @@ static void no_memory_call(void) {
     IS(TICURSES_OK, CALL(&session, "newwin 1 3 3 0 0"));
     /* one call takes none for reading it; several may, and none of them is done without */
     allowed = 0;
-    IS(TICURSES_OK, CALL(&session, "move 0 2 2"));
+    IS(TICURSES_OK, CALL(&session, "move 0 1 1"));
+    IS(TICURSES_OK, ticurses_move(&session, 0, 2, 1));
+    IS(TICURSES_OK, ticurses_addch(&session, 0, ticurses_cell_of('a', 0, 0)));
+    IS(TICURSES_NO_MEMORY, ticurses_newwin(&session, 2, 3, 3, 0, 0));
     IS(TICURSES_NO_MEMORY, CALL(&session, "move 0 3 3\nmove 9 0 0"));
     allowed = -1;
     IS(0, failed(&session));
@@ -526,8 +580,9 @@ static void no_memory_call(void) {
 
 int main(int argc, char **argv) {
     static void (*const parts[])(void) = {nulls,    closed,        opening,    certificates,   reasons,
-                                          refusals, lines,         questions,  strings,        output,
-                                          texts,    many_sessions, many_calls, no_memory_open, no_memory_call};
+                                          refusals, lines,         questions,  strings,        numbers,
+                                          output,   texts,         many_sessions, many_calls, no_memory_open,
+                                          no_memory_call};
     FILE *file = argc >= 2 ? fopen(argv[1], "rb") : NULL;
     if (!file) return 2;
     if (argc > 2) scale = atol(argv[2]);

@@ -35,6 +35,7 @@ class Code(enum.IntEnum):
     NO_CERTIFICATE = 24
     NO_ROOM = 25
     NULL = 26
+    BAD_CALL = 27
 
 
 TEXTS: dict[Code, str] = {
@@ -65,6 +66,7 @@ TEXTS: dict[Code, str] = {
     Code.NO_CERTIFICATE: "a string of the entry is wrong",
     Code.NO_ROOM: "the buffer is too short",
     Code.NULL: "a pointer is null",
+    Code.BAD_CALL: "the numbers are no call",
 }
 
 

@@ -2,5 +2,6 @@ mod Looses
 mod Making
 pub mod Places
 mod Reaching
+pub mod Rows
 mod Slots
 mod Openings

@@ -46,3 +46,4 @@ failure_code failures.BadEntry = pos 22
 failure_code failures.BadCertificate = pos 23
 failure_code failures.NoCertificate = pos 24
 failure_code failures.NoRoom = pos 25
+failure_code failures.BadCall = pos 27

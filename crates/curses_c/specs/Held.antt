@@ -13,10 +13,13 @@ use Rattle.cur_play.specs.Scenes.{lost_stage, scene_of}
 use Rattle.cur_play.specs.Steps.{CallStep, drawn, output_of}
 use Rattle.cur_play.specs.declared.answers.Answer.{Answer}
 use Rattle.cur_play.specs.declared.answers.Answer.TheVariants.{Done, Was, Refused, WireFailed}
-use Rattle.curses_c.specs.Codes.{answer_code, script_code}
+use Rattle.curses_c.specs.Codes.{answer_code, failure_code, script_code}
 use Rattle.curses_c.specs.Lines.{line_of}
 use Rattle.curses_c.specs.Outbox.{Posted, Posts}
+use Rattle.curses_c.specs.Requests.{call_of}
+use Rattle.curses_c.specs.declared.codes.Failure.TheVariants.{BadCall}
 use Rattle.curses_c.specs.declared.held.Held.{Held}
+use Rattle.curses_c.specs.declared.requests.Request.{Request}
 
 abbrev pub failures_of : Posted → ℕ
 failures_of o = o.failures
@@ -29,6 +32,19 @@ pub record Makes (h : Held) (call : Call) (answer : Answer) (k : Held) : Type 0 
       (drawn (certified h.session.painter.checked) (scene_of h.session) call).0.screen (output_of call) answer
       (poised (certified h.session.painter.checked) h.session call) k.session.painter
   pub certificate : k.session.painter.checked ≡ h.session.painter.checked
+
+-- one call that is no line of a text: the line that is noted stays, and the number is that of the answer
+abbrev pub MakesAlone : Call → Held → ℤ → Held → Type 0
+MakesAlone call h code k =
+    (answer : Answer) × Makes h call answer k × (k.failed ≡ h.failed) × (code ≡ answer_code answer)
+
+-- the call that numbers are, or none, and then nothing changes
+abbrev pub MakesIfCall : Option Call → Held → ℤ → Held → Type 0
+MakesIfCall (Some call) h code k = MakesAlone call h code k
+MakesIfCall None h code k = (k ≡ h) × (code ≡ failure_code BadCall)
+
+abbrev pub Does : Request → Held → ℤ → Held → Type 0
+Does request h code k = MakesIfCall (call_of request) h code k
 
 abbrev pub is_done : Answer → Bool
 is_done Done = true

@@ -6,5 +6,6 @@ pub mod Laws
 pub mod Lines
 pub mod Outbox
 pub mod Queries
+pub mod Requests
 pub mod Sessions
 pub mod Verdicts

@@ -26,6 +26,8 @@ pub enum Failure {
     NoCertificate,
     /// The caller's room is too small.
     NoRoom,
+    /// The numbers are no call.
+    BadCall,
 }
 
 /// The number of a failure.
@@ -40,6 +42,8 @@ pub fn failure_code(failure: Failure) -> i32
         Failure::BadCertificate => 23,
         Failure::NoCertificate => 24,
         Failure::NoRoom => 25,
+        // 26 is the header's own
+        Failure::BadCall => 27,
     }
 }
 

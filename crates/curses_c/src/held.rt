@@ -5,11 +5,12 @@ ghost use Rattle.cur_play.specs.Scenes.{first, scene_of};
 ghost use Rattle.ti_cert.specs.Table.{certified};
 ghost use Rattle.ti_conforms.specs.Certified.{IsChecked};
 ghost use Rattle.curses_c.specs.Codes as codes;
-ghost use Rattle.curses_c.specs.Held.{Hands, Loses, Makes, MakesUpTo, Plays, Says, fault_line, is_done, line_left, noting};
+ghost use Rattle.curses_c.specs.Held.{Does, Hands, Loses, Makes, MakesUpTo, Plays, Says, fault_line, is_done, line_left, noting};
 
-use crate::codes::{answer_code, script_code};
+use crate::codes::{Failure, answer_code, failure_code, script_code};
 use crate::lines::line_of;
 use crate::outbox::Outbox;
+use crate::requests::{Request, call_of};
 use cur_calls::{Call, Text};
 use cur_play::{Answer, Session};
 use cur_scripts::{ScriptFault, ScriptFaultKind, read_call, read_script};
@@ -70,6 +71,16 @@ impl Held {
             text: Text::new(text),
         };
         self.call(&call)
+    }
+
+    /// Does the call that `request` is, and gives the number of its answer; where it is none, that of this failure.
+    pub fn make(&mut self, request: &Request) -> i32
+        ensures { Does request.now self.old result self.new }
+    {
+        match call_of(request) {
+            Some(call) => answer_code(self.call(&call)),
+            None => failure_code(Failure::BadCall),
+        }
     }
 
     /// Does `calls` up to the first that isn't done.

@@ -10,6 +10,7 @@ mod lines;
 mod loose;
 mod outbox;
 mod queries;
+mod requests;
 mod sessions;
 mod verdicts;
 

@@ -1,16 +1,15 @@
 //! The calls on sessions.
 ghost use Rattle.std.specs.Prelude.{◌≡◌, None, IfErr, IfOk, length, pos};
 ghost use Rattle.cur_calls.specs.declared.calls.Call.TheVariants.{Addstr};
-ghost use Rattle.cur_play.specs.declared.answers.Answer.{Answer};
-ghost use Rattle.curses_c.specs.Codes.{answer_code};
 ghost use Rattle.curses_c.specs.Entries.{IsShown};
-ghost use Rattle.curses_c.specs.Held.{Loses, Makes, Says};
+ghost use Rattle.curses_c.specs.Held.{Does, Loses, MakesAlone, Says};
 ghost use Rattle.curses_c.specs.Sessions.{Answers, Fetches, IsOpened, IsOwnTable, IsTableFor, IsUnopened, LacksChecked, LacksOwn, Opens, closed};
 
 use crate::codes::{Failure, OK, answer_code, failure_code};
 use crate::entries::{Described, Subject, certificate_of, checked_by, describe};
 use crate::handles::Handle;
 use crate::held::Held;
+use crate::requests::Request;
 use std::alloc::Global;
 use ti_cert::Checked;
 
@@ -120,14 +119,28 @@ pub extern "C" fn ticurses_raw_addstr(
     window: usize,
     text: &[u8],
 ) -> i32
-    ensures { Answers closed (λ h code k. (answer : Answer) × Makes h (Addstr window text.now) answer k
-        × (k.failed ≡ h.failed) × (code ≡ answer_code answer)) (handle.old).slot.held result (handle.new).slot.held }
+    ensures { Answers closed (MakesAlone (Addstr window text.now)) (handle.old).slot.held result
+        (handle.new).slot.held }
 {
     let Some(held) = handle.take(alloc) else {
         return failure_code(Failure::Closed);
     };
     let mut held = held;
     let code = answer_code(held.addstr(window, text));
+    handle.put(held);
+    code
+}
+
+/// Does the call that the numbers of `request` are. What it sends waits to be taken.
+#[unsafe(no_mangle)]
+pub extern "C" fn ticurses_raw_make(alloc: Global, handle: &mut Handle, request: &Request) -> i32
+    ensures { Answers closed (Does request.now) (handle.old).slot.held result (handle.new).slot.held }
+{
+    let Some(held) = handle.take(alloc) else {
+        return failure_code(Failure::Closed);
+    };
+    let mut held = held;
+    let code = held.make(request);
     handle.put(held);
     code
 }
