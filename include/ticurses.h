@@ -32,10 +32,14 @@
 
 #include <errno.h>
 #include <stdarg.h>
+#ifndef __cplusplus
+#include <stdbool.h>
+#endif
 #include <stddef.h>
 #include <stdint.h>
 #include <stdio.h>
 #include <stdlib.h>
+#include <string.h>
 
 #if defined(__GNUC__)
 #define TICURSES_PRINTF(at, rest) __attribute__((__format__(__printf__, at, rest)))
@@ -70,7 +74,7 @@ enum ticurses_code {
     TICURSES_FULL = 11,             /* window numbers are 0 to 63 */
     TICURSES_NO_MEMORY = 12,        /* out of memory */
     TICURSES_IS_SCREEN = 13,        /* window 0 stays */
-    TICURSES_NO_CAP = 14,           /* the entry lacks the strings for it */
+    TICURSES_NO_CAP = 14,           /* the entry lacks the strings for it, or what it is asked for */
     TICURSES_IS_LOST = 15,          /* what the terminal shows is not known */
     TICURSES_BAD_PAIR = 16,         /* pairs are 0 to 63, pair 0 cannot be changed, and colors are 0 to 7 */
     /* and of the calls of this header */
@@ -84,8 +88,9 @@ enum ticurses_code {
     TICURSES_NO_CERTIFICATE = 24,   /* a string of the entry is wrong; ticurses_reason says which */
     TICURSES_NO_ROOM = 25,          /* the buffer is too short; nothing was written to it */
     TICURSES_NULL = 26,             /* a pointer is null, or a length is above PTRDIFF_MAX */
-    TICURSES_BAD_CALL = 27          /* the numbers are no call: no such kind, an option other than 0 and 1, or
+    TICURSES_BAD_CALL = 27,         /* the numbers are no call: no such kind, an option other than 0 and 1, or
                                      * attributes outside 0 to 255 */
+    TICURSES_BAD_NAME = 28          /* no capability of the kind has the name */
 };
 
 /* The most bytes that the lines of one call have. */
@@ -146,6 +151,12 @@ int32_t ticurses_raw_reason(const uint8_t *entry, size_t entry_len, const uint8_
                             uint16_t cols, uint8_t *room, size_t room_len, size_t *needed);
 int32_t ticurses_raw_verify(const uint8_t *entry, size_t entry_len, const uint8_t *name, size_t name_len, uint16_t rows,
                             uint16_t cols, const uint8_t *certificate, size_t certificate_len);
+int32_t ticurses_raw_string(const uint8_t *entry, size_t entry_len, const uint8_t *name, size_t name_len,
+                            const uint8_t *cap, size_t cap_len, uint8_t *room, size_t room_len, size_t *needed);
+int32_t ticurses_raw_number(const uint8_t *entry, size_t entry_len, const uint8_t *name, size_t name_len,
+                            const uint8_t *cap, size_t cap_len, uint32_t *number);
+int32_t ticurses_raw_flag(const uint8_t *entry, size_t entry_len, const uint8_t *name, size_t name_len,
+                          const uint8_t *cap, size_t cap_len, bool *is_on);
 int32_t ticurses_raw_open(ticurses *session, const uint8_t *entry, size_t entry_len, const uint8_t *name,
                           size_t name_len, uint16_t rows, uint16_t cols, const uint8_t *certificate,
                           size_t certificate_len);
@@ -202,6 +213,41 @@ static inline int ticurses_verify(const void *entry, size_t entry_len, const voi
         return TICURSES_NULL;
     return ticurses_raw_verify(ticurses_bytes(entry), entry_len, ticurses_bytes(name), name_len, rows, cols,
                                ticurses_bytes(certificate), certificate_len);
+}
+
+/* Writes the string of an entry's capability, as terminfo names it ("kcuu1"), to the room: its bytes as they stand in
+ * the entry, parameters and delays too. *needed is its length, also where that is more than the room has
+ * (TICURSES_NO_ROOM), and 0 where there is none: TICURSES_NO_CAP where the entry has no such string, TICURSES_BAD_NAME
+ * where no string capability has the name, TICURSES_BAD_ENTRY, TICURSES_NO_MEMORY (for a source text alone). */
+static inline int ticurses_string(const void *entry, size_t entry_len, const void *name, size_t name_len,
+                                  const char *cap, void *room, size_t room_len, size_t *needed) {
+    uint8_t none;
+    if (ticurses_is_bad(entry, entry_len) || ticurses_is_bad(name, name_len) || ticurses_is_bad(room, room_len) ||
+        !cap || !needed)
+        return TICURSES_NULL;
+    return ticurses_raw_string(ticurses_bytes(entry), entry_len, ticurses_bytes(name), name_len, ticurses_bytes(cap),
+                               strlen(cap), room ? (uint8_t *)room : &none, room_len, needed);
+}
+
+/* The number of an entry's capability ("colors"). Where the answer isn't TICURSES_OK, which is as above but for the
+ * room, *number stays as it is. */
+static inline int ticurses_number(const void *entry, size_t entry_len, const void *name, size_t name_len,
+                                  const char *cap, uint32_t *number) {
+    if (ticurses_is_bad(entry, entry_len) || ticurses_is_bad(name, name_len) || !cap || !number) return TICURSES_NULL;
+    return ticurses_raw_number(ticurses_bytes(entry), entry_len, ticurses_bytes(name), name_len, ticurses_bytes(cap),
+                               strlen(cap), number);
+}
+
+/* Whether an entry has a flag ("am"): *is_on becomes 0 or 1. It is never TICURSES_NO_CAP; else as for numbers. */
+static inline int ticurses_flag(const void *entry, size_t entry_len, const void *name, size_t name_len,
+                                const char *cap, int *is_on) {
+    bool found = false;
+    int code;
+    if (ticurses_is_bad(entry, entry_len) || ticurses_is_bad(name, name_len) || !cap || !is_on) return TICURSES_NULL;
+    code = ticurses_raw_flag(ticurses_bytes(entry), entry_len, ticurses_bytes(name), name_len, ticurses_bytes(cap),
+                             strlen(cap), &found);
+    if (code == TICURSES_OK) *is_on = found;
+    return code;
 }
 
 /* Opens a session. One that was open is closed if the new one opens, and stays open otherwise, so that
@@ -411,6 +457,7 @@ static inline const char *ticurses_text(int code) {
         "the buffer is too short",
         "a pointer is null",
         "the numbers are no call",
+        "no capability of the kind has the name",
     };
     return code >= 0 && code < (int)(sizeof texts / sizeof *texts) ? texts[code] : "no code of ticurses";
 }

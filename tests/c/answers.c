@@ -87,6 +87,7 @@ static long failed(ticurses *session) {
 
 static void nulls(void) {
     ticurses session = {0, 0};
+    uint32_t number;
     uint16_t one = 7, other = 8;
     ticurses_cell found = {9, 9, 9};
     size_t needed = 5;
@@ -118,6 +119,11 @@ static void nulls(void) {
     IS(TICURSES_NULL, ticurses_check(source, source_len, "vt", 2, 24, 80, NULL, 9, &needed));
     IS(TICURSES_NULL, ticurses_reason(source, source_len, "vt", 2, 24, 80, room, 9, NULL));
     IS(TICURSES_NULL, ticurses_verify(NULL, 1, NULL, 0, 24, 80, "", 0));
+    IS(TICURSES_NULL, ticurses_string(source, source_len, "vt", 2, NULL, room, 9, &needed));
+    IS(TICURSES_NULL, ticurses_string(source, source_len, "vt", 2, "el", NULL, 9, &needed));
+    IS(TICURSES_NULL, ticurses_number(NULL, 1, "vt", 2, "cols", &number));
+    IS(TICURSES_NULL, ticurses_number(source, source_len, "vt", 2, "cols", NULL));
+    IS(TICURSES_NULL, ticurses_flag(source, source_len, "vt", 2, "am", NULL));
     IS(0, ticurses_waiting(NULL));
     IS(0, ticurses_output(NULL, room, 9));
     ticurses_close(NULL);
@@ -240,6 +246,62 @@ static void reasons(void) {
     IS(0, needed);
     IS(TICURSES_NO_CERTIFICATE, ticurses_check(wrong, sizeof wrong - 1, "w", 1, 24, 80, room, 256, &needed));
     IS(0, needed);
+}
+
+static void capabilities(void) {
+    static const char text[] = "\033[K$<3>";
+    size_t needed = 9;
+    uint32_t number = 7;
+    int is_on = 7;
+    memset(room, 'z', 64);
+    IS(TICURSES_OK, ticurses_string(source, source_len, "vt", 2, "el", room, 64, &needed));
+    IS(sizeof text - 1, needed);
+    IS(0, memcmp(room, text, needed));
+    IS('z', room[needed]);
+    IS(TICURSES_NO_ROOM, ticurses_string(source, source_len, "vt", 2, "el", NULL, 0, &needed));
+    IS(sizeof text - 1, needed);
+    IS(TICURSES_NO_CAP, ticurses_string(source, source_len, "vt", 2, "kcuu1", room, 64, &needed));
+    IS(0, needed);
+    IS(TICURSES_BAD_NAME, ticurses_string(source, source_len, "none", 4, "am", room, 64, &needed));
+    IS(TICURSES_BAD_NAME, ticurses_string(source, source_len, "vt", 2, "", room, 64, &needed));
+    IS(TICURSES_BAD_ENTRY, ticurses_string(source, source_len, "none", 4, "el", room, 64, &needed));
+    IS(TICURSES_BAD_ENTRY, ticurses_string(source, source_len, NULL, 0, "el", room, 64, &needed));
+    IS(TICURSES_NO_CAP, ticurses_number(source, source_len, "vt", 2, "colors", &number));
+    IS(TICURSES_BAD_NAME, ticurses_number(source, source_len, "vt", 2, "el", &number));
+    IS(TICURSES_BAD_NAME, ticurses_flag(source, source_len, "vt", 2, "cols", &is_on));
+    IS(14, number + (uint32_t)is_on);
+    IS(TICURSES_OK, ticurses_number(source, source_len, "vt", 2, "cols", &number));
+    IS(80, number);
+    IS(TICURSES_OK, ticurses_flag(source, source_len, "vt", 2, "am", &is_on));
+    IS(1, is_on);
+    IS(TICURSES_OK, ticurses_flag(source, source_len, "xt", 2, "am", &is_on));
+    IS(0, is_on);
+    allowed = 0;
+    IS(TICURSES_NO_MEMORY, ticurses_flag(source, source_len, "vt", 2, "am", &is_on));
+    allowed = -1;
+}
+
+/* A compiled entry of two flags, a number and a string, which takes no memory. */
+static void packed_capabilities(void) {
+    /* am; cols and it; cbt and bel, of which the first is absent */
+    static const char packed[] =
+        "\032\001" "\002\000" "\002\000" "\001\000" "\002\000" "\002\000" "p\000" "\000\001" "\204\000"
+        "\377\377" "\000\000" "\007";
+    size_t needed = 9;
+    uint32_t number = 7;
+    int is_on = 7;
+    allowed = 0;
+    IS(TICURSES_OK, ticurses_string(packed, sizeof packed, NULL, 0, "bel", room, 64, &needed));
+    IS(1, needed);
+    IS(7, room[0]);
+    IS(TICURSES_NO_CAP, ticurses_string(packed, sizeof packed, NULL, 0, "cbt", room, 64, &needed));
+    IS(TICURSES_OK, ticurses_number(packed, sizeof packed, NULL, 0, "cols", &number));
+    IS(132, number);
+    IS(TICURSES_OK, ticurses_flag(packed, sizeof packed, NULL, 0, "am", &is_on));
+    IS(1, is_on);
+    IS(TICURSES_OK, ticurses_flag(packed, sizeof packed, NULL, 0, "bw", &is_on));
+    IS(0, is_on);
+    allowed = -1;
 }
 
 /* Each refusal of a call of curses. */
@@ -466,11 +528,11 @@ static void output(void) {
 }
 
 static void texts(void) {
-    for (int code = 0; code <= TICURSES_BAD_CALL; code++)
+    for (int code = 0; code <= TICURSES_BAD_NAME; code++)
         for (int other = 0; other < code; other++) IS(1, strcmp(ticurses_text(code), ticurses_text(other)) != 0);
     IS(0, strcmp("out of memory", ticurses_text(TICURSES_NO_MEMORY)));
     IS(0, strcmp("a pointer is null", ticurses_text(TICURSES_NULL)));
-    IS(0, strcmp(ticurses_text(-1), ticurses_text(TICURSES_BAD_CALL + 1)));
+    IS(0, strcmp(ticurses_text(-1), ticurses_text(TICURSES_BAD_NAME + 1)));
 }
 
 /* The turn of one session among others: what it sends is kept. */
@@ -579,10 +641,11 @@ static void no_memory_call(void) {
 }
 
 int main(int argc, char **argv) {
-    static void (*const parts[])(void) = {nulls,    closed,        opening,    certificates,   reasons,
-                                          refusals, lines,         questions,  strings,        numbers,
-                                          output,   texts,         many_sessions, many_calls, no_memory_open,
-                                          no_memory_call};
+    static void (*const parts[])(void) = {
+        nulls,    closed, opening,   certificates, reasons, capabilities, packed_capabilities,
+        refusals, lines,  questions, strings,      numbers, output,       texts,
+        many_sessions, many_calls, no_memory_open, no_memory_call,
+    };
     FILE *file = argc >= 2 ? fopen(argv[1], "rb") : NULL;
     if (!file) return 2;
     if (argc > 2) scale = atol(argv[2]);

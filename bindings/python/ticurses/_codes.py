@@ -36,6 +36,7 @@ class Code(enum.IntEnum):
     NO_ROOM = 25
     NULL = 26
     BAD_CALL = 27
+    BAD_NAME = 28
 
 
 TEXTS: dict[Code, str] = {
@@ -67,6 +68,7 @@ TEXTS: dict[Code, str] = {
     Code.NO_ROOM: "the buffer is too short",
     Code.NULL: "a pointer is null",
     Code.BAD_CALL: "the numbers are no call",
+    Code.BAD_NAME: "no capability of the kind has the name",
 }
 
 

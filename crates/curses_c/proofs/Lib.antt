@@ -4,4 +4,5 @@ pub mod Places
 mod Reaching
 pub mod Rows
 mod Slots
+mod Told
 mod Openings

@@ -40,6 +40,7 @@ script_code scripts.NoMemory = pos 12
 
 abbrev pub failure_code : Failure → ℤ
 failure_code failures.NoMemory = pos 12
+failure_code failures.NoCap = pos 14
 failure_code failures.Closed = pos 20
 failure_code failures.BadSize = pos 21
 failure_code failures.BadEntry = pos 22
@@ -47,3 +48,4 @@ failure_code failures.BadCertificate = pos 23
 failure_code failures.NoCertificate = pos 24
 failure_code failures.NoRoom = pos 25
 failure_code failures.BadCall = pos 27
+failure_code failures.BadName = pos 28

@@ -1,3 +1,4 @@
+pub mod Capabilities
 pub mod Codes
 pub mod Entries
 pub mod Handles

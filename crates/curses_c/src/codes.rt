@@ -28,6 +28,10 @@ pub enum Failure {
     NoRoom,
     /// The numbers are no call.
     BadCall,
+    /// No capability of the kind has the name.
+    BadName,
+    /// The entry has no such capability.
+    NoCap,
 }
 
 /// The number of a failure.
@@ -36,6 +40,7 @@ pub fn failure_code(failure: Failure) -> i32
 {
     match failure {
         Failure::NoMemory => 12,
+        Failure::NoCap => 14,
         Failure::Closed => 20,
         Failure::BadSize => 21,
         Failure::BadEntry => 22,
@@ -44,6 +49,7 @@ pub fn failure_code(failure: Failure) -> i32
         Failure::NoRoom => 25,
         // 26 is the header's own
         Failure::BadCall => 27,
+        Failure::BadName => 28,
     }
 }
 

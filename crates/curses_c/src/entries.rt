@@ -95,7 +95,8 @@ fn pack_failure(fault: PackFault) -> Failure
     }
 }
 
-fn source_entry(alloc: Global, text: &[u8], name: &[u8]) -> Result<Entry, Failure>
+/// The entry of a name in a source text.
+pub fn source_entry(alloc: Global, text: &[u8], name: &[u8]) -> Result<Entry, Failure>
     ensures given { IfOk result (spec.GivesNamed text.now name.now) }
     ensures lacks { IfErr result (spec.LacksNamed text.now name.now) }
 {

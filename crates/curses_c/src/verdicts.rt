@@ -116,7 +116,8 @@ fn deliver(answer: Result<Vec<u8>, Failure>, room: &mut [u8], needed: &mut usize
     }
 }
 
-fn fill(text: &[u8], room: &mut [u8]) -> i32
+/// Writes a text to the start of `room`, if it has room for it.
+pub fn fill(text: &[u8], room: &mut [u8]) -> i32
     ensures { spec.Fills text.now room.old room.new result }
 {
     if text.len() > room.len() {
