@@ -301,7 +301,7 @@ static inline int ticurses_noutrefresh(ticurses *session, size_t window) {
     return ticurses_make_plain(session, TICURSES_NOUTREFRESH, window);
 }
 
-/* Copies a window to the virtual screen, and makes the terminal show that. */
+/* Copies a window to the virtual screen, and makes the terminal show that: TICURSES_PAD_KIND. */
 static inline int ticurses_refresh(ticurses *session, size_t window) {
     return ticurses_make_plain(session, TICURSES_REFRESH, window);
 }
