@@ -1,8 +1,8 @@
 -- The fields that count, by parts, by lines and by entries; and that they are those that reading gives.
 use Rattle.std.proofs.Common.{◌≡◌, ◌≢◌, ℕ, zero, suc, ◌+◌, ◌-◌, Bool, true, false, not, ◌&&◌, ◌||◌, List, [], ◌∷◌, ◌++◌, Option, Some, None, Result, Ok, Err, refl, sym, ap, ◌∙◌, subst, arith, append-nil, append_assoc}
 use Rattle.std.specs.Prelude.{⊤, if◌then◌else◌, ◌==◌, map, cond, slice_get, slice_index_or, option_map, option_to_list}
-use Rattle.std.specs.List.{filter, filter_map, cons_option, list_any, list_all}
-use Rattle.std.proofs.lemmas.Bool.{both_ways, cond-true, cond-false, eqb-true}
+use Rattle.std.specs.List.{filter, cons_option, list_any, list_all}
+use Rattle.std.proofs.lemmas.Bool.{cond-true, cond-false, eqb-true}
 use Rattle.std.proofs.lemmas.Bool.Decides.{nat_tests}
 use Rattle.std.proofs.lemmas.List.Elements.{filter_agree}
 use Rattle.std.proofs.lemmas.Option.{slice_get-map}
@@ -23,9 +23,9 @@ use Rattle.ti_source.specs.declared.types.RawEntry.{RawEntry}
 use Rattle.ti_source.specs.declared.types.SourceFault.{SourceFault}
 use Rattle.ti_source.specs.Blocks.{further_lines, is_held, with_line, with_lines, with_part}
 use Rattle.ti_source.specs.Escapes.{Decoding, decoding_of}
-use Rattle.ti_source.specs.Fields.{◌>>=◌, cap_of, is_cap, is_told, repeats, is_use, flag_reading, number_reading, decoded_reading, string_reading, known_reading, named_reading, marked_reading, split_reading, is_skipped, trimmed_reading, reading_of, is_long, bounded_reading, ended_reading, with_said, with_reading, add_field, add_last, add_fields, add_cut, is_no_name, new_entry, named_entry, open_names, begun_by, entry_on}
+use Rattle.ti_source.specs.Fields.{◌>>=◌, cap_of, is_cap, is_told, repeats, is_use, flag_reading, number_reading, decoded_reading, string_reading, known_reading, named_reading, marked_reading, split_reading, is_skipped, reading_of, is_long, bounded_reading, ended_reading, with_said, with_reading, add_field, add_last, add_fields, add_cut, is_no_name, new_entry, named_entry, open_names, begun_by, entry_on}
 use Rattle.ti_source.specs.Layout.{Cut, Marked, cut_of, is_white, lines_of, marked_in, put_field, skip_white, trim_end}
-use Rattle.ti_source.specs.Lines.{Blocks, LinesAreOfFields, after_names, begin_block, begins_entry, blocks_from, caps_of_lines, caps_of_raw, field_line, field_lines_of, firsts, is_further, is_same, line_blocks, lined_of, marked_line, named_line, no_blocks, onto_blocks, part_line, part_lines, split_line, trimmed_line}
+use Rattle.ti_source.specs.Lines.{Blocks, LinesAreOfFields, after_names, begin_block, begins_entry, blocks_from, caps_of_lines, caps_of_raw, field_line, field_lines_of, firsts, is_further, is_same, line_blocks, lined_of, marked_line, named_line, onto_blocks, part_line, part_lines, split_line}
 use Rattle.ti_source.specs.Numbers.{number_of}
 use Rattle.ti_source.specs.Source.{Progress, all_of, begins_white, begun, continued, fault_at, is_passed, lines_behind, no_progress, read_line, read_lines, source_of}
 use Rattle.ti_source.proofs.Spellings.{choose}

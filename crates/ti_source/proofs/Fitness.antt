@@ -33,7 +33,7 @@ use Rattle.ti_source.specs.Source.{Progress, all_of, is_comment, is_passed, begi
 use Rattle.ti_source.proofs.Decodings.{either_way}
 
 -- what holds of each answer that is no fault
-abbrev OnAnswer : {A E : Type 0} → (A → Type 0) → Result A E → Type 0
+abbrev pub OnAnswer : {A E : Type 0} → (A → Type 0) → Result A E → Type 0
 OnAnswer P (Ok x) = P x
 OnAnswer P (Err e) = Unit {0}
 
@@ -41,7 +41,7 @@ onward : {A B : Type 0} (P : A → Type 0) (Q : B → Type 0) (r : Result A Faul
 onward P Q (Ok x) f p q = q x p
 onward P Q (Err e) f p q = tt
 
-chosen : {A : Type 0} (P : A → Type 0) (t : Bool) (x y : A) → (t ≡ true → P x) → (t ≡ false → P y) → P (if t then x else y)
+pub chosen : {A : Type 0} (P : A → Type 0) (t : Bool) (x y : A) → (t ≡ true → P x) → (t ≡ false → P y) → P (if t then x else y)
 chosen P true x y p q = p refl
 chosen P false x y p q = q refl
 
@@ -243,7 +243,7 @@ fields_fit : (line : ℕ) (raw : RawEntry) (parts : List (List ℕ)) → IsRaw r
 fields_fit line raw [] h = h
 fields_fit line raw (part ∷ parts) h = onward IsRaw IsRaw (add_field line raw part) (λ next. add_fields line next parts) (field_fits line raw part h) (λ next k. fields_fit line next parts k)
 
-cut_fits : (line : ℕ) (raw : RawEntry) (cut : Cut) → IsRaw raw → OnAnswer IsRaw (add_cut line raw cut)
+pub cut_fits : (line : ℕ) (raw : RawEntry) (cut : Cut) → IsRaw raw → OnAnswer IsRaw (add_cut line raw cut)
 unfolding add_cut
 cut_fits line raw cut h = onward IsRaw IsRaw (add_fields line raw cut.ended) (λ next. add_last next cut.last) (fields_fit line raw cut.ended h) (λ next k. last_fits next cut.last k)
 
@@ -300,7 +300,7 @@ begun_by_fits number line (names ∷ parts) last h comment white =
     onward IsRaw IsRaw (named_entry number names) (λ raw. add_cut number raw (record { ended = parts; last = last })) (named_entry_fits number names line h.0 h.1 comment white)
     (λ raw k. cut_fits number raw (record { ended = parts; last = last }) k)
 
-entry_fits : (number : ℕ) (line : List ℕ) → is_comment line ≡ false → begins_white line ≡ false → OnAnswer IsRaw (entry_on number line)
+pub entry_fits : (number : ℕ) (line : List ℕ) → is_comment line ≡ false → begins_white line ≡ false → OnAnswer IsRaw (entry_on number line)
 unfolding entry_on cut_of
 entry_fits number line comment white = begun_by_fits number line (cut_of line).ended (cut_of line).last (front_fits Nothing line) comment white
 

@@ -15,3 +15,5 @@ pub mod Relations
 pub mod Just
 pub mod FieldLines
 pub mod StringBack
+pub mod Stretching
+pub mod Fitting

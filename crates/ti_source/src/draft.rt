@@ -46,7 +46,7 @@ fn cap_of(field: &Field) -> Option<Cap>
 
 impl Draft {
     /// An entry without fields.
-    fn new(alloc: Global, line: u32, names: &[u8]) -> Result<Draft, AllocError>
+    pub(crate) fn new(alloc: Global, line: u32, names: &[u8]) -> Result<Draft, AllocError>
         ensures { IfOk result (λ draft. draft ≡ new_entry line names.now) }
     {
         let entry = RawEntry {

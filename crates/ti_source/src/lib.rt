@@ -1,6 +1,7 @@
 //! terminfo source text: reading, printing, and the escapes of its strings, terminfo(5).
 #![tactic(auto)]
 
+mod apart;
 mod draft;
 mod escapes;
 mod hints;
@@ -12,6 +13,7 @@ mod printer;
 mod source;
 mod types;
 
+pub use apart::{Apart, read_apart, whole_is_together};
 pub use escapes::{EscapeFault, unescape};
 pub use hints::{Hint, percent_carets};
 pub use lines::{FieldLine, field_lines, field_lines_are_of_fields};

@@ -58,7 +58,7 @@ fn part_line(line: usize, part: &[u8]) -> Option<FieldLine>
     }
 }
 
-fn begins_entry(line: &[u8]) -> bool
+pub(crate) fn begins_entry(line: &[u8]) -> bool
     ensures { result ≡ begins_entry line.now }
 {
     !is_passed(line) && !begins_white(line)

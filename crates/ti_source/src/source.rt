@@ -13,7 +13,7 @@ use crate::types::{FaultKind, RawEntry, SourceFault};
 use std::alloc::{AllocError, Global};
 
 /// The most bytes that a source text has.
-const MAX_SOURCE: usize = 16_777_216;
+pub(crate) const MAX_SOURCE: usize = 16_777_216;
 
 /// The entries that are whole, and the one that further lines may belong to.
 #[derive(Drop)]
