@@ -12,6 +12,7 @@ use Rattle.ti_caps.proofs.Entries.{bare_has_none}
 use Rattle.ti_source.specs.declared.types.Field.{Field}
 use Rattle.ti_source.specs.declared.types.Field.TheVariants.{Set, Cancel, Include}
 use Rattle.ti_source.specs.declared.types.RawEntry.{RawEntry}
+use Rattle.ti_source.specs.Fitting.{FieldsFit}
 use Rattle.ti_source.specs.Raw.{FitsField, IsRaw}
 use Rattle.ti_resolve.specs.Uses.{fields_at, fields_in, names_at, names_in_entry, first_about, is_about, value_given}
 use Rattle.ti_resolve.specs.Fills.{Filled, fields_of_all, take_fields, take_field, start}
@@ -22,14 +23,19 @@ all_at P [] i x all is = cc
 all_at P (y ∷ ys) zero x all is = let same : y ≡ x = cc in subst P same all.0
 all_at P (y ∷ ys) (suc i) x all is = all_at P ys i x all.1 is
 
-fits_in : (raws : List RawEntry) (place : ℕ) (o : Option RawEntry) → AllByRecursion IsRaw raws → slice_get raws place ≡ o → AllByRecursion FitsField (fields_in o)
+fits_in : (raws : List RawEntry) (place : ℕ) (o : Option RawEntry) → AllByRecursion FieldsFit raws → slice_get raws place ≡ o → AllByRecursion FitsField (fields_in o)
 fits_in raws place None all is = tt
-fits_in raws place (Some raw) all is = (all_at IsRaw raws place raw all is).fields
+fits_in raws place (Some raw) all is = all_at FieldsFit raws place raw all is
 
 -- the fields of an entry fit, where each entry's do
-pub fields_fit : (raws : List RawEntry) (place : ℕ) → AllByRecursion IsRaw raws → AllByRecursion FitsField (fields_at raws place)
+pub fields_fit : (raws : List RawEntry) (place : ℕ) → AllByRecursion FieldsFit raws → AllByRecursion FitsField (fields_at raws place)
 unfolding fields_at
 fields_fit raws place all = fits_in raws place (slice_get raws place) all refl
+
+-- the fields of entries that can be made entries fit
+pub raws_fields : (raws : List RawEntry) → AllByRecursion IsRaw raws → AllByRecursion FieldsFit raws
+raws_fields [] all = tt
+raws_fields (raw ∷ raws) all = (all.0.fields, raws_fields raws all.1)
 
 -- rows for each capability
 pub record IsSized (so_far : Filled) : Type 0 where

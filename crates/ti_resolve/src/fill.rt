@@ -3,7 +3,8 @@
 ghost use Rattle.std.specs.Prelude.{◌≡◌, ◌<◌, Bool, false, List, ℕ, Some, IfOk, OnOk, length, replicate, slice_index_or, slice_set, true, IsTrue};
 ghost use Rattle.std.specs.List.{All, AllByRecursion};
 ghost use Rattle.ti_caps.specs.Entry.{FitsPlace, with_value};
-ghost use Rattle.ti_source.specs.Raw.{FitsField, IsRaw};
+ghost use Rattle.ti_source.specs.Fitting.{FieldsFit};
+ghost use Rattle.ti_source.specs.Raw.{FitsField};
 ghost use Rattle.ti_resolve.specs.Fills.{Filled, fields_of_all, take_fields, take_field, start};
 ghost use Rattle.ti_caps.specs.Fits.{names_fit};
 
@@ -84,7 +85,7 @@ fn take_entries(
     places: &[usize],
 ) -> Result<(), AllocError>
     requires sized { length decided.old ≡ 497 }
-    requires fit { AllByRecursion IsRaw raws.now }
+    requires fit { AllByRecursion FieldsFit raws.now }
     ensures { OnOk result (record { entry = entry.new; decided = decided.new } ≡
         take_fields (record { entry = entry.old; decided = decided.old }) (fields_of_all raws.now places.now)) }
 {
@@ -102,7 +103,7 @@ pub(crate) fn filled(
     places: &[usize],
 ) -> Result<Entry, AllocError>
     requires names { IsTrue (names_fit names.now) }
-    requires fit { AllByRecursion IsRaw raws.now }
+    requires fit { AllByRecursion FieldsFit raws.now }
     ensures { IfOk result (λ entry. entry ≡ (take_fields (start names.now) (fields_of_all raws.now places.now)).entry) }
 {
     let mut entry = Entry::new(alloc, names)?;

@@ -11,6 +11,7 @@ mod walk;
 pub use faults::ResolveFault;
 pub use origins::Origin;
 pub use resolution::{
-    answers_once, expands_once, faults_are_so, faults_from_are_so, origin, origin_at, resolve,
-    resolve_at, resolved_at_once, resolved_once, walks_resolve,
+    answers_once, entered_from, expands_once, faults_are_so, faults_from_are_so, origin, origin_at,
+    origin_from, resolve, resolve_at, resolve_from, resolved_at_once, resolved_once, walks_resolve,
 };
+pub use search::Index;

@@ -1,8 +1,11 @@
 //! An entry with all that it uses.
 
-ghost use Rattle.std.specs.Prelude.{◌≡◌, ◌<◌, [], Some, IfOk, MatchResult, IsOk, length};
+ghost use Rattle.std.specs.Prelude.{◌≡◌, ◌<◌, [], Some, IfOk, IsTrue, MatchResult, IsOk, length};
 ghost use Rattle.std.specs.List.{AllByRecursion};
+ghost use Rattle.ti_caps.specs.Fits.{names_fit};
+ghost use Rattle.ti_source.specs.Fitting.{FieldsFit};
 ghost use Rattle.ti_source.specs.Raw.{IsRaw};
+ghost use Rattle.ti_resolve.specs.Uses.{names_at};
 ghost use Rattle.ti_resolve.specs.Faults.{AnswersOnce, FaultsAreSo, FaultsFromAreSo, WalksResolve};
 ghost use Rattle.ti_resolve.specs.Origins.{GivesValue, GivesValueAt, IsOrigin, IsOriginAt};
 ghost use Rattle.ti_resolve.specs.Resolved.{ExpandsOnce, IsResolved, IsResolvedAt, ResolvedAtOnce, ResolvedOnce};
@@ -17,8 +20,12 @@ use std::alloc::Global;
 use ti_caps::{Cap, Entry};
 use ti_source::RawEntry;
 
-/// The places of the entries that the walk from the one at `root` enters, in that order.
-fn entered_from(alloc: Global, index: &Index<'_>, root: usize) -> Result<Vec<usize>, ResolveFault>
+/// The places of the entries that the walk from the one at `root` enters, in that order: the entry itself and all that
+/// it uses.
+///
+/// # Errors
+/// The first fault that is met on the way, or out of memory.
+pub fn entered_from(alloc: Global, index: &Index<'_>, root: usize) -> Result<Vec<usize>, ResolveFault>
     requires { root < length index.now.raws.now }
     ensures { Gives (λ places. places.items) result (walk_at index.now.raws.now root) }
 {
@@ -32,9 +39,14 @@ fn entered_from(alloc: Global, index: &Index<'_>, root: usize) -> Result<Vec<usi
     Ok(entered)
 }
 
-/// The entry at the place `root`, in entries with their index.
-fn resolve_from(alloc: Global, index: &Index<'_>, root: usize) -> Result<Entry, ResolveFault>
-    requires fit { AllByRecursion IsRaw index.now.raws.now }
+/// The entry at the place `root`, as `resolve_at` gives it, in entries with their index: it serves where many entries
+/// of one source are resolved. Only the names of this entry must fit one.
+///
+/// # Errors
+/// The first fault that is met on the way, or out of memory.
+pub fn resolve_from(alloc: Global, index: &Index<'_>, root: usize) -> Result<Entry, ResolveFault>
+    requires fit { AllByRecursion FieldsFit index.now.raws.now }
+    requires names { IsTrue (names_fit (names_at index.now.raws.now root)) }
     requires range { root < length index.now.raws.now }
     ensures entry { IfOk result (λ entry. IsResolvedAt index.now.raws.now root entry) }
     ensures walk { MatchResult result (λ _. IsOk (walk_at index.now.raws.now root))
@@ -51,6 +63,7 @@ fn resolve_from(alloc: Global, index: &Index<'_>, root: usize) -> Result<Entry, 
 }
 
 /// The entry that `name` asks for, in entries with their index.
+#[tactic(auto, using(crate::proofs::Taken::raws_fields, crate::proofs::Taken::names_fit_at))]
 fn resolve_in(alloc: Global, index: &Index<'_>, name: &[u8]) -> Result<Entry, ResolveFault>
     requires { AllByRecursion IsRaw index.now.raws.now }
     ensures entry { IfOk result (λ entry. IsResolved index.now.raws.now name.now entry) }
@@ -63,8 +76,11 @@ fn resolve_in(alloc: Global, index: &Index<'_>, name: &[u8]) -> Result<Entry, Re
     }
 }
 
-/// Where the value of `cap` stands in the entry at the place `root`, in entries with their index.
-fn origin_from(
+/// Where the value of `cap` stands in the entry at the place `root`, as `origin_at` says it, in entries with their index.
+///
+/// # Errors
+/// The first fault that is met on the way, or out of memory.
+pub fn origin_from(
     alloc: Global,
     index: &Index<'_>,
     root: usize,
@@ -121,6 +137,7 @@ pub fn resolve(alloc: Global, raws: &[RawEntry], name: &[u8]) -> Result<Entry, R
 ///
 /// # Errors
 /// The first fault that is met on the way, or out of memory.
+#[tactic(auto, using(crate::proofs::Taken::raws_fields, crate::proofs::Taken::names_fit_at))]
 pub fn resolve_at(alloc: Global, raws: &[RawEntry], place: usize) -> Result<Entry, ResolveFault>
     requires fit { AllByRecursion IsRaw raws.now }
     requires range { place < length raws.now }

@@ -78,14 +78,19 @@ fn places_of(alloc: Global, raws: &[RawEntry]) -> Result<BTreeMap<&[u8], usize>,
 /// It is made in N log N comparisons of names, N being the number of names, and then a name is found
 /// in log N.
 #[derive(Drop)]
-pub(crate) struct Index<'r> {
-    pub(crate) raws: &'r [RawEntry],
+pub struct Index<'r> {
+    /// The entries.
+    pub raws: &'r [RawEntry],
     places: BTreeMap<&'r [u8], usize>,
     ghost indexed: { IsIndexOf raws.now places },
 }
 
 impl<'r> Index<'r> {
-    pub(crate) fn new(alloc: Global, raws: &'r [RawEntry]) -> Result<Self, AllocError>
+    /// The index of `raws`.
+    ///
+    /// # Errors
+    /// Out of memory.
+    pub fn new(alloc: Global, raws: &'r [RawEntry]) -> Result<Self, AllocError>
         ensures { IfOk result (λ index. index.raws.now ≡ raws.now) }
     {
         let places = places_of(alloc, raws)?;

@@ -2,13 +2,12 @@ use Rattle.std.proofs.Common.{◌∙◌, sym, ap, subst}
 use Rattle.std.specs.Prelude.{IsTrue}
 use Rattle.ti_caps.specs.Fits.{names_fit}
 use Rattle.ti_resolve.specs.Fills.{fields_of_all, take_fields, start}
-use Rattle.ti_resolve.proofs.Taken.{names_fit_at}
 use Rattle.ti_resolve.proofs.Whole.{resolved_is}
 use Rattle.ti_resolve.proofs.resolution.resolve_from.Goals as goal
 
 pub filled-requires-clause-names : goal.filled-requires-clause-names
 filled-requires-clause-names c =
-    subst (λ names. IsTrue (names_fit names)) (sym c.names_of.ensures) (names_fit_at c.args.index.now.raws.now c.args.root c.requires.fit c.requires.range)
+    subst (λ names. IsTrue (names_fit names)) (sym c.names_of.ensures) c.requires.names
 
 pub returns-clause-entry : goal.returns-clause-entry
 returns-clause-entry c =
