@@ -21,7 +21,7 @@ from specs import CRATES, block_at, crates_listed, files_of, read
 PARTS = [
     ("The program", ["ticurses", "ti_arguments", "ti_requests", "cur_commands", "ti_reports", "ti_surveys", "ti_verdicts", "ti_commands", "ti_hints", "ti_words"]),
     ("For programs", ["curses", "hello", "curses_c"]),
-    ("Descriptions", ["ti_resolve", "ti_source", "ti_compiled", "ti_caps", "ti_parm", "ti_reach"]),
+    ("Descriptions", ["ti_entries", "ti_resolve", "ti_source", "ti_compiled", "ti_caps", "ti_parm", "ti_reach"]),
     ("The terminal", ["vt_effects", "vt_states", "vt_term", "vt_screen", "grids"]),
     ("Certificates", ["ti_faults", "ti_checker", "ti_cert", "ti_lines", "ti_conforms", "ti_rows"]),
     ("Windows", ["cur_laws", "cur_pads", "cur_windows", "cur_screens", "cur_drawing"]),
