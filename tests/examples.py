@@ -97,6 +97,10 @@ FILES = {
     "uses": b"x|x, use=y, use=z,\ny|y, el@,\nz|z, el=\\E[K, am,\n",
     "loop": b"a|a, use=b,\nb|b, use=a,\n",
     "unknown_use": b"a|a, use=q,\n",
+    # an entry that can't be read, and what uses it, before and behind it and with names that no comma ends
+    "unread": b"u|uses it, use=b,\nb|one of two,\n\tcols#80,\n\tlines#8x,\n" + MINI + b"b|the other, am,\nv|as well,\n\tuse=u,\n"
+    b"o|open\nw|of that, use=o,\nl|last, use=gone, use=b,\n",
+    "unread_front": b"\n# none\n\tam,\n" + MINI,
     "deep": chain(64, "am"),
     "too_deep": chain(65, "am"),
     "deep_loop": chain(64, "use=e0"),
@@ -417,8 +421,17 @@ RUNS += [
         ["survey", "24", "80", "samples", "even.out", "wide.out", "even_short", "wrong_kind", "unknown_use"],
         0,
         "mini yes\nvt yes\nxt yes\nxc yes\na no clear: Absent\na no clear: Absent\neven_short refused: Short\n"
-        "wrong_kind refused: line 1: WrongKind\na refused: NoSuchEntry q\n"
+        "a refused: line 1: WrongKind\na refused: NoSuchEntry q\n"
         "total 9, yes 4, Absent 2, refused 3\n",
+        "",
+    ),
+    (
+        ["survey", "24", "80", "unread", "unread_front"],
+        0,
+        "u refused: line 4: BadNumber\nb refused: line 4: BadNumber\nmini yes\nb no clear: Absent\n"
+        "v refused: line 4: BadNumber\no refused: line 10: OpenField\nw refused: line 10: OpenField\n"
+        "l refused: NoSuchEntry gone\nunread_front refused: line 3: NoName\n"
+        "total 9, yes 1, Absent 1, refused 7\n",
         "",
     ),
     (["survey", "24", "80", "absent", "mini"], 3, "mini yes\ntotal 1, yes 1\n", "file: absent\n"),

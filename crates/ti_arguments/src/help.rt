@@ -394,9 +394,11 @@ Each FILE is a source file, of which all entries are checked in their order, or 
   NAME yes                   there is a certificate
   NAME no CAP P..: CAUSE     there is none; `ticurses check --help` explains each CAUSE
   NAME refused: KIND         the entry can't be had; `ticurses tic --help` explains each KIND
-A FILE with a fault of its own has one line, `FILE refused: KIND`; a source without entries has none. A byte outside 32 to
-126 of a name is a backslash and three octal digits. The last line is the number of the lines before it, and then how many
-got each answer.
+Each entry of a source is read by itself, from a line that begins in column one up to the next. One that can't be read, and
+one that uses it, has the line `NAME refused: line N: KIND`; the others are checked. A FILE with a fault of its own has one
+line, `FILE refused: KIND`: a compiled file, or a source that is too long or has a fault before its first entry. A source
+without entries has none. A byte outside 32 to 126 of a name is a backslash and three octal digits. The last line is the
+number of the lines before it, and then how many got each answer.
 
 With --all an entry that has no certificate has a line `NAME no CAP P..: CAUSE` for each of its faults, those that
 `ticurses check --all` lists. For each of them whose value stands in a source FILE, standard error has the line

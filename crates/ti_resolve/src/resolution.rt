@@ -25,7 +25,11 @@ use ti_source::RawEntry;
 ///
 /// # Errors
 /// The first fault that is met on the way, or out of memory.
-pub fn entered_from(alloc: Global, index: &Index<'_>, root: usize) -> Result<Vec<usize>, ResolveFault>
+pub fn entered_from(
+    alloc: Global,
+    index: &Index<'_>,
+    root: usize,
+) -> Result<Vec<usize>, ResolveFault>
     requires { root < length index.now.raws.now }
     ensures { Gives (λ places. places.items) result (walk_at index.now.raws.now root) }
 {

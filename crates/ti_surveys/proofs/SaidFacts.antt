@@ -1,16 +1,17 @@
 -- What is said of each item of a list, one after another.
 use Rattle.std.proofs.Common.{◌≡◌, ◌<◌, ℕ, zero, suc, ◌+◌, List, [], ◌∷◌, ◌++◌, length, take, get_or, Option, Some, None, Result, refl, sym, ap, subst, ◌∙◌, inl, inr, append_assoc, add-one, arith}
 use Rattle.std.specs.List.{range_with_len}
-use Rattle.std.specs.Prelude.{slice_get}
+use Rattle.std.specs.Prelude.{map, slice_get}
 use Rattle.std.proofs.lemmas.List.{append-nil}
 use Rattle.ti_caps.specs.Entry.{Content}
+use Rattle.ti_source.specs.Apart.{Alone, IsApart}
 use Rattle.ti_source.specs.declared.types.RawEntry.{RawEntry}
-use Rattle.ti_commands.specs.Findings.{ResolvesAt}
+use Rattle.ti_source.specs.declared.types.SourceFault.{SourceFault}
 use Rattle.ti_commands.specs.Contents.{Held}
 use Rattle.ti_commands.specs.Words.{texts_of}
 use Rattle.ti_commands.specs.declared.failure.Failure.{Failure}
 use Rattle.ti_commands.specs.declared.failure.CommandRefusal.{CommandRefusal}
-use Rattle.ti_surveys.specs.Lines.{IsSourcePart, IsTold, Refusing, Saying}
+use Rattle.ti_surveys.specs.Lines.{IsSourcePart, IsTold, Refusing, ResolvesApart, Saying}
 use Rattle.ti_verdicts.specs.Locations.{first_name}
 use Rattle.ti_surveys.specs.Surveys.{EndsPath, EndsPaths, HasLines, MayHaveLines, OfFile, first_failure}
 use Rattle.ti_surveys.specs.Told.{IsToldOfEach, Told, followed_by, nothing}
@@ -101,9 +102,18 @@ ends_step Are held now words n d told own more failure later both l same spelled
 
 -- ---- lines
 
-pub source_part_of : (Says : Saying) (Refuses : Refusing) (path text : List ℕ) (raws : List RawEntry) (place : ℕ) (raw : RawEntry) (entry : Result Content CommandRefusal) (names name : List ℕ) (said : Told) → slice_get raws place ≡ Some raw → names ≡ raw.names
-    → name ≡ first_name names → ResolvesAt raws place entry → IsTold Says Refuses entry path (Some (record { path = path; text = text; raws = raws; place = place })) name said → IsSourcePart Says Refuses path text raws place said
-source_part_of Says Refuses path text raws place raw entry names name said there a b r t = record {
+map_length : {X Y : Type 0} (f : X → Y) (xs : List X) → length (map f xs) ≡ length xs
+map_length f [] = refl
+map_length f (x ∷ xs) = ap suc (map_length f xs)
+
+-- there is a fault or none beside each entry
+pub faults_beside : (text : List ℕ) (raws : List RawEntry) (faults : List (Option SourceFault)) → IsApart text raws faults → length faults ≡ length raws
+faults_beside text raws faults apart =
+    ap length apart.faults_are ∙ (map_length (λ (one : Alone). one.fault) apart.ones ∙ sym (ap length apart.raws_are ∙ map_length (λ (one : Alone). one.raw) apart.ones))
+
+pub source_part_of : (Says : Saying) (Refuses : Refusing) (path text : List ℕ) (raws : List RawEntry) (faults : List (Option SourceFault)) (place : ℕ) (raw : RawEntry) (entry : Result Content CommandRefusal) (names name : List ℕ) (said : Told) → slice_get raws place ≡ Some raw → names ≡ raw.names
+    → name ≡ first_name names → ResolvesApart raws faults place entry → IsTold Says Refuses entry path (Some (record { path = path; text = text; raws = raws; place = place })) name said → IsSourcePart Says Refuses path text raws faults place said
+source_part_of Says Refuses path text raws faults place raw entry names name said there a b r t = record {
   raw = raw;
   there = there;
   entry = entry;

@@ -3,3 +3,4 @@ pub mod Answers
 pub mod Surveys
 pub mod Told
 pub mod Lines
+pub mod Faultless

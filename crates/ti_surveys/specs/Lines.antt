@@ -1,15 +1,20 @@
 -- The lines of a survey: what is said of each entry of a file, in order.
-use Rattle.std.specs.Prelude.{◌≡◌, ◌⊎◌, ◌==◌, ◌&&◌, ◌||◌, ℕ, Bool, true, false, List, [], ◌∷◌, Option, Some, None, Result, Ok, Err, length, slice_get}
+use Rattle.std.specs.Prelude.{◌≡◌, ◌≢◌, ◌⊎◌, ◌==◌, ◌&&◌, ◌||◌, ℕ, Bool, true, false, List, ◌∷◌, Option, Some, None, Result, Ok, Err, length, slice_get}
 use Rattle.std.specs.List.{range_with_len}
 use Rattle.ti_caps.specs.Entry.{Content}
 use Rattle.ti_compiled.specs.Contents.{read_of}
 use Rattle.ti_compiled.specs.declared.types.PackFault.{PackFault}
-use Rattle.ti_source.specs.Source.{source_of}
+use Rattle.ti_entries.specs.Resolution.{IsResolvedApart, IsUnread}
+use Rattle.ti_resolve.specs.Walk.{walk_at}
+use Rattle.ti_resolve.specs.declared.faults.ResolveFault.TheVariants as resolve_faults
+use Rattle.ti_source.specs.Apart.{IsApart, apart_of}
+use Rattle.ti_source.specs.Source.{FailsBy}
+use Rattle.ti_source.specs.declared.types.FaultKind.TheVariants as fault_kinds
 use Rattle.ti_source.specs.declared.types.RawEntry.{RawEntry}
-use Rattle.ti_commands.specs.Findings.{FitsTo, IsSourceFailure, ResolvesAt}
-use Rattle.ti_commands.specs.declared.failure.Failure.TheVariants.{Refused}
+use Rattle.ti_source.specs.declared.types.SourceFault.{SourceFault}
+use Rattle.ti_commands.specs.Findings.{FitsTo}
 use Rattle.ti_commands.specs.declared.failure.CommandRefusal.{CommandRefusal}
-use Rattle.ti_commands.specs.declared.failure.CommandRefusal.TheVariants.{Pack}
+use Rattle.ti_commands.specs.declared.failure.CommandRefusal.TheVariants.{Pack, Resolve, Source}
 use Rattle.ti_commands.specs.Refusals.{refusal_text_of}
 use Rattle.ti_surveys.specs.Told.{IsToldOfEach, Told}
 use Rattle.ti_verdicts.specs.Locations.{PlaceInSource, first_name}
@@ -35,13 +40,22 @@ abbrev pub IsTold : Saying → Refusing → Result Content CommandRefusal → Li
 IsTold Says Refuses (Ok entry) path stands name told = Says path stands name entry told
 IsTold Says Refuses (Err refusal) path stands name told = IsLack Refuses refusal path (Some name) told
 
+-- the entry at a place of a text whose entries are read one by one, or why it can't be had: it or one that it uses can't be
+-- read, or it can't be resolved
+abbrev pub ResolvesApart : List RawEntry → List (Option SourceFault) → ℕ → Result Content CommandRefusal → Type 0
+ResolvesApart raws faults place (Ok entry) = IsResolvedApart raws faults place entry
+ResolvesApart raws faults place (Err (Source fault)) = IsUnread raws faults place fault
+ResolvesApart raws faults place (Err (Resolve fault)) =
+    (walk_at raws place ≡ Err fault) × (fault ≢ resolve_faults.NoMemory)
+ResolvesApart raws faults place (Err _) = ⊥
+
 -- of an entry of a source text by its place, whatever other entries have its names
-pub record IsSourcePart (Says : Saying) (Refuses : Refusing) (path text : List ℕ) (raws : List RawEntry) (place : ℕ)
-    (said : Told) : Type 0 where
+pub record IsSourcePart (Says : Saying) (Refuses : Refusing) (path text : List ℕ) (raws : List RawEntry)
+    (faults : List (Option SourceFault)) (place : ℕ) (said : Told) : Type 0 where
   pub raw : RawEntry
   pub there : slice_get raws place ≡ Some raw
   pub entry : Result Content CommandRefusal
-  pub resolves : ResolvesAt raws place entry
+  pub resolves : ResolvesApart raws faults place entry
   pub told : IsTold Says Refuses entry path (Some (record { path = path; text = text; raws = raws; place = place }))
       (first_name raw.names) said
 
@@ -71,17 +85,19 @@ pub record IsFaultyFile (Refuses : Refusing) (path bytes : List ℕ) (said : Tol
   pub faulty : read_of bytes ≡ Err fault
   pub told : IsLack Refuses (Pack fault) path None said
 
--- the entries of a source text
+-- the entries of a source text, each read by itself
 pub record HasEntries (Says : Saying) (Refuses : Refusing) (path bytes : List ℕ) (said : Told) : Type 0 where
   pub raws : List RawEntry
-  pub reads : source_of bytes ≡ Ok raws
-  pub each : IsToldOfEach (IsSourcePart Says Refuses path bytes raws) (range_with_len 0 (length raws)) said
+  pub faults : List (Option SourceFault)
+  pub reads : IsApart bytes raws faults
+  pub each : IsToldOfEach (IsSourcePart Says Refuses path bytes raws faults) (range_with_len 0 (length raws)) said
 
--- or it has a fault
+-- or it is too long, or has a fault before the first of them
 pub record LacksEntries (Refuses : Refusing) (path bytes : List ℕ) (said : Told) : Type 0 where
-  pub refusal : CommandRefusal
-  pub faulty : IsSourceFailure bytes (Refused refusal)
-  pub told : IsLack Refuses refusal path None said
+  pub fault : SourceFault
+  pub faulty : FailsBy fault.kind fault (apart_of bytes)
+  pub claims : fault.kind ≢ fault_kinds.NoMemory
+  pub told : IsLack Refuses (Source fault) path None said
 
 abbrev pub AreLinesBy : Bool → Saying → Refusing → List ℕ → List ℕ → Told → Type 0
 AreLinesBy true Says Refuses path bytes said =

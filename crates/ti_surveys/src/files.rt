@@ -2,7 +2,8 @@
 
 ghost use Rattle.std.specs.Prelude.{◌≡◌, ◌≢◌, ◌<◌, IfOk, IfSome, OnOk, Some, false, length, option_map, slice_get, true};
 ghost use Rattle.std.specs.List.{AllByRecursion, range_with_len};
-ghost use Rattle.ti_source.specs.Raw.{IsRaw};
+ghost use Rattle.ti_source.specs.Apart.{IsApart};
+ghost use Rattle.ti_source.specs.Fitting.{FieldsFit, NamesFit};
 ghost use Rattle.ti_surveys.specs.Lines as spec;
 ghost use Rattle.ti_verdicts.specs.Locations.{place_if};
 ghost use Rattle.ti_surveys.specs.Told.{IsToldOfEach, told_of};
@@ -12,10 +13,12 @@ use crate::speakers::{FileEntry, Speaker};
 use crate::watchers::Watcher;
 use std::alloc::{AllocError, Global};
 use ti_caps::Entry;
-use ti_commands::{CommandRefusal, entry_at, refusal_words, unpacked_entry};
+use ti_commands::{CommandRefusal, refusal_words, unpacked_entry};
 use ti_compiled::{Packed, decode};
+use ti_entries::{ApartFault, resolve_apart};
 use ti_hints::hint_entries;
-use ti_source::{FaultKind, RawEntry, read};
+use ti_resolve::{Index, ResolveFault};
+use ti_source::{Apart, FaultKind, RawEntry, SourceFault, read_apart};
 use ti_verdicts::{SourcePlace, first_name};
 use ti_words::Remarks;
 
@@ -92,12 +95,12 @@ fn text_lines<S: Speaker, W: Watcher>(
     ensures { IfOk result (λ said. spec.AreLinesBy false (S.says speaker.now) (S.refuses speaker.now)
         path.now bytes.now (told_of said)) }
 {
-    match read(alloc, bytes) {
-        Ok(raws) => {
+    match read_apart(alloc, bytes) {
+        Ok(apart) => {
             if speaker.hints() {
-                hint_entries(alloc, path, bytes, raws.as_slice(), remarks);
+                hint_entries(alloc, path, bytes, apart.raws.as_slice(), remarks);
             }
-            source_lines(alloc, speaker, path, bytes, raws.as_slice(), watcher)
+            apart_lines(alloc, speaker, path, bytes, &apart, watcher)
         }
         Err(fault) => {
             must_claim(fault.kind)?;
@@ -122,53 +125,117 @@ fn must_claim(kind: FaultKind) -> Result<(), AllocError>
     }
 }
 
-/// What is said of the entries `raws` of the source `text` at `path`, in order.
-fn source_lines<S: Speaker, W: Watcher>(
+/// A source text whose entries were read one by one.
+#[derive(Drop)]
+struct SourceEntries<'a> {
+    path: &'a str,
+    text: &'a [u8],
+    /// The entries by their names and places.
+    index: Index<'a>,
+    /// For each entry why it can't be read, if it can't.
+    faults: &'a [Option<SourceFault>],
+}
+
+/// What is said of the entries `apart` of the source `text` at `path`, in order.
+#[tactic(auto, using(crate::proofs::SaidFacts::faults_beside))]
+fn apart_lines<S: Speaker, W: Watcher>(
     alloc: Global,
     speaker: &S,
     path: &str,
     text: &[u8],
-    raws: &[RawEntry],
+    apart: &Apart,
     watcher: &mut W,
 ) -> Result<Said, AllocError>
-    requires { AllByRecursion IsRaw raws.now }
-    ensures { IfOk result (λ said. IsToldOfEach
-        (spec.IsSourcePart (S.says speaker.now) (S.refuses speaker.now) path.now text.now raws.now)
-        (range_with_len 0 (length raws.now)) (told_of said)) }
+    requires reads { IsApart text.now apart.now.raws.items apart.now.faults.items }
+    requires fit { AllByRecursion FieldsFit apart.now.raws.items }
+    requires names { NamesFit apart.now.raws.items apart.now.faults.items }
+    ensures { IfOk result (λ said. spec.HasEntries (S.says speaker.now) (S.refuses speaker.now)
+        path.now text.now (told_of said)) }
 {
+    let source = SourceEntries {
+        path,
+        text,
+        index: Index::new(alloc, apart.raws.as_slice())?,
+        faults: apart.faults.as_slice(),
+    };
+    source_lines(alloc, speaker, &source, watcher)
+}
+
+/// What is said of the entries of `source`, in order.
+fn source_lines<S: Speaker, W: Watcher>(
+    alloc: Global,
+    speaker: &S,
+    source: &SourceEntries<'_>,
+    watcher: &mut W,
+) -> Result<Said, AllocError>
+    requires fit { AllByRecursion FieldsFit source.now.index.raws.now }
+    requires names { NamesFit source.now.index.raws.now source.now.faults.now }
+    requires beside { length source.now.faults.now ≡ length source.now.index.raws.now }
+    ensures { IfOk result (λ said. IsToldOfEach
+        (spec.IsSourcePart (S.says speaker.now) (S.refuses speaker.now) source.now.path.now source.now.text.now
+        source.now.index.raws.now source.now.faults.now)
+        (range_with_len 0 (length source.now.index.raws.now)) (told_of said)) }
+{
+    let raws = source.index.raws;
     let mut said = Said::new(alloc);
     for place in 0..raws.len() {
         let name = first_name(raw_at(raws, place).names.as_slice());
         watcher.begins(place, raws.len(), name);
-        let stands = SourcePlace {
-            path,
-            text,
-            raws,
-            place,
-        };
-        let own = source_part(alloc, speaker, stands)?;
+        let own = source_part(alloc, speaker, source, place)?;
         said.add(&own)?;
     }
     Ok(said)
 }
 
-/// What is said of the entry of a source text that `stands` there.
+/// What is said of the entry at `place` of `source`.
 fn source_part<S: Speaker>(
     alloc: Global,
     speaker: &S,
-    stands: SourcePlace<'_>,
+    source: &SourceEntries<'_>,
+    place: usize,
 ) -> Result<Said, AllocError>
-    requires read { AllByRecursion IsRaw stands.raws.now }
-    requires there { stands.place < length stands.raws.now }
+    requires fit { AllByRecursion FieldsFit source.now.index.raws.now }
+    requires names { NamesFit source.now.index.raws.now source.now.faults.now }
+    requires beside { length source.now.faults.now ≡ length source.now.index.raws.now }
+    requires there { place < length source.now.index.raws.now }
     ensures { IfOk result (λ said. spec.IsSourcePart (S.says speaker.now) (S.refuses speaker.now)
-        stands.entry.path.now stands.entry.text.now stands.entry.raws.now stands.entry.place
+        source.now.path.now source.now.text.now source.now.index.raws.now source.now.faults.now place
         (told_of said)) }
 {
-    let path = stands.path;
-    let raw = raw_at(stands.raws, stands.place);
-    let entry = entry_at(alloc, stands.raws, stands.place)?;
+    let raws = source.index.raws;
+    let raw = raw_at(raws, place);
+    let entry = entry_apart(alloc, &source.index, source.faults, place)?;
     let name = first_name(raw.names.as_slice());
-    entry_lines(alloc, speaker, path, &Some(stands), name, &entry)
+    let stands = Some(SourcePlace {
+        path: source.path,
+        text: source.text,
+        raws,
+        place,
+    });
+    entry_lines(alloc, speaker, source.path, &stands, name, &entry)
+}
+
+/// The entry at `place`, or why it can't be had.
+fn entry_apart(
+    alloc: Global,
+    index: &Index<'_>,
+    faults: &[Option<SourceFault>],
+    place: usize,
+) -> Result<Result<Entry, CommandRefusal>, AllocError>
+    requires fit { AllByRecursion FieldsFit index.now.raws.now }
+    requires names { NamesFit index.now.raws.now faults.now }
+    requires there { place < length index.now.raws.now }
+    requires beside { length faults.now ≡ length index.now.raws.now }
+    ensures { IfOk result (λ entry. spec.ResolvesApart index.now.raws.now faults.now place entry) }
+{
+    match resolve_apart(alloc, index, faults, place) {
+        Ok(entry) => Ok(Ok(entry)),
+        Err(ApartFault::Unread(fault)) => Ok(Err(CommandRefusal::Source(fault))),
+        Err(ApartFault::Unresolved(fault)) => match fault {
+            ResolveFault::NoMemory => Err(AllocError),
+            other => Ok(Err(CommandRefusal::Resolve(other))),
+        },
+    }
 }
 
 /// The entry at `place` in `raws`, as it was read.

@@ -3,12 +3,14 @@
 
 mod asked;
 mod files;
+mod laws;
 mod lines;
 mod said;
 mod speakers;
 mod surveys;
 mod watchers;
 
+pub use laws::faultless_is_whole;
 pub use said::Said;
 pub use speakers::{FileEntry, Speaker};
 pub use surveys::{Surveyed, survey_files, survey_paths};

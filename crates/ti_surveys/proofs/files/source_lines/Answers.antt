@@ -5,10 +5,10 @@ use Rattle.ti_surveys.proofs.files.source_lines.Goals as goal
 
 pub loop-place-init : goal.loop-place-init
 loop-place-init g c =
-    said_of_none (spec.IsSourcePart (g.S.Speaker.says c.args.speaker.now) (g.S.Speaker.refuses c.args.speaker.now) c.args.path.now c.args.text.now c.args.raws.now) (told_of c.new-said.result) c.new-said.ensures
+    said_of_none (spec.IsSourcePart (g.S.Speaker.says c.args.speaker.now) (g.S.Speaker.refuses c.args.speaker.now) c.args.source.now.path.now c.args.source.now.text.now c.args.source.now.index.raws.now c.args.source.now.faults.now) (told_of c.new-said.result) c.new-said.ensures
 
 -- the lines of the next entry follow those so far
 pub loop-place-preserved : goal.loop-place-preserved
 loop-place-preserved g c =
-    said_step (spec.IsSourcePart (g.S.Speaker.says c.args.speaker.now) (g.S.Speaker.refuses c.args.speaker.now) c.args.path.now c.args.text.now c.args.raws.now) c.loop-place.place
+    said_step (spec.IsSourcePart (g.S.Speaker.says c.args.speaker.now) (g.S.Speaker.refuses c.args.speaker.now) c.args.source.now.path.now c.args.source.now.text.now c.args.source.now.index.raws.now c.args.source.now.faults.now) c.loop-place.place
     (told_of c.loop-place.said) (told_of c.in_ok-own.own) (told_of c.add.new.self) c.in_ok-add.ensures c.loop-place.invariant c.in_ok-own.ensures

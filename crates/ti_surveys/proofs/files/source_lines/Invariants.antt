@@ -6,4 +6,4 @@ use Rattle.ti_surveys.proofs.files.source_lines.Given as goal
 -- the entries before this one have their lines
 abbrev pub invariant-loop-place : goal.invariant-loop-place
 invariant-loop-place g l =
-    IsToldOfEach (spec.IsSourcePart (g.S.Speaker.says l.speaker) (g.S.Speaker.refuses l.speaker) l.path l.text l.raws) (range_with_len 0 l.place) (told_of l.said)
+    IsToldOfEach (spec.IsSourcePart (g.S.Speaker.says l.speaker) (g.S.Speaker.refuses l.speaker) l.source.path.now l.source.text.now l.source.index.raws.now l.source.faults.now) (range_with_len 0 l.place) (told_of l.said)
