@@ -2,7 +2,8 @@
 -- "Cursor Motions").
 use Rattle.std.specs.Prelude.{ℕ, ◌+◌, ◌^◌, ◌<◌, ◌≤◌, ◌≡◌, true, length, Option, Some, None}
 use Rattle.ti_rows.specs.declared.rows.Row.{Row}
-use Rattle.ti_rows.specs.declared.rows.Row.TheVariants.{Cup, Home, Cr, Hpa, Vpa, Cub1, Cuf1, Cuu1, Cud1, Cub, Cuf, Cuu, Cud}
+use Rattle.ti_rows.specs.declared.rows.Row.TheVariants.{Cup, Home, Cr, Hpa, Vpa, Cub1, Cuf1, Cuu1, Cud1, Cub, Cuf, Cuu}
+use Rattle.ti_rows.specs.declared.rows.Row.TheVariants.{Cud}
 use Rattle.ti_conforms.specs.Certified.{Table, has, text_of}
 use Rattle.cur_steps.specs.declared.beliefs.Place.{Place}
 

@@ -4,7 +4,8 @@ ghost use Rattle.ti_conforms.specs.Certified.{IsChecked, text_of};
 ghost use Rattle.cur_steps.specs.declared.beliefs.Place.{Place};
 ghost use Rattle.cur_moves.specs.Moves.{Moves, IsAtMost, IsWay};
 ghost use Rattle.ti_rows.specs.declared.rows.Row.{Row};
-ghost use Rattle.ti_rows.specs.declared.rows.Row.TheVariants.{Cup, Home, Cr, Hpa, Vpa, Cub1, Cuf1, Cuu1, Cud1, Cub, Cuf, Cuu, Cud};
+ghost use Rattle.ti_rows.specs.declared.rows.Row.TheVariants.{Cup, Home, Cr, Hpa, Vpa, Cub1, Cuf1, Cuu1, Cud1, Cub};
+ghost use Rattle.ti_rows.specs.declared.rows.Row.TheVariants.{Cuf, Cuu, Cud};
 
 use cur_steps::Place;
 use ti_conforms::Certificate;

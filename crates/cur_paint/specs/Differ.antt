@@ -1,5 +1,6 @@
 -- In how many places two screens differ.
-use Rattle.std.specs.Prelude.{ℕ, ◌+◌, ◌<◌, ◌≤◌, ◌≡◌, Bool, false, if◌then◌else◌, zero, suc, List, length, slice_index_or}
+use Rattle.std.specs.Prelude.{ℕ, ◌+◌, ◌<◌, ◌≤◌, ◌≡◌, Bool, false, if◌then◌else◌, zero, suc, List, length}
+use Rattle.std.specs.Prelude.{slice_index_or}
 use Rattle.cur_steps.specs.Inks.{same}
 use Rattle.cur_steps.specs.declared.inks.Ink.{Ink}
 use Rattle.cur_moves.specs.declared.scrolls.Scroll.{Scroll}

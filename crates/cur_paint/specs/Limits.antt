@@ -1,5 +1,6 @@
 -- Where the cursor is wanted, and the most that is sent.
-use Rattle.std.specs.Prelude.{ℕ, ◌+◌, ◌-◌, ◌*◌, ◌<◌, ◌≡◌, ◌==◌, ◌&&◌, Bool, Option, Some, None, length, min, if◌then◌else◌}
+use Rattle.std.specs.Prelude.{ℕ, ◌+◌, ◌-◌, ◌*◌, ◌<◌, ◌≡◌, ◌==◌, ◌&&◌, Bool, Option, Some, None, length, min}
+use Rattle.std.specs.Prelude.{if◌then◌else◌}
 use Rattle.ti_conforms.specs.Certified.{Table, cell_limit}
 use Rattle.cur_steps.specs.Beliefs.{moves, changes, modes_limit, plain_limit}
 use Rattle.cur_steps.specs.declared.beliefs.Belief.{Belief}

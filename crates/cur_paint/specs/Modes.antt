@@ -29,8 +29,8 @@ pub record IsPainted (t : Table) (bytes : List ℕ) : Type 0 where
   pub made : bytes ≡ concat pieces
   pub each : AllByRecursion (IsPaint t) pieces
 
--- A text begins with the bytes `first`, paints, sends the `strings` that set the cursor's mode, and then paints again, in
--- at most `limit` bytes.
+-- A text begins with the bytes `first`, paints, sends the `strings` that set the cursor's mode, and then paints again,
+-- in at most `limit` bytes.
 pub record PaintsAround (t : Table) (limit : ℕ) (first strings bytes : List ℕ) : Type 0 where
   pub front : List ℕ
   pub back : List ℕ
@@ -40,7 +40,7 @@ pub record PaintsAround (t : Table) (limit : ℕ) (first strings bytes : List �
   pub short : length back ≤ limit
 
 -- A refresh sends nothing that wasn't asked for: it begins with these bytes (first), and then it paints. The strings
--- that show the cursor in the mode that is wanted go out once, none if it is known to be shown so (now), and no more than
--- the move to the cursor's place goes out after them.
+-- that show the cursor in the mode that is wanted go out once, none if it is known to be shown so (now), and no more
+-- than the move to the cursor's place goes out after them.
 abbrev pub OnlyPaints : Table → List ℕ → Option Mode → Option Place → Mode → List ℕ → Type 0
 OnlyPaints t first now cursor m bytes = PaintsAround t (move_limit t cursor) first (mode_text t now m) bytes

@@ -3,7 +3,8 @@ ghost use Rattle.std.specs.Prelude.{◌≡◌, ◌≤◌, true, false, Some, OnO
 ghost use Rattle.ti_conforms.specs.Certified.{IsChecked, cell_limit};
 ghost use Rattle.cur_steps.specs.Beliefs.{Agrees, CanHide};
 ghost use Rattle.cur_steps.specs.Steps.{Acts, Keeps};
-ghost use Rattle.cur_paint.specs.Limits.{IsWithin, IsPlaced, cursor_limit, last_move, paint_limit, renewal_limit, rest_limit};
+ghost use Rattle.cur_paint.specs.Limits.{IsWithin, IsPlaced, cursor_limit, last_move, paint_limit, renewal_limit};
+ghost use Rattle.cur_paint.specs.Limits.{rest_limit};
 ghost use Rattle.cur_paint.specs.Modes.{move_limit};
 ghost use Rattle.cur_paint.specs.Rests.{IsAt, IsRested};
 ghost use Rattle.cur_paint.specs.Scenes.{IsPaintable, Renews, Sets, all_changed, scene};
@@ -38,8 +39,8 @@ fn is_in_place(now: Place, cols: usize, cursor: Option<Place>) -> bool
     }
 }
 
-/// Whether nothing is to be sent from a known state: no cell differs, and the cursor is where `wanted` says and is shown
-/// so.
+/// Whether nothing is to be sent from a known state: no cell differs, and the cursor is where `wanted` says and is
+/// shown so.
 pub(crate) fn is_still<C: Certificate, O: Picture, N: Picture, D: Changes>(
     screens: &Screens<'_, C, O, N>,
     belief: Belief,

@@ -3,7 +3,8 @@ ghost use Rattle.std.specs.Prelude.{◌≡◌};
 ghost use Rattle.cur_wires.specs.Wire.{Sends};
 ghost use Rattle.ti_conforms.specs.Certified.{text_of};
 ghost use Rattle.cur_paint.specs.declared.updates.Status.TheVariants.{Lost};
-ghost use Rattle.cur_paint.specs.Finish.{Finishes, end_text, finish_text, from_cnorm_text, from_cup_text, from_rmacs_text};
+ghost use Rattle.cur_paint.specs.Finish.{Finishes, end_text, finish_text, from_cnorm_text, from_cup_text};
+ghost use Rattle.cur_paint.specs.Finish.{from_rmacs_text};
 
 use crate::updates::{Knowledge, Status};
 use cur_wires::{Wire, WireFault, send_all};

@@ -5,7 +5,8 @@ ghost use Rattle.ti_conforms.specs.Certified.{IsChecked};
 ghost use Rattle.cur_steps.specs.Inks.{blank_ink};
 ghost use Rattle.cur_paint.specs.Blanks.{IsBlankFrom};
 ghost use Rattle.cur_paint.specs.Differ.{IsSameOutside};
-ghost use Rattle.cur_paint.specs.Scenes.{IsBlankPast, IsIdle, IsPaintable, IsSamePast, MendsAll, MendsBelow, MendsFrom, MendsLine, all_changed, changed_from, line_changed, scene};
+ghost use Rattle.cur_paint.specs.Scenes.{IsBlankPast, IsIdle, IsPaintable, IsSamePast, MendsAll, MendsBelow, MendsFrom};
+ghost use Rattle.cur_paint.specs.Scenes.{MendsLine, all_changed, changed_from, line_changed, scene};
 
 use crate::changes::{Changes, Columns};
 use crate::parts::{are_blank, mend_parts};

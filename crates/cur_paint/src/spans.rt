@@ -3,7 +3,8 @@ ghost use Rattle.std.specs.Prelude.{◌≡◌, ◌+◌, ◌*◌, ◌<◌, ◌≤
 ghost use Rattle.cur_steps.specs.Gaps.{IsAlike};
 ghost use Rattle.cur_steps.specs.declared.inks.Ink.{Ink};
 ghost use Rattle.cur_paint.specs.Differ.{differs, span, IsSameBy};
-ghost use Rattle.cur_paint.specs.Scenes.{AreInked, IsIdle, IsOn, IsPaintable, IsShort, MendsCell, MendsCells, changed, scene};
+ghost use Rattle.cur_paint.specs.Scenes.{AreInked, IsIdle, IsOn, IsPaintable, IsShort, MendsCell, MendsCells, changed};
+ghost use Rattle.cur_paint.specs.Scenes.{scene};
 
 use crate::screens::Screens;
 use cur_moves::{Target, goes_on, line_bytes, print_text, put_cell};

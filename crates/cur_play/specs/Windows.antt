@@ -9,11 +9,14 @@ use Rattle.cur_windows.specs.Desks.{State, DeskStep, on_cursor, on_grid, on_wind
 use Rattle.cur_windows.specs.Creations as make
 use Rattle.cur_pads.specs.Creations as pads
 use Rattle.cur_calls.specs.declared.calls.Call.{Call}
-use Rattle.cur_calls.specs.declared.calls.Call.TheVariants.{Newwin, Newpad, Part, Dupwin, Plain, Number, Numbers, Flag, Attributes, Cell, Addstr, Line, DrawBorder, DrawBox, Lay, Copywin, Show, ShowPad, Screen, CursSet, InitPair}
+use Rattle.cur_calls.specs.declared.calls.Call.TheVariants.{Newwin, Newpad, Part, Dupwin, Plain, Number, Numbers, Flag}
+use Rattle.cur_calls.specs.declared.calls.Call.TheVariants.{Attributes, Cell, Addstr, Line, DrawBorder, DrawBox, Lay}
+use Rattle.cur_calls.specs.declared.calls.Call.TheVariants.{Copywin, Show, ShowPad, Screen, CursSet, InitPair}
 use Rattle.cur_calls.specs.declared.groups.PartCall.{PartCall}
 use Rattle.cur_calls.specs.declared.groups.PartCall.TheVariants.{Subwin, Derwin, Subpad}
 use Rattle.cur_calls.specs.declared.groups.PlainCall.{PlainCall}
-use Rattle.cur_calls.specs.declared.groups.PlainCall.TheVariants.{Delwin, Delch, Insertln, Deleteln, Clrtoeol, Clrtobot, Erase, Clear, Touchwin}
+use Rattle.cur_calls.specs.declared.groups.PlainCall.TheVariants.{Delwin, Delch, Insertln, Deleteln, Clrtoeol, Clrtobot}
+use Rattle.cur_calls.specs.declared.groups.PlainCall.TheVariants.{Erase, Clear, Touchwin}
 use Rattle.cur_calls.specs.declared.groups.NumberCall.{NumberCall}
 use Rattle.cur_calls.specs.declared.groups.NumberCall.TheVariants.{Scroll, ColorSet}
 use Rattle.cur_calls.specs.declared.groups.NumbersCall.{NumbersCall}

@@ -1,5 +1,6 @@
 -- What is believed of the terminal, and when a state agrees with it.
-use Rattle.std.specs.Prelude.{ℕ, ◌+◌, ◌-◌, ◌<◌, ◌≤◌, ◌≡◌, ◌⊎◌, ◌==◌, ◌&&◌, nat_le, min, Bool, true, false, Option, Some, None, if◌then◌else◌, List, [], ◌++◌}
+use Rattle.std.specs.Prelude.{ℕ, ◌+◌, ◌-◌, ◌<◌, ◌≤◌, ◌≡◌, ◌⊎◌, ◌==◌, ◌&&◌, nat_le, min, Bool, true, false, Option, Some}
+use Rattle.std.specs.Prelude.{None, if◌then◌else◌, List, [], ◌++◌}
 use Rattle.vt_term.specs.Grid.{look_at}
 use Rattle.vt_term.specs.Screen.{State, IsOfSize, is_graphic}
 use Rattle.ti_rows.specs.declared.rows.Row.{Row}

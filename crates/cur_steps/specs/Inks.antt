@@ -1,5 +1,6 @@
 -- What is put into a place of the screen: a character, the set it is of, its attributes and colours; and how it looks.
-use Rattle.std.specs.Prelude.{ℕ, ◌≡◌, ◌==◌, ◌&&◌, ◌||◌, nat_le, nat_lt, Bool, true, false, Option, Some, None, if◌then◌else◌}
+use Rattle.std.specs.Prelude.{ℕ, ◌≡◌, ◌==◌, ◌&&◌, ◌||◌, nat_le, nat_lt, Bool, true, false, Option, Some, None}
+use Rattle.std.specs.Prelude.{if◌then◌else◌}
 use Rattle.vt_term.specs.Color.{Color, color_number}
 use Rattle.vt_term.specs.Look.{Look, Rendition, IsPrinted}
 use Rattle.ti_rows.specs.declared.rows.Attributes.{Attributes}

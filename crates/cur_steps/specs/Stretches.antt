@@ -6,7 +6,8 @@ use Rattle.cur_steps.specs.declared.inks.Ink.{Ink}
 
 -- the first n of a line's cells from one on are printed in the set and the brush of a column, and have these characters
 abbrev pub AreLike : (ℕ → ℕ → Ink) → Cells → ℕ → ℕ → List ℕ → Type 0
-AreLike g s like n text = (k : ℕ) → k < n → byte_as (g s.row (s.from + k)) (g s.row like) ≡ Some (slice_index_or text k 0)
+AreLike g s like n text = (k : ℕ) → k < n
+    → byte_as (g s.row (s.from + k)) (g s.row like) ≡ Some (slice_index_or text k 0)
 
 -- n is the number of those before the first one that isn't, or before the end of the cells or of the room for text
 pub record IsTextLike (g : ℕ → ℕ → Ink) (s : Cells) (like n : ℕ) (text : List ℕ) : Type 0 where

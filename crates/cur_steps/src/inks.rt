@@ -83,8 +83,8 @@ pub trait Picture {
         n
     }
 
-    /// Notes in `shown`, for each cell of `stretch`, whether it is printed like `ink` with the character that `text` has
-    /// for it.
+    /// Notes in `shown`, for each cell of `stretch`, whether it is printed like `ink` with the character that `text`
+    /// has for it.
     fn shows_text(&self, stretch: Cells, ink: Ink, text: &[u8], shown: &mut [bool])
         requires within { stretch.from + stretch.count ≤ 1000 }
         requires text { stretch.count ≤ length text.now }

@@ -2,7 +2,8 @@
 ghost use Rattle.std.specs.Prelude.{◌≡◌, ◌*◌, ℕ, true, false, Some, OnOk};
 ghost use Rattle.ti_rows.specs.declared.rows.Row.TheVariants.{Civis, Cnorm, Cvvis};
 ghost use Rattle.ti_conforms.specs.Certified.{IsChecked, has, text_of};
-ghost use Rattle.cur_steps.specs.Beliefs.{CanHide, Hidden, Normal, Prominent, changes, mode_text, modes_limit, setting_text};
+ghost use Rattle.cur_steps.specs.Beliefs.{CanHide, Hidden, Normal, Prominent, changes, mode_text, modes_limit};
+ghost use Rattle.cur_steps.specs.Beliefs.{setting_text};
 ghost use Rattle.cur_steps.specs.Steps.{KeepsBy};
 
 use crate::beliefs::{Belief, Mode};

@@ -62,8 +62,8 @@ fn is_beside(bytes: &[u8], other: &[u8]) -> bool
     begins_with(bytes, other) || ends_with(bytes, other)
 }
 
-/// Which set is active behind `bytes`, if that is known, where `before` is known of the set before them. One SGR changes
-/// none, and beside the string for the plain set it leaves that one.
+/// Which set is active behind `bytes`, if that is known, where `before` is known of the set before them. One SGR
+/// changes none, and beside the string for the plain set it leaves that one.
 pub(crate) fn set_behind<C: Certificate>(
     checked: &C,
     bytes: &[u8],

@@ -1,6 +1,7 @@
 -- How a cell of the virtual screen is printed on a terminal (X/Open Curses Issue 7, "Attributes", "Color Manipulation";
 -- terminfo(5), "Line Graphics").
-use Rattle.std.specs.Prelude.{ℕ, ◌≡◌, ◌==◌, ◌&&◌, ◌+◌, ◌<◌, nat_lt, not, Bool, false, Option, Some, None, if◌then◌else◌, bit_and, List, slice_index_or}
+use Rattle.std.specs.Prelude.{ℕ, ◌≡◌, ◌==◌, ◌&&◌, ◌+◌, ◌<◌, nat_lt, not, Bool, false, Option, Some, None, if◌then◌else◌}
+use Rattle.std.specs.Prelude.{bit_and, List, slice_index_or}
 use Rattle.vt_term.specs.Color.{Color, color}
 use Rattle.ti_rows.specs.declared.rows.Attributes.{Attributes}
 use Rattle.ti_rows.specs.declared.rows.Row.TheVariants.{Op, Smacs}
@@ -100,7 +101,8 @@ pub record IsPlainLike (c d : Content) (byte : ℕ) : Type 0 where
   pub pair : c.pair ≡ d.pair
   pub plain : has_bit c.attrs 128 ≡ false
 
--- (Serves the code alone.) the first n of a line's cells from a column on are like another one, and have these characters
+-- (Serves the code alone.) the first n of a line's cells from a column on are like another one, and have these
+-- characters
 abbrev pub ArePlainLike : List Content → ℕ → ℕ → ℕ → List ℕ → Type 0
 ArePlainLike line from like n text = (k : ℕ) → k < n
     → IsPlainLike (slice_index_or line (from + k) space) (slice_index_or line like space) (slice_index_or text k 0)

@@ -62,7 +62,8 @@ impl<'a, C: Certificate> Shift<'a, C> {
         requires marked { AreSame marks.now (self.now.shown.now).grid (self.now.screen.now).grid }
         ensures order { result.from ≤ result.end }
         ensures within { result.end ≤ cols }
-        ensures same { (old new : ℕ → ℕ → Ink) → IsShift (C.table self.now.checked.now) (C.partners self.now.checked.now)
+        ensures same { (old new : ℕ → ℕ → Ink)
+            → IsShift (C.table self.now.checked.now) (C.partners self.now.checked.now)
             self.now.shown.now self.now.screen.now self.now.same_pairs old new
             → AreAlikeOutside old new row row result.from result.end cols }
     {
@@ -86,7 +87,8 @@ impl<'a, C: Certificate> Shift<'a, C> {
         requires marked { AreSame marks.now (self.now.shown.now).grid (self.now.screen.now).grid }
         ensures order { result.from ≤ result.end }
         ensures within { result.end ≤ rows }
-        ensures same { (old new : ℕ → ℕ → Ink) → IsShift (C.table self.now.checked.now) (C.partners self.now.checked.now)
+        ensures same { (old new : ℕ → ℕ → Ink)
+            → IsShift (C.table self.now.checked.now) (C.partners self.now.checked.now)
             self.now.shown.now self.now.screen.now self.now.same_pairs old new
             → AreSameOutside old new result.from result.end rows cols }
     {

@@ -263,8 +263,9 @@ pub(crate) fn plain_byte(cells: &[Cell], at: usize, like: usize) -> Option<u8>
     is_plain_like(cell, cells[like]).then_some(cell.byte())
 }
 
-/// How many of the cells of `stretch` of a line come before the first one that isn't of the plain set with the attributes
-/// and the pair of the cell in the column `like`; no more than there is room for in `text`, which gets their characters.
+/// How many of the cells of `stretch` of a line come before the first one that isn't of the plain set with the
+/// attributes and the pair of the cell in the column `like`; no more than there is room for in `text`, which gets their
+/// characters.
 pub(crate) fn plain_text(line: &[Cell], stretch: Cells, like: usize, text: &mut [u8]) -> usize
     requires like { like < length line.now }
     requires within { stretch.from + stretch.count ≤ length line.now }

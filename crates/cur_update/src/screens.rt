@@ -114,8 +114,8 @@ impl<'a, C: Certificate> Picture for PrintedScreen<'a, C> {
 }
 
 impl<'a, C: Certificate> PrintedScreen<'a, C> {
-    /// How many cells of `stretch` are known by their numbers to come before the first one that isn't printed in the set
-    /// and the brush of the column `like`. `text` gets their characters.
+    /// How many cells of `stretch` are known by their numbers to come before the first one that isn't printed in the
+    /// set and the brush of the column `like`. `text` gets their characters.
     fn plain_start(&self, stretch: Cells, like: usize, text: &mut [u8]) -> usize
         requires within { stretch.from + stretch.count ≤ 1000 }
         ensures within { result ≤ stretch.count }
@@ -132,8 +132,8 @@ impl<'a, C: Certificate> PrintedScreen<'a, C> {
         plain_text(self.screen.row(stretch.row as u16), stretch, like, text)
     }
 
-    /// Whether a cell of the screen is printed like `ink` with the character `byte`. `is_plain_ink` says whether that has
-    /// no attributes and default colours.
+    /// Whether a cell of the screen is printed like `ink` with the character `byte`. `is_plain_ink` says whether that
+    /// has no attributes and default colours.
     #[inline(always)]
     fn shows_cell(&self, cell: Cell, byte: u8, ink: Ink, is_plain_ink: bool) -> bool
         requires { is_plain_ink ≡ same blank_ink (record ink { byte = 32 }) }

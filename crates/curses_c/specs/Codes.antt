@@ -3,7 +3,10 @@ use Rattle.std.specs.Prelude.{ℤ, pos}
 use Rattle.cur_scripts.specs.declared.faults.ScriptFaultKind.{ScriptFaultKind}
 use Rattle.cur_scripts.specs.declared.faults.ScriptFaultKind.TheVariants as scripts
 use Rattle.cur_drawing.specs.declared.refusals.Refusal.{Refusal}
-use Rattle.cur_drawing.specs.declared.refusals.Refusal.TheVariants.{NoWindow, OutOfWindow, OutOfScreen, HasChildren, IsSub, PadKind, NoScroll, BadRegion, NumberUsed, BadCell, Full, NoMemory, IsScreen, NoCap, IsLost, BadPair}
+use Rattle.cur_drawing.specs.declared.refusals.Refusal.TheVariants.{NoWindow, OutOfWindow, OutOfScreen, HasChildren}
+use Rattle.cur_drawing.specs.declared.refusals.Refusal.TheVariants.{IsSub, PadKind, NoScroll, BadRegion, NumberUsed}
+use Rattle.cur_drawing.specs.declared.refusals.Refusal.TheVariants.{BadCell, Full, NoMemory, IsScreen, NoCap, IsLost}
+use Rattle.cur_drawing.specs.declared.refusals.Refusal.TheVariants.{BadPair}
 use Rattle.cur_play.specs.declared.answers.Answer.{Answer}
 use Rattle.cur_play.specs.declared.answers.Answer.TheVariants.{Done, Was, Refused, WireFailed}
 use Rattle.curses_c.specs.declared.codes.Failure.{Failure}

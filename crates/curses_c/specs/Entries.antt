@@ -34,7 +34,8 @@ use Rattle.ti_source.specs.declared.types.FaultKind.TheVariants as sources
 use Rattle.ti_source.specs.declared.types.SourceFault.{SourceFault}
 use Rattle.ti_source.specs.declared.types.RawEntry.{RawEntry}
 use Rattle.curses_c.specs.declared.codes.Failure.{Failure}
-use Rattle.curses_c.specs.declared.codes.Failure.TheVariants.{NoMemory, BadSize, BadEntry, BadCertificate, NoCertificate}
+use Rattle.curses_c.specs.declared.codes.Failure.TheVariants.{NoMemory, BadSize, BadEntry, BadCertificate}
+use Rattle.curses_c.specs.declared.codes.Failure.TheVariants.{NoCertificate}
 
 -- a compiled file
 abbrev pub GivesPacked : List ℕ → Content → Type 0

@@ -1,11 +1,14 @@
 -- The calls that numbers are, as include/ticurses.h fills them (X/Open Curses Issue 7): one table, by their kinds.
-use Rattle.std.specs.Prelude.{ℕ, ℤ, pos, negsuc, ◌==◌, ◌&&◌, nat_le, List, [], ◌∷◌, ◌++◌, Option, Some, None, option_map, if◌then◌else◌}
+use Rattle.std.specs.Prelude.{ℕ, ℤ, pos, negsuc, ◌==◌, ◌&&◌, nat_le, List, [], ◌∷◌, ◌++◌, Option, Some, None}
+use Rattle.std.specs.Prelude.{option_map, if◌then◌else◌}
 use Rattle.cur_drawing.specs.Calls.{default_border}
 use Rattle.cur_drawing.specs.declared.cells.Attrs.{Attrs}
 use Rattle.cur_drawing.specs.declared.puts.Border.{Border}
 use Rattle.cur_drawing.specs.declared.puts.Put.{Put}
 use Rattle.cur_calls.specs.declared.calls.Call.{Call}
-use Rattle.cur_calls.specs.declared.calls.Call.TheVariants.{Newwin, Newpad, Part, Dupwin, Plain, Number, Numbers, Flag, Attributes, Cell, Line, DrawBorder, DrawBox, Lay, Copywin, Show, ShowPad, Screen, CursSet, InitPair}
+use Rattle.cur_calls.specs.declared.calls.Call.TheVariants.{Newwin, Newpad, Part, Dupwin, Plain, Number, Numbers, Flag}
+use Rattle.cur_calls.specs.declared.calls.Call.TheVariants.{Attributes, Cell, Line, DrawBorder, DrawBox, Lay, Copywin}
+use Rattle.cur_calls.specs.declared.calls.Call.TheVariants.{Show, ShowPad, Screen, CursSet, InitPair}
 use Rattle.cur_calls.specs.declared.groups.AttrsCall.{AttrsCall}
 use Rattle.cur_calls.specs.declared.groups.AttrsCall.TheVariants.{Attron, Attroff, Attrset}
 use Rattle.cur_calls.specs.declared.groups.CellCall.{CellCall}
@@ -25,7 +28,8 @@ use Rattle.cur_calls.specs.declared.groups.PadCall.TheVariants.{Pnoutrefresh, Pr
 use Rattle.cur_calls.specs.declared.groups.PartCall.{PartCall}
 use Rattle.cur_calls.specs.declared.groups.PartCall.TheVariants.{Subwin, Derwin, Subpad}
 use Rattle.cur_calls.specs.declared.groups.PlainCall.{PlainCall}
-use Rattle.cur_calls.specs.declared.groups.PlainCall.TheVariants.{Delwin, Delch, Insertln, Deleteln, Clrtoeol, Clrtobot, Erase, Clear, Touchwin}
+use Rattle.cur_calls.specs.declared.groups.PlainCall.TheVariants.{Delwin, Delch, Insertln, Deleteln, Clrtoeol, Clrtobot}
+use Rattle.cur_calls.specs.declared.groups.PlainCall.TheVariants.{Erase, Clear, Touchwin}
 use Rattle.cur_calls.specs.declared.groups.ScreenCall.{ScreenCall}
 use Rattle.cur_calls.specs.declared.groups.ScreenCall.TheVariants.{Doupdate, Beep, Endwin}
 use Rattle.cur_calls.specs.declared.groups.ShowCall.{ShowCall}

@@ -1,5 +1,6 @@
 -- What the calls on certificates answer.
-use Rattle.std.specs.Prelude.{ℕ, ℤ, pos, nat_lt, ◌≡◌, ◌⊎◌, Bool, true, false, List, [], ◌++◌, length, drop, Result, Ok, Err}
+use Rattle.std.specs.Prelude.{ℕ, ℤ, pos, nat_lt, ◌≡◌, ◌⊎◌, Bool, true, false, List, [], ◌++◌, length, drop, Result, Ok}
+use Rattle.std.specs.Prelude.{Err}
 use Rattle.ti_caps.specs.Entry.{Content}
 use Rattle.ti_cert.specs.Table.{CheckedTable}
 use Rattle.ti_cert.specs.Texts.{IsTableOf}

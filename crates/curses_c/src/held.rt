@@ -5,7 +5,8 @@ ghost use Rattle.cur_play.specs.Scenes.{first, scene_of};
 ghost use Rattle.ti_cert.specs.Table.{certified};
 ghost use Rattle.ti_conforms.specs.Certified.{IsChecked};
 ghost use Rattle.curses_c.specs.Codes as codes;
-ghost use Rattle.curses_c.specs.Held.{Does, Hands, Loses, Makes, MakesUpTo, Plays, Says, fault_line, is_done, line_left, noting};
+ghost use Rattle.curses_c.specs.Held.{Does, Hands, Loses, Makes, MakesUpTo, Plays, Says, fault_line, is_done};
+ghost use Rattle.curses_c.specs.Held.{line_left, noting};
 
 use crate::codes::{Failure, answer_code, failure_code, script_code};
 use crate::lines::line_of;

@@ -3,7 +3,8 @@ ghost use Rattle.std.specs.Prelude.{◌≡◌, None, IfErr, IfOk, length, pos};
 ghost use Rattle.cur_calls.specs.declared.calls.Call.TheVariants.{Addstr};
 ghost use Rattle.curses_c.specs.Entries.{IsShown};
 ghost use Rattle.curses_c.specs.Held.{Does, Loses, MakesAlone, Says};
-ghost use Rattle.curses_c.specs.Sessions.{Answers, Fetches, IsOpened, IsOwnTable, IsTableFor, IsUnopened, LacksChecked, LacksOwn, Opens, closed};
+ghost use Rattle.curses_c.specs.Sessions.{Answers, Fetches, IsOpened, IsOwnTable, IsTableFor, IsUnopened, LacksChecked};
+ghost use Rattle.curses_c.specs.Sessions.{LacksOwn, Opens, closed};
 
 use crate::codes::{Failure, OK, answer_code, failure_code};
 use crate::entries::{Described, Subject, certificate_of, checked_by, describe};
@@ -14,8 +15,8 @@ use std::alloc::Global;
 use ti_cert::Checked;
 
 /// Opens a session on the terminal of `rows` and `cols` that an entry drives: the one of the compiled file `entry`, or
-/// of `name` in the source text `entry`. Without a `certificate` it makes one. What the handle held before is closed; where
-/// no session can be opened it stays open.
+/// of `name` in the source text `entry`. Without a `certificate` it makes one. What the handle held before is closed;
+/// where no session can be opened it stays open.
 #[unsafe(no_mangle)]
 pub extern "C" fn ticurses_raw_open(
     alloc: Global,
@@ -159,8 +160,8 @@ pub extern "C" fn ticurses_raw_waiting(alloc: Global, handle: &mut Handle) -> us
     count
 }
 
-/// Moves the first of the bytes that wait to the start of `room`, as many as it has room for, and gives their number. The
-/// rest of the room stays as it is.
+/// Moves the first of the bytes that wait to the start of `room`, as many as it has room for, and gives their number.
+/// The rest of the room stays as it is.
 #[unsafe(no_mangle)]
 pub extern "C" fn ticurses_raw_output(alloc: Global, handle: &mut Handle, room: &mut [u8]) -> usize
     ensures { Fetches (handle.old).slot.held room.old (result, room.new) (handle.new).slot.held }

@@ -1,11 +1,14 @@
 -- Standard input, which is a file by the path `-`: what a request reads and writes of it.
-use Rattle.std.specs.Prelude.{◌≡◌, ◌≤◌, ◌==◌, ℕ, Bool, false, List, [], ◌∷◌, Option, None, Some, codes, if◌then◌else◌, map, unwrap_or}
+use Rattle.std.specs.Prelude.{◌≡◌, ◌≤◌, ◌==◌, ℕ, Bool, false, List, [], ◌∷◌, Option, None, Some, codes, if◌then◌else◌}
+use Rattle.std.specs.Prelude.{map, unwrap_or}
 use Rattle.std.specs.List.{count_by}
 use Rattle.std.specs.Str.{bytes_eq}
 use Rattle.ti_arguments.specs.declared.parser.ParsedLine.{ParsedLine}
 use Rattle.ti_arguments.specs.declared.parser.ParsedLine.TheVariants as answers
 use Rattle.ti_requests.specs.declared.request.Request.{Request}
-use Rattle.ti_requests.specs.declared.request.Request.TheVariants.{Expand, Feed, FeedAs, Tic, Check, CheckAll, CheckJson, Verify, Play, Show, Survey, SurveyJson, Print, Common, Neither}
+use Rattle.ti_requests.specs.declared.request.Request.TheVariants.{Expand, Feed, FeedAs, Tic, Check, CheckAll}
+use Rattle.ti_requests.specs.declared.request.Request.TheVariants.{CheckJson, Verify, Play, Show, Survey, SurveyJson}
+use Rattle.ti_requests.specs.declared.request.Request.TheVariants.{Print, Common, Neither}
 use Rattle.ti_requests.specs.declared.request.ScriptWords.{ScriptWords}
 use denote.Ref.{Bor}
 

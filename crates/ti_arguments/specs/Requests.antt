@@ -1,5 +1,6 @@
 -- What a line of words asks for, by what clap's parser finds in it for the commands of `Line`.
-use Rattle.std.specs.Prelude.{◌≡◌, ◌⊎◌, Bool, true, false, List, [], ◌∷◌, Option, Some, None, codes, map, option_map, unwrap_or}
+use Rattle.std.specs.Prelude.{◌≡◌, ◌⊎◌, Bool, true, false, List, [], ◌∷◌, Option, Some, None, codes, map, option_map}
+use Rattle.std.specs.Prelude.{unwrap_or}
 use Rattle.std.specs.Str.{bytes_eq}
 use Rattle.clap.specs.Faults.{fault_of}
 use Rattle.clap.specs.Kinds.{IsAmong}
@@ -15,7 +16,9 @@ use Rattle.ti_requests.specs.declared.feeds.FeedForm.TheVariants.{Screen, State,
 use Rattle.ti_requests.specs.declared.request.Request.{Request}
 use Rattle.ti_requests.specs.declared.request.ScriptWords.{ScriptWords}
 use Rattle.ti_requests.specs.declared.request.SurveyWords.{SurveyWords}
-use Rattle.ti_requests.specs.declared.request.Request.TheVariants.{Expand, Feed, FeedAs, Tic, Check, CheckAll, CheckJson, Verify, Play, Show, Survey, SurveyJson, Print, Common, Neither}
+use Rattle.ti_requests.specs.declared.request.Request.TheVariants.{Expand, Feed, FeedAs, Tic, Check, CheckAll}
+use Rattle.ti_requests.specs.declared.request.Request.TheVariants.{CheckJson, Verify, Play, Show, Survey, SurveyJson}
+use Rattle.ti_requests.specs.declared.request.Request.TheVariants.{Print, Common, Neither}
 
 -- the word that stands for an argument, if it has one
 abbrev pub word_of : Text → List Row → Text

@@ -3,7 +3,11 @@
 ghost use Rattle.std.specs.Prelude.{◌≡◌, Some, IfOk, codes, false};
 ghost use Rattle.clap.specs.Words.{app_of, rule_of, with_rule, with_subcommand};
 ghost use Rattle.clap.specs.declared.builder.command.Command.TheViews.{out-Command};
-ghost use Rattle.ti_arguments.specs.Line.{check_rules, expand_rules, feed_rules, infocmp_rules, line, long_switch_rule, out_rule, params_rule, play_rules, positional_rule, program, several_rule, show_rules, survey_rules, switch_rule, tic_rules, verify_rules, with_plays, with_script_rules, with_case_rule, with_plain_rule, with_report_rules, with_size_rules, with_verdicts};
+ghost use Rattle.ti_arguments.specs.Line.{check_rules, expand_rules, feed_rules, infocmp_rules, line, long_switch_rule};
+ghost use Rattle.ti_arguments.specs.Line.{out_rule, params_rule, play_rules, positional_rule, program, several_rule};
+ghost use Rattle.ti_arguments.specs.Line.{show_rules, survey_rules, switch_rule, tic_rules, verify_rules, with_plays};
+ghost use Rattle.ti_arguments.specs.Line.{with_script_rules, with_case_rule, with_plain_rule, with_report_rules};
+ghost use Rattle.ti_arguments.specs.Line.{with_size_rules, with_verdicts};
 
 use crate::help;
 use clap::{Arg, ArgAction, Command};

@@ -5,7 +5,8 @@ ghost use Rattle.std.specs.String.{string_bytes};
 ghost use Rattle.clap.specs.Walk.{first_of, rows_of};
 ghost use Rattle.clap.specs.Words.{found_of, kind_of, subcommand_rows_of};
 ghost use Rattle.ti_arguments.specs.Inputs.{AnswersWithInput};
-ghost use Rattle.ti_arguments.specs.Requests.{Asks, AsksFor, HasForm, IsAnswer, IsTold, Plays, is_on, word_of, words_of};
+ghost use Rattle.ti_arguments.specs.Requests.{Asks, AsksFor, HasForm, IsAnswer, IsTold, Plays, is_on, word_of};
+ghost use Rattle.ti_arguments.specs.Requests.{words_of};
 
 use crate::commands::command_line;
 use crate::inputs::judge_input;

@@ -57,8 +57,8 @@ fn read_up_to<F: Files>(
     }
 }
 
-/// How much room is made at first for at most `count` bytes, where they are likely to be `length`: one byte more, so that
-/// the end is found without growing.
+/// How much room is made at first for at most `count` bytes, where they are likely to be `length`: one byte more, so
+/// that the end is found without growing.
 fn room_for(length: u64, count: u64) -> usize {
     match length {
         0 => 0,

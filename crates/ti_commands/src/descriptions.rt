@@ -3,9 +3,11 @@
 ghost use Rattle.std.specs.Prelude.{◌≡◌, ◌⊎◌, ◌<◌, ◌++◌, [], IfErr, IfOk, OnErr, OnOk, if◌then◌else◌};
 ghost use Rattle.ti_caps.specs.Entry.{value_at};
 ghost use Rattle.ti_caps.specs.Table.{place_of_rank};
-ghost use Rattle.ti_commands.specs.Listings.{comparison_text, is_listed, is_listed_at, kind_lines, name_line, same_value};
+ghost use Rattle.ti_commands.specs.Listings.{comparison_text, is_listed, is_listed_at, kind_lines, name_line};
+ghost use Rattle.ti_commands.specs.Listings.{same_value};
 ghost use Rattle.ti_commands.specs.Findings.{FailsToFind, LacksEntry};
-ghost use Rattle.ti_commands.specs.Replies.{GivesEntry, IsCompared, IsCompiled, IsPrinted, LacksSecond, Outcome, Stores};
+ghost use Rattle.ti_commands.specs.Replies.{GivesEntry, IsCompared, IsCompiled, IsPrinted, LacksSecond, Outcome};
+ghost use Rattle.ti_commands.specs.Replies.{Stores};
 
 use crate::contents::file_fault;
 use crate::entries::{Found, find_entry, note_lines};

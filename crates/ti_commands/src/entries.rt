@@ -5,7 +5,9 @@ ghost use Rattle.std.specs.List.{AllByRecursion, flat_map};
 ghost use Rattle.ti_source.specs.Raw.{IsRaw};
 ghost use Rattle.ti_source.specs.Source.{source_of};
 ghost use Rattle.ti_commands.specs.Contents.{HasBytes, longest_file};
-ghost use Rattle.ti_commands.specs.Findings.{FailsInFile, FailsInSource, FailsToFind, Finds, FitsTo, IsOfFile, IsOfSource, IsOfText, IsPath, IsPathAndName, ResolvesAt, ResolvesTo, IsPackFailure, IsSourceFailure, note_line, note_name, notes_text};
+ghost use Rattle.ti_commands.specs.Findings.{FailsInFile, FailsInSource, FailsToFind, Finds, FitsTo, IsOfFile};
+ghost use Rattle.ti_commands.specs.Findings.{IsOfSource, IsOfText, IsPath, IsPathAndName, ResolvesAt, ResolvesTo};
+ghost use Rattle.ti_commands.specs.Findings.{IsPackFailure, IsSourceFailure, note_line, note_name, notes_text};
 
 use crate::contents::{LONGEST_FILE, read_whole};
 use crate::failure::{CommandRefusal, Failure};

@@ -81,8 +81,8 @@ pub trait Files {
         ensures bytes { IfOk result (λ file. IsLeft (holds self.old path.now) (Self.File.remaining file)) }
         ensures kept { holds self.new ≡ holds self.old };
 
-    /// How many bytes the file that was opened last is likely to have, so that room for them is made at once; 0 where that
-    /// isn't known. What is read doesn't depend on it.
+    /// How many bytes the file that was opened last is likely to have, so that room for them is made at once; 0 where
+    /// that isn't known. What is read doesn't depend on it.
     fn length_hint(&self) -> u64 {
         0
     }

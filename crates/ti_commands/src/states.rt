@@ -1,7 +1,8 @@
 //! The command `feed` with options.
 
 ghost use Rattle.std.specs.Prelude.{◌≡◌, IfErr, IfOk};
-ghost use Rattle.ti_commands.specs.States.{FailsToShow, FailsWith, IsBadLineFailure, Shows, ShowsForm, ShowsStates, fed_of, line_text, note_of, notes_of};
+ghost use Rattle.ti_commands.specs.States.{FailsToShow, FailsWith, IsBadLineFailure, Shows, ShowsForm, ShowsStates};
+ghost use Rattle.ti_commands.specs.States.{fed_of, line_text, note_of, notes_of};
 ghost use Rattle.ti_commands.specs.Feeds.{IsStuckFailure};
 ghost use Rattle.vt_states.specs.Cases.{AreAnswers};
 ghost use Rattle.ti_requests.specs.declared.feeds.FeedForm.TheVariants as forms;
@@ -17,9 +18,9 @@ use ti_words::{Remarks, explain_stuck};
 use vt_states::{CaseFault, Snapshot, case_answers, plain_recording};
 use vt_term::{Size, Stuck};
 
-/// Feeds the file of the `words` to a terminal in its reset state, and shows what they ask for of the state that it leaves;
-/// or the states of all cases of the file. Of a recording strings are dropped and characters above 127 replaced first, and
-/// the notes say how much.
+/// Feeds the file of the `words` to a terminal in its reset state, and shows what they ask for of the state that it
+/// leaves; or the states of all cases of the file. Of a recording strings are dropped and characters above 127 replaced
+/// first, and the notes say how much.
 pub fn feed_state<F: Files>(
     alloc: Global,
     words: &FeedWords<'_>,

@@ -1,5 +1,5 @@
--- An entry of a source text with all that it uses (terminfo(5), "Similar Terminals"), where the entries were read one by
--- one and some can't be.
+-- An entry of a source text with all that it uses (terminfo(5), "Similar Terminals"), where the entries were read one
+-- by one and some can't be.
 use Rattle.std.specs.Prelude.{ℕ, ◌≡◌, List, Option, Some, None, Ok, map, slice_get, slice_index_or}
 use Rattle.ti_caps.specs.Entry.{Content}
 use Rattle.ti_entries.specs.declared.resolution.ApartFault.{ApartFault}

@@ -78,11 +78,12 @@ fn resolve_read(
 }
 
 /// The entry at `place` of a source text whose entries were read one by one (`ti_source::read_apart`), with all that it
-/// uses, as `ti_resolve::resolve_at` gives it. The `index` is that of the entries, and `faults` says which can't be read.
+/// uses, as `ti_resolve::resolve_at` gives it. The `index` is that of the entries, and `faults` says which can't be
+/// read.
 ///
 /// # Errors
-/// `Unread` where it or one that it uses can't be read, with the first such fault in the order of the walk; `Unresolved`
-/// with the first fault of the walk, or where memory ran out.
+/// `Unread` where it or one that it uses can't be read, with the first such fault in the order of the walk;
+/// `Unresolved` with the first fault of the walk, or where memory ran out.
 pub fn resolve_apart(
     alloc: Global,
     index: &Index<'_>,
@@ -102,8 +103,8 @@ pub fn resolve_apart(
     }
 }
 
-/// A law: where each entry can be read, an entry is what resolving it in the whole text gives, and none is refused but as
-/// resolving refuses it.
+/// A law: where each entry can be read, an entry is what resolving it in the whole text gives, and none is refused but
+/// as resolving refuses it.
 pub fn faultless_are_resolved()
     ensures { FaultlessAreResolved }
 {}

@@ -31,8 +31,8 @@ pub record TellsFound (entry : Content) (height width : ℕ) (file : List ℕ) (
   pub lines : AreFoundLines entry height width file stands nos reply.text.items
   pub ends : EndsAsFirst nos reply.failure
 
--- The entry that the word gives, at the size that the words give: the reply has its notes, and reports its first fault, or
--- all of them, or that there is none.
+-- The entry that the word gives, at the size that the words give: the reply has its notes, and reports its first fault,
+-- or all of them, or that there is none.
 pub record ReportsOn (held : Held) (lists_all : Bool) (words : FaultsWords) (reply : Reply) : Type 0 where
   pub height : ℕ
   pub width : ℕ

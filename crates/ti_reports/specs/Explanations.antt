@@ -2,7 +2,9 @@
 use Rattle.std.specs.Prelude.{◌≡◌, ℕ, Bool, true, false, List, Option, Some, None, String, string_bytes}
 use Rattle.std.specs.declared.alloc.Global.{Global}
 use Rattle.ti_checker.specs.declared.causes.Cause.{Cause}
-use Rattle.ti_checker.specs.declared.causes.Cause.TheVariants.{FlagOut, Absent, AcsByte, Parm, StaticRead, Unfinished, Stuck, NotTame, BadLook, WrongEffect, NotShown, TooLong, NoResync, NoMemory}
+use Rattle.ti_checker.specs.declared.causes.Cause.TheVariants.{FlagOut, Absent, AcsByte, Parm, StaticRead, Unfinished}
+use Rattle.ti_checker.specs.declared.causes.Cause.TheVariants.{Stuck, NotTame, BadLook, WrongEffect, NotShown, TooLong}
+use Rattle.ti_checker.specs.declared.causes.Cause.TheVariants.{NoResync, NoMemory}
 use Rattle.ti_reports.specs.Texts.{IsShownAs}
 use Rattle.ti_verdicts.specs.Starts.{settings_of}
 use Rattle.ti_words.specs.Starts.{start_text}

@@ -40,7 +40,8 @@ abbrev pub IsRefusedReport : ℕ → ℕ → List ℕ → Option (List ℕ) → 
 IsRefusedReport height width path name why line = IsReportLine (ReportsRefused height width path name why) line
 
 -- the reports on an entry that is there
-pub record AreOfEntry (height width : ℕ) (all : Bool) (path : List ℕ) (stands : Whereabouts) (entry : Content) (lines : List ℕ) : Type 0 where
+pub record AreOfEntry (height width : ℕ) (all : Bool) (path : List ℕ) (stands : Whereabouts) (entry : Content)
+    (lines : List ℕ) : Type 0 where
   pub nos : List No
   pub found : AreFaults all entry height width nos
   pub tells : AreFoundLines entry height width path stands nos lines
@@ -63,6 +64,7 @@ pub record AreSurveyed (held : Held) (words : SurveyWords) (reply : Reply) : Typ
   pub width : ℕ
   pub given : SizeGiven words.rows.now words.cols.now height width
   pub told : Told
-  pub ends : EndsPaths (AreLines (Reports height width words.lists_all) (ReportsLack height width)) held (texts_of words.paths.items) told reply.failure
+  pub ends : EndsPaths (AreLines (Reports height width words.lists_all) (ReportsLack height width)) held
+      (texts_of words.paths.items) told reply.failure
   pub places : reply.notes.items ≡ told.places
   pub says : reply.text.items ≡ told.lines

@@ -1,5 +1,6 @@
 -- What each fault of resolving says of the entries and their uses (terminfo(5), "Similar Terminals").
-use Rattle.std.specs.Prelude.{ℕ, ◌≡◌, true, false, List, [], ◌∷◌, Option, Some, None, Result, Ok, Err, Contains, IfOk, IsOk, length}
+use Rattle.std.specs.Prelude.{ℕ, ◌≡◌, true, false, List, [], ◌∷◌, Option, Some, None, Result, Ok, Err, Contains, IfOk}
+use Rattle.std.specs.Prelude.{IsOk, length}
 use Rattle.ti_caps.specs.Entry.{Content, IsEntry}
 use Rattle.ti_source.specs.declared.types.RawEntry.{RawEntry}
 use Rattle.ti_resolve.specs.declared.faults.ResolveFault.{ResolveFault}
@@ -15,7 +16,8 @@ Includes raws user name = Contains (uses_in (fields_at raws user)) name
 -- a chain of uses leads from the entry at the first place to the one at the second
 pub data Reaches (raws : List RawEntry) (from : ℕ) : ℕ → Type 0 where
   itself : Reaches raws from from
-  by_use : (user to : ℕ) (name : List ℕ) → Reaches raws from user → Includes raws user name → place_named raws name ≡ Some to → Reaches raws from to
+  by_use : (user to : ℕ) (name : List ℕ) → Reaches raws from user → Includes raws user name
+      → place_named raws name ≡ Some to → Reaches raws from to
 
 -- a use of the name is reached, and no entry has the name
 pub record ReachesNothing (raws : List RawEntry) (root : ℕ) (name : List ℕ) : Type 0 where

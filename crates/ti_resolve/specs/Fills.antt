@@ -1,5 +1,6 @@
 -- (Serves the code alone.) An entry while fields are taken over into it, first ones first.
-use Rattle.std.specs.Prelude.{ℕ, Bool, true, false, List, [], ◌∷◌, ◌++◌, Some, slice_index_or, slice_set, replicate, if◌then◌else◌}
+use Rattle.std.specs.Prelude.{ℕ, Bool, true, false, List, [], ◌∷◌, ◌++◌, Some, slice_index_or, slice_set, replicate}
+use Rattle.std.specs.Prelude.{if◌then◌else◌}
 use Rattle.ti_caps.specs.Entry.{Content, bare_entry, with_value}
 use Rattle.ti_source.specs.declared.types.Field.{Field}
 use Rattle.ti_source.specs.declared.types.Field.TheVariants.{Set, Cancel, Include}

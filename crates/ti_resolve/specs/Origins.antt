@@ -1,5 +1,6 @@
 -- Where the value of a capability stands that an entry has with all that it uses.
-use Rattle.std.specs.Prelude.{ℕ, ◌≡◌, Bool, true, false, List, [], ◌∷◌, Option, Some, None, if◌then◌else◌, slice_get, option_map}
+use Rattle.std.specs.Prelude.{ℕ, ◌≡◌, Bool, true, false, List, [], ◌∷◌, Option, Some, None, if◌then◌else◌, slice_get}
+use Rattle.std.specs.Prelude.{option_map}
 use Rattle.std.specs.List.{position}
 use Rattle.std.specs.Option.{option_or}
 use Rattle.ti_caps.specs.Entry.{Content, value_at}
@@ -55,7 +56,9 @@ Gives raws cap origin value = option_map (field_there raws) origin ≡ option_ma
 
 -- it is the value that the entry has
 abbrev pub GivesValueAt : List RawEntry → ℕ → ℕ → Option Origin → Type 0
-GivesValueAt raws root cap origin = (entry : Content) → IsResolvedAt raws root entry → Gives raws cap origin (value_at entry cap)
+GivesValueAt raws root cap origin = (entry : Content) → IsResolvedAt raws root entry
+    → Gives raws cap origin (value_at entry cap)
 
 abbrev pub GivesValue : List RawEntry → List ℕ → ℕ → Option Origin → Type 0
-GivesValue raws name cap origin = (entry : Content) → IsResolved raws name entry → Gives raws cap origin (value_at entry cap)
+GivesValue raws name cap origin = (entry : Content) → IsResolved raws name entry
+    → Gives raws cap origin (value_at entry cap)

@@ -10,7 +10,9 @@ use Rattle.ti_resolve.specs.Uses.{place_named, fields_at, names_at, uses_in, own
 -- what its own uses stand for
 pub data Expands (raws : List RawEntry) : List (List ℕ) → List ℕ → Type 0 where
   no_use : Expands raws [] []
-  one_use : (name : List ℕ) (names : List (List ℕ)) (place : ℕ) (inner rest : List ℕ) → place_named raws name ≡ Some place → Expands raws (uses_in (fields_at raws place)) inner → Expands raws names rest → Expands raws (name ∷ names) ((place ∷ inner) ++ rest)
+  one_use : (name : List ℕ) (names : List (List ℕ)) (place : ℕ) (inner rest : List ℕ)
+      → place_named raws name ≡ Some place → Expands raws (uses_in (fields_at raws place)) inner
+      → Expands raws names rest → Expands raws (name ∷ names) ((place ∷ inner) ++ rest)
 
 -- the entry at a place and all that it uses, in their order
 pub record IsWhole (raws : List RawEntry) (place : ℕ) (places : List ℕ) : Type 0 where

@@ -1,6 +1,7 @@
 -- The walk through the uses of an entry, depth first and left to right. It gives the places of the
 -- entries in the order in which they are entered, or the first fault.
-use Rattle.std.specs.Prelude.{ℕ, zero, suc, ◌≡◌, Bool, List, [], ◌∷◌, ◌++◌, Option, Some, None, Result, Ok, Err, ◌==◌, nat_le, if◌then◌else◌, length}
+use Rattle.std.specs.Prelude.{ℕ, zero, suc, ◌≡◌, Bool, List, [], ◌∷◌, ◌++◌, Option, Some, None, Result, Ok, Err, ◌==◌}
+use Rattle.std.specs.Prelude.{nat_le, if◌then◌else◌, length}
 use Rattle.std.specs.List.{list_any}
 use Rattle.ti_resolve.specs.declared.faults.ResolveFault.{ResolveFault}
 use Rattle.ti_resolve.specs.declared.faults.ResolveFault.TheVariants.{NoSuchEntry, Cycle, NoMemory, TooMany}

@@ -1,6 +1,7 @@
 //! Taking fields over into an entry, of which the first about a capability decides.
 
-ghost use Rattle.std.specs.Prelude.{◌≡◌, ◌<◌, Bool, false, List, ℕ, Some, IfOk, OnOk, length, replicate, slice_index_or, slice_set, true, IsTrue};
+ghost use Rattle.std.specs.Prelude.{◌≡◌, ◌<◌, Bool, false, List, ℕ, Some, IfOk, OnOk, length, replicate};
+ghost use Rattle.std.specs.Prelude.{slice_index_or, slice_set, true, IsTrue};
 ghost use Rattle.std.specs.List.{All, AllByRecursion};
 ghost use Rattle.ti_caps.specs.Entry.{FitsPlace, with_value};
 ghost use Rattle.ti_source.specs.Fitting.{FieldsFit};

@@ -80,7 +80,8 @@ fn resolve_in(alloc: Global, index: &Index<'_>, name: &[u8]) -> Result<Entry, Re
     }
 }
 
-/// Where the value of `cap` stands in the entry at the place `root`, as `origin_at` says it, in entries with their index.
+/// Where the value of `cap` stands in the entry at the place `root`, as `origin_at` says it, in entries with their
+/// index.
 ///
 /// # Errors
 /// The first fault that is met on the way, or out of memory.
@@ -93,7 +94,8 @@ pub fn origin_from(
     requires { root < length index.now.raws.now }
     ensures origin { IfOk result (λ found. IsOriginAt index.now.raws.now root cap found) }
     ensures value { IfOk result (λ found. GivesValueAt index.now.raws.now root cap found) }
-    ensures walk { MatchResult result (λ _. IsOk (walk_at index.now.raws.now root)) (λ fault. FailsBy fault (walk_at index.now.raws.now root)) }
+    ensures walk { MatchResult result (λ _. IsOk (walk_at index.now.raws.now root))
+        (λ fault. FailsBy fault (walk_at index.now.raws.now root)) }
 {
     // the capability is in the table
     let _ = cap.place();
@@ -189,7 +191,8 @@ pub fn origin_at(
     requires { place < length raws.now }
     ensures origin { IfOk result (λ found. IsOriginAt raws.now place cap found) }
     ensures value { IfOk result (λ found. GivesValueAt raws.now place cap found) }
-    ensures walk { MatchResult result (λ _. IsOk (walk_at raws.now place)) (λ fault. FailsBy fault (walk_at raws.now place)) }
+    ensures walk { MatchResult result (λ _. IsOk (walk_at raws.now place))
+        (λ fault. FailsBy fault (walk_at raws.now place)) }
 {
     let index = Index::new(alloc, raws)?;
     origin_from(alloc, &index, place, cap)

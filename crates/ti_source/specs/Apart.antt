@@ -1,5 +1,6 @@
 -- The entries of a terminfo(5) source text, each read by itself: what can't be read of one hides no other.
-use Rattle.std.specs.Prelude.{ℕ, ◌+◌, ◌≡◌, List, [], ◌∷◌, map, length, Option, Some, None, Result, Ok, Err, if◌then◌else◌, nat_lt}
+use Rattle.std.specs.Prelude.{ℕ, ◌+◌, ◌≡◌, List, [], ◌∷◌, map, length, Option, Some, None, Result, Ok, Err}
+use Rattle.std.specs.Prelude.{if◌then◌else◌, nat_lt}
 use Rattle.ti_source.specs.declared.types.FaultKind.{FaultKind}
 use Rattle.ti_source.specs.declared.types.FaultKind.TheVariants.{NoName, TooLong}
 use Rattle.ti_source.specs.declared.types.RawEntry.{RawEntry}
@@ -85,7 +86,8 @@ alone s = alone_by s (entry_alone s)
 -- no line before the first entry goes on with one
 abbrev pub front_fault : ℕ → List (List ℕ) → Option SourceFault
 front_fault number [] = None
-front_fault number (line ∷ lines) = if is_passed line then front_fault (number + 1) lines else Some (fault_at number NoName)
+front_fault number (line ∷ lines) =
+    if is_passed line then front_fault (number + 1) lines else Some (fault_at number NoName)
 
 abbrev pub apart_by : Option SourceFault → List Stretch → Result (List Alone) SourceFault
 apart_by (Some fault) stretches = Err fault
@@ -129,4 +131,5 @@ WholeIsTogether = (text : List ℕ) → source_of text ≡ all_together (apart_o
 
 -- so a text without a fault gives the same entries, each of which can be read
 abbrev pub FaultlessIsApart : Type 0
-FaultlessIsApart = (text : List ℕ) (raws : List RawEntry) → source_of text ≡ Ok raws → apart_of text ≡ Ok (map was_read raws)
+FaultlessIsApart = (text : List ℕ) (raws : List RawEntry) → source_of text ≡ Ok raws
+    → apart_of text ≡ Ok (map was_read raws)

@@ -1,5 +1,6 @@
 -- (Serves the code alone.) Fields that are added to those of an entry that count so far.
-use Rattle.std.specs.Prelude.{ℕ, ◌+◌, ◌<◌, ◌≡◌, Bool, false, not, List, [], ◌∷◌, ◌++◌, Option, Some, None, if◌then◌else◌, slice_get, slice_index_or}
+use Rattle.std.specs.Prelude.{ℕ, ◌+◌, ◌<◌, ◌≡◌, Bool, false, not, List, [], ◌∷◌, ◌++◌, Option, Some, None}
+use Rattle.std.specs.Prelude.{if◌then◌else◌, slice_get, slice_index_or}
 use Rattle.std.specs.List.{filter, list_any}
 use Rattle.ti_source.specs.declared.lines.FieldLine.{FieldLine}
 use Rattle.ti_source.specs.Fields.{is_cap}

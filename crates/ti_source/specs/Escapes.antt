@@ -1,6 +1,8 @@
 -- The escapes in a string's value, terminfo(5), "Types of Capabilities". A value is cut from the left
 -- into pieces: an escape, or one byte that stands for itself.
-use Rattle.std.specs.Prelude.{◌≡◌, ℕ, ◌+◌, ◌*◌, ◌-◌, zero, suc, Bool, true, false, ◌&&◌, ◌||◌, List, [], ◌∷◌, length, Option, Some, None, Result, Ok, Err, if◌then◌else◌, ◌==◌, nat_le, nat_lt, bit_and, option_and_then, option_map}
+use Rattle.std.specs.Prelude.{◌≡◌, ℕ, ◌+◌, ◌*◌, ◌-◌, zero, suc, Bool, true, false, ◌&&◌, ◌||◌, List, [], ◌∷◌, length}
+use Rattle.std.specs.Prelude.{Option, Some, None, Result, Ok, Err, if◌then◌else◌, ◌==◌, nat_le, nat_lt, bit_and}
+use Rattle.std.specs.Prelude.{option_and_then, option_map}
 use Rattle.std.specs.Int.{from_bool}
 use Rattle.ti_source.specs.declared.escapes.Piece.{Piece}
 use Rattle.ti_source.specs.declared.escapes.Decoded.{Decoded}

@@ -1,5 +1,6 @@
 -- Where a source text has `%^`, which terminfo(5) reads as `%` and a control character.
-use Rattle.std.specs.Prelude.{ℕ, ◌+◌, Bool, false, ◌&&◌, ◌||◌, List, [], ◌∷◌, ◌++◌, Option, Some, None, if◌then◌else◌, ◌==◌}
+use Rattle.std.specs.Prelude.{ℕ, ◌+◌, Bool, false, ◌&&◌, ◌||◌, List, [], ◌∷◌, ◌++◌, Option, Some, None, if◌then◌else◌}
+use Rattle.std.specs.Prelude.{◌==◌}
 use Rattle.ti_caps.specs.declared.fits.Opener.{Opener}
 use Rattle.ti_caps.specs.declared.fits.Opener.TheVariants.{Nothing, Backslash, Caret}
 use Rattle.ti_caps.specs.declared.types.Kind.TheVariants as kinds

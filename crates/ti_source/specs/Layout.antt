@@ -1,5 +1,6 @@
 -- How a terminfo(5) source text is cut: into lines, a line into fields, a field into a name and a value.
-use Rattle.std.specs.Prelude.{ℕ, Bool, false, ◌&&◌, ◌||◌, List, [], ◌∷◌, reverse, Option, Some, None, if◌then◌else◌, ◌==◌, option_map}
+use Rattle.std.specs.Prelude.{ℕ, Bool, false, ◌&&◌, ◌||◌, List, [], ◌∷◌, reverse, Option, Some, None, if◌then◌else◌}
+use Rattle.std.specs.Prelude.{◌==◌, option_map}
 use Rattle.ti_caps.specs.declared.fits.Opener.{Opener}
 use Rattle.ti_caps.specs.declared.fits.Opener.TheVariants.{Nothing}
 use Rattle.ti_caps.specs.Fits.{opener_after, ends_at_comma}

@@ -1,6 +1,7 @@
 -- The lines on which the fields of the entries of a terminfo(5) source text stand. Values are not read, so
 -- that these are there for every text.
-use Rattle.std.specs.Prelude.{ℕ, ◌+◌, ◌≡◌, Bool, false, not, ◌&&◌, List, [], ◌∷◌, ◌++◌, map, Option, Some, None, Ok, if◌then◌else◌, slice_get, slice_index_or}
+use Rattle.std.specs.Prelude.{ℕ, ◌+◌, ◌≡◌, Bool, false, not, ◌&&◌, List, [], ◌∷◌, ◌++◌, map, Option, Some, None, Ok}
+use Rattle.std.specs.Prelude.{if◌then◌else◌, slice_get, slice_index_or}
 use Rattle.std.specs.List.{filter, filter_map}
 use Rattle.ti_caps.specs.Table.{place_in}
 use Rattle.ti_source.specs.declared.layout.Mark.{Mark}

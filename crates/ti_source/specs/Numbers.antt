@@ -1,5 +1,6 @@
 -- The numbers of terminfo(5): decimal, hexadecimal after 0x, octal after a 0.
-use Rattle.std.specs.Prelude.{ℕ, ◌+◌, ◌*◌, ◌-◌, ◌&&◌, List, [], ◌∷◌, Option, Some, None, Result, Ok, Err, if◌then◌else◌, ◌==◌, nat_le, nat_lt, option_and_then}
+use Rattle.std.specs.Prelude.{ℕ, ◌+◌, ◌*◌, ◌-◌, ◌&&◌, List, [], ◌∷◌, Option, Some, None, Result, Ok, Err, if◌then◌else◌}
+use Rattle.std.specs.Prelude.{◌==◌, nat_le, nat_lt, option_and_then}
 use Rattle.ti_source.specs.declared.types.FaultKind.{FaultKind}
 use Rattle.ti_source.specs.declared.types.FaultKind.TheVariants.{BadNumber, NumberRange}
 use Rattle.ti_source.specs.Layout.{trim_end}

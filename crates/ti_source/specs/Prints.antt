@@ -1,6 +1,7 @@
 -- The one text that an entry is printed as, in the form of infocmp(1): the names on a line, and each
 -- capability on a line of its own.
-use Rattle.std.specs.Prelude.{ℕ, ◌+◌, ◌/◌, ◌%◌, zero, suc, ◌&&◌, ◌||◌, List, [], ◌∷◌, ◌++◌, Option, Some, None, if◌then◌else◌, ◌==◌, nat_le, flat_map, decimal}
+use Rattle.std.specs.Prelude.{ℕ, ◌+◌, ◌/◌, ◌%◌, zero, suc, ◌&&◌, ◌||◌, List, [], ◌∷◌, ◌++◌, Option, Some, None}
+use Rattle.std.specs.Prelude.{if◌then◌else◌, ◌==◌, nat_le, flat_map, decimal}
 use Rattle.ti_caps.specs.declared.types.Kind.{Kind}
 use Rattle.ti_caps.specs.declared.types.Kind.TheVariants as kinds
 use Rattle.ti_caps.specs.declared.value.Value.{Value}

@@ -1,6 +1,7 @@
 -- What a terminfo(5) source text says, as a relation between the text and its entries: a text is lines, a
 -- line is fields, a field is a name with a value, and an entry begins in column one with its names.
-use Rattle.std.specs.Prelude.{ℕ, ◌≡◌, ◌≢◌, ◌+◌, ◌≤◌, Bool, true, false, not, ◌&&◌, List, [], ◌∷◌, ◌++◌, length, Option, Some, None, Ok, Err, IsTrue, ◌==◌, is_some, option_to_list}
+use Rattle.std.specs.Prelude.{ℕ, ◌≡◌, ◌≢◌, ◌+◌, ◌≤◌, Bool, true, false, not, ◌&&◌, List, [], ◌∷◌, ◌++◌, length, Option}
+use Rattle.std.specs.Prelude.{Some, None, Ok, Err, IsTrue, ◌==◌, is_some, option_to_list}
 use Rattle.std.specs.List.{list_all}
 use Rattle.ti_caps.specs.declared.fits.Opener.{Opener}
 use Rattle.ti_caps.specs.declared.fits.Opener.TheVariants.{Nothing}

@@ -1,8 +1,10 @@
 -- What a whole terminfo(5) source text says: its entries, or the first fault with its line.
-use Rattle.std.specs.Prelude.{ℕ, ◌+◌, Bool, false, ◌||◌, List, [], ◌∷◌, ◌++◌, length, Option, Some, None, Result, Ok, Err, if◌then◌else◌, ◌==◌, nat_lt, ◌≡◌, option_to_list}
+use Rattle.std.specs.Prelude.{ℕ, ◌+◌, Bool, false, ◌||◌, List, [], ◌∷◌, ◌++◌, length, Option, Some, None, Result, Ok}
+use Rattle.std.specs.Prelude.{Err, if◌then◌else◌, ◌==◌, nat_lt, ◌≡◌, option_to_list}
 use Rattle.std.specs.List.{list_all}
 use Rattle.ti_source.specs.declared.types.FaultKind.{FaultKind}
-use Rattle.ti_source.specs.declared.types.FaultKind.TheVariants.{NoName, WrongKind, BadNumber, NumberRange, OpenField, BadEscape, TooLong, NoMemory}
+use Rattle.ti_source.specs.declared.types.FaultKind.TheVariants.{NoName, WrongKind, BadNumber, NumberRange, OpenField}
+use Rattle.ti_source.specs.declared.types.FaultKind.TheVariants.{BadEscape, TooLong, NoMemory}
 use Rattle.ti_source.specs.declared.types.SourceFault.{SourceFault}
 use Rattle.ti_source.specs.declared.types.RawEntry.{RawEntry}
 use Rattle.ti_source.specs.Layout.{lines_of, is_white, cut_of}

@@ -1,7 +1,10 @@
 //! The escapes in a string's value.
 
-ghost use Rattle.std.specs.Prelude.{◌≡◌, ℕ, ◌+◌, ◌*◌, ◌-◌, ◌<◌, ◌≤◌, ◌==◌, nat_le, length, drop, map, Some, option_map, IfOk, IfErr, IfSome, OnOk, List};
-ghost use Rattle.ti_source.specs.Escapes.{stored, plain, is_octal, letter_value, letter_piece, third_at, second_at, escape_at, control_of, control_at, piece_at, decoding_of, unescaped, FailsBy, decoding_view};
+ghost use Rattle.std.specs.Prelude.{◌≡◌, ℕ, ◌+◌, ◌*◌, ◌-◌, ◌<◌, ◌≤◌, ◌==◌, nat_le, length, drop, map, Some, option_map};
+ghost use Rattle.std.specs.Prelude.{IfOk, IfErr, IfSome, OnOk, List};
+ghost use Rattle.ti_source.specs.Escapes.{stored, plain, is_octal, letter_value, letter_piece, third_at, second_at};
+ghost use Rattle.ti_source.specs.Escapes.{escape_at, control_of, control_at, piece_at, decoding_of, unescaped, FailsBy};
+ghost use Rattle.ti_source.specs.Escapes.{decoding_view};
 
 use std::alloc::{AllocError, Global};
 use thiserror::Error;

@@ -1,7 +1,8 @@
 //! Numbers in decimal, hexadecimal and octal.
 
 ghost use Rattle.std.specs.Prelude.{◌≡◌, ◌<◌, ◌≤◌, option_map, IfSome, IfOk};
-ghost use Rattle.ti_source.specs.Numbers.{digit_value, digit_in, digits_from, digits_of, behind_zero, spelled_number, capped, ranged, number_of};
+ghost use Rattle.ti_source.specs.Numbers.{digit_value, digit_in, digits_from, digits_of, behind_zero, spelled_number};
+ghost use Rattle.ti_source.specs.Numbers.{capped, ranged, number_of};
 ghost use Rattle.ti_source.specs.Source.{Gives};
 
 use crate::layout::trim_end;

@@ -1,7 +1,9 @@
 //! What a field says.
 
 ghost use Rattle.std.specs.Prelude.{◌≡◌, ◌++◌, ◌∷◌, [], IfOk, option_map, Some};
-ghost use Rattle.ti_source.specs.Fields.{is_use, flag_reading, number_reading, string_reading, known_reading, named_reading, marked_reading, split_reading, is_skipped, trimmed_reading, reading_of, is_long, bounded_reading, ended_reading};
+ghost use Rattle.ti_source.specs.Fields.{is_use, flag_reading, number_reading, string_reading, known_reading};
+ghost use Rattle.ti_source.specs.Fields.{named_reading, marked_reading, split_reading, is_skipped, trimmed_reading};
+ghost use Rattle.ti_source.specs.Fields.{reading_of, is_long, bounded_reading, ended_reading};
 ghost use Rattle.ti_source.specs.Layout.{marked_in};
 ghost use Rattle.ti_source.specs.declared.parts.Reading.TheVariants.{Says};
 ghost use Rattle.ti_source.specs.declared.types.Field.TheVariants.{Include};

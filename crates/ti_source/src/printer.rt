@@ -1,6 +1,7 @@
 //! Printing an entry.
 
-ghost use Rattle.std.specs.Prelude.{◌≡◌, ◌<◌, ◌/◌, ◌%◌, ◌+◌, ◌++◌, ◌∷◌, [], Ok, IfOk, IsTrue, OnOk, decimal, ◌&&◌, nat_le};
+ghost use Rattle.std.specs.Prelude.{◌≡◌, ◌<◌, ◌/◌, ◌%◌, ◌+◌, ◌++◌, ◌∷◌, [], Ok, IfOk, IsTrue, OnOk, decimal, ◌&&◌};
+ghost use Rattle.std.specs.Prelude.{nat_le};
 ghost use Rattle.std.specs.List.{AllByRecursion};
 ghost use Rattle.ti_caps.specs.Fits.{string_fits};
 ghost use Rattle.ti_source.specs.Escapes.{unescaped};
@@ -9,7 +10,8 @@ ghost use Rattle.ti_caps.specs.Entry.{IsEntry, value_at};
 ghost use Rattle.ti_caps.specs.Table.{name_at, place_of_rank};
 ghost use Rattle.ti_source.specs.Printed.{PrintsJust, ReadsBack, raw_of};
 ghost use Rattle.ti_source.specs.Source.{source_of};
-ghost use Rattle.ti_source.specs.Prints.{letter_for, octal, spelled_with, spelled, string_text, value_text, field_text, place_text, rank_text, ranks_text, kind_text, text_of};
+ghost use Rattle.ti_source.specs.Prints.{letter_for, octal, spelled_with, spelled, string_text, value_text, field_text};
+ghost use Rattle.ti_source.specs.Prints.{place_text, rank_text, ranks_text, kind_text, text_of};
 
 use itoa::Buffer;
 use std::alloc::{AllocError, Global};

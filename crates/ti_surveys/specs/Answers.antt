@@ -59,7 +59,8 @@ fault_answers [] = answers.Yes ∷ []
 fault_answers (first ∷ others) = map fault_answer (first ∷ others)
 
 -- the lines of all faults of an entry, under its name, and for each of them where its value stands
-pub record HasAllFaults (height width : ℕ) (stands : Option PlaceInSource) (name : List ℕ) (entry : Content) (told : Told) : Type 0 where
+pub record HasAllFaults (height width : ℕ) (stands : Option PlaceInSource) (name : List ℕ) (entry : Content)
+    (told : Told) : Type 0 where
   pub nos : List No
   pub all : AreAllFaults entry height width nos
   pub says : told.lines ≡ fault_lines name nos
@@ -74,8 +75,10 @@ SaysBy false certifies refuses height width path stands name entry told =
     HasAnswer certifies refuses height width name entry told
 
 -- (Serves the code alone.) what is said of it, as it is asked
-abbrev pub SaysTo : {C : Type 0} → (C → Content → ℕ → ℕ → List ℕ → Type 0) → (C → Content → ℕ → ℕ → No → Type 0) → Asked C → Saying
-SaysTo certifies refuses asked = SaysBy asked.lists_all (certifies asked.certifier.now) (refuses asked.certifier.now) asked.size.rows asked.size.cols
+abbrev pub SaysTo : {C : Type 0} → (C → Content → ℕ → ℕ → List ℕ → Type 0) → (C → Content → ℕ → ℕ → No → Type 0)
+    → Asked C → Saying
+SaysTo certifies refuses asked = SaysBy asked.lists_all (certifies asked.certifier.now)
+    (refuses asked.certifier.now) asked.size.rows asked.size.cols
 
 -- what can't be had is refused, with the reason
 abbrev pub refusal_text : List ℕ → List ℕ

@@ -1,5 +1,6 @@
 -- The lines of a survey: what is said of each entry of a file, in order.
-use Rattle.std.specs.Prelude.{◌≡◌, ◌≢◌, ◌⊎◌, ◌==◌, ◌&&◌, ◌||◌, ℕ, Bool, true, false, List, ◌∷◌, Option, Some, None, Result, Ok, Err, length, slice_get}
+use Rattle.std.specs.Prelude.{◌≡◌, ◌≢◌, ◌⊎◌, ◌==◌, ◌&&◌, ◌||◌, ℕ, Bool, true, false, List, ◌∷◌, Option, Some, None}
+use Rattle.std.specs.Prelude.{Result, Ok, Err, length, slice_get}
 use Rattle.std.specs.List.{range_with_len}
 use Rattle.ti_caps.specs.Entry.{Content}
 use Rattle.ti_compiled.specs.Contents.{read_of}
@@ -23,8 +24,8 @@ use Rattle.ti_verdicts.specs.Locations.{PlaceInSource, first_name}
 abbrev pub Saying : Type 1
 Saying = List ℕ → Option PlaceInSource → List ℕ → Content → Told → Type 0
 
--- what may be said by the path of a file of an entry of this name that can't be had, or of a file that has none, and the
--- reason
+-- what may be said by the path of a file of an entry of this name that can't be had, or of a file that has none, and
+-- the reason
 abbrev pub Refusing : Type 1
 Refusing = List ℕ → Option (List ℕ) → List ℕ → Told → Type 0
 
@@ -40,8 +41,8 @@ abbrev pub IsTold : Saying → Refusing → Result Content CommandRefusal → Li
 IsTold Says Refuses (Ok entry) path stands name told = Says path stands name entry told
 IsTold Says Refuses (Err refusal) path stands name told = IsLack Refuses refusal path (Some name) told
 
--- the entry at a place of a text whose entries are read one by one, or why it can't be had: it or one that it uses can't be
--- read, or it can't be resolved
+-- the entry at a place of a text whose entries are read one by one, or why it can't be had: it or one that it uses
+-- can't be read, or it can't be resolved
 abbrev pub ResolvesApart : List RawEntry → List (Option SourceFault) → ℕ → Result Content CommandRefusal → Type 0
 ResolvesApart raws faults place (Ok entry) = IsResolvedApart raws faults place entry
 ResolvesApart raws faults place (Err (Source fault)) = IsUnread raws faults place fault

@@ -55,9 +55,10 @@ abbrev pub first_failure : Option Failure → Option Failure → Option Failure
 first_failure (Some failure) later = Some failure
 first_failure None later = later
 
--- The lines of each path, and after them how many have which answer; its notes are where the faults in the lines stand. It
--- fails where a path can't be had.
-pub record IsSurveyed (certifies : Content → ℕ → ℕ → List ℕ → Type 0) (refuses : Content → ℕ → ℕ → No → Type 0) (held : Held) (words : SurveyWords) (reply : Reply) : Type 0 where
+-- The lines of each path, and after them how many have which answer; its notes are where the faults in the lines stand.
+-- It fails where a path can't be had.
+pub record IsSurveyed (certifies : Content → ℕ → ℕ → List ℕ → Type 0) (refuses : Content → ℕ → ℕ → No → Type 0)
+    (held : Held) (words : SurveyWords) (reply : Reply) : Type 0 where
   pub height : ℕ
   pub width : ℕ
   pub given : SizeGiven words.rows.now words.cols.now height width

@@ -14,12 +14,17 @@ nothing = record { lines = []; places = []; answers = [] }
 
 -- the one, and then the other
 abbrev pub followed_by : Told → Told → Told
-followed_by first later = record { lines = first.lines ++ later.lines; places = first.places ++ later.places; answers = first.answers ++ later.answers }
+followed_by first later = record {
+  lines = first.lines ++ later.lines;
+  places = first.places ++ later.places;
+  answers = first.answers ++ later.answers;
+}
 
 -- what is said of each item, one after another
 unfoldable pub IsToldOfEach : {X : Type 0} → (X → Told → Type 0) → List X → Told → Type 0
 IsToldOfEach P [] told = told ≡ nothing
-IsToldOfEach P (x ∷ xs) told = (own : Told) × (later : Told) × (told ≡ followed_by own later) × P x own × IsToldOfEach P xs later
+IsToldOfEach P (x ∷ xs) told = (own : Told) × (later : Told) × (told ≡ followed_by own later) × P x own
+    × IsToldOfEach P xs later
 
 -- (Serves the code alone.) the same without where it lies in memory
 abbrev pub told_of : Said → Told
