@@ -63,6 +63,7 @@ pub record IsSurveyed (certifies : Content → ℕ → ℕ → List ℕ → Type
   pub width : ℕ
   pub given : SizeGiven words.rows.now words.cols.now height width
   pub told : Told
-  pub ends : EndsPaths (AreLines (SaysBy words.lists_all certifies refuses height width) IsRefused) held (texts_of words.paths.items) told reply.failure
+  pub ends : EndsPaths (AreLines (SaysBy words.lists_all certifies refuses height width) IsRefused)
+      held (texts_of words.paths.items) told reply.failure
   pub places : reply.notes.items ≡ told.places
   pub says : reply.text.items ≡ told.lines ++ answers_line told.answers
