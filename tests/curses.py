@@ -67,7 +67,7 @@ PROGRAMS = {
     "xmas": ([], "@4000 q"),
 }
 # what differs, and is explained on the page
-EXPLAINED = set()
+EXPLAINED = {"background", "newdemo", "testaddch"}
 # files that programs are linked with, by what their sources include
 PARTS = ("popup_msg", "dump_window")
 
