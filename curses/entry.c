@@ -16,11 +16,10 @@ struct place {
     int at;
 };
 static const struct place strings[] = {
-    {"bel", 1},    {"dch1", 21},  {"dl1", 22},   {"flash", 45}, {"il1", 53},  {"ich1", 52}, {"rmkx", 88}, {"smkx", 89},
-    {"cnorm", 16}, {"rmacs", 38}, {"rmcup", 40}, {"sgr0", 39},  {"op", 297},  {"sgr", 131}, {"csr", 3},   {"ich", 108},
-    {"smir", 31},  {"rmir", 42},  {"dl", 106},   {"il", 110},   {"dch", 105}, {"setaf", 359}, {"setab", 360},
-    {"acsc", 146}, {"smacs", 25}, {"smso", 35},  {"smul", 36},  {"rev", 34},  {"blink", 26},  {"dim", 30},
-    {"bold", 27},  {"invis", 32}, {"civis", 13}, {"cvvis", 20},
+    {"bel", 1}, {"dch1", 21}, {"dl1", 22}, {"flash", 45}, {"il1", 53}, {"ich1", 52}, {"rmkx", 88}, {"smkx", 89},
+    {"cnorm", 16}, {"rmacs", 38}, {"rmcup", 40}, {"sgr0", 39}, {"op", 297}, {"csr", 3}, {"ich", 108}, {"smir", 31},
+    {"rmir", 42}, {"dl", 106}, {"il", 110}, {"dch", 105}, {"setaf", 359}, {"setab", 360}, {"smacs", 25}, {"smso", 35},
+    {"smul", 36}, {"rev", 34}, {"blink", 26}, {"dim", 30}, {"bold", 27}, {"invis", 32},
 };
 static const struct place numbers[] = {{"colors", 13}, {"pairs", 14}};
 static const struct place keys[] = {
