@@ -39,7 +39,7 @@ PROGRAMS = {
     "color_set": ([], "Space Space Space"),
     "firstlast": ([], "Space @2500 Space"),
     "gdc": ([], "@800 q"),
-    "hanoi": (["3"], "1 =3 Enter @500 q"),
+    "hanoi": (["3"], "1 ~=3 @900 ~Enter @900 q"),
     "inchs": (["{tests}/README"], "Down Down w q"),
     "insdelln": ([], "Down Down i d I D w q"),
     "inserts": ([], "=hello Left Left =xx q"),
