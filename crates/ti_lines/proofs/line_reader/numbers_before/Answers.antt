@@ -7,6 +7,6 @@ pub loop-preserved : goal.loop-preserved
 loop-preserved c = record {
   pushed = omega (arith, c.push.ensures.len);
   same = ap (λ (items : List ℕ). spec.numbers_before (c.args.count - (c.loop.counter + 1)) items c.in_ok-word.behind.now) c.push.ensures.items
-      ∙ sym (next_number c.args.count c.loop.counter c.loop.numbers.items c.loop.rest.now c.in_ok-word.word.now c.in_ok-word.behind.now c.in_ok-number_at.field-0 (omega arith) (sym c.in_ok-word.ensures) (sym c.in_ok-number_at.ensures))
+      ∙ sym (next_number c.args.count c.loop.counter c.loop.numbers.items c.loop.rest.now c.in_ok-word.word.now c.in_ok-word.behind.now c.in_ok-number_at.field-0 (omega arith) (sym c.in_ok-word.ensures.value) (sym c.in_ok-number_at.ensures))
       ∙ c.loop.invariant.same;
 }
