@@ -1,6 +1,8 @@
-"""The tour's commands, one after another in an empty folder, and what each is to print."""
+"""The commands of docs/TOUR.md and docs/KEEPING.md, those of each page one after another in an empty folder, and what each
+is to print."""
 
 import os
+import shutil
 import subprocess
 import sys
 import tempfile
@@ -24,18 +26,26 @@ def steps(text):
     return found
 
 
-def main():
-    with open(f"{TOP}/docs/TOUR.md", encoding="utf-8") as file:
-        tour = steps(file.read())
+def run(page):
+    """Runs the commands of a page. Without jq those that need it are left out."""
+    with open(f"{TOP}/docs/{page}", encoding="utf-8") as file:
+        found = steps(file.read())
+    tried = [it for it in found if shutil.which("jq") or "jq " not in it[0]]
     with tempfile.TemporaryDirectory() as room:
         for name in ("ticurses", "examples"):
             os.symlink(f"{TOP}/{name}", f"{room}/{name}")
-        for command, lines in tour:
+        for command, lines in tried:
             ran = subprocess.run(["sh", "-c", command], cwd=room, stdout=subprocess.PIPE, stderr=subprocess.PIPE)
             wanted = "".join(f"{line}\n" for line in lines)
             if ran.returncode != 0 or ran.stdout.decode() != wanted:
                 sys.exit(f"tour: {command}: status {ran.returncode}\n{ran.stdout.decode()}{ran.stderr.decode()}and was to print\n{wanted}")
-    print(f"tour: {len(tour)} commands print what the tour says")
+    left = f"; jq is not installed, and {len(found) - len(tried)} that need it are left out" if len(tried) < len(found) else ""
+    print(f"tour: {len(tried)} commands print what {page} says{left}")
+
+
+def main():
+    for page in ("TOUR.md", "KEEPING.md"):
+        run(page)
 
 
 main()

@@ -26,6 +26,7 @@ pub(crate) struct Strings {
 impl Model for Strings {
     ghost use Rattle.std.specs.Prelude.{◌≡◌, length};
     ghost use Rattle.vt_term.specs.Size.{IsSize};
+    ghost use Rattle.ti_rows.specs.Names.{capabilities};
     ghost use Rattle.ti_cert.specs.Strings.{Strings};
 
     ghost Value = { Strings };
