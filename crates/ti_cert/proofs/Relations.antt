@@ -246,7 +246,7 @@ same_answer : (e f : LineFault CertFaultKind) (a : Result (Unit {0}) (LineFault 
 same_answer e f a p q = cc
 
 abbrev AtLineRead : Result (Unit {0}) (LineFault CertFaultKind) → List ℕ → Type 0
-AtLineRead answer given = IfErr answer (λ fault. IsLineRead given (record { line = fault.line; kind = fault.kind }))
+AtLineRead answer given = IfErr answer (IsLineRead given)
 
 -- what was taken from a reader, and where it failed
 takes : {R : Type 0} (p q : Progress) (rows cols : ℕ) (left : R → List ℕ → Type 0) (failures : R → ℕ) (reader after : R) (answer : Result (Unit {0}) (LineFault CertFaultKind)) → Starts rows cols p
