@@ -8,7 +8,7 @@ import subprocess
 
 from crates import TOP
 
-DATE = "November 25, 2026"
+DATE = "November 27, 2026"
 MADE = '.\\" Made by tools/manpages.py from what ticurses COMMAND --help prints.\n'
 FIRST_CALLS = "A script has a call on each line"
 
