@@ -469,6 +469,6 @@ static inline const char *ticurses_text(int code) {
 }
 #endif
 
-#include <ticurses_calls.h>
+#include "ticurses_calls.h"
 
 #endif

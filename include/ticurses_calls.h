@@ -7,7 +7,7 @@
 #ifndef TICURSES_CALLS_H
 #define TICURSES_CALLS_H
 
-#include <ticurses.h>
+#include "ticurses.h"
 
 #ifdef __cplusplus
 extern "C" {

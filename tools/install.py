@@ -119,18 +119,24 @@ class File:
             return file.read()
 
 
-def files(where, room="."):
-    """All files but the program, in the order in which they are placed. In the room is the library of curses.h."""
+def curses_files(where, room="."):
+    """The files of the library of curses.h, which is in the room."""
+    top, libdir = f"{where.destination}{where.prefix}", f"{where.destination}{where.libdir}"
+    found = [File(f"{top}/include/ticurses/{it}", f"{curses.INCLUDE}/{it}") for it in curses.HEADERS]
+    found.append(File(f"{libdir}/{curses.ARCHIVE}", f"{room}/{curses.ARCHIVE}"))
+    found.append(File(f"{libdir}/{curses.SONAME}", f"{room}/{curses.SONAME}", mode=0o755))
+    found.append(File(f"{libdir}/pkgconfig/ticurses-curses.pc", text=where.pkgconfig(curses.PKGCONFIG)))
+    return found
+
+
+def files(where):
+    """All files but those of the library of curses.h and the program, in the order in which they are placed."""
     top, libdir = f"{where.destination}{where.prefix}", f"{where.destination}{where.libdir}"
     package = f"{where.destination}{where.python}/ticurses"
     archive, shared = LIBRARY.files
     found = [File(f"{top}/include/{it}", f"{TOP}/include/{it}") for it in HEADERS]
     found += [File(f"{libdir}/libticurses.a", archive), File(f"{libdir}/{SONAME}", shared, mode=0o755)]
     found.append(File(f"{libdir}/pkgconfig/ticurses.pc", text=where.pkgconfig(PKGCONFIG)))
-    found += [File(f"{top}/include/ticurses/{it}", f"{curses.INCLUDE}/{it}") for it in curses.HEADERS]
-    found.append(File(f"{libdir}/{curses.ARCHIVE}", f"{room}/{curses.ARCHIVE}"))
-    found.append(File(f"{libdir}/{curses.SONAME}", f"{room}/{curses.SONAME}", mode=0o755))
-    found.append(File(f"{libdir}/pkgconfig/ticurses-curses.pc", text=where.pkgconfig(curses.PKGCONFIG)))
     for page in PAGES:
         found.append(File(f"{top}/share/man/man{page[-1]}/{page}", f"{TOP}/man/{page}"))
     names = sorted(it for it in os.listdir(BINDING) if it.endswith((".py", "py.typed")) and it != "_installed.py")
@@ -149,13 +155,24 @@ def links(where):
     return {f"{libdir}/{it.partition('.so')[0]}.so": it for it in (SONAME, curses.SONAME)}
 
 
+def built_curses(where, room):
+    """The files of the library of curses.h, compiled into the room; none where there is no compiler."""
+    try:
+        curses.built(room, LIBRARY.files[1], "" if where.is_known() else "$ORIGIN")
+    except Failed as failed:
+        if failed.status != 127:
+            raise
+        print(f"install: {failed}, and the library of <ticurses/curses.h> is left out")
+        return []
+    return curses_files(where, room)
+
+
 def install(where):
     """Places all files."""
     # what is installed is for all users
     os.umask(0o022)
     with tempfile.TemporaryDirectory() as room:
-        curses.built(room, LIBRARY.files[1], "" if where.is_known() else "$ORIGIN")
-        placed = files(where, room)
+        placed = files(where) + built_curses(where, room)
         if PROVED.is_current():
             placed.append(program(where))
         else:
@@ -163,6 +180,8 @@ def install(where):
         for file in placed:
             file.place()
     for at, to in links(where).items():
+        if not os.path.exists(f"{os.path.dirname(at)}/{to}"):
+            continue
         if os.path.lexists(at):
             os.remove(at)
         os.symlink(to, at)
@@ -172,7 +191,7 @@ def install(where):
 def uninstall(where):
     """Removes what `install` places. What isn't there is no error."""
     package = f"{where.destination}{where.python}/ticurses"
-    for at in [*(it.at for it in files(where)), program(where).at, *links(where)]:
+    for at in [*(it.at for it in files(where) + curses_files(where)), program(where).at, *links(where)]:
         if os.path.lexists(at):
             os.remove(at)
             print(f"install: {at} is removed")
