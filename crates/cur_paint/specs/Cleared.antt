@@ -1,4 +1,4 @@
--- What is known of the terminal after all was erased.
+-- The terminal as it is known after all was erased.
 use Rattle.std.specs.Prelude.{ℕ, false, Option, Some}
 use Rattle.vt_term.specs.Screen.{State}
 use Rattle.ti_conforms.specs.Certified.{Table, IsLost}

@@ -1,4 +1,4 @@
--- What is known of the terminal between two refreshes: the rendition is the default one and the plain set is active.
+-- The terminal between two refreshes, as it is known: the rendition is the default one and the plain set is active.
 use Rattle.std.specs.Prelude.{ℕ, ◌≡◌, ◌⊎◌, Bool, false, Option, Some, None}
 use Rattle.vt_term.specs.Look.{plain}
 use Rattle.vt_term.specs.Screen.{State, is_graphic}

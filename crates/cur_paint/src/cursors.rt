@@ -1,4 +1,4 @@
-//! What differs, then the default rendition, the cursor's mode and its place.
+//! Painting what differs, and ending in the default rendition with the cursor in its mode and place.
 ghost use Rattle.std.specs.Prelude.{◌≡◌, ◌≤◌, true, false, Some, OnOk};
 ghost use Rattle.ti_conforms.specs.Certified.{IsChecked, cell_limit};
 ghost use Rattle.cur_steps.specs.Beliefs.{Agrees, CanHide};

@@ -35,15 +35,15 @@ pub enum Status {
     Lost,
 }
 
-/// What is known of the cursor between two refreshes: its place, past the last column where a wrap is pending, and how
-/// it is shown.
+/// The cursor as it is known between two refreshes: its place, past the last column where a wrap is pending, and how it
+/// is shown.
 #[derive(Clone, Copy)]
 pub struct Cursor {
     pub place: Place,
     pub mode: Option<Mode>,
 }
 
-/// What is known of the terminal between two calls. Where it shows the screen of the last refresh, its rendition is the
+/// The terminal as it is known between two calls. Where it shows the screen of the last refresh, its rendition is the
 /// default one and its active set is the plain one.
 #[derive(Clone, Copy)]
 pub struct Knowledge {
@@ -72,7 +72,7 @@ impl Knowledge {
     }
 }
 
-/// What `belief` says of the cursor.
+/// The place and the mode that `belief` has of the cursor.
 fn cursor_of(belief: Belief) -> Cursor
     ensures value { result ≡ cursor_of belief }
 {
@@ -82,7 +82,7 @@ fn cursor_of(belief: Belief) -> Cursor
     }
 }
 
-/// What a refresh begins with, where the cursor is known to be so.
+/// The belief with which a refresh begins, where `cursor` is known.
 fn rested(cursor: Cursor) -> Belief
     ensures value { result ≡ rested cursor }
 {

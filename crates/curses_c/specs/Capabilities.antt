@@ -1,4 +1,4 @@
--- What an entry says of a capability (X/Open Curses Issue 7, tigetflag, tigetnum, tigetstr).
+-- The value that an entry has for a capability (X/Open Curses Issue 7, tigetflag, tigetnum, tigetstr).
 use Rattle.std.specs.Prelude.{ℕ, ℤ, pos, ◌≡◌, ◌⊎◌, Bool, List, [], ◌∷◌, Option, Some, None, Ok, Err, if◌then◌else◌}
 use Rattle.std.specs.Option.{option_and_then}
 use Rattle.ti_caps.specs.Entry.{Content, flag_at, string_at}

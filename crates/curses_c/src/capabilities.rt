@@ -1,4 +1,4 @@
-//! What programs ask of an entry.
+//! The capabilities of an entry, by name.
 ghost use Rattle.std.specs.Prelude.{◌≡◌, None, Some, IfErr, IfOk};
 ghost use Rattle.ti_caps.specs.Entry.{number_at, string_at, flag_at};
 ghost use Rattle.ti_caps.specs.declared.types.Kind.TheVariants as kinds;

@@ -26,7 +26,7 @@ pub struct Frame {
     pub bottom_right: Standing,
 }
 
-/// A call with its arguments. What its row of `specs/Requests` doesn't name doesn't count.
+/// A call with its arguments. Members that its row of `specs/Requests` doesn't name don't count.
 #[repr(C)]
 #[derive(Clone, Copy)]
 pub struct Request {
@@ -421,7 +421,7 @@ fn put_of(cell: Standing) -> Put
     }
 }
 
-/// The same in a line or a border, where all of it 0 is the default.
+/// The cell of a line or a border, where 0 in all members is the default one.
 fn put_or(default: Put, cell: Standing) -> Put
     ensures { result ≡ spec.put_or default cell }
 {

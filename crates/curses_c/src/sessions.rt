@@ -15,7 +15,7 @@ use std::alloc::Global;
 use ti_cert::Checked;
 
 /// Opens a session on the terminal of `rows` and `cols` that an entry drives: the one of the compiled file `entry`, or
-/// of `name` in the source text `entry`. Without a `certificate` it makes one. What the handle held before is closed;
+/// of `name` in the source text `entry`. Without a `certificate` it makes one. A session that was open is closed;
 /// where no session can be opened it stays open.
 #[unsafe(no_mangle)]
 pub extern "C" fn ticurses_raw_open(
@@ -132,7 +132,7 @@ pub extern "C" fn ticurses_raw_addstr(
     code
 }
 
-/// Does the call that the numbers of `request` are. What it sends waits to be taken.
+/// Does the call that the numbers of `request` are. Its output waits to be taken.
 #[unsafe(no_mangle)]
 pub extern "C" fn ticurses_raw_make(alloc: Global, handle: &mut Handle, request: &Request) -> i32
     ensures { Answers closed (Does request.now) (handle.old).slot.held result (handle.new).slot.held }

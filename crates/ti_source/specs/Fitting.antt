@@ -1,4 +1,4 @@
--- What can be made of entries that are read one by one.
+-- Entries that are read one by one have fields and names that fit.
 use Rattle.std.specs.Prelude.{ℕ, ◌≡◌, List, Option, Some, None, IsTrue, slice_get}
 use Rattle.std.specs.List.{AllByRecursion}
 use Rattle.ti_caps.specs.Fits.{names_fit}

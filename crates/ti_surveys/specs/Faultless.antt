@@ -1,4 +1,4 @@
--- What a survey says of a source text without a fault: reading its entries one by one changes nothing.
+-- A survey of a source text without a fault: reading its entries one by one changes nothing.
 use Rattle.std.specs.Prelude.{◌≡◌, ℕ, List, Option, Result, Ok}
 use Rattle.ti_caps.specs.Entry.{Content}
 use Rattle.ti_commands.specs.Findings.{ResolvesAt}

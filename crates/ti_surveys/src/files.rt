@@ -137,7 +137,7 @@ struct SourceEntries<'a> {
     faults: &'a [Option<SourceFault>],
 }
 
-/// What is said of the entries `apart` of the source `text` at `path`, in order.
+/// The lines of the entries `apart` of the source `text` at `path`, in order.
 #[tactic(auto, using(crate::proofs::SaidFacts::faults_beside))]
 fn apart_lines<S: Speaker, W: Watcher>(
     alloc: Global,
@@ -162,7 +162,7 @@ fn apart_lines<S: Speaker, W: Watcher>(
     source_lines(alloc, speaker, &source, watcher)
 }
 
-/// What is said of the entries of `source`, in order.
+/// The lines of the entries of `source`, in order.
 fn source_lines<S: Speaker, W: Watcher>(
     alloc: Global,
     speaker: &S,
@@ -188,7 +188,7 @@ fn source_lines<S: Speaker, W: Watcher>(
     Ok(said)
 }
 
-/// What is said of the entry at `place` of `source`.
+/// The lines of the entry at `place` of `source`.
 fn source_part<S: Speaker>(
     alloc: Global,
     speaker: &S,

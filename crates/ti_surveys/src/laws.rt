@@ -1,4 +1,4 @@
-//! What surveys say of texts without a fault.
+//! A law about surveys of texts without a fault.
 
 ghost use Rattle.ti_surveys.specs.Faultless.{FaultlessIsWhole};
 
