@@ -1,5 +1,5 @@
 -- Rectangles from the corner on.
-use Rattle.std.specs.Prelude.{ℕ, []}
+use Rattle.std.specs.Prelude.{ℕ}
 use Rattle.grids.specs.declared.areas.Area.{Area}
 
 abbrev pub whole_area : ℕ → ℕ → Area

@@ -1,7 +1,7 @@
 -- The virtual screen: what the terminal is to show (X/Open Curses Issue 7, noutrefresh, doupdate; "Color
 -- Manipulation").
-use Rattle.std.specs.Prelude.{◌≡◌, ℕ, ◌<◌, ◌≤◌, ◌||◌, ◌==◌, List, length, slice_index_or, slice_set, replicate, Bool}
-use Rattle.std.specs.Prelude.{false, Option, Some, None, IfSome, Result, Ok, Err, if◌then◌else◌, ℤ}
+use Rattle.std.specs.Prelude.{◌≡◌, ℕ, zero, suc, ◌<◌, ◌≤◌, ◌||◌, ◌==◌, List, length, slice_index_or, slice_set, replicate}
+use Rattle.std.specs.Prelude.{Bool, false, nat_lt, Option, Some, None, IfSome, Result, Ok, Err, if◌then◌else◌, ℤ, pos, negsuc}
 use Rattle.grids.specs.declared.areas.Area.{Area}
 use Rattle.grids.specs.declared.areas.Place.{Place}
 use Rattle.cur_drawing.specs.declared.refusals.Refusal.{Refusal}
@@ -67,6 +67,24 @@ initialized None f b v = (v, Err BadPair)
 -- init_pair: pairs 1 to 63, colours 0 to 7
 abbrev pub init_pair : ℤ → ℤ → ℤ → Screen → Screen × Result (Unit {0}) Refusal
 init_pair p f b v = initialized (place_below p pair_count) (place_below f 8) (place_below b 8) v
+
+-- a color of a pair: 0 to 7, or -1 for the terminal's default color
+abbrev pub color_or_default : ℤ → Option (Option ℕ)
+color_or_default (pos n) = if nat_lt n 8 then Some (Some n) else None
+color_or_default (negsuc zero) = Some None
+color_or_default (negsuc (suc n)) = None
+
+abbrev pub colored : Option ℕ → Option (Option ℕ) → Option (Option ℕ) → Screen → Screen × Result (Unit {0}) Refusal
+colored (Some p) (Some f) (Some b) v =
+    if p == 0 then (v, Err BadPair)
+    else (record v { pairs = slice_set v.pairs p (record { foreground = f; background = b }) }, Ok tt)
+colored (Some p) (Some f) None v = (v, Err BadPair)
+colored (Some p) None b v = (v, Err BadPair)
+colored None f b v = (v, Err BadPair)
+
+-- init_pair of a terminal whose default colors may stand in pairs (ncurses' use_default_colors): pairs 1 to 63
+abbrev pub init_pair_or_default : ℤ → ℤ → ℤ → Screen → Screen × Result (Unit {0}) Refusal
+init_pair_or_default p f b v = colored (place_below p pair_count) (color_or_default f) (color_or_default b) v
 
 -- a rectangle of the screen gets the cells of a grid from a place on
 abbrev pub shown : Area → Grid → Place → Option Place → Bool → Screen → Screen

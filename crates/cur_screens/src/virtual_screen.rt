@@ -157,21 +157,38 @@ impl Virtual {
     pub fn init_pair(&mut self, pair: i32, foreground: i32, background: i32) -> Result<(), Refusal>
         ensures { (self.new, result) ≡ spec.init_pair pair foreground background self.old }
     {
+        if foreground < 0 || background < 0 {
+            return Err(Refusal::BadPair);
+        }
+        self.init_pair_or_default(pair, foreground, background)
+    }
+
+    /// Sets the colors of `pair`, as `init_pair` does, and also takes -1 for `foreground` or `background`: the
+    /// terminal's default color. `BadPair` for a pair that isn't 1 to 63, or a color that isn't -1 to 7; then nothing
+    /// has changed.
+    pub fn init_pair_or_default(
+        &mut self,
+        pair: i32,
+        foreground: i32,
+        background: i32,
+    ) -> Result<(), Refusal>
+        ensures { (self.new, result) ≡ spec.init_pair_or_default pair foreground background self.old }
+    {
         let Some(pair) = place_below(pair, PAIRS as u16) else {
             return Err(Refusal::BadPair);
         };
-        let Some(foreground) = place_below(foreground, COLORS) else {
+        let Some(foreground) = color_or_default(foreground) else {
             return Err(Refusal::BadPair);
         };
-        let Some(background) = place_below(background, COLORS) else {
+        let Some(background) = color_or_default(background) else {
             return Err(Refusal::BadPair);
         };
         if pair == 0 {
             return Err(Refusal::BadPair);
         }
         self.pairs[pair as usize] = Colors {
-            foreground: Some(foreground as u8),
-            background: Some(background as u8),
+            foreground,
+            background,
         };
         self.colored = self.colored.max(pair + 1);
         Ok(())
@@ -261,6 +278,19 @@ pub fn blank_grid(alloc: Global, rows: u16, cols: u16) -> Result<Grid<Cell>, All
     ensures { IfOk result (λ grid. grid ≡ blank rows cols) }
 {
     Grid::new(alloc, rows as usize, cols as usize, Cell::space())
+}
+
+/// The color of a pair that `color` is: 0 to 7, the terminal's default for -1, and none otherwise.
+fn color_or_default(color: i32) -> Option<Option<u8>>
+    ensures { result ≡ spec.color_or_default color }
+{
+    if color == -1 {
+        return Some(None);
+    }
+    let Some(color) = place_below(color, COLORS) else {
+        return None;
+    };
+    Some(Some(color as u8))
 }
 
 fn default_pairs(alloc: Global) -> Result<Vec<Colors>, AllocError>
