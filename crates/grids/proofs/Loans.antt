@@ -1,4 +1,4 @@
--- What is left after a lent part of a line, place by place.
+-- The cells of a line and of a grid after a borrowed part was written, place by place.
 use Rattle.std.proofs.Common.{◌≡◌, ◌≢◌, ℕ, ◌+◌, ◌-◌, ◌<◌, ◌≤◌, List, length, get_or, set, take, drop, ◌++◌, ap, ◌∙◌, inl, inr, arith, if◌then◌else◌}
 use Rattle.std.proofs.lemmas.Bool.{cases_lt}
 use Rattle.std.proofs.lemmas.Bool.Decides.{nat_tests}
@@ -22,7 +22,7 @@ length-refilled {A} j w l =
     let f = length-drop j l in
     omega (arith, a, b, c, d, e, f)
 
--- after the part
+-- a place after the part
 refilled_behind : {A : Type 0} (j k : ℕ) (w l : List A) (d : A) → j + length w ≤ k → j ≤ length l → get_or (w ++ drop (length w) (drop j l)) (k - j) d ≡ get_or l k d
 refilled_behind j k w l d h near =
     get_or-append_right w (drop (length w) (drop j l)) (length w) (k - j) d (λ t. length w) (omega (arith, h))
@@ -43,7 +43,7 @@ refilled_at {A} i j k w l d lt =
           ])
     ]
 
--- the line is drawn anew in the part
+-- the line is drawn anew in the part only
 pub refilled_is_drawn : {A : Type 0} (i j : ℕ) (w l : List A) → refilled j w l ≡ line_drawn (λ k old. if is_in (part i j w) i k then get_or w (k - j) old else old) 0 l
 refilled_is_drawn i j w l = line_is_drawn (λ k old. if is_in (part i j w) i k then get_or w (k - j) old else old) l (refilled j w l) (length-refilled j w l)
     (λ k d lt. refilled_at i j k w l d lt)
@@ -51,7 +51,7 @@ refilled_is_drawn i j w l = line_is_drawn (λ k old. if is_in (part i j w) i k t
 off_part : {A : Type 0} (i j y k : ℕ) (w : List A) (old : A) → y ≢ i → (if is_in (part i j w) y k then get_or w (k - j) old else old) ≡ old
 off_part i j y k w old other = grind (arith, nat_tests)
 
--- and so is the grid
+-- the grid is drawn anew in the part only
 pub part_is_written : {A : Type 0} (i j : ℕ) (w : List A) (g : List (List A)) → i < length g → set g i (refilled j w (line_at g i)) ≡ part_written i j w g
 part_is_written i j w g lt = written_line_is_drawn i (λ y k old. if is_in (part i j w) y k then get_or w (k - j) old else old) (refilled j w (line_at g i)) g lt
     (refilled_is_drawn i j w (line_at g i)) (λ y k old other. off_part i j y k w old other)

@@ -7,7 +7,7 @@ pub written_more : {A : Type 0} (f : ℕ → A) (j : ℕ) (bytes : List ℕ) (b 
 written_more f j [] b line = ap (λ (k : ℕ). set line k (f b)) (omega arith)
 written_more f j (x ∷ bytes) b line = written_more f (j + 1) bytes b (set line j (f x)) ∙ ap (λ (k : ℕ). set (written f (j + 1) bytes (set line j (f x))) k (f b)) (omega arith)
 
--- one byte more of a text is written
+-- one more byte of a text is written
 pub write_step : {A : Type 0} (f : ℕ → A) (j k : ℕ) (bytes : List ℕ) (line cells : List A) (x : A) → k < length bytes → x ≡ f (get_or bytes k 0) → cells ≡ written f j (take k bytes) line
     → set cells (j + k) x ≡ written f j (take (k + 1) bytes) line
 write_step {A} f j k bytes line cells x lt e h =

@@ -1,4 +1,4 @@
-//! Cells of one line rewritten by a rule, alone or together with other cells.
+//! Rules applied to the cells of one line, to each alone or together with another cell.
 
 ghost use Rattle.std.specs.Prelude.{◌≡◌, ◌<◌, ◌≤◌, ◌+◌, ◌-◌, ℕ, length, slice_index_or};
 ghost use Rattle.grids.specs.Grids.{line_drawn, part_redrawn, part_merged};
@@ -68,7 +68,7 @@ pub(crate) fn merge_cells<C: Copy, R: Merge<C>>(
     merge_part(cells, to, n, source, from, rule);
 }
 
-// The source begins at or after the target, so the cells are read before they are written from left to right.
+// The source begins at or after the target, so going from left to right reads each cell before it is written.
 #[tactic(auto, using(std::proofs::lemmas::List::places))]
 fn merge_left<C: Copy, R: Merge<C>>(cells: &mut [C], to: usize, n: usize, from: usize, rule: &R)
     requires order { to ≤ from }
@@ -85,7 +85,7 @@ fn merge_left<C: Copy, R: Merge<C>>(cells: &mut [C], to: usize, n: usize, from: 
     }
 }
 
-// The source begins before the target, so they are from right to left.
+// The source begins before the target, so going from right to left reads each cell before it is written.
 #[tactic(auto, using(std::proofs::lemmas::List::places))]
 fn merge_right<C: Copy, R: Merge<C>>(cells: &mut [C], to: usize, n: usize, from: usize, rule: &R)
     requires order { from < to }

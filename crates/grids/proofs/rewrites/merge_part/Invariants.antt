@@ -1,4 +1,4 @@
--- On the cells that were gone through the others are combined, and the rest is as before.
+-- The cells visited so far are merged, and the rest is unchanged.
 use Rattle.std.proofs.Common.{◌≡◌, ℕ, ◌<◌, ◌≤◌, ◌+◌, ◌-◌, length, get_or}
 use Rattle.grids.proofs.rewrites.merge_part.Given as goal
 

@@ -1,4 +1,4 @@
--- On the cells that were gone through, the last ones, the others are combined, and the rest is as before.
+-- The cells visited so far, the last ones, are merged, and the rest is unchanged.
 use Rattle.std.proofs.Common.{◌≡◌, ℕ, ◌<◌, ◌≤◌, ◌+◌, ◌-◌, length, get_or}
 use Rattle.grids.proofs.rewrites.merge_right.Given as goal
 

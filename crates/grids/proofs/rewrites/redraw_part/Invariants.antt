@@ -1,4 +1,4 @@
--- The cells that were gone through are made anew, and the others are as before.
+-- The cells visited so far are rewritten, and the others are unchanged.
 use Rattle.std.proofs.Common.{◌≡◌, ℕ, ◌<◌, ◌≤◌, length, get_or}
 use Rattle.grids.proofs.rewrites.redraw_part.Given as goal
 

@@ -1,4 +1,4 @@
--- The lines that were gone through are this cell, and the others are as before.
+-- The lines visited so far are filled with `cell`, and the others are unchanged.
 use Rattle.std.proofs.Common.{◌≡◌, ℕ, ◌<◌, ◌≤◌, length, replicate}
 use Rattle.grids.specs.Grids.{line_at}
 use Rattle.grids.proofs.scrolls.fill_each_line.Given as goal

@@ -1,4 +1,4 @@
--- The bytes that were gone through are written.
+-- The bytes visited so far are written.
 use Rattle.std.proofs.Common.{◌≡◌, length, take}
 use Rattle.grids.specs.Grids.{written}
 use Rattle.grids.proofs.texts.write_cells.Given as goal

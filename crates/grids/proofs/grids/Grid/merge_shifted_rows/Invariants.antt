@@ -1,4 +1,4 @@
--- The rows that were gone through have their cells.
+-- The rows visited so far have their new cells.
 use Rattle.std.proofs.Common.{◌≡◌}
 use Rattle.grids.specs.Grids.{drawn_in, combined, shape_of}
 use Rattle.grids.proofs.Rectangles.{rows_done}
