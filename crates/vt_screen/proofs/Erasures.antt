@@ -1,4 +1,4 @@
--- Erasures by parts.
+-- Erasures of parts of the screen.
 use Rattle.std.proofs.Common.{◌≡◌, ℕ, ◌+◌, ◌<◌, ◌≤◌, ◌&&◌, ◌||◌, ◌==◌, nat_le, nat_lt, min, List, [], ◌∷◌, length, refl, ap, ◌∙◌, arith, if◌then◌else◌}
 use Rattle.std.proofs.lemmas.Bool.Decides.{nat_tests}
 use Rattle.vt_screen.specs.declared.functions.EraseExtent.TheVariants.{ToEnd, FromStart, Whole}
@@ -13,7 +13,7 @@ line_same_within n f h j [] fits e = refl
 line_same_within n f h j (x ∷ xs) fits e =
     ap (λ (y : Look). y ∷ line_drawn f (j + 1) xs) (e j x (omega arith)) ∙ ap (λ (l : List Look). h j x ∷ l) (line_same_within n f h (j + 1) xs (omega arith) e)
 
--- on a screen only its places count
+-- two drawings of a screen are equal if they agree on the screen's places
 pub drawn_same : (s : Screen) (f h : ℕ → ℕ → Look → Look) → IsScreen s → ((i j : ℕ) (x : Look) → i < s.rows → j < s.cols → f i j x ≡ h i j x) → drawn f s.grid ≡ drawn h s.grid
 drawn_same s f h p e = grid_is_drawn h s.grid (drawn f s.grid) (length-drawn f s.grid)
     (λ i lt. let within : i < s.rows = omega (arith, p.lines) in

@@ -1,4 +1,4 @@
--- The steps keep the screen's size and its order.
+-- Each step keeps the screen's size and its invariant.
 use Rattle.std.proofs.Common.{◌≤◌, Option, ◌-◌, ◌==◌, nat_lt, min, ◌≡◌, ℕ, ◌+◌, ◌<◌, Bool, true, false, List, [], ◌∷◌, length, refl, sym, subst, ◌∙◌, inl, inr, arith, if◌then◌else◌, nat_le, ◌&&◌, max, ◌*◌, ◌/◌}
 use Rattle.std.proofs.lemmas.Bool.{cases_lt}
 use Rattle.std.proofs.lemmas.Bool.Decides.{nat_tests}
@@ -28,7 +28,7 @@ characters_drawn f g h p i j = elim (cases_lt j (length (line_at g i))) [
   | inr ge ↦ subst (λ (x : Look). IsPrinted x.byte) (sym (get_or_past (line_at (drawn f g) i) j space (omega (arith, length-line_at-drawn f g i)))) (omega arith, omega arith)
 ]
 
--- a grid that is drawn anew
+-- a drawing keeps the invariant if it keeps characters printable
 pub drawn_keeps : (s : Screen) (f : ℕ → ℕ → Look → Look) → IsScreen s → ((i j : ℕ) (x : Look) → IsPrinted x.byte → IsPrinted (f i j x).byte) → IsScreen (record s { grid = drawn f s.grid })
 drawn_keeps s f h p = record {
   size = h.size;
@@ -48,14 +48,14 @@ either_printed : (b : Bool) (x y : Look) → IsPrinted x.byte → IsPrinted y.by
 either_printed true x y h k = h
 either_printed false x y h k = k
 
--- a cell of the screen, or one that is printed as well where there is none
+-- a cell of the screen is printable, as is the default x
 cell_printed : (s : Screen) → IsScreen s → (i j : ℕ) (x : Look) → IsPrinted x.byte → IsPrinted (cell_at x s.grid i j).byte
 cell_printed s h i j x p = elim (cases_lt j (length (line_at s.grid i))) [
   | inl near ↦ subst (λ (y : Look). IsPrinted y.byte) (get_or_default (line_at s.grid i) j space x near) (h.characters i j)
   | inr past ↦ subst (λ (y : Look). IsPrinted y.byte) (sym (get_or_past (line_at s.grid i) j x past)) p
 ]
 
--- a screen of the same size
+-- t is a legal screen of the size of s
 pub record Kept (s t : Screen) : Type 0 where
   pub screen : IsScreen t
   pub rows : t.rows ≡ s.rows

@@ -17,11 +17,11 @@ pub all_more : (bytes : List ℕ) (b : ℕ) → AllByRecursion IsPrinted bytes �
 all_more [] b h p = (p, tt)
 all_more (x ∷ bytes) b h p = (h.0, all_more bytes b h.1 p)
 
--- a character where nothing wraps and nothing is inserted
+-- a character printed where nothing wraps and nothing is inserted
 plainly : (b : ℕ) (s : Screen) → s.pending ≡ false → s.inserting ≡ false → printed b s ≡ placed b s
 plainly b s e f = ap (λ (p : Bool). placed b (opened (if p then line_feed (record s { col = 0 }) else s))) e ∙ ap (λ (i : Bool). placed b (if i then inserted 1 s else s)) f
 
--- the line of the cursor, the cursor's column and what is pending
+-- the screen with this cursor's line, cursor's column and pending wrap
 abbrev at_column : Screen → List Look → ℕ → Bool → Screen
 at_column s line c p = record s { grid = set s.grid s.row line; col = c; pending = p }
 
@@ -48,7 +48,7 @@ along s (b ∷ d ∷ bytes) line c lt f within fits =
     ∙ along s (d ∷ bytes) (set line c (shown s b)) (c + 1) lt f (omega arith) (omega arith)
     ∙ ap (λ (k : ℕ). at_column s (written (shown s) (c + 1) (d ∷ bytes) (set line c (shown s b))) (min k (s.cols - 1)) ((k == s.cols) && s.autowrap)) (omega arith)
 
--- characters that the cursor's line has room for
+-- characters that fit in the cursor's line
 pub printed_in_line : (s : Screen) (bytes : List ℕ) → IsScreen s → s.pending ≡ false → s.inserting ≡ false → s.col + length bytes ≤ s.cols
     → all_printed bytes s ≡ record s { grid = set s.grid s.row (written (shown s) s.col bytes (line_at s.grid s.row)); col = min (s.col + length bytes) (s.cols - 1); pending = (s.col + length bytes == s.cols) && s.autowrap }
 printed_in_line s bytes h e f fits =
@@ -62,7 +62,7 @@ is_character b e = (let lo : 32 ≤ b = grind (arith, nat_tests) in lo, let hi :
 pub all_step : (k : ℕ) (bytes : List ℕ) → k < length bytes → AllByRecursion IsPrinted (take k bytes) → IsPrinted (get_or bytes k 0) → AllByRecursion IsPrinted (take (k + 1) bytes)
 all_step k bytes lt h p = subst (λ (l : List ℕ). AllByRecursion IsPrinted l) (sym (take_more bytes k 0 lt)) (all_more (take k bytes) (get_or bytes k 0) h p)
 
--- how many characters a text has in front, seen from a place up to which all are
+-- the number of characters from place k on, by the byte there and the number from the next place on
 first_left : (p : ℕ → Bool) (xs : List ℕ) (k : ℕ) → k < length xs → prefix_len p (drop k xs) ≡ cond (p (get_or xs k 0)) (1 + prefix_len p (drop (k + 1) xs)) 0
 first_left p xs k lt = let next : suc k ≡ k + 1 = omega arith in ap (λ (l : List ℕ). prefix_len p l) (drop-cons xs k 0 lt) ∙ ap (λ (m : ℕ). cond (p (get_or xs k 0)) (1 + prefix_len p (drop m xs)) 0) next
 
@@ -95,7 +95,7 @@ all_printed_kept (b ∷ bytes) s p h =
     let k : Kept s (printed b s) = act_kept (Print b) s p.0 h in
     kept_again s (printed b s) (all_printed (b ∷ bytes) s) k (all_printed_kept bytes (printed b s) p.1 k.screen)
 
--- the bytes in front of a text that the cursor's line has room for
+-- the first n bytes of a text, if they are characters that fit in the cursor's line
 pub front_printed : (s : Screen) (bytes : List ℕ) (n : ℕ) → IsScreen s → (s.pending || s.inserting) ≡ false → n ≤ length bytes → s.col + n ≤ length (line_at s.grid s.row)
     → all_printed (take n bytes) s ≡ record s { grid = set s.grid s.row (written (shown s) s.col (take n bytes) (line_at s.grid s.row)); col = min (s.col + n) (s.cols - 1); pending = (s.col + n == s.cols) && s.autowrap }
 front_printed s bytes n h e within room =

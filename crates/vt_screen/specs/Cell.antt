@@ -1,4 +1,4 @@
--- A place of the display in four bytes: its character, its marks, and its colours.
+-- A place of the display in four bytes: its character, its marks, and its colors.
 use Rattle.std.specs.Prelude.{ℕ, ◌+◌, ◌*◌, ◌<◌, ◌==◌, ◌≡◌, Bool, true, false, Option, None, Some, refl}
 use Rattle.std.specs.Int.RustNames.{bit_and}
 use Rattle.std.proofs.Common.{ap, ◌∙◌}
@@ -31,7 +31,7 @@ shade_of (Some Magenta) = shades.Magenta
 shade_of (Some Cyan) = shades.Cyan
 shade_of (Some White) = shades.White
 
--- whether these marks have that one
+-- whether `mark` is among these marks
 abbrev pub has : ℕ → ℕ → Bool
 has marks mark = bit_and marks mark == mark
 
@@ -39,13 +39,13 @@ abbrev pub bit : Bool → ℕ
 bit true = 1
 bit false = 0
 
--- each mark has its bit
+-- each mark is a bit
 abbrev pub marks_of : Bool → Rendition → ℕ
 marks_of graphic r =
     bit r.bold + 2 * bit r.faint + 4 * bit r.underline + 8 * bit r.blink + 16 * bit r.negative + 32 * bit r.concealed
     + 64 * bit graphic
 
--- the rendition of these marks and colours
+-- the rendition with these marks and colors
 abbrev pub rendition_of : ℕ → Option Color → Option Color → Rendition
 rendition_of marks foreground background = record {
   bold = has marks 1;
@@ -58,7 +58,7 @@ rendition_of marks foreground background = record {
   background = background;
 }
 
--- Nothing is lost. The proofs stand here since an impl's law can name nothing of proofs/.
+-- Packing loses nothing. The proofs are here because an impl's law can't name anything in proofs/.
 pub shade_kept : (s : Shade) → shade_of (shade_color s) ≡ s
 shade_kept shades.Default = refl
 shade_kept shades.Black = refl

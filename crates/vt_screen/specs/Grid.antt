@@ -12,6 +12,6 @@ Grid = List (List Look)
 abbrev pub look_at : Grid → ℕ → ℕ → Look
 look_at g i j = cell_at space g i j
 
--- one place becomes x
+-- the cell at one place becomes x
 abbrev pub put : ℕ → ℕ → Look → Grid → Grid
 put r c x g = filled (one r c) x g

@@ -1,4 +1,4 @@
--- The table of SGR: what each of its numbers changes (ECMA-48 8.3.117), and what a change makes of a rendition.
+-- The table of SGR: the change that each number makes (ECMA-48 8.3.117), and the rendition after a change.
 use Rattle.std.specs.Prelude.{ℕ, ◌-◌, ◌==◌, ◌&&◌, nat_le, true, false, List, [], ◌∷◌, if◌then◌else◌, Option, None, Some}
 use Rattle.std.specs.Option.{unwrap_or}
 use Rattle.vt_screen.specs.declared.renditions.Rendition.{Rendition}
@@ -46,16 +46,16 @@ changed Revealed r = record r { concealed = false }
 changed (Foreground c) r = record r { foreground = c }
 changed (Background c) r = record r { background = c }
 
--- a number that stands for no change is ignored
+-- a number that makes no change is ignored
 abbrev pub changed_if : Option RenditionChange → Rendition → Rendition
 changed_if None r = r
 changed_if (Some change) r = changed change r
 
--- one number of SGR
+-- the rendition after one number of SGR
 abbrev pub rendered : ℕ → Rendition → Rendition
 rendered n r = changed_if (change_of n) r
 
--- all numbers of SGR, one after another; the default is 0
+-- the rendition after all numbers of SGR, one after another; the default is 0
 abbrev pub all_rendered : List (Option ℕ) → Rendition → Rendition
 all_rendered [] r = r
 all_rendered (n ∷ ns) r = all_rendered ns (rendered (unwrap_or n 0) r)

@@ -1,4 +1,4 @@
-//! `Display`: the cells, the cursor and the modes, and what each function does to them.
+//! `Display`: the cells, the cursor and the modes, and each function's effect on them.
 
 ghost use Rattle.std.specs.Prelude.{◌≡◌, ◌==◌, ◌+◌, ◌-◌, ◌^◌, ◌<◌, ◌≤◌, min, max, nat_le, ◌&&◌, if◌then◌else◌, length};
 ghost use Rattle.std.specs.Prelude.{take, IfOk};
@@ -41,24 +41,24 @@ impl Charset {
     }
 }
 
-/// What a display has beside its size, its cells, autowrap and insertion. Rows and columns count from 0.
+/// All of a display but its size, its cells, autowrap and insertion. Rows and columns count from 0.
 #[derive(Clone, Copy, Debug, PartialEq, Eq)]
 pub struct Settings {
     /// The cursor's row and column.
     pub row: usize,
     pub col: usize,
-    /// The last column was printed, so that the next character goes to the next line.
+    /// The last column was printed, so the next character goes to the next line.
     pub pending: bool,
     pub rendition: Rendition,
     pub charset: Charset,
     /// The first and the last line of the region that scrolls.
     pub top: usize,
     pub bottom: usize,
-    /// The cursor can be seen.
+    /// Whether the cursor can be seen.
     pub visible: bool,
 }
 
-/// The display and all modes: a terminal but for the sequence that is open.
+/// The display and all modes: a terminal without the open sequence.
 #[derive(Drop)]
 pub struct Display {
     size: Size,
@@ -92,7 +92,7 @@ impl Display {
     ghost use Rattle.vt_screen.specs.Printed.{screen_text};
     ghost use Rattle.vt_screen.specs.Settings.{settings_of, with_settings};
 
-    /// A display in the reset state. Fails only when out of memory.
+    /// A display of this `size` in the reset state. Fails only when out of memory.
     pub fn new(alloc: Global, size: Size) -> Result<Display, AllocError>
         ensures { IfOk result (λ d. d ≡ reset_screen size.rows size.cols) }
     {
@@ -118,7 +118,7 @@ impl Display {
         })
     }
 
-    /// The size. The screen is always one of that size.
+    /// The size. The screen always has it.
     pub fn size(&self) -> Size
         ensures rows { result.rows ≡ self.now.rows }
         ensures cols { result.cols ≡ self.now.cols }
@@ -127,7 +127,7 @@ impl Display {
         self.size
     }
 
-    /// The cell at a place; rows and columns count from 0.
+    /// The cell at row `row` and column `col`, which count from 0 and must be on the screen.
     pub fn cell(&self, row: usize, col: usize) -> Cell
         requires row_within { row < self.now.rows }
         requires col_within { col < self.now.cols }
@@ -144,7 +144,7 @@ impl Display {
         (self.row, self.col)
     }
 
-    /// Whether the last column was printed, so that the next character goes to the next line.
+    /// Whether the last column was printed, so the next character goes to the next line.
     pub fn pending(&self) -> bool
         ensures { result ≡ self.now.pending }
     {
@@ -165,7 +165,7 @@ impl Display {
         self.visible
     }
 
-    /// What it has beside its cells.
+    /// All of the display but its size, cells, autowrap and insertion.
     pub fn settings(&self) -> Settings
         ensures { result ≡ settings_of self.now }
     {
@@ -181,7 +181,8 @@ impl Display {
         }
     }
 
-    /// Sets what it has beside its cells, whose cursor and margins the caller keeps within the size.
+    /// Sets all of the display but its size, cells, autowrap and insertion. The cursor and the margins must be on the
+    /// screen, and the margins in order.
     pub fn set(&mut self, settings: Settings)
         requires row_within { settings.row < self.old.rows }
         requires col_within { settings.col < self.old.cols }
@@ -199,7 +200,8 @@ impl Display {
         self.visible = settings.visible;
     }
 
-    /// The screen as a text. Fails only when out of memory.
+    /// The screen as a text: a line for each row, the cursor's line, and a line for each run of cells that are shown
+    /// alike and not plainly. Fails only when out of memory.
     pub fn print_screen(&self, alloc: Global) -> Result<Vec<u8>, AllocError>
         ensures { IfOk result (λ text. text.items ≡ screen_text self.now) }
     {
@@ -210,7 +212,7 @@ impl Display {
         Ok(text)
     }
 
-    /// Moves the cursor, which is no longer after the last column.
+    /// Moves the cursor and clears the pending wrap.
     fn go_to(&mut self, row: usize, col: usize)
         requires row_within { row < self.old.rows }
         requires col_within { col < self.old.cols }
@@ -221,7 +223,7 @@ impl Display {
         self.pending = false;
     }
 
-    /// Lines of the region scroll up.
+    /// Scrolls the lines `top..=bottom` up by `n`.
     fn lines_up(&mut self, top: usize, bottom: usize, n: usize)
         requires ordered { top ≤ bottom }
         requires within { bottom < self.old.rows }
@@ -231,7 +233,7 @@ impl Display {
         self.grid.scroll_up(top, bottom, n, blank);
     }
 
-    /// Lines of the region scroll down.
+    /// Scrolls the lines `top..=bottom` down by `n`.
     fn lines_down(&mut self, top: usize, bottom: usize, n: usize)
         requires ordered { top ≤ bottom }
         requires within { bottom < self.old.rows }
@@ -305,7 +307,7 @@ impl Display {
         self.grid.delete(self.row, self.col, n as usize, blank);
     }
 
-    /// With insertion on makes room for a character.
+    /// Makes room for a character if insertion is on.
     fn open(&mut self)
         ensures { self.new ≡ spec.opened self.old }
     {
@@ -333,8 +335,8 @@ impl Display {
         self.place(byte);
     }
 
-    /// Prints the characters that `bytes` begin with, as many as the cursor's line has room for, and none where the
-    /// first would wrap or insert. Returns how many.
+    /// Prints the characters that `bytes` begins with, as many as fit in the cursor's line; prints none if the first
+    /// would wrap or insert. Returns how many it printed.
     pub fn print_front(&mut self, bytes: &[u8]) -> usize
         ensures within { result ≤ length bytes.now }
         ensures printed { AllByRecursion IsPrinted (take result bytes.now) }
@@ -408,7 +410,7 @@ impl Display {
         self.go_to(row.min(self.size.rows - 1), col.min(self.size.cols - 1));
     }
 
-    /// The cells of the cursor's line from one column up to another become blank.
+    /// Erases the columns `from..to` of the cursor's line.
     fn erase_part(&mut self, from: usize, to: usize)
         requires ordered { from ≤ to }
         requires within { to ≤ self.old.cols }
@@ -418,7 +420,7 @@ impl Display {
         self.grid.fill_part(self.row, from, to, blank);
     }
 
-    /// The lines from one row up to another become blank.
+    /// Erases the lines `from..to`.
     fn erase_lines(&mut self, from: usize, to: usize)
         requires ordered { from ≤ to }
         requires within { to ≤ self.old.rows }
@@ -549,7 +551,7 @@ impl Display {
         }
     }
 
-    /// Does what a token asks for.
+    /// Does the `function` that a token asks for. A character must be one of 32 to 126.
     pub fn act(&mut self, function: Function<'_>)
         requires { spec.CanAct function }
         ensures { self.new ≡ spec.act function.entry self.old }
@@ -589,7 +591,7 @@ impl Display {
     }
 }
 
-/// Up by `n` rows, but not past the top margin from below it.
+/// The row `n` above `row`, but not above the margin `top` if `row` isn't above it.
 fn row_above(row: usize, top: usize, n: usize) -> usize
     ensures { result ≡ (if nat_le top row then max top (row - n) else row - n) }
 {
@@ -597,7 +599,7 @@ fn row_above(row: usize, top: usize, n: usize) -> usize
     if top <= row { above.max(top) } else { above }
 }
 
-/// Down by `n` rows, but not past the bottom margin from above it, nor past the last row.
+/// The row `n` below `row`, but not below the margin `bottom` if `row` isn't below it, and not below the last row.
 fn row_below(row: usize, bottom: usize, rows: usize, n: usize) -> usize
     requires fits { row + n < 2 ^ 64 }
     requires some { 0 < rows }
@@ -611,7 +613,7 @@ fn row_below(row: usize, bottom: usize, rows: usize, n: usize) -> usize
     }
 }
 
-/// The last row that DECSTBM names, 0 for the default.
+/// The last row that DECSTBM names, where 0 is the default.
 fn last_row(last: usize, rows: usize) -> usize
     requires { 0 < rows }
     ensures { result ≡ (if last == 0 then rows - 1 else min (last - 1) (rows - 1)) }
@@ -623,7 +625,7 @@ fn last_row(last: usize, rows: usize) -> usize
     }
 }
 
-/// A rendition after one number of SGR.
+/// The rendition `now` after one number of SGR.
 fn rendered(now: Rendition, number: u16) -> Rendition
     ensures { result ≡ spec.rendered number now }
 {
@@ -642,7 +644,7 @@ fn all_rendered(mut now: Rendition, numbers: &[Option<u16>]) -> Rendition
     now
 }
 
-/// How many characters these bytes begin with, at most `limit`.
+/// The number of characters that `bytes` begins with, at most `limit`.
 fn characters_before(bytes: &[u8], limit: usize) -> usize
     ensures within { result ≤ length bytes.now }
     ensures few { result ≤ limit }
@@ -658,7 +660,7 @@ fn characters_before(bytes: &[u8], limit: usize) -> usize
     end
 }
 
-/// Whether the byte is a character that has a picture.
+/// Whether `byte` is a graphic character or a space.
 fn is_printed(byte: u8) -> bool
     ensures { result ≡ is_printed byte }
 {

@@ -1,5 +1,5 @@
-//! The display of a character terminal with its modes, and what each function of the terminal does
-//! to it. How bytes ask for functions is defined in `vt_term`, whose helper this is.
+//! The display of a character terminal with its modes, and each function's effect on it. `vt_term` is built on this
+//! crate and defines how bytes ask for functions.
 #![tactic(auto)]
 
 mod cells;

@@ -45,7 +45,7 @@ impl Pen {
         self.plain.rendition()
     }
 
-    /// What a place becomes when a character is printed there while the graphic set is active, or is not.
+    /// The cell that a place gets when `byte` is printed there while the active set is the graphic one or not.
     #[inline(always)]
     pub fn cell(&self, byte: u8, graphic: bool) -> Cell
         ensures { result ≡ shown_by self.now graphic byte }
@@ -57,7 +57,7 @@ impl Pen {
         }
     }
 
-    /// What a place becomes when it is erased.
+    /// The cell that a place gets when it is erased.
     pub fn blank(&self) -> Cell
         ensures { result ≡ blank self.now }
     {
@@ -65,7 +65,7 @@ impl Pen {
     }
 }
 
-/// A pen with the active set, as a run of characters is written with it.
+/// A pen with the active set, for writing a run of characters.
 #[derive(Drop)]
 pub(crate) struct Ink<'a> {
     pub pen: &'a Pen,

@@ -8,7 +8,7 @@ use crate::looks::{ends_run, run_start, style_text};
 use grids::Line;
 use std::alloc::{AllocError, Global};
 
-/// Each row's characters, a line for each row.
+/// Appends the characters of each row, a line for each row.
 pub(crate) fn push_rows(text: &mut Vec<u8>, lines: &[Line<Cell>]) -> Result<(), AllocError>
     ensures { OnOk result (text.new.items ≡ text.old.items ++ flat_map spec.row_text lines.now) }
 {
@@ -35,7 +35,7 @@ fn push_characters(text: &mut Vec<u8>, cells: &[Cell]) -> Result<(), AllocError>
     Ok(())
 }
 
-/// The cursor's line.
+/// Appends the cursor's line.
 pub(crate) fn push_cursor(
     alloc: Global,
     text: &mut Vec<u8>,
@@ -50,7 +50,7 @@ pub(crate) fn push_cursor(
     text.extend_from_slice(if visible { b"\n" } else { b" hidden\n" })
 }
 
-/// A line for each run of cells that are shown in one way and not plainly.
+/// Appends a line for each run of cells that are shown alike and not plainly.
 pub(crate) fn push_looks(
     alloc: Global,
     text: &mut Vec<u8>,
@@ -80,7 +80,7 @@ fn push_runs(
     Ok(())
 }
 
-/// The line of the run that ends in this column, if one does.
+/// Appends the line of the run that ends in the column `col`, if one does.
 fn push_run(
     alloc: Global,
     text: &mut Vec<u8>,

@@ -1,10 +1,10 @@
-//! The colours, and the rendition that characters are shown in.
+//! Colors, and the rendition of characters.
 
 ghost use Rattle.std.specs.Prelude.{◌≡◌, ◌<◌};
 ghost use Rattle.vt_screen.specs.Color.{color};
 ghost use Rattle.vt_screen.specs.Rendition as spec;
 
-/// One of the eight colours of ECMA-48's SGR 30 to 37 and 40 to 47, in their order.
+/// One of the eight colors of ECMA-48's SGR 30 to 37 and 40 to 47, in their order.
 #[derive(Clone, Copy, Debug, PartialEq, Eq)]
 pub enum Color {
     Black,
@@ -38,7 +38,7 @@ impl Color {
     }
 }
 
-/// The colour of a number of SGR less 30 or 40; white for 7 and above.
+/// The color for a number of SGR less 30 or 40; white for 7 and above.
 pub fn color_of(number: u16) -> Color
     ensures { result ≡ color number }
 {
@@ -54,7 +54,7 @@ pub fn color_of(number: u16) -> Color
     }
 }
 
-/// How characters are shown. A colour of `None` is the terminal's default.
+/// How characters are shown. A color of `None` is the terminal's default.
 #[derive(Clone, Copy, Debug, PartialEq, Eq)]
 pub struct Rendition {
     pub bold: bool,
@@ -70,7 +70,7 @@ pub struct Rendition {
 impl Rendition {
     ghost use Rattle.vt_screen.specs.Look.{plain};
 
-    /// No marks and the default colours.
+    /// No marks and the default colors.
     pub fn plain() -> Rendition
         ensures { result ≡ plain }
     {
@@ -87,10 +87,10 @@ impl Rendition {
     }
 }
 
-/// What one number of SGR changes (ECMA-48 8.3.117).
+/// A change of the rendition that one number of SGR makes (ECMA-48 8.3.117).
 #[derive(Clone, Copy, Debug, PartialEq, Eq)]
 pub enum RenditionChange {
-    /// No marks and the default colours.
+    /// No marks and the default colors.
     Plain,
     Bold,
     Faint,
@@ -104,14 +104,14 @@ pub enum RenditionChange {
     Steady,
     Positive,
     Revealed,
-    /// `None` for the default colour.
+    /// `None` is the default color.
     Foreground(Option<Color>),
-    /// `None` for the default colour.
+    /// `None` is the default color.
     Background(Option<Color>),
 }
 
 impl RenditionChange {
-    /// The change that a number of SGR stands for; `None` for a number that changes nothing here.
+    /// The change that a number of SGR asks for; `None` for a number that changes nothing here.
     pub fn of(number: u16) -> Option<RenditionChange>
         ensures { result ≡ spec.change_of number }
     {

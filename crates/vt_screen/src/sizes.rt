@@ -3,10 +3,10 @@
 ghost use Rattle.std.specs.Prelude.{◌≡◌, ◌↔◌, IsSome, IfSome};
 ghost use Rattle.vt_screen.specs.Size.{IsSize};
 
-/// The most rows that a terminal has.
+/// The greatest number of rows of a terminal.
 pub const MAX_ROWS: usize = 200;
 
-/// The most columns that a terminal has.
+/// The greatest number of columns of a terminal.
 pub const MAX_COLS: usize = 500;
 
 /// The size of a terminal in rows and columns.

@@ -1,4 +1,4 @@
--- The numbers that are left make of the rendition now what all of them make of the first.
+-- The remaining numbers applied now give what all of them applied at first do.
 use Rattle.std.proofs.Common.{◌≡◌, drop}
 use Rattle.vt_screen.specs.Step.{all_rendered}
 use Rattle.vt_screen.proofs.displays.all_rendered.Given as goal

@@ -1,4 +1,4 @@
--- The bytes that were gone through are characters, and what is left has the others.
+-- The bytes visited so far are characters; the rest of the count is in the remaining bytes.
 use Rattle.std.proofs.Common.{◌≡◌, ◌+◌, take, drop}
 use Rattle.std.specs.List.{AllByRecursion, prefix_len}
 use Rattle.vt_screen.specs.Look.{IsPrinted, is_printed}

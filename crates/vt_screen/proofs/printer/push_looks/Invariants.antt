@@ -1,4 +1,4 @@
--- What is written so far and the lines that are left are the whole.
+-- The text so far with that of the remaining lines is the whole.
 use Rattle.std.proofs.Common.{◌≡◌, ◌++◌, drop}
 use Rattle.vt_screen.specs.Printed as spec
 use Rattle.vt_screen.proofs.printer.push_looks.Given as goal

@@ -1,4 +1,4 @@
--- The numbers that are left lead from the screen now to where all of them lead from the first.
+-- Setting the remaining modes now gives what setting all of them at first does.
 use Rattle.std.proofs.Common.{◌≡◌, drop}
 use Rattle.vt_screen.specs.Step.{all_modes_set}
 use Rattle.vt_screen.proofs.displays.Display.set_modes.Given as goal
