@@ -1,4 +1,4 @@
--- Characters and whole control sequences that are taken at once where nothing is open.
+-- Characters and whole control sequences, taken at once if nothing is open.
 use Rattle.std.proofs.Common.{◌≡◌, ℕ, ◌+◌, ◌-◌, ◌*◌, ◌<◌, ◌≤◌, ◌==◌, ◌&&◌, ◌⊎◌, nat_le, min, Bool, true, false, List, [], ◌∷◌, ◌++◌, length, length-append, take, get_or, set, Option, None, Some, refl, sym, subst, ap, ◌∙◌, arith, inl, inr, suc, if◌then◌else◌}
 use Rattle.std.specs.List.{AllByRecursion, list_all}
 use Rattle.std.specs.Option.{unwrap_or}
@@ -38,12 +38,12 @@ unfolding singles
 steps_singly [] s p = refl
 steps_singly (b ∷ bytes) s p = ap (λ (f : Function). steps (singles bytes) (act f s)) (asks_to_print b _ p.0) ∙ steps_singly bytes (printed b s) p.1
 
--- they are run
+-- characters are run
 pub characters_run : (s : Screen) (rest bytes : List ℕ) → rest ≡ [] → AllByRecursion IsPrinted bytes → Runs (record { screen = s; rest = rest }) bytes (record { screen = all_printed bytes s; rest = rest })
 characters_run s rest bytes e p = subst (λ (x : List ℕ). Runs (record { screen = s; rest = x }) bytes (record { screen = all_printed bytes s; rest = x })) (sym e)
     (record { tokens = singles bytes; splits = splits_singly bytes p; screen = sym (steps_singly bytes s p) })
 
--- a control sequence of parameters alone
+-- the parameters are parameter bytes
 parameters_fit : (front : List ℕ) → list_all is_numeral front ≡ true → AllByRecursion IsParameter front
 parameters_fit [] h = tt
 parameters_fit (b ∷ front) h = (in_range b (both_true_parts h).0, parameters_fit front (both_true_parts h).1)
@@ -100,7 +100,7 @@ pub private_runs : (x : Screen) (rest bytes : List ℕ) (ns : List (Option ℕ))
 private_runs x rest bytes ns at final e short h =
     subst (λ (r : List ℕ). Runs (record { screen = x; rest = r }) (take (at + 4) (27 ∷ 91 ∷ 63 ∷ bytes)) (record { screen = act (of_private_numbers final ns) x; rest = r })) (sym e) (nothing_open_private x bytes ns at final short h)
 
--- one byte more of the parameters
+-- one more byte of the parameters, a semicolon
 pub semicolon_more : (bytes : List ℕ) (at : ℕ) (old : List (Option ℕ)) (count : ℕ) (number : Option ℕ) → at < length bytes → get_or bytes at 0 ≡ 59 → count < length old → take count old ++ number ∷ [] ≡ numbers (take at bytes)
     → take (count + 1) (set old count number) ++ None ∷ [] ≡ numbers (take (at + 1) bytes)
 semicolon_more bytes at old count number lt is within h =

@@ -1,4 +1,4 @@
--- What each function does to the character sets.
+-- The effect of each function on the character sets.
 use Rattle.std.proofs.Common.{◌≡◌, ℕ, ◌==◌, Bool, List, [], ◌∷◌, Option, refl, ap, ◌∙◌}
 use Rattle.std.specs.Option.{unwrap_or}
 use Rattle.vt_term.specs.Screen.{Screen}

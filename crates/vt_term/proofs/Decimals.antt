@@ -11,7 +11,7 @@ pub all_append : (P : ℕ → Type 0) (xs ys : List ℕ) → AllByRecursion P xs
 all_append P [] ys h k = k
 all_append P (x ∷ xs) ys h k = (h.0, all_append P xs ys h.1 k)
 
--- no semicolon
+-- bytes without a semicolon
 abbrev pub IsPiece : List ℕ → Type 0
 IsPiece ds = AllByRecursion (λ b. (b == 59) ≡ false) ds
 
@@ -33,7 +33,7 @@ decimal_more n (e ∷ ds) d = decimal_more (10 * n + (e - 48)) ds d
 saturated : (n d : ℕ) → min 65535 (10 * min 65535 n + d) ≡ min 65535 (10 * n + d)
 saturated n d = omega arith
 
--- one digit more
+-- one more digit
 pub number_of_more : (ds : List ℕ) (d : ℕ) → number_of (ds ++ d ∷ []) ≡ Some (min 65535 (10 * unwrap_or (number_of ds) 0 + (d - 48)))
 number_of_more [] d = refl
 number_of_more (e ∷ ds) d = ap (λ (n : ℕ). Some (min 65535 n)) (decimal_more 0 (e ∷ ds) d) ∙ ap (λ (n : ℕ). Some n) (sym (saturated (decimal 0 (e ∷ ds)) (d - 48)))
@@ -41,7 +41,7 @@ number_of_more (e ∷ ds) d = ap (λ (n : ℕ). Some (min 65535 n)) (decimal_mor
 pub numbers_last : (bytes : List ℕ) → IsPiece bytes → numbers bytes ≡ number_of bytes ∷ []
 numbers_last bytes h = ap (λ (l : List (List ℕ)). map number_of l) (pieces_last bytes h)
 
--- the pieces of a text, and of the text with one byte more
+-- the pieces of a text, and those of the text with one more byte
 pub record EndsIn (bytes : List ℕ) : Type 0 where
   pub front : List (List ℕ)
   pub last : List ℕ
@@ -75,14 +75,14 @@ all_numbers : (ps qs : List (List ℕ)) → map number_of (ps ++ qs) ≡ map num
 all_numbers [] qs = refl
 all_numbers (p ∷ ps) qs = ap (λ (l : List (Option ℕ)). number_of p ∷ l) (all_numbers ps qs)
 
--- a semicolon more begins another number
+-- one more semicolon begins another number
 pub numbers_semicolon : (bytes : List ℕ) → numbers (bytes ++ 59 ∷ []) ≡ numbers bytes ++ None ∷ []
 numbers_semicolon bytes = let r : EndsIn bytes = ends_in bytes in
     ap (λ (l : List (List ℕ)). map number_of l) r.semicolon ∙ all_numbers r.front (r.last ∷ [] ∷ [])
     ∙ sym (append_assoc (map number_of r.front) (number_of r.last ∷ []) (None ∷ []))
     ∙ ap (λ (l : List (Option ℕ)). l ++ None ∷ []) (sym (ap (λ (l : List (List ℕ)). map number_of l) r.whole ∙ all_numbers r.front (r.last ∷ [])))
 
--- a digit more makes the last number longer
+-- one more digit makes the last number longer
 pub record LastLonger (bytes : List ℕ) (d : ℕ) : Type 0 where
   pub front : List (Option ℕ)
   pub last : Option ℕ
@@ -98,7 +98,7 @@ last_longer bytes d h = let r : EndsIn bytes = ends_in bytes in record {
       ∙ ap (λ (n : Option ℕ). map number_of r.front ++ n ∷ []) (number_of_more r.last d);
 }
 
--- the last number with a digit more
+-- the last number with one more digit
 pub digit_read : (bytes : List ℕ) (old : List (Option ℕ)) (d : ℕ) (front : List (Option ℕ)) (last : Option (Option ℕ)) → (d ≡ 59 → ⊥) → old ≡ numbers bytes → old ≡ front ++ option_to_list last → (count : ℕ) → length old ≡ count → ((m : Option ℕ) → 0 < count → last ≡ Some (get_or old (count - 1) m))
     → front ++ Some (min 65535 (10 * unwrap_or (unwrap_or last None) 0 + (d - 48))) ∷ [] ≡ numbers (bytes ++ d ∷ [])
 digit_read bytes old d front last n e p count same v = let r : LastLonger bytes d = last_longer bytes d (grind (arith, nat_tests)) in

@@ -1,4 +1,4 @@
--- What drawing leaves as it is: the character sets, autowrap and insertion.
+-- Drawing keeps the character sets, autowrap and insertion.
 use Rattle.std.proofs.Common.{◌≡◌, ℕ, ◌+◌, ◌-◌, ◌==◌, nat_lt, min, Bool, true, false, if◌then◌else◌, refl, ◌∙◌}
 use Rattle.std.proofs.lemmas.Bool.{false≢true}
 use Rattle.vt_term.specs.Screen.{Screen, Charset}
@@ -13,7 +13,7 @@ pub record Kept : Type 0 where
 abbrev pub kept_of : Screen → Kept
 kept_of s = record { charset = s.charset; autowrap = s.autowrap; inserting = s.inserting }
 
--- what two screens have alike, whichever of them it is
+-- a property that two screens share holds of either
 pub either_same : {A : Type 0} (p : Screen → A) (b : Bool) (a : A) (x y : Screen) → p x ≡ a → p y ≡ a → p (if b then x else y) ≡ a
 either_same p true a x y h k = h
 either_same p false a x y h k = k

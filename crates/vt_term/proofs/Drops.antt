@@ -95,7 +95,7 @@ step_cancel : (b : ℕ) (s : Screen) → (b ≡ 24) ⊎ (b ≡ 26) → step (b �
 step_cancel b s (inl e) = ap (λ (x : ℕ). act (single x) s) e
 step_cancel b s (inr e) = ap (λ (x : ℕ). act (single x) s) e
 
--- a byte that cuts off what is open
+-- a byte that cuts off an open sequence
 pub restart_runs : (s : State) (b : ℕ) → IsOpen s.rest → 0 < length s.rest → b ≡ 27 → Runs s (b ∷ []) (record s { rest = b ∷ [] })
 restart_runs s b o some e = record { tokens = s.rest ∷ []; splits = restarts s.rest b o some e; screen = sym (step_open s.rest s.screen o) }
 

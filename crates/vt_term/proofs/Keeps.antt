@@ -1,4 +1,4 @@
--- The steps keep the screen's size and its order.
+-- Each step keeps the screen's size and its invariant.
 use Rattle.std.proofs.Common.{Option, ◌-◌, ◌==◌, ◌≡◌, ℕ, Bool, true, false, List, [], ◌∷◌, length, take, refl, arith, if◌then◌else◌, nat_le, ◌&&◌, ◌||◌}
 use Rattle.std.proofs.lemmas.Bool.Decides.{nat_tests}
 use Rattle.std.specs.Option.{unwrap_or}

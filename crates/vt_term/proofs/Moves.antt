@@ -1,4 +1,4 @@
--- What a move to a place of the display does: the digits of its numbers, and the step that it is.
+-- A move to a place of the display: the digits of its numbers, and its step.
 use Rattle.std.proofs.Common.{◌≡◌, ℕ, ◌+◌, ◌-◌, ◌*◌, ◌/◌, ◌%◌, ◌^◌, ◌<◌, ◌≤◌, ◌==◌, ◌&&◌, Bool, true, false, min, map, List, [], ◌∷◌, ◌++◌, length, take, get_or, refl, sym, ap, ◌∙◌, inl, inr, arith, length-append, append_assoc, Option, Some, lit<, rules}
 use Rattle.std.proofs.lemmas.Bool.Decides.{nat_tests}
 use Rattle.std.proofs.lemmas.Fmt.{decimal_by_steps, length-decimal-le}
@@ -11,7 +11,7 @@ use Rattle.vt_term.specs.Function.{CursorPosition, counted, function_of, named, 
 use Rattle.vt_term.proofs.Decimals as numerals
 use Rattle.vt_term.specs.Moves.{cursor_to}
 
--- what the digits of a number are to a terminal
+-- the digits of a number, as a terminal reads them
 pub record SpellsNumber (n : ℕ) (ds : List ℕ) : Type 0 where
   pub some : 0 < length ds
   pub parameters : AllByRecursion IsParameter ds
@@ -70,7 +70,7 @@ all_numeral : (xs ys : List ℕ) → list_all is_numeral xs ≡ true → list_al
 all_numeral [] ys h k = k
 all_numeral (x ∷ xs) ys h k = and_weaker (is_numeral x) (list_all is_numeral xs) (list_all is_numeral (xs ++ ys)) (λ e. all_numeral xs ys e k) h
 
--- the numbers of two spelled ones with a semicolon between
+-- the numbers of two decimals joined by a semicolon
 two_numbers : (m n : ℕ) (xs ys : List ℕ) → SpellsNumber m xs → SpellsNumber n ys → numbers (xs ++ 59 ∷ ys) ≡ number_of xs ∷ number_of ys ∷ []
 two_numbers m n xs ys h k =
     ap (λ (l : List (List ℕ)). map number_of l) (numerals.pieces_piece xs ys h.no_semicolon)
@@ -80,7 +80,7 @@ spelled_number : (n : ℕ) (ds : List ℕ) → n ≤ 65535 → SpellsNumber n ds
 spelled_number n [] le h = absurd (omega (arith, h.some))
 spelled_number n (d ∷ ds) le h = ap (λ (k : ℕ). Some k) (ap (λ (k : ℕ). min 65535 k) h.value ∙ omega arith)
 
--- what stands in front of the final byte
+-- the bytes of CUP before its final byte
 front_of : ℕ → ℕ → List ℕ
 front_of row col = std.decimal (row + 1) ++ 59 ∷ std.decimal (col + 1)
 
@@ -98,7 +98,7 @@ named_by front =
 counted_place : (n : ℕ) → counted (Some (n + 1)) ≡ n + 1
 counted_place n = omega arith
 
--- a place whose numbers count from 1 and fit
+-- a place that, counted from 1, fits a machine number
 small : (n : ℕ) → n ≤ 500 → n + 1 < 2 ^ 64
 small n le = omega (arith, lit< {m = 501} {n = 2 ^ 64} tt)
 

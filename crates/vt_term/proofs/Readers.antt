@@ -1,4 +1,4 @@
--- What the parser makes of a byte.
+-- The parser's reading of a byte.
 use Rattle.std.proofs.Common.{◌≡◌, ◌≢◌, ℕ, ◌+◌, ◌-◌, ◌<◌, ◌≤◌, ◌==◌, ◌&&◌, ◌⊎◌, Bool, true, false, List, [], ◌∷◌, ◌++◌, length, take, refl, sym, ap, subst, ◌∙◌, inl, inr, arith, length-append, get_or, Option, None, Some, nat_lt}
 use Rattle.std.proofs.lemmas.Bool.Decides.{nat_tests}
 use Rattle.std.proofs.lemmas.List.{take_at, get_or_at}
@@ -20,7 +20,7 @@ last_push xs b =
     let n : length (xs ++ b ∷ []) - 1 ≡ length xs = omega (arith, length-append xs (b ∷ [])) in
     get_or_at xs b [] 0 _ (sym n)
 
--- a sequence is not empty, once something is read of it
+-- a sequence isn't empty once part of it was read
 pub some_read : (stage : ParserState) (ns : List (Option ℕ)) (bytes : List ℕ) → IsAt stage ns bytes → stage ≢ Outside → 0 < length bytes
 some_read Outside ns bytes h n = absurd (n refl)
 some_read Escape ns bytes h n = omega (arith, ap length h)
@@ -33,7 +33,7 @@ some_read PrivateParameters ns bytes h n = omega (arith, ap length h.spelled)
 some_read OtherParameters ns bytes h n = omega (arith, ap length h.0.spelled)
 some_read Closed ns bytes h n = omega (arith, ap length h.0.spelled)
 
--- what a byte does in an escape sequence, and in a control sequence
+-- the effect of a byte in an escape sequence, and in a control sequence
 pub transition_in_escape : (bytes more : List ℕ) (second b : ℕ) (room : Bool) (transition : Transition) → bytes ≡ 27 ∷ second ∷ more → second ≢ 91 → IsOpen bytes → room ≡ nat_lt (length bytes + 1) 256 → (Cuts b → ⊥)
     → IsEscapeTransition b room transition → IsTransition bytes b transition
 transition_in_escape bytes more second b room transition e other o r goes h =
@@ -59,7 +59,7 @@ stemmed stage ns bytes e h = elim e [
   ]
 ]
 
--- ESC [ and parameters
+-- ESC [ and bytes that don't end in an intermediate byte
 pub record IsParted (bytes : List ℕ) : Type 0 where
   pub more : List ℕ
   pub spelled : bytes ≡ 27 ∷ 91 ∷ more
@@ -86,7 +86,7 @@ sequence_push front b =
     let f : take (length (front ++ b ∷ []) - 1) (front ++ b ∷ []) ≡ front = take_at front (b ∷ []) _ (sym n) in
     rw (l, f) refl
 
--- ends with the byte as this function
+-- the bytes with one more are a token with this function
 abbrev pub EndsAs : List ℕ → ℕ → Function → Type 0
 EndsAs begun b f = f ≡ function_of (begun ++ b ∷ [])
 
@@ -148,7 +148,7 @@ ended_ignored stage begun ns b e h = elim e [
   ]
 ]
 
--- what is kept of a token tells its function
+-- the parts kept of a token determine its function
 pub told : (stage : ParserState) (ns : List (Option ℕ)) (bytes seen : List ℕ) (f : Function) → IsTold (Some stage) ns bytes → seen ≡ bytes
     → ((begun : List ℕ) → IsAt stage ns begun → IsWhole (begun ++ last_byte seen ∷ []) → EndsAs begun (last_byte seen) f) → f ≡ function_of bytes
 told stage ns bytes seen f t e h =
@@ -219,7 +219,7 @@ unnumbered begun (c ∷ front) b e some h k = record {
     unmarked : (c : ℕ) (x y : Bool) → (is_numeral c && x) ≡ true → ((c == 63) && y) ≡ false
     unmarked c x y h = grind (arith, nat_tests)
 
--- after numbers
+-- the stage after numbers
 pub more_numbers : (stage : ParserState) (old new : List (Option ℕ)) (begun : List ℕ) (b : ℕ) → IsNumbered old begun → (is_numeral b ≡ true → stage ≡ Parameters)
     → (is_numeral b ≡ true → (front : List ℕ) → old ≡ numbers front → new ≡ numbers (front ++ b ∷ [])) → (is_numeral b ≡ false → NamesNothing (begun ++ b ∷ []) → IsAt stage new (begun ++ b ∷ [])) → IsAt stage new (begun ++ b ∷ [])
 more_numbers stage old new begun b h at more other = by_test (is_numeral b) refl

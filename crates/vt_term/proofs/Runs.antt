@@ -18,7 +18,7 @@ pub steps_append : (ts us : List (List ℕ)) (s : Screen) → steps (ts ++ us) s
 steps_append [] us s = refl
 steps_append (t ∷ ts) us s = steps_append ts us (step t s)
 
--- what follows a text is run after it
+-- bytes that follow a text are run after it
 pub runs_append : (s t u : State) (a b : List ℕ) → Runs s a t → Runs t b u → Runs s (a ++ b) u
 runs_append s t u a b h k = record {
   tokens = h.tokens ++ k.tokens;
@@ -32,7 +32,7 @@ runs_nothing s h = record { tokens = []; splits = (append-nil s.rest, h); screen
 same_state : (t u : State) → u.screen ≡ t.screen → u.rest ≡ t.rest → u ≡ t
 same_state t u e f = ap (λ (x : Screen). record { screen = x; rest = u.rest }) e ∙ ap (λ (x : List ℕ). record { screen = t.screen; rest = x }) f
 
--- a text is run in one way
+-- a text has one run
 pub runs_once : (s t u : State) (a : List ℕ) → Runs s a t → Runs s a u → u ≡ t
 runs_once s t u a h k =
     let o : (k.tokens ≡ h.tokens) × (u.rest ≡ t.rest) = one_splitting (s.rest ++ a) h.tokens k.tokens t.rest u.rest h.splits k.splits in
@@ -50,13 +50,13 @@ runs_cut s u a b h =
       runs_second = record { tokens = g.later; splits = g.splits; screen = h.screen ∙ ap (λ (x : List (List ℕ)). steps x s.screen) g.tokens ∙ steps_append f.tokens g.later s.screen };
     }
 
--- the byte after a run fits nothing, or the whole is run
+-- if no run goes on after the first text, none runs both
 pub stuck_behind : (s t : State) (a b : List ℕ) → Runs s a t → ((u : State) → Runs t b u → ⊥) → (u : State) → Runs s (a ++ b) u → ⊥
 stuck_behind s t a b h none u k =
     let c : RunsCut s a b u = runs_cut s u a b k in
     none u (subst (λ (x : State). Runs x b u) (runs_once s t c.between a h c.runs_first) c.runs_second)
 
--- a text that is stuck is stuck at one place, and isn't run
+-- a text that gets stuck does so at one place, and has no run
 stuck_front : (s u : State) (a : List ℕ) (n m : ℕ) → n ≤ m → m ≤ length a → ((v : State) → Runs s (take n a) v → ⊥) → Runs s (take m a) u → ⊥
 stuck_front s u a n m le fits none h =
     let e : take m a ≡ take n a ++ drop n (take m a) = sym (take-append-drop n (take m a)) ∙ ap (λ (l : List ℕ). l ++ drop n (take m a)) (take-take n m a le) in
@@ -86,7 +86,7 @@ take_past [] b n m e = ap (λ (k : ℕ). take k b) (let f : m ≡ n = omega (ari
 take_past (x ∷ a) b n zero e = absurd (omega (arith, e))
 take_past (x ∷ a) b n (suc m) e = ap (λ (l : List ℕ). x ∷ l) (take_past a b n m (omega (arith, e)))
 
--- what sticks after a run sticks so much later
+-- a byte that gets stuck after a run gets stuck in the joined text
 pub sticks_behind : (s t u : State) (a b : List ℕ) (k : ℕ) → Runs s a t → Sticks t b k u → Sticks s (a ++ b) (length a + k) u
 sticks_behind s t u a b k h p = record {
   within = omega (arith, p.within, length-append a b);
@@ -135,7 +135,7 @@ reaches_place rows cols tokens token None some e h = tt
 reaches_place rows cols tokens token (Some p) some e h = λ bytes s. reaches_last rows cols (take (length tokens - 1) tokens) token p.0 p.1 h bytes
     (subst (λ (ts : List (List ℕ)). Splits bytes ts []) (last_of tokens token some e) s)
 
--- what sticks sticks before all that follows it
+-- a text that gets stuck does so whatever follows it
 take_within : (a b : List ℕ) (n : ℕ) → n ≤ length a → take n (a ++ b) ≡ take n a
 take_within a b zero le = refl
 take_within [] b (suc n) le = absurd (omega arith)
@@ -150,7 +150,7 @@ sticks_first s u a b k p = record {
   dropped = p.dropped;
 }
 
--- a whole text, and what follows it
+-- a whole text, and the bytes after it
 pub whole_text_rests : (s t : State) (a : List ℕ) (ts : List (List ℕ)) → s.rest ≡ [] → Splits a ts [] → Runs s a t → t.rest ≡ []
 whole_text_rests s t a ts e h k = ap (λ (x : State). x.rest) (runs_once s (record { screen = steps ts s.screen; rest = [] }) t a (text_runs s a ts e h) k)
 
@@ -174,7 +174,7 @@ escape_drops s t bytes o h = from_open s.screen s.rest t bytes o h
 take_plus : (n m : ℕ) (xs : List ℕ) → take (n + m) xs ≡ take n xs ++ take m (drop n xs)
 take_plus n m xs = sym (take-append-drop n (take (n + m) xs)) ∙ ap (λ (l : List ℕ). l ++ drop n (take (n + m) xs)) (take-take n (n + m) xs (omega arith)) ∙ ap (λ (l : List ℕ). take n xs ++ l) (drop-take n m xs)
 
--- so many bytes of what is left are run after those before them
+-- n bytes and then m of the remaining ones are run as n + m bytes
 pub runs_further : (s t u : State) (bytes : List ℕ) (n m : ℕ) → Runs s (take n bytes) t → Runs t (take m (take (length bytes - n) (drop n bytes))) u → Runs s (take (n + m) bytes) u
 runs_further s t u bytes n m h k =
     let left : take (length bytes - n) (drop n bytes) ≡ drop n bytes = take_all (length bytes - n) (drop n bytes) (omega (arith, length-drop n bytes)) in

@@ -1,4 +1,4 @@
--- Which bytes are tokens, and which are fronts of them.
+-- Which bytes are tokens, and which are prefixes of tokens.
 use Rattle.std.proofs.Common.{◌≡◌, ℕ, ◌+◌, ◌-◌, ◌<◌, ◌≤◌, ◌⊎◌, List, [], ◌∷◌, ◌++◌, length, refl, sym, ap, subst, ◌∙◌, inl, inr, arith, append_assoc, length-append, get_or, suc, zero}
 use Rattle.std.proofs.lemmas.List.{same_from_push, get_or-append-add}
 use Rattle.std.specs.List.{AllByRecursion}
@@ -72,7 +72,7 @@ control_second b d bytes h = let e : b ∷ d ∷ bytes ≡ 27 ∷ 91 ∷ (h.para
 control_long : (b : ℕ) → IsControlSequence (b ∷ []) → ⊥
 control_long b h = let e : b ∷ [] ≡ 27 ∷ 91 ∷ (h.parameters ++ (h.intermediates ++ h.final ∷ [])) = h.spelled in cc
 
--- what follows ESC
+-- the bytes after ESC
 behind_escape : (b : ℕ) (bytes is : List ℕ) (f : ℕ) → b ∷ bytes ≡ 27 ∷ (is ++ f ∷ []) → bytes ≡ is ++ f ∷ []
 behind_escape b bytes is f e = cc
 
@@ -90,11 +90,11 @@ not_bracket : (y : ℕ) (bytes is : List ℕ) (f : ℕ) → AllByRecursion IsInt
 not_bracket y bytes [] f hi n e b = let same : f ≡ y = cc in n refl (inr (inr (inl (same ∙ b))))
 not_bracket y bytes (i ∷ is) f hi n e b = let same : i ≡ y = cc in omega (arith, same, b, hi.0.1)
 
--- a control sequence is no escape sequence
+-- a control sequence isn't an escape sequence
 pub escape_second : (x y : ℕ) (bytes : List ℕ) → IsEscapeSequence (x ∷ y ∷ bytes) → y ≡ 91 → ⊥
 escape_second x y bytes h = not_bracket y bytes h.intermediates h.final h.each_intermediate h.introduces_nothing (behind_escape x (y ∷ bytes) h.intermediates h.final h.spelled)
 
--- a front of two bytes or more of a control sequence
+-- a prefix of two bytes or more of a control sequence
 pub record IsInside (first second : ℕ) (bytes : List ℕ) : Type 0 where
   pub escape : first ≡ 27
   pub introducer : second ≡ 91
@@ -113,7 +113,7 @@ inside x y bytes bracket h = elim h.whole [
   | inr w ↦ absurd (escape_second x y (bytes ++ h.more) w bracket)
 ]
 
--- a front of two bytes or more of an escape sequence
+-- a prefix of two bytes or more of an escape sequence
 pub record IsStem (first second : ℕ) (bytes : List ℕ) : Type 0 where
   pub escape : first ≡ 27
   pub each : AllByRecursion IsIntermediate (second ∷ bytes)
@@ -155,7 +155,7 @@ last_parameter x y (b ∷ bs) e h i =
     let j : IsIntermediate (get_or (b ∷ bs) (length bs) 0) = subst (λ (n : ℕ). IsIntermediate (get_or (x ∷ y ∷ b ∷ bs) n 0)) k i in
     absurd (omega (arith, p.0, j.1))
 
--- a body and a final byte
+-- a body and a final byte are a control sequence
 pub made_whole : (x y : ℕ) (body ps is : List ℕ) (f : ℕ) → x ≡ 27 → y ≡ 91 → body ≡ ps ++ is → AllByRecursion IsParameter ps → AllByRecursion IsIntermediate is → IsFinal f → length body ≤ 253
     → IsControlSequence (x ∷ y ∷ (body ++ f ∷ []))
 made_whole x y body ps is f ex ey e hp hi hf short = record {
@@ -169,7 +169,7 @@ made_whole x y body ps is f ex ey e hp hi hf short = record {
   short = omega (arith, short, length-append body (f ∷ []));
 }
 
--- intermediate bytes and a final byte
+-- intermediate bytes and a final byte are an escape sequence
 pub made_escape : (x : ℕ) (is : List ℕ) (f : ℕ) → x ≡ 27 → AllByRecursion IsIntermediate is → IsEscapeFinal f → (is ≡ [] → IsIntroducer f → ⊥) → length is ≤ 254 → IsEscapeSequence (x ∷ (is ++ f ∷ []))
 made_escape x is f e hi hf n short = record {
   intermediates = is;
@@ -184,7 +184,7 @@ made_escape x is f e hi hf n short = record {
 final_72 : IsFinal 72
 final_72 = (omega arith, omega arith)
 
--- one byte more
+-- one more byte that leaves a sequence open
 pub made_open : (x y b : ℕ) (body ps is : List ℕ) → x ≡ 27 → y ≡ 91 → body ++ b ∷ [] ≡ ps ++ is → AllByRecursion IsParameter ps → AllByRecursion IsIntermediate is → length body + 1 ≤ 253
     → IsOpen (x ∷ y ∷ (body ++ b ∷ []))
 made_open x y b body ps is ex ey e hp hi short = record {
@@ -240,7 +240,7 @@ escape_final x bytes b h =
     let same = same_from_push bytes h.intermediates b h.final d in
     (subst IsEscapeFinal (sym same.1) h.ends, λ none i. h.introduces_nothing (sym same.0 ∙ none) (subst IsIntroducer same.1 i))
 
--- where one final byte follows middle bytes, nothing follows it
+-- if one final byte follows middle bytes, nothing follows it
 one_end : (limit : ℕ) (front : List ℕ) (f : ℕ) (behind middle : List ℕ) (g : ℕ) → AllByRecursion (λ b. b < limit) middle → limit ≤ f → front ++ f ∷ behind ≡ middle ++ g ∷ [] → behind ≡ []
 one_end limit [] f behind [] g h k e = cc
 one_end limit [] f behind (m ∷ ms) g h k e = let same : f ≡ m = cc in absurd (omega (arith, same, h.0))
@@ -251,7 +251,7 @@ one_end limit (x ∷ xs) f behind (m ∷ ms) g h k e = one_end limit xs f behind
 pub middle : (ps is : List ℕ) → AllByRecursion IsParameter ps → AllByRecursion IsIntermediate is → AllByRecursion (λ b. b < 64) (ps ++ is)
 middle ps is hp hi = all_append (λ b. b < 64) ps is (all_weaker IsParameter (λ b. b < 64) (λ b h. omega (arith, h.1)) ps hp) (all_weaker IsIntermediate (λ b. b < 64) (λ b h. omega (arith, h.1)) is hi)
 
--- no sequence begins another
+-- no sequence is a proper prefix of another
 control_ends : (bytes more : List ℕ) → IsControlSequence bytes → IsControlSequence (bytes ++ more) → more ≡ []
 control_ends bytes more h k =
     let e : bytes ++ more ≡ 27 ∷ 91 ∷ (k.parameters ++ (k.intermediates ++ k.final ∷ [])) = k.spelled in
@@ -287,7 +287,7 @@ whole_some [] h = elim h [
 ]
 whole_some (x ∷ xs) h = omega arith
 
--- none begins another
+-- no whole token is a proper prefix of another
 whole_ends : (t more : List ℕ) → IsWhole t → IsWhole (t ++ more) → more ≡ []
 whole_ends [] more h k = absurd (omega (arith, whole_some [] h))
 whole_ends (b ∷ []) [] h k = refl
@@ -297,7 +297,7 @@ whole_ends (b ∷ []) (c ∷ more) h k = elim h [
 ]
 whole_ends (b ∷ d ∷ bytes) more h k = elim h [ inl s ↦ absurd s | inr q ↦ elim k [ inl t ↦ absurd t | inr r ↦ sequence_ends b d bytes more q r ] ]
 
--- none begins what is open
+-- no whole token is a prefix of an open sequence
 whole_not_open : (t more : List ℕ) → IsWhole t → IsOpen (t ++ more) → ⊥
 whole_not_open t more h k =
     let w : IsSequence (t ++ (more ++ k.more)) = subst IsSequence (append_assoc t more k.more) k.whole in
@@ -339,7 +339,7 @@ single_short [] y ys some s = absurd (omega arith)
 single_short (x ∷ []) y ys some s = s
 single_short (x ∷ z ∷ xs) y ys some s = s
 
--- no token begins another, nor what is open
+-- no token is a proper prefix of another, nor a prefix of an open sequence
 pub token_ends : (t x after : List ℕ) → IsToken t (x ++ after) → IsToken (t ++ x) after → x ≡ []
 token_ends t [] after h k = refl
 token_ends t (y ∷ ys) after h k = elim h [
@@ -353,19 +353,19 @@ token_ends t (y ∷ ys) after h k = elim h [
 pub token_not_open : (t more : List ℕ) → IsToken t more → IsOpen (t ++ more) → ⊥
 token_not_open t more h k = elim h [ inl w ↦ whole_not_open t more w k | inr d ↦ no_cut_open t more d.some d.cut k ]
 
--- a token stays one when more follows
+-- a token stays a token if more follows
 pub token_stays : (t behind more : List ℕ) → IsToken t behind → IsToken t (behind ++ more)
 token_stays t behind more h = elim h [ inl w ↦ inl w | inr d ↦ inr (record { some = d.some; fits = d.fits; cut = cut_more behind more d.cut }) ]
 
--- and where a part of what followed goes
+-- a token stays a token if less follows, but at least one byte
 pub token_before : (t : List ℕ) (b : ℕ) (behind more : List ℕ) → IsToken t (b ∷ (behind ++ more)) → IsToken t (b ∷ behind)
 token_before t b behind more h = elim h [ inl w ↦ inl w | inr d ↦ inr (record { some = d.some; fits = d.fits; cut = d.cut }) ]
 
--- a front of what is open is open
+-- a prefix of an open sequence is open
 pub open_front : (xs ys : List ℕ) → IsOpen (xs ++ ys) → IsOpen xs
 open_front xs ys h = record { more = ys ++ h.more; some = omega (arith, h.some, length-append ys h.more); whole = subst IsSequence (append_assoc xs ys h.more) h.whole }
 
--- a proper front of a token is open
+-- a proper prefix of a token is open
 pub token_front : (xs ys behind : List ℕ) → 0 < length ys → IsToken (xs ++ ys) behind → IsOpen xs
 token_front [] ys behind h k = empty_open
 token_front (x ∷ xs) ys behind h k = elim k [

@@ -1,11 +1,11 @@
--- A text falls into tokens in one way at most, and so do its fronts.
+-- A text splits into tokens in at most one way, and so do its prefixes.
 use Rattle.std.proofs.Common.{◌≡◌, ℕ, ◌<◌, ◌⊎◌, length, inl, inr, List, [], ◌∷◌, ◌++◌, refl, sym, ap, subst, ◌∙◌, arith, append_assoc}
 use Rattle.std.proofs.lemmas.List.{append-nil}
 use Rattle.vt_term.specs.Fronts.{GoesOn}
 use Rattle.vt_term.specs.Text.{Cuts, IsCutBy, IsOpen, IsWhole, IsToken, Splits, IsSplit}
 use Rattle.vt_term.proofs.Sequences.{token_ends, token_not_open, token_stays, token_before, open_front, token_front, empty_open, escape_open}
 
--- of two fronts of one list one is a front of the other
+-- of two prefixes of one list, one is a prefix of the other
 pub data Compared (a b c d : List ℕ) : Type 0 where
   Longer : (x : List ℕ) → c ≡ a ++ x → b ≡ x ++ d → Compared a b c d
   Shorter : (x : List ℕ) → a ≡ c ++ x → d ≡ x ++ b → Compared a b c d
@@ -36,12 +36,12 @@ pub splits_open : (text : List ℕ) (ts : List (List ℕ)) (r : List ℕ) → Sp
 splits_open text [] r s = s.1
 splits_open text (t ∷ ts) r s = splits_open s.0 ts r s.3
 
--- what is open has no tokens
+-- an open text has no tokens
 pub open_whole : (text : List ℕ) (ts : List (List ℕ)) (r : List ℕ) → IsOpen text → Splits text ts r → (ts ≡ []) × (r ≡ text)
 open_whole text [] r h s = (refl, sym s.0)
 open_whole text (t ∷ ts) r h s = absurd (token_not_open t s.0 s.2 (subst IsOpen s.1 h))
 
--- the tokens of a longer text are those of the shorter one and those of what follows its rest
+-- the tokens of a longer text are those of the shorter one and those of its rest with the bytes after it
 pub goes_on : (text : List ℕ) (ts us : List (List ℕ)) (r more q : List ℕ) → Splits text ts r → Splits (text ++ more) us q → GoesOn ts us r more q
 goes_on text [] us r more q s k = record { later = us; splits = subst (λ (l : List ℕ). Splits (l ++ more) us q) s.0 k; tokens = refl }
 goes_on text (t ∷ ts) [] r more q s k =
@@ -59,7 +59,7 @@ one_splitting text ts us r q s k =
     let o : (g.later ≡ []) × (q ≡ r ++ []) = open_whole (r ++ []) g.later q (subst IsOpen (sym (append-nil r)) (splits_open text ts r s)) g.splits in
     (g.tokens ∙ ap (λ (l : List (List ℕ)). ts ++ l) o.0 ∙ append-nil ts, o.1 ∙ append-nil r)
 
--- a text and more after it
+-- a text and the bytes after it
 pub splits_append : (text : List ℕ) (ts us : List (List ℕ)) (r more q : List ℕ) → Splits text ts r → Splits (r ++ more) us q → Splits (text ++ more) (ts ++ us) q
 splits_append text [] us r more q s k = subst (λ (l : List ℕ). Splits (l ++ more) us q) (sym s.0) k
 splits_append text (t ∷ ts) us r more q s k =
@@ -68,7 +68,7 @@ splits_append text (t ∷ ts) us r more q s k =
 pub empty_splits : Splits [] [] []
 empty_splits = (refl, empty_open)
 
--- a front of a text that splits splits
+-- a prefix of a text that splits splits too
 pub splits_front : (xs ys : List ℕ) (ts : List (List ℕ)) (r : List ℕ) → Splits (xs ++ ys) ts r → IsSplit xs
 splits_front xs ys [] r s = record { tokens = []; rest = xs; splits = (refl, open_front xs ys (subst IsOpen (sym s.0) s.1)) }
 splits_front xs ys (t ∷ ts) r s = elim (compare xs ys t s.0 s.1) [
@@ -95,7 +95,7 @@ nothing_before : (xs ys : List ℕ) → xs ++ ys ≡ [] → xs ≡ []
 nothing_before [] ys e = refl
 nothing_before (x ∷ xs) ys e = cc
 
--- what is open is no token before a byte that doesn't cut it off
+-- an open sequence isn't a token before a byte that doesn't cut it off
 not_cut : (r : List ℕ) (b : ℕ) → IsOpen r → (0 < length r → Cuts b → ⊥) → IsToken r (b ∷ []) → ⊥
 not_cut r b o other h = elim h [ inl w ↦ token_not_open r [] (inl w) (subst IsOpen (sym (append-nil r)) o) | inr d ↦ other d.some d.cut ]
 
@@ -116,7 +116,7 @@ tail_only r b u (m ∷ more) behind o other goes h p e =
     none_cuts [] e h = h
     none_cuts (x ∷ l) e h = cc
 
--- what is open, and a byte that neither goes on nor ends nor cuts it off
+-- an open sequence, and a byte that neither continues nor ends it nor cuts it off
 nothing_more : (r : List ℕ) (b : ℕ) (us : List (List ℕ)) (q : List ℕ) → IsOpen r → (IsOpen (r ++ b ∷ []) → ⊥) → (IsWhole (r ++ b ∷ []) → ⊥) → (0 < length r → Cuts b → ⊥) → Splits (r ++ b ∷ []) us q → ⊥
 nothing_more r b [] q h closed other goes s = closed (subst IsOpen (sym s.0) s.1)
 nothing_more r b (u ∷ us) q h closed other goes s = elim (compare r (b ∷ []) u s.0 s.1) [
@@ -133,13 +133,13 @@ nothing_more r b (u ∷ us) q h closed other goes s = elim (compare r (b ∷ [])
 pub fails : (r : List ℕ) (b : ℕ) → IsOpen r → (IsOpen (r ++ b ∷ []) → ⊥) → (IsWhole (r ++ b ∷ []) → ⊥) → (0 < length r → Cuts b → ⊥) → IsSplit (r ++ b ∷ []) → ⊥
 fails r b o closed other goes k = nothing_more r b k.tokens k.rest o closed other goes k.splits
 
--- what fits nothing after the rest leaves nothing that can be split
+-- a byte that fits nothing after the rest fits nothing after the text
 pub fits_nothing : (text : List ℕ) (ts : List (List ℕ)) (r : List ℕ) (b : ℕ) → Splits text ts r → (IsSplit (r ++ b ∷ []) → ⊥) → IsSplit (text ++ b ∷ []) → ⊥
 fits_nothing text ts r b s none k =
     let g : GoesOn ts k.tokens r (b ∷ []) k.rest = goes_on text ts k.tokens r (b ∷ []) k.rest s k.splits in
     none (record { tokens = g.later; rest = k.rest; splits = g.splits })
 
--- what is open is cut off
+-- an open sequence is cut off
 pub restarts : (r : List ℕ) (b : ℕ) → IsOpen r → 0 < length r → b ≡ 27 → Splits (r ++ b ∷ []) (r ∷ []) (b ∷ [])
 restarts r b o some e = (b ∷ [], refl, inr (record { some = some; fits = o; cut = inl e }), (refl, escape_open b e))
 

@@ -12,17 +12,17 @@ use Rattle.vt_term.proofs.Drops.{open_ignored}
 use Rattle.vt_term.proofs.Sequences.{empty_open, token_not_open, token_before}
 use Rattle.vt_term.proofs.Splits.{SameFirst, same_first}
 
--- one token more
+-- one more token
 pub begins_more : (text : List ℕ) (ts : List (List ℕ)) (behind token after : List ℕ) → Begins text ts behind → behind ≡ token ++ after → IsToken token after → Begins text (ts ++ token ∷ []) after
 begins_more text [] behind token after b e h = (after, b ∙ e, h, refl)
 begins_more text (t ∷ ts) behind token after b e h = (b.0, b.1, b.2, begins_more b.0 ts behind token after b.3 e h)
 
--- nothing is left, or something that is open
+-- tokens and then nothing, or something open, are a split of the text
 pub begins_whole : (text : List ℕ) (ts : List (List ℕ)) (behind : List ℕ) → Begins text ts behind → IsOpen behind → Splits text ts behind
 begins_whole text [] behind b o = (b, o)
 begins_whole text (t ∷ ts) behind b o = (b.0, b.1, b.2, begins_whole b.0 ts behind b.3 o)
 
--- a token, and what can be split of the bytes after it
+-- a token and bytes that split are split together
 split_front : (t front more : List ℕ) → IsToken t (front ++ more) → IsSplit front → IsSplit (t ++ front)
 split_front t [] more h s = elim h [
   | inl w ↦ record { tokens = t ∷ []; rest = []; splits = ([], refl, inl w, (refl, empty_open)) }
@@ -30,7 +30,7 @@ split_front t [] more h s = elim h [
 ]
 split_front t (b ∷ front) more h s = record { tokens = t ∷ s.tokens; rest = s.rest; splits = (b ∷ front, refl, token_before t b front more h, s.splits) }
 
--- the bytes after a token can be split, if both together can
+-- the bytes after a token split if both together do
 split_behind : (t : List ℕ) (us : List (List ℕ)) (after rest : List ℕ) → IsToken t after → Splits (t ++ after) us rest → IsSplit after
 split_behind t [] after rest h s = absurd (token_not_open t after h (subst IsOpen (sym s.0) s.1))
 split_behind t (u ∷ us) after rest h s =
@@ -45,7 +45,7 @@ split_rest t (b ∷ after) k lt h s =
     let cut : IsToken t (b ∷ take k after) = token_before t b (take k after) (drop k after) (subst (λ (l : List ℕ). IsToken t (b ∷ l)) (sym (take-append-drop k after)) h) in
     split_behind t s.tokens (take (k + 1) (b ∷ after)) s.rest (subst (IsToken t) (sym one) cut) s.splits
 
--- a fault stands so much later with a token before it
+-- a fault after a token, at its place in the joined text
 fault_behind : (t after : List ℕ) (k : ℕ) (kind : TextFaultKind) → IsToken t after → IsTextFault after k kind → IsTextFault (t ++ after) (length t + k) kind
 fault_behind t after k Unfinished h f = record {
   tokens = t ∷ f.tokens;
@@ -75,13 +75,13 @@ begins_fault text (t ∷ ts) behind k kind b f =
     (subst (λ (n : ℕ). IsTextFault (t ++ b.0) n kind) (let e : length t + (total ts + k) ≡ length t + total ts + k = omega arith in e)
     (fault_behind t b.0 (total ts + k) kind b.2 (begins_fault b.0 ts behind k kind b.3 f)))
 
--- the fault of what is left is that of the text
+-- the fault of the remaining bytes is the text's fault
 pub first_fault : (text : List ℕ) (ts : List (List ℕ)) (from : ℕ) (e : TextFault) → from ≤ length text → Begins text ts (drop from text) → HasFaultFrom text from e → HasFault text e
 first_fault text ts from e h b f =
     subst (λ (n : ℕ). IsTextFault text n e.kind) (omega (arith, begins_length text ts (drop from text) b, length-drop from text, h, f.behind))
     (begins_fault text ts (drop from text) (e.at - from) e.kind b f.is)
 
--- one byte more of what stands from a place on
+-- one more byte of the text from a place on
 pub slice_more : (xs : List ℕ) (start at : ℕ) → start ≤ at → at < length xs → take (at + 1 - start) (drop start xs) ≡ take (at - start) (drop start xs) ++ get_or xs at 0 ∷ []
 slice_more xs start at h lt =
     ap (λ (n : ℕ). take n (drop start xs)) (let e : at + 1 - start ≡ (at - start) + 1 = omega arith in e)
@@ -128,7 +128,7 @@ read_stuck text begun from at h lt e o none = record {
   fits_nothing = λ s. none (subst IsSplit (ap (λ (n : ℕ). take n (drop from text)) (let n : at - from + 1 ≡ at + 1 - from = omega (arith, h) in n) ∙ slice_more text from at h lt ∙ ap (λ (l : List ℕ). l ++ get_or text at 0 ∷ []) (sym e)) s);
 }
 
--- nothing ends what is open
+-- the text ends in an open sequence
 pub read_unfinished : (text begun : List ℕ) (from at : ℕ) → from < length text → at ≡ length text → begun ≡ take (at - from) (drop from text) → IsOpen begun → IsUnfinished (drop from text) (from - from)
 read_unfinished text begun from at lt all e o = record {
   tokens = [];
@@ -141,16 +141,16 @@ read_unfinished text begun from at lt all e o = record {
 pub begun_nothing : (text : List ℕ) (from : ℕ) → [] ≡ take (from - from) (drop from text)
 begun_nothing text from = ap (λ (n : ℕ). take n (drop from text)) (let e : 0 ≡ from - from = omega arith in e)
 
--- the token at a place is one more of those before it
+-- the token at a place comes after those before it
 pub begins_at : (text : List ℕ) (ts : List (List ℕ)) (from end : ℕ) (token : List ℕ) → Begins text ts (drop from text) → IsTokenAt text from end token → Begins text (ts ++ token ∷ []) (drop end text)
 begins_at text ts from end token b t =
     begins_more text ts (drop from text) token (drop end text) b (sym (take-append-drop (end - from) (drop from text)) ∙ ap (λ (l : List ℕ). l ++ drop (end - from) (drop from text)) (sym t.bytes)
     ∙ ap (λ (l : List ℕ). token ++ l) (drop-drop (end - from) from text ∙ ap (λ (n : ℕ). drop n text) (let e : from + (end - from) ≡ end = omega (arith, t.some) in e))) t.fits
 
--- at the end the tokens are those of the whole text
+-- at the end of the text its tokens are all read
 pub begins_all : (text : List ℕ) (ts : List (List ℕ)) (from : ℕ) → Begins text ts (drop from text) → from ≡ length text → Splits text ts []
 begins_all text ts from b e = subst (Splits text ts) (drop_all from text (omega (arith, e))) (begins_whole text ts (drop from text) b (subst IsOpen (sym (drop_all from text (omega (arith, e)))) empty_open))
 
--- the bytes from one place to the other are one token more
+-- the bytes from one place to the other are one more token
 pub begins_push : (text : List ℕ) (ts us : List (List ℕ)) (from end : ℕ) (token : List ℕ) → Begins text ts (drop from text) → IsTokenAt text from end token → us ≡ ts ++ take (end - from) (drop from text) ∷ [] → Begins text us (drop end text)
 begins_push text ts us from end token b t e = subst (λ (l : List (List ℕ)). Begins text l (drop end text)) (ap (λ (l : List ℕ). ts ++ l ∷ []) t.bytes ∙ sym e) (begins_at text ts from end token b t)

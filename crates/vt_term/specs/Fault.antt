@@ -1,4 +1,4 @@
--- What a byte does after an open sequence, and which faults a text has.
+-- The effect of a byte after an open sequence, and the faults of a text.
 use Rattle.std.specs.Prelude.{ℕ, ◌≡◌, ◌≢◌, ◌⊎◌, ◌<◌, ◌≤◌, length, Bool, true, false, List, [], ◌∷◌, ◌++◌}
 use Rattle.vt_term.specs.declared.parser.Transition.{Transition}
 use Rattle.vt_term.specs.declared.parser.Transition.TheVariants.{Opens, Ends, Restarts, Cancels, Fails}
@@ -9,7 +9,7 @@ use Rattle.vt_screen.specs.Look.{IsPrinted}
 use Rattle.vt_term.specs.Text.{IsControl, IsParameter, IsIntermediate, IsFinal, IsEscapeFinal, IsIntroducer, IsOpen}
 use Rattle.vt_term.specs.Text.{IsWhole, IsSplit, IsStuck, IsUnfinished}
 
--- the byte goes on or ends, or what is open is cut off, and the byte is read for itself
+-- the byte continues or ends the sequence, cuts it off and is read by itself, or fits nothing
 abbrev pub IsTransition : List ℕ → ℕ → Transition → Type 0
 IsTransition begun b Opens = IsOpen (begun ++ b ∷ [])
 IsTransition begun b Ends = IsWhole (begun ++ b ∷ [])
@@ -31,14 +31,14 @@ IsIntroducerTransition b Ends = IsEscapeFinal b × (IsIntroducer b → ⊥)
 IsIntroducerTransition b Fails = (b ≢ 91) × (IsIntermediate b → ⊥) × (IsEscapeFinal b → IsIntroducer b)
 IsIntroducerTransition b _ = ⊥
 
--- after ESC and intermediate bytes; room is left for another or not
+-- after ESC and intermediate bytes; `room` says whether another byte fits
 abbrev pub IsEscapeTransition : ℕ → Bool → Transition → Type 0
 IsEscapeTransition b room Opens = (room ≡ true) × IsIntermediate b
 IsEscapeTransition b room Ends = IsEscapeFinal b
 IsEscapeTransition b room Fails = (IsEscapeFinal b → ⊥) × (room ≡ true → IsIntermediate b → ⊥)
 IsEscapeTransition b room _ = ⊥
 
--- in a control sequence; intermediate bytes have come or not, and room is left for another byte or not
+-- in a control sequence; `closed` says whether it has intermediate bytes, `room` whether another byte fits
 abbrev pub IsInsideTransition : Bool → ℕ → Bool → Transition → Type 0
 IsInsideTransition closed b room Opens = (room ≡ true) × (IsIntermediate b ⊎ (IsParameter b × (closed ≡ false)))
 IsInsideTransition closed b room Ends = IsFinal b
@@ -51,6 +51,6 @@ IsFault text at Unfinished = IsUnfinished text at
 IsFault text at Stuck = IsStuck text at
 IsFault text at NoMemory = Unit {0}
 
--- the fault that this text has, or running out of memory
+-- the fault is one of this text, or memory ran out
 abbrev pub TellsFault : List ℕ → TokenFault → Type 0
 TellsFault text fault = IsFault text fault.at fault.kind

@@ -1,4 +1,4 @@
--- What a token asks for (ECMA-48 8.3; VT100 user guide for DECSTBM, DECAWM and the character sets).
+-- The function of each token (ECMA-48 8.3; VT100 user guide for DECSTBM, DECAWM and the character sets).
 use Rattle.std.specs.Prelude.{ℕ, ◌-◌, ◌==◌, ◌&&◌, ◌||◌, nat_le, max, true, false, List, [], ◌∷◌, length, take}
 use Rattle.std.specs.Prelude.{if◌then◌else◌, Option, None, Some}
 use Rattle.std.specs.Option.{unwrap_or}
@@ -20,7 +20,7 @@ pub use Rattle.vt_screen.specs.declared.functions.Function.TheVariants.{DeleteLi
 pub use Rattle.vt_screen.specs.declared.functions.Function.TheVariants.{Designate, SelectRendition, Modes, Ignored}
 use Rattle.vt_term.specs.Parameters.{numbers, is_numeral}
 
--- where the default is 1 and 0 counts as 1
+-- a number whose default is 1, and for which 0 counts as 1
 abbrev pub counted : Option ℕ → ℕ
 counted None = 1
 counted (Some n) = max 1 n
@@ -56,7 +56,7 @@ display_part n =
     if n == 0 then EraseDisplay ToEnd
     else (if n == 1 then EraseDisplay FromStart else (if n == 2 then EraseDisplay Whole else Ignored))
 
--- the functions of one count
+-- the functions with one count, by final byte
 abbrev pub counting : ℕ → ℕ → Function
 counting final n =
     if final == 64 then InsertCells n
@@ -74,7 +74,7 @@ counting final n =
     else (if final == 100 then CursorRow n
     else Ignored))))))))))))
 
--- the functions of one number
+-- the functions with one number, by final byte
 abbrev pub by_number : ℕ → Option ℕ → Function
 by_number final n =
     if final == 74 then display_part (unwrap_or n 0)
@@ -85,7 +85,7 @@ abbrev pub of_one_number : ℕ → List (Option ℕ) → Function
 of_one_number final (n ∷ []) = by_number final n
 of_one_number final _ = Ignored
 
--- a control sequence of these numbers, by its final byte; what names no function has no effect
+-- a control sequence with these numbers, by its final byte; one that names no function has no effect
 abbrev pub of_numbers : ℕ → List (Option ℕ) → Function
 of_numbers final ns =
     if (final == 72) || (final == 102) then cursor_position ns
@@ -99,17 +99,17 @@ abbrev pub of_private_numbers : ℕ → List (Option ℕ) → Function
 of_private_numbers final ns =
     if final == 104 then Modes Private true ns else (if final == 108 then Modes Private false ns else Ignored)
 
--- a question mark and numbers
+-- the parameters of a private function: a question mark and numbers
 abbrev pub marked : ℕ → List ℕ → Function
 marked final [] = Ignored
 marked final (b ∷ bytes) =
     if (b == 63) && list_all is_numeral bytes then of_private_numbers final (numbers bytes) else Ignored
 
--- a control sequence by its final byte and what stands before it
+-- a control sequence by its final byte and the bytes before it
 abbrev pub named : ℕ → List ℕ → Function
 named final front = if list_all is_numeral front then of_numbers final (numbers front) else marked final front
 
--- what follows ESC [
+-- a control sequence by the bytes after ESC [
 abbrev pub sequence : List ℕ → Function
 sequence body = named (slice_index body (length body - 1)) (take (length body - 1) body)
 
@@ -118,19 +118,19 @@ abbrev pub designation : CodeElement → ℕ → Function
 designation set final =
     if final == 48 then Designate set true else (if final == 66 then Designate set false else Ignored)
 
--- an escape sequence of one byte after ESC: IND, NEL and RI (ECMA-48 8.3)
+-- an escape sequence with one byte after ESC: IND, NEL and RI (ECMA-48 8.3)
 abbrev pub escape_final : ℕ → Function
 escape_final final = if final == 68 then LineFeed
     else (if final == 69 then NextLine else (if final == 77 then ReverseIndex else Ignored))
 
--- an escape sequence by what follows ESC
+-- an escape sequence by the bytes after ESC
 abbrev pub escaped : List ℕ → Function
 escaped (final ∷ []) = escape_final final
 escaped (set ∷ final ∷ []) =
     if set == 40 then designation G0 final else (if set == 41 then designation G1 final else Ignored)
 escaped _ = Ignored
 
--- a dropped sequence has no final byte of a function, and so no effect
+-- a dropped sequence has no function's final byte, and so no effect
 abbrev pub function_of : List ℕ → Function
 function_of [] = Ignored
 function_of (b ∷ []) = single b

@@ -1,7 +1,7 @@
--- The string that brings the cursor to a place.
+-- The string that moves the cursor to a place.
 use Rattle.std.specs.Prelude.{ℕ, ◌+◌, List, [], ◌∷◌, ◌++◌}
 use Rattle.std.specs.Fmt.{decimal}
 
--- ESC [ row ; column H, which count from 1 there (ECMA-48 8.3.21, CUP)
+-- ESC [ row ; column H, where both count from 1 (ECMA-48 8.3.21, CUP)
 abbrev pub cursor_to : ℕ → ℕ → List ℕ
 cursor_to row col = 27 ∷ 91 ∷ (decimal (row + 1) ++ 59 ∷ (decimal (col + 1) ++ 72 ∷ []))

@@ -1,5 +1,5 @@
--- (Serves the code alone.) What each stage of the parser says of the bytes so far. Only the parser's own clauses cite
--- this file.
+-- (Serves the code alone.) The meaning of each stage of the parser for the bytes so far. Only the parser's own
+-- clauses cite this file.
 use Rattle.std.specs.Prelude.{◌≡◌, ◌≢◌, ℕ, ◌-◌, ◌<◌, ◌≤◌, ◌==◌, ◌&&◌, Bool, true, false, List, [], ◌∷◌, ◌++◌, length}
 use Rattle.std.specs.Prelude.{take, slice_index, Option, None, Some}
 use Rattle.std.specs.List.{list_all}
@@ -15,7 +15,7 @@ use Rattle.vt_screen.specs.declared.functions.Function.TheVariants.{Ignored}
 abbrev pub last_byte : List ℕ → ℕ
 last_byte bytes = slice_index bytes (length bytes - 1)
 
--- ESC and intermediate bytes that choose no set
+-- ESC and intermediate bytes that designate neither G0 nor G1
 pub record ChoosesNothing (bytes : List ℕ) : Type 0 where
   pub second : ℕ
   pub more : List ℕ
@@ -44,7 +44,7 @@ abbrev pub is_marked : List ℕ → Bool
 is_marked [] = false
 is_marked (b ∷ bytes) = (b == 63) && list_all is_numeral bytes
 
--- ESC [ and what no function has
+-- ESC [ and parameters that no function has
 pub record NamesNothing (bytes : List ℕ) : Type 0 where
   pub front : List ℕ
   pub spelled : bytes ≡ 27 ∷ 91 ∷ front
@@ -63,7 +63,7 @@ IsAt PrivateParameters ns bytes = IsPrivate ns bytes
 IsAt OtherParameters ns bytes = NamesNothing bytes × (IsIntermediate (last_byte bytes) → ⊥)
 IsAt Closed ns bytes = NamesNothing bytes × IsIntermediate (last_byte bytes)
 
--- what a parser has is what these bytes make of it
+-- the parser's fields are right for these bytes
 pub record IsParsing (stage : ParserState) (ns : List (Option ℕ)) (count capacity : ℕ) (bytes : List ℕ) : Type 0 where
   pub counted : count ≡ length bytes
   pub few : length ns ≤ length bytes
@@ -71,7 +71,7 @@ pub record IsParsing (stage : ParserState) (ns : List (Option ℕ)) (count capac
   pub fits : IsOpen bytes
   pub at : IsAt stage ns bytes
 
--- the bytes begin with parameters of these numbers, and a final byte stands after them at this place
+-- the bytes begin with parameters of these numbers, followed by a final byte at this place
 pub record ReadsTo (bytes : List ℕ) (ns : List (Option ℕ)) (at final : ℕ) : Type 0 where
   pub within : at < length bytes
   pub numeral : list_all is_numeral (take at bytes) ≡ true
@@ -79,7 +79,7 @@ pub record ReadsTo (bytes : List ℕ) (ns : List (Option ℕ)) (at final : ℕ) 
   pub last : final ≡ slice_index bytes at
   pub ends : IsFinal final
 
--- what is kept of a token tells its function
+-- the parts kept of a token determine its function
 abbrev pub IsTold : Option ParserState → List (Option ℕ) → List ℕ → Type 0
 IsTold None ns bytes = function_of bytes ≡ Ignored
 IsTold (Some stage) ns bytes =

@@ -1,4 +1,4 @@
--- What a terminal becomes over a text, in whatever pieces the text comes.
+-- The state of a terminal after a text, in whatever pieces the text comes.
 use Rattle.std.specs.Prelude.{ℕ, ◌+◌, ◌<◌, ◌≡◌, List, [], ◌∷◌, ◌++◌, length, take, Bool, true, false, Option, None}
 use Rattle.std.specs.Prelude.{Some, min, ◌-◌}
 use Rattle.vt_screen.specs.Screen.{Screen, IsScreen}
@@ -9,13 +9,13 @@ use Rattle.vt_screen.specs.declared.functions.Function.TheVariants.{CursorPositi
 use Rattle.vt_term.specs.Function.{function_of}
 use Rattle.vt_term.specs.Step.{step, steps}
 
--- what was open and the bytes are tokens and a new open rest, and each token takes its step
+-- the open bytes and the new ones split into tokens and a new open rest, and each token takes its step
 pub record Runs (before : State) (bytes : List ℕ) (after : State) : Type 0 where
   pub tokens : List (List ℕ)
   pub splits : Splits (before.rest ++ bytes) tokens after.rest
   pub screen : after.screen ≡ steps tokens before.screen
 
--- the byte at this place fits nothing: those before it are run, and what was open is dropped
+-- the byte at this place fits nothing: the bytes before it are run, and the open sequence is dropped
 pub record Sticks (before : State) (bytes : List ℕ) (at : ℕ) (after : State) : Type 0 where
   pub within : at < length bytes
   pub reached : State
@@ -23,7 +23,7 @@ pub record Sticks (before : State) (bytes : List ℕ) (at : ℕ) (after : State)
   pub fits_nothing : (other : State) → Runs before (take (at + 1) bytes) other → ⊥
   pub dropped : after ≡ record reached { rest = [] }
 
--- one byte is run, or it fits nothing and what was open is dropped
+-- one byte is run, or it fits nothing and the open sequence is dropped
 abbrev pub Accepts : State → ℕ → Bool → State → Type 0
 Accepts before b true after = Runs before (b ∷ []) after
 Accepts before b false after =
@@ -43,12 +43,12 @@ place_named rows cols _ = None
 abbrev pub place_of : ℕ → ℕ → List ℕ → Option (ℕ × ℕ)
 place_of rows cols token = place_named rows cols (function_of token)
 
--- the step of this token leads from every screen of the size to this place
+-- the step of this token moves the cursor of every screen of the size to this place
 abbrev pub LeadsTo : ℕ → ℕ → List ℕ → ℕ → ℕ → Type 0
 LeadsTo rows cols token row col =
     (s : Screen) → IsScreen s → s.rows ≡ rows → s.cols ≡ cols → ((step token s).row ≡ row) × ((step token s).col ≡ col)
 
--- a run leaves the cursor there
+-- a run leaves the cursor at the place
 pub record RunsTo (height width : ℕ) (before : State) (bytes : List ℕ) (row col : ℕ) : Type 0 where
   pub after : State
   pub runs : Runs before bytes after
@@ -56,7 +56,7 @@ pub record RunsTo (height width : ℕ) (before : State) (bytes : List ℕ) (row 
   pub at_row : after.screen.row ≡ row
   pub at_col : after.screen.col ≡ col
 
--- the whole text leads from every state at rest to this place
+-- the whole text moves the cursor to this place from every state at rest
 abbrev pub Reaches : ℕ → ℕ → List ℕ → ℕ → ℕ → Type 0
 Reaches rows cols bytes row col =
     (before : State) → IsOfSize rows cols before → IsAtRest before → RunsTo rows cols before bytes row col

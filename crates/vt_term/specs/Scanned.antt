@@ -5,13 +5,13 @@ use Rattle.vt_term.specs.declared.scanners.TextFault.{TextFault}
 use Rattle.vt_term.specs.declared.scanners.TextFaultKind.{TextFaultKind}
 use Rattle.vt_term.specs.declared.scanners.TextFaultKind.TheVariants.{Unfinished, Stuck}
 
--- the text is these tokens, one after another, and then these bytes, whatever they are
+-- the text is these tokens, one after another, and then the bytes `behind`, whatever they are
 abbrev pub Begins : List ℕ → List (List ℕ) → List ℕ → Type 0
 Begins text [] behind = text ≡ behind
 Begins text (token ∷ tokens) behind =
     (after : List ℕ) × (text ≡ token ++ after) × IsToken token after × Begins after tokens behind
 
--- this token stands in the text from one place to the other
+-- the token is the text between the two places
 pub record IsTokenAt (text : List ℕ) (from end : ℕ) (token : List ℕ) : Type 0 where
   pub some : from < end
   pub within : end ≤ length text
@@ -26,22 +26,22 @@ IsTextFault text at Stuck = IsStuck text at
 abbrev pub HasFault : List ℕ → TextFault → Type 0
 HasFault text fault = IsTextFault text fault.at fault.kind
 
--- what stands from a place on has this fault
+-- the text from a place on has this fault
 pub record HasFaultFrom (text : List ℕ) (from : ℕ) (fault : TextFault) : Type 0 where
   pub behind : from ≤ fault.at
   pub is : IsTextFault (drop from text) (fault.at - from) fault.kind
 
--- the bytes before the last one, and the last one where the token is whole
+-- the token from the bytes before its last one and, if it is whole, the last one
 abbrev pub token_by : List ℕ → Option ℕ → List ℕ
 token_by begun None = begun
 token_by begun (Some last) = begun ++ last ∷ []
 
--- a token that its last byte ends, or that is cut off
+-- a token ended by its last byte, or cut off
 abbrev pub IsEndedBy : List ℕ → Option ℕ → Type 0
 IsEndedBy begun None = IsOpen begun
 IsEndedBy begun (Some last) = IsWhole (begun ++ last ∷ [])
 
--- the token was read
+-- the token between the two places was read
 pub record IsRead (text : List ℕ) (from end : ℕ) (last : Option ℕ) (begun : List ℕ) : Type 0 where
   pub token : IsTokenAt text from end (token_by begun last)
   pub ended : IsEndedBy begun last

@@ -1,4 +1,4 @@
--- The state of the terminal: the display with its modes, and what has come of a sequence that isn't whole yet.
+-- The state of the terminal: the display with its modes, and the sequence that isn't whole yet.
 use Rattle.std.specs.Prelude.{ℕ, ◌+◌, ◌≡◌, true, false, List, []}
 pub use Rattle.vt_screen.specs.Screen.{Screen, IsScreen, is_graphic, reset_screen}
 pub use Rattle.vt_screen.specs.declared.displays.Charset.{Charset}
@@ -21,11 +21,11 @@ pub record IsOfSize (height width : ℕ) (s : State) : Type 0 where
   pub rows : s.screen.rows ≡ height
   pub cols : s.screen.cols ≡ width
 
--- the state in which a terminal begins
+-- the state of a new terminal
 abbrev pub reset : ℕ → ℕ → State
 reset rows cols = record { screen = reset_screen rows cols; rest = [] }
 
--- nothing is open or switched that would change what a text does
+-- nothing is open, and every mode that would change a text's effect is as after a reset
 pub record IsAtRest (s : State) : Type 0 where
   pub rest : s.rest ≡ []
   pub autowrap : s.screen.autowrap ≡ true

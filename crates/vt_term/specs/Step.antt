@@ -1,4 +1,4 @@
--- What each token does to the screen.
+-- The effect of each token on the screen.
 use Rattle.std.specs.Prelude.{ℕ, List, [], ◌∷◌}
 use Rattle.vt_screen.specs.Screen.{Screen}
 pub use Rattle.vt_screen.specs.Step.{goes_to, lines_up, lines_down, goes_down, goes_up, line_feed, reverse_index}

@@ -1,5 +1,5 @@
--- How a text falls into tokens (ECMA-48 5.4, control sequences; ECMA-35 13.2, escape sequences; VT100 user guide,
--- "Control characters": CAN, SUB and ESC end a sequence that isn't whole).
+-- The splitting of a text into tokens (ECMA-48 5.4, control sequences; ECMA-35 13.2, escape sequences; VT100 user
+-- guide, "Control characters": CAN, SUB and ESC end a sequence that isn't whole).
 use Rattle.std.specs.Prelude.{ℕ, ◌+◌, ◌<◌, ◌≤◌, ◌≡◌, ◌≢◌, ◌⊎◌, List, [], ◌∷◌, ◌++◌, length, take}
 use Rattle.std.specs.List.{AllByRecursion}
 pub use Rattle.vt_screen.specs.Look.{IsPrinted}
@@ -21,11 +21,11 @@ IsFinal b = (0x40 ≤ b) × (b ≤ 0x7e)
 abbrev pub IsEscapeFinal : ℕ → Type 0
 IsEscapeFinal b = (0x30 ≤ b) × (b ≤ 0x7e)
 
--- [ and P X ] ^ _, which straight after ESC begin a control sequence or a string
+-- [ and P X ] ^ _, which begin a control sequence or a string right after ESC
 abbrev pub IsIntroducer : ℕ → Type 0
 IsIntroducer b = (b ≡ 0x50) ⊎ (b ≡ 0x58) ⊎ (b ≡ 0x5b) ⊎ ((0x5d ≤ b) × (b ≤ 0x5f))
 
--- the most bytes that a sequence has
+-- the greatest length of a sequence in bytes
 abbrev pub sequence_limit : ℕ
 sequence_limit = 256
 
@@ -53,7 +53,7 @@ pub record IsEscapeSequence (bytes : List ℕ) : Type 0 where
 abbrev pub IsSequence : List ℕ → Type 0
 IsSequence bytes = IsControlSequence bytes ⊎ IsEscapeSequence bytes
 
--- a proper front of a sequence; the empty one is one
+-- a proper prefix of a sequence; the empty one too
 pub record IsOpen (bytes : List ℕ) : Type 0 where
   pub more : List ℕ
   pub some : 0 < length more
@@ -64,7 +64,7 @@ IsSingle [] = ⊥
 IsSingle (b ∷ []) = IsPrinted b ⊎ IsControl b
 IsSingle (b ∷ c ∷ bytes) = ⊥
 
--- ESC, CAN and SUB, which a sequence never has after its first byte
+-- ESC, CAN and SUB, which no sequence has after its first byte
 abbrev pub Cuts : ℕ → Type 0
 Cuts b = (b ≡ 27) ⊎ (b ≡ 24) ⊎ (b ≡ 26)
 
@@ -72,7 +72,7 @@ abbrev pub IsCutBy : List ℕ → Type 0
 IsCutBy [] = ⊥
 IsCutBy (b ∷ bytes) = Cuts b
 
--- a sequence that is not whole when the bytes after it cut it off
+-- a sequence that the bytes after it cut off before it is whole
 pub record IsDropped (bytes behind : List ℕ) : Type 0 where
   pub some : 0 < length bytes
   pub fits : IsOpen bytes
@@ -81,7 +81,7 @@ pub record IsDropped (bytes behind : List ℕ) : Type 0 where
 abbrev pub IsWhole : List ℕ → Type 0
 IsWhole bytes = IsSingle bytes ⊎ IsSequence bytes
 
--- these bytes are a token where those stand after them
+-- these bytes are a token if the bytes `behind` follow
 abbrev pub IsToken : List ℕ → List ℕ → Type 0
 IsToken bytes behind = IsWhole bytes ⊎ IsDropped bytes behind
 
@@ -91,19 +91,19 @@ Splits text [] rest = (text ≡ rest) × IsOpen rest
 Splits text (token ∷ tokens) rest =
     (behind : List ℕ) × (text ≡ token ++ behind) × IsToken token behind × Splits behind tokens rest
 
--- the text falls into tokens and an open rest
+-- the text splits into tokens and an open rest
 pub record IsSplit (text : List ℕ) : Type 0 where
   pub tokens : List (List ℕ)
   pub rest : List ℕ
   pub splits : Splits text tokens rest
 
--- the bytes before this place can be split, and with the byte at it they can't
+-- the bytes before this place can be split, but not together with the byte at it
 pub record IsStuck (text : List ℕ) (at : ℕ) : Type 0 where
   pub within : at < length text
   pub before : IsSplit (take at text)
   pub fits_nothing : IsSplit (take (at + 1) text) → ⊥
 
--- the text is tokens and then the beginning of a sequence, which stands here
+-- the text is tokens and then an unfinished sequence, which begins at this place
 pub record IsUnfinished (text : List ℕ) (at : ℕ) : Type 0 where
   pub tokens : List (List ℕ)
   pub rest : List ℕ

@@ -1,11 +1,11 @@
-//! Which function a whole token names.
+//! The function that a whole token names.
 
 ghost use Rattle.std.specs.Prelude.{◌≡◌};
 ghost use Rattle.vt_term.specs.Function as spec;
 
 use vt_screen::{CodeElement, EraseExtent, Function, ModeKind, Parameters};
 
-/// What an escape sequence asks for, by the one byte after ESC.
+/// The function of an escape sequence with the one byte `last` after ESC.
 pub(crate) fn escape_final<'a>(last: u8) -> Function<'a>
     ensures { result ≡ spec.escape_final last }
 {
@@ -17,7 +17,7 @@ pub(crate) fn escape_final<'a>(last: u8) -> Function<'a>
     }
 }
 
-/// What becomes of G0 or G1.
+/// The function that designates `set`, by the final byte `last`.
 pub(crate) fn designation<'a>(set: CodeElement, last: u8) -> Function<'a>
     ensures { result ≡ spec.designation set last }
 {
@@ -28,7 +28,7 @@ pub(crate) fn designation<'a>(set: CodeElement, last: u8) -> Function<'a>
     }
 }
 
-/// What a byte outside sequences asks for.
+/// The function of a byte outside sequences.
 pub(crate) fn single<'a>(byte: u8) -> Function<'a>
     ensures { result ≡ spec.single byte }
 {
@@ -44,7 +44,7 @@ pub(crate) fn single<'a>(byte: u8) -> Function<'a>
     }
 }
 
-/// What a control sequence of these numbers asks for, by its final byte.
+/// The function of a control sequence with these numbers and the final byte `last`.
 pub(crate) fn of_numbers(last: u8, numbers: &[Option<u16>]) -> Function<'_>
     ensures { result ≡ spec.of_numbers last numbers.now }
 {
@@ -58,7 +58,7 @@ pub(crate) fn of_numbers(last: u8, numbers: &[Option<u16>]) -> Function<'_>
     }
 }
 
-/// What a control sequence of a question mark and these numbers asks for, by its final byte.
+/// The function of a control sequence with a question mark, these numbers and the final byte `last`.
 pub(crate) fn of_private_numbers(last: u8, numbers: &[Option<u16>]) -> Function<'_>
     ensures { result ≡ spec.of_private_numbers last numbers.now }
 {
@@ -98,7 +98,7 @@ fn of_one_number<'a>(last: u8, numbers: &[Option<u16>]) -> Function<'a>
     }
 }
 
-/// The functions of one number.
+/// The function of a control sequence with one number and the final byte `last`.
 fn by_number<'a>(last: u8, number: Option<u16>) -> Function<'a>
     ensures { result ≡ spec.by_number last number }
 {
@@ -131,7 +131,7 @@ fn line_part<'a>(number: u16) -> Function<'a>
     }
 }
 
-/// The functions of one count.
+/// The function of a control sequence with one count and the final byte `last`.
 fn counting<'a>(last: u8, count: u16) -> Function<'a>
     ensures { result ≡ spec.counting last count }
 {

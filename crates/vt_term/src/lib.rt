@@ -1,5 +1,5 @@
-//! A character terminal as a state that bytes act on: what each of them does to the cells, the
-//! cursor and the modes, and how a text falls into printed characters, controls and sequences.
+//! A character terminal as a state that bytes act on: the effect of each on the cells, the cursor and the modes, and
+//! the splitting of a text into printed characters, controls and sequences.
 #![tactic(auto)]
 
 mod functions;

@@ -5,7 +5,7 @@ ghost use Rattle.std.specs.Borrow.{ftrue};
 
 use std::marker::Model;
 
-/// The bytes of a sequence so far, which only proofs see. It takes no memory, and its methods do nothing.
+/// The bytes of a sequence so far, visible to proofs only. It takes no memory, and its methods do nothing.
 #[derive(Drop)]
 pub(crate) struct OpenBytes {
     ghost bytes: { List ℕ },
@@ -23,7 +23,7 @@ impl OpenBytes {
         OpenBytes {}
     }
 
-    /// One byte more.
+    /// These bytes and one more.
     #[inline(always)]
     pub(crate) fn then(&self, _byte: &u8) -> OpenBytes
         ensures { result.bytes ≡ self.now.bytes ++ _byte.now ∷ [] }

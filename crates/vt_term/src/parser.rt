@@ -1,4 +1,4 @@
-//! The parser: what each byte does to an open sequence, and the function that a finished one names.
+//! The parser: the effect of each byte on an open sequence, and the function that a finished one names.
 
 ghost use Rattle.std.specs.Prelude.{◌≡◌, ℕ, ◌+◌, ◌-◌, ◌*◌, ◌<◌, ◌≤◌, min, true, false, List, [], ◌∷◌, ◌++◌, length};
 ghost use Rattle.std.specs.Prelude.{IfOk, Option, vec_capacity};
@@ -22,52 +22,52 @@ const CANCEL: u8 = 24;
 
 const SUBSTITUTE: u8 = 26;
 
-/// The most bytes that a sequence has.
+/// The greatest length of a sequence in bytes.
 pub(crate) const SEQUENCE_LIMIT: usize = 256;
 
-/// What a byte does after what is open.
+/// The effect of a byte after an open sequence, or after nothing.
 pub(crate) enum Transition {
     /// The sequence stays open.
     Opens,
     /// The token is whole.
     Ends,
-    /// What is open is dropped, and the byte begins another sequence.
+    /// The open sequence is dropped, and the byte begins another.
     Restarts,
-    /// What is open is dropped, and the byte is a control.
+    /// The open sequence is dropped, and the byte is a control.
     Cancels,
     Fails,
 }
 
-/// How far the reading of a sequence has come.
+/// How far a sequence has been read.
 #[derive(Clone, Copy)]
 pub(crate) enum ParserState {
     /// Outside sequences.
     Outside,
-    /// Behind ESC.
+    /// After ESC.
     Escape,
-    /// Behind ESC `(`.
+    /// After ESC `(`.
     DesignatesG0,
-    /// Behind ESC `)`.
+    /// After ESC `)`.
     DesignatesG1,
-    /// Behind ESC and other intermediate bytes.
+    /// After ESC and other intermediate bytes.
     Intermediate,
-    /// Behind ESC `[`.
+    /// After ESC `[`.
     Introduced,
-    /// Behind ESC `[` with digits and semicolons.
+    /// After ESC `[` with digits and semicolons.
     Parameters,
-    /// Behind ESC `[?`, alone or with digits and semicolons.
+    /// After ESC `[?`, alone or with digits and semicolons.
     PrivateParameters,
-    /// Behind ESC `[` with other parameter bytes.
+    /// After ESC `[` with other parameter bytes.
     OtherParameters,
-    /// Behind ESC `[` with intermediate bytes.
+    /// After ESC `[` with intermediate bytes.
     Closed,
 }
 
-/// The bytes so far of a sequence, as what they mean for the bytes to come.
+/// The part of a sequence read so far, kept as its meaning for the bytes to come.
 #[derive(Drop)]
 pub(crate) struct Parser {
     stage: ParserState,
-    /// The numbers so far of a control sequence, the one that is being read last.
+    /// The numbers of a control sequence so far; the last one is still being read.
     numbers: Vec<Option<u16>>,
     count: usize,
     open_bytes: OpenBytes,
@@ -85,7 +85,7 @@ impl Model for Parser {
 }
 
 impl Parser {
-    /// Nothing is open. All the memory that reading takes is asked for here.
+    /// A parser with nothing open. It allocates all the memory that it will need.
     pub(crate) fn new(alloc: Global) -> Result<Parser, AllocError>
         ensures { IfOk result (λ parser. parser ≡ []) }
     {
@@ -97,7 +97,7 @@ impl Parser {
         })
     }
 
-    /// What a byte does after an open sequence, or outside one if nothing is open.
+    /// The effect of a byte after the open sequence, or outside sequences if nothing is open.
     pub(crate) fn transition(&self, byte: u8) -> Transition
         ensures transition { IsTransition self.now byte result }
         ensures begun { IsOpen self.now }
@@ -112,7 +112,7 @@ impl Parser {
         }
     }
 
-    /// What a byte that doesn't cut it off does after an open sequence.
+    /// The effect of a byte that doesn't cut off the open sequence.
     fn transition_open(&self, byte: u8) -> Transition
         requires some { 0 < length self.now }
         requires goes_on { Cuts byte → ⊥ }
@@ -133,7 +133,7 @@ impl Parser {
         }
     }
 
-    /// Takes a byte with which the sequence stays open.
+    /// Takes a byte that leaves the sequence open.
     pub(crate) fn open(&mut self, byte: u8)
         requires { IsOpen (self.old ++ byte ∷ []) }
         ensures { self.new ≡ self.old ++ byte ∷ [] }
@@ -151,7 +151,7 @@ impl Parser {
         matches!(self.stage, ParserState::Outside)
     }
 
-    /// Drops what is open.
+    /// Drops the open sequence, if there is one.
     pub(crate) fn clear(&mut self)
         ensures { self.new ≡ [] }
     {
@@ -161,7 +161,7 @@ impl Parser {
         self.open_bytes = OpenBytes::new();
     }
 
-    /// What the token asks for that this byte ends.
+    /// The function of the token that ends with `byte`.
     pub(crate) fn function(&self, byte: u8) -> Function<'_>
         requires { IsWhole (self.now ++ byte ∷ []) }
         ensures { result ≡ function_of (self.now ++ byte ∷ []) }
@@ -169,7 +169,7 @@ impl Parser {
         ended(self.stage, &self.numbers, byte)
     }
 
-    /// How far the reading has come, and the numbers so far.
+    /// How far the sequence has been read, and its numbers so far.
     pub(crate) fn parts(&self) -> (ParserState, &[Option<u16>])
         ensures { IsAt result.0 result.1.now self.now }
     {
@@ -177,7 +177,7 @@ impl Parser {
     }
 }
 
-/// What the token asks for that this byte ends.
+/// The function of the token that ends with `byte`, after `stage` and these numbers.
 pub(crate) fn ended(stage: ParserState, numbers: &[Option<u16>], byte: u8) -> Function<'_>
     ensures { (begun : List ℕ) → IsAt stage numbers.now begun → IsWhole (begun ++ byte ∷ []) →
         result ≡ function_of (begun ++ byte ∷ []) }
@@ -215,7 +215,7 @@ fn transition_introducer(byte: u8) -> Transition
     }
 }
 
-/// What a byte does after ESC and intermediate bytes.
+/// The effect of a byte after ESC and intermediate bytes.
 fn transition_escape(byte: u8, has_room: bool) -> Transition
     ensures { IsEscapeTransition byte has_room result }
 {
@@ -226,7 +226,7 @@ fn transition_escape(byte: u8, has_room: bool) -> Transition
     }
 }
 
-/// What a byte does in a control sequence, in which intermediate bytes have come or not.
+/// The effect of a byte in a control sequence; `closed` says whether it has intermediate bytes.
 fn transition_inside(closed: bool, byte: u8, has_room: bool) -> Transition
     ensures { IsInsideTransition closed byte has_room result }
 {
@@ -238,7 +238,7 @@ fn transition_inside(closed: bool, byte: u8, has_room: bool) -> Transition
     }
 }
 
-/// The stage and the numbers after one byte more, with which the sequence stays open.
+/// The stage and the numbers after one more byte that leaves the sequence open.
 fn behind(stage: ParserState, numbers: &mut Vec<Option<u16>>, byte: u8) -> ParserState
     requires { length numbers.old.items < vec_capacity numbers.old }
     ensures at { (begun : List ℕ) → IsAt stage numbers.old.items begun → IsOpen (begun ++ byte ∷ []) →
@@ -282,7 +282,7 @@ fn behind_escape(numbers: &mut Vec<Option<u16>>, byte: u8) -> ParserState
     }
 }
 
-/// The stage after numbers and a byte, which is the given one if the numbers go on.
+/// The stage after numbers and one more byte: `stage` if the byte belongs to the numbers.
 fn behind_number(stage: ParserState, numbers: &mut Vec<Option<u16>>, byte: u8) -> ParserState
     requires { length numbers.old.items < vec_capacity numbers.old }
     ensures stage { spec.is_numeral byte ≡ true → result ≡ stage }
@@ -312,7 +312,7 @@ fn unnamed(byte: u8) -> ParserState
     }
 }
 
-/// Takes a digit or a semicolon more of the numbers.
+/// Adds a digit or a semicolon to the numbers.
 fn read_numeral(numbers: &mut Vec<Option<u16>>, byte: u8)
     requires numeral { spec.is_numeral byte ≡ true }
     requires room { length numbers.old.items < vec_capacity numbers.old }
@@ -329,7 +329,7 @@ fn read_numeral(numbers: &mut Vec<Option<u16>>, byte: u8)
     }
 }
 
-/// The number with one more digit; above 65535 it stays there.
+/// The number with one more digit, at most 65535.
 pub(crate) fn with_digit(number: Option<u16>, digit: u8) -> u16
     requires low { 48 ≤ digit }
     requires high { digit ≤ 57 }
@@ -341,7 +341,7 @@ pub(crate) fn with_digit(number: Option<u16>, digit: u8) -> u16
         .saturating_add(u16::from(digit - b'0'))
 }
 
-/// A digit or a semicolon.
+/// Whether `byte` is a digit or a semicolon.
 fn is_numeral(byte: u8) -> bool
     ensures { result ≡ spec.is_numeral byte }
 {

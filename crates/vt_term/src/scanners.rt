@@ -1,4 +1,4 @@
-//! A text gone over token by token, in place.
+//! Reading a text token by token, in place.
 
 ghost use Rattle.std.specs.Prelude.{◌≡◌, ◌++◌, ◌∷◌, ◌-◌, ◌<◌, ◌≤◌, [], drop, length, take, IfErr, IfOk, IfSome, List};
 ghost use Rattle.std.specs.Prelude.{None, Some, ◌+◌, ℕ};
@@ -14,12 +14,12 @@ use std::fmt;
 use std::marker::Model;
 use vt_screen::Function;
 
-/// Why a text is no concatenation of tokens.
+/// The reason why a text isn't a concatenation of tokens.
 #[derive(Clone, Copy, Debug, PartialEq, Eq)]
 pub enum TextFaultKind {
-    /// A sequence that begins at the place isn't whole where the text ends.
+    /// The sequence that begins at the place isn't whole at the text's end.
     Unfinished,
-    /// The byte at the place fits nothing.
+    /// The byte at the place can neither continue nor begin a token.
     Stuck,
 }
 
@@ -42,13 +42,13 @@ impl fmt::Display for TextFault {
 
 impl Error for TextFault {}
 
-/// Reads texts token by token, in place: it takes memory when it is made, and none after that. It
-/// holds the token that was read last, as far as that says what the token asks for.
+/// Reads texts token by token, in place: it allocates memory when it is made, and none after that. It keeps as much
+/// of the last token as determines its function.
 #[derive(Drop)]
 pub struct Scanner {
-    /// What was read before the token's last byte, or the whole of a sequence that was cut off.
+    /// The token read last without its last byte, or a whole sequence that was cut off.
     parser: Parser,
-    /// The token's last byte, nothing for a sequence that was cut off.
+    /// The token's last byte; `None` for a sequence that was cut off.
     last: Option<u8>,
 }
 
@@ -71,7 +71,7 @@ struct Ending {
 }
 
 impl Scanner {
-    /// Nothing is read. All the memory that reading takes is asked for here.
+    /// A scanner that has read nothing. It allocates all the memory that it will need.
     pub fn new(alloc: Global) -> Result<Scanner, AllocError>
         ensures { IfOk result (λ scanner. scanner ≡ []) }
     {
@@ -81,11 +81,11 @@ impl Scanner {
         })
     }
 
-    /// Reads the token that begins at this place of a text, and returns where it ends; `None` at the
-    /// text's end. After a fault nothing is held.
+    /// Reads the token that begins at the place `from` of `text`, and returns its end; `None` at the text's end.
+    /// `from` must be in the text or at its end. After an error, the scanner holds no token.
     ///
     /// # Errors
-    /// The first fault of the text, where what stands before the place is tokens.
+    /// The first fault of `text`, if everything before `from` is tokens.
     pub fn next(&mut self, text: &[u8], from: usize) -> Result<Option<usize>, TextFault>
         requires { from ≤ length text.now }
         ensures token { IfOk result (λ found. IfSome found (λ end. IsTokenAt text.now from end self.new)) }
@@ -105,7 +105,7 @@ impl Scanner {
         }
     }
 
-    /// What the token asks for that was read last.
+    /// The function of the token read last.
     pub fn function(&self) -> Function<'_>
         ensures { result ≡ function_of self.now }
     {
@@ -115,8 +115,8 @@ impl Scanner {
         }
     }
 
-    /// What tells the function of the token that was read last: how far the reading had come before
-    /// its last byte, and the numbers so far.
+    /// The parts of the token read last that determine its function: how far it had been read before its last byte,
+    /// and its numbers.
     pub(crate) fn parts(&self) -> (Option<ParserState>, &[Option<u16>])
         ensures { IsTold result.0 result.1.now self.now }
     {
@@ -128,7 +128,7 @@ impl Scanner {
     }
 }
 
-/// Reads the token that begins at a place; `None` at the text's end.
+/// Reads the token that begins at the place `from`; `None` at the text's end.
 fn read(parser: &mut Parser, text: &[u8], from: usize) -> Result<Option<Ending>, TextFault>
     requires within { from ≤ length text.now }
     requires nothing { parser.old ≡ [] }
@@ -154,7 +154,7 @@ fn read(parser: &mut Parser, text: &[u8], from: usize) -> Result<Option<Ending>,
     }
 }
 
-/// The end of a token whose last byte stands here.
+/// The end of a token whose last byte is at the place `at`.
 fn ended_by(last: u8, at: usize) -> Ending
     requires { at + 1 ≤ 18446744073709551615 }
     ensures { result ≡ record { end = at + 1; last = Some last } }
@@ -165,7 +165,7 @@ fn ended_by(last: u8, at: usize) -> Ending
     }
 }
 
-/// The end of a sequence that the byte here cuts off.
+/// The end of a sequence that the byte at the place `at` cuts off.
 fn cut_at(at: usize) -> Ending
     ensures { result ≡ record { end = at; last = None } }
 {

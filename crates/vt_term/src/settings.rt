@@ -9,7 +9,7 @@ impl Terminal {
     ghost use Rattle.vt_term.specs.Screen.{settings_of, with_settings};
     ghost use Rattle.vt_term.specs.Step as spec;
 
-    /// Does what a function asks for, whatever is open of a sequence.
+    /// Does what `function` asks for; an open sequence stays open. A character must be one of 32 to 126.
     pub fn act(&mut self, function: Function<'_>)
         requires { spec.CanAct function }
         ensures { self.new ≡ record self.old { screen = spec.act function.entry self.old.screen } }
@@ -17,15 +17,15 @@ impl Terminal {
         self.display.act(function);
     }
 
-    /// What it has beside its cells, autowrap and insertion.
+    /// All of the display but its size, cells, autowrap and insertion.
     pub fn settings(&self) -> Settings
         ensures { result ≡ settings_of self.now.screen }
     {
         self.display.settings()
     }
 
-    /// Sets what it has beside its cells, autowrap and insertion; the caller keeps the cursor and the
-    /// margins within the size.
+    /// Sets all of the display but its size, cells, autowrap and insertion. The cursor and the margins must be on the
+    /// screen, and the margins in order.
     pub fn set(&mut self, settings: Settings)
         requires row_within { settings.row < self.old.screen.rows }
         requires col_within { settings.col < self.old.screen.cols }

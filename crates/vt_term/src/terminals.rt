@@ -1,4 +1,4 @@
-//! `Terminal`: a display with a parser, fed with bytes.
+//! `Terminal`: a display with a parser; bytes are fed to it.
 
 ghost use Rattle.std.specs.Prelude.{◌≡◌, ◌<◌, ◌≤◌, ◌+◌, [], ◌∷◌, length, take, IfOk, IfErr, OnOk};
 ghost use Rattle.vt_screen.specs.Grid.{look_at};
@@ -11,7 +11,7 @@ use std::marker::Model;
 use thiserror::Error;
 use vt_screen::{Cell, Display, Rendition, Size};
 
-/// The byte at this place of what was fed can neither continue what is open nor begin anything.
+/// The byte at the place `at` of the bytes fed can neither continue the open sequence nor begin anything.
 #[derive(Clone, Copy, Debug, PartialEq, Eq, Error)]
 #[error("Stuck {at}")]
 pub struct Stuck {
@@ -41,7 +41,7 @@ impl Terminal {
     ghost use Rattle.vt_term.specs.Run.{Runs, Sticks, Accepts};
     ghost use Rattle.vt_screen.specs.Printed.{screen_text};
 
-    /// A terminal in the reset state. Fails only when out of memory.
+    /// A terminal of this `size` in the reset state. Fails only when out of memory.
     pub fn new(alloc: Global, size: Size) -> Result<Terminal, AllocError>
         ensures { IfOk result (λ terminal. terminal ≡ reset size.rows size.cols) }
     {
@@ -50,9 +50,9 @@ impl Terminal {
         Ok(Terminal { display, parser })
     }
 
-    /// Feeds more of the stream, in pieces of any length; takes no memory. Stops at a byte that fits nothing: the bytes
-    /// before it were taken, that one was not, and an open sequence is dropped, so that a later call goes on from
-    /// there.
+    /// Feeds more of the stream, in pieces of any length; allocates no memory. Stops at a byte that can neither
+    /// continue the open sequence nor begin anything: the bytes before it were taken, this one was not, and the open
+    /// sequence is dropped. A later call goes on from there.
     pub fn feed(&mut self, bytes: &[u8]) -> Result<(), Stuck>
         ensures ok { OnOk result (Runs self.old bytes.now self.new) }
         ensures stuck { IfErr result (λ e. Sticks self.old bytes.now e.at self.new) }
@@ -75,8 +75,8 @@ impl Terminal {
         Ok(())
     }
 
-    /// Takes at once what these bytes begin with, where nothing is open: the characters that the cursor's line has room
-    /// for, or a whole control sequence of parameters. Returns how many bytes it took, 0 if it took nothing.
+    /// Takes a prefix of `bytes` at once if nothing is open: as many characters as fit in the cursor's line, or a
+    /// whole control sequence that has only parameters. Returns the number of bytes taken, 0 if none.
     fn take_front(&mut self, bytes: &[u8]) -> usize
         ensures within { result ≤ length bytes.now }
         ensures runs { Runs self.old (take result bytes.now) self.new }
@@ -105,8 +105,8 @@ impl Terminal {
         self.display.print_front(bytes)
     }
 
-    /// Takes the control sequence of which ESC and `[` come before these bytes. Returns the length of the whole, 0 if
-    /// it took nothing.
+    /// Takes a control sequence at once, given the bytes after its ESC and `[`. Returns the length of the whole
+    /// sequence, 0 if it took nothing.
     fn take_sequence(&mut self, bytes: &[u8]) -> usize
         requires { self.old.rest ≡ [] }
         ensures within { result ≤ length bytes.now + 2 }
@@ -129,7 +129,8 @@ impl Terminal {
         }
     }
 
-    /// Takes the control sequence of which ESC, `[` and `?` come before these bytes, in the same way.
+    /// Takes a control sequence at once, given the bytes after its ESC, `[` and `?`. Returns the length of the whole
+    /// sequence, 0 if it took nothing.
     fn take_private(&mut self, bytes: &[u8]) -> usize
         requires { self.old.rest ≡ [] }
         ensures within { result ≤ length bytes.now + 3 }
@@ -152,7 +153,7 @@ impl Terminal {
         }
     }
 
-    /// Takes one byte, and returns whether it could; if not, what was open is dropped.
+    /// Takes one byte, and returns whether it could; if not, the open sequence is dropped.
     fn accept(&mut self, byte: u8) -> bool
         ensures accepts { Accepts self.old byte result self.new }
         ensures rows { self.new.screen.rows ≡ self.old.screen.rows }
@@ -186,7 +187,7 @@ impl Terminal {
         }
     }
 
-    /// The size. The state is always one of that size.
+    /// The size. The state always has it.
     pub fn size(&self) -> Size
         ensures rows { result.rows ≡ self.now.screen.rows }
         ensures cols { result.cols ≡ self.now.screen.cols }
@@ -197,7 +198,7 @@ impl Terminal {
         self.display.size()
     }
 
-    /// The cell at a place; rows and columns count from 0.
+    /// The cell at row `row` and column `col`, which count from 0 and must be on the screen.
     pub fn cell(&self, row: usize, col: usize) -> Cell
         requires row_within { row < self.now.screen.rows }
         requires col_within { col < self.now.screen.cols }
@@ -214,7 +215,7 @@ impl Terminal {
         self.display.cursor()
     }
 
-    /// Whether the last column was printed, so that the next character goes to the next line.
+    /// Whether the last column was printed, so the next character goes to the next line.
     pub fn pending(&self) -> bool
         ensures { result ≡ self.now.screen.pending }
     {
@@ -235,8 +236,8 @@ impl Terminal {
         self.display.visible()
     }
 
-    /// The screen as a text: a line for each row, the cursor's line, and a line for each run of cells
-    /// that are shown in one way and not plainly.
+    /// The screen as a text: a line for each row, the cursor's line, and a line for each run of cells that are shown
+    /// alike and not plainly. Fails only when out of memory.
     pub fn print_screen(&self, alloc: Global) -> Result<Vec<u8>, AllocError>
         ensures { IfOk result (λ text. text.items ≡ screen_text self.now.screen) }
     {

@@ -19,7 +19,7 @@ use vt_screen::{Function, Size};
 #[derive(Drop)]
 pub struct Token {
     bytes: Vec<u8>,
-    /// What was read before the last byte, nothing for a sequence that was cut off.
+    /// How far the token was read before its last byte; `None` for a sequence that was cut off.
     stage: Option<ParserState>,
     numbers: Vec<Option<u16>>,
 }
@@ -36,7 +36,7 @@ impl Model for Token {
 }
 
 impl Token {
-    /// The token that was read last, which has these bytes.
+    /// The token that `scanner` read last, whose bytes are `bytes`.
     fn read(alloc: Global, scanner: &Scanner, bytes: &[u8]) -> Result<Token, AllocError>
         requires { scanner.now ≡ bytes.now }
         ensures { IfOk result (λ token. token ≡ bytes.now) }
@@ -49,14 +49,14 @@ impl Token {
         })
     }
 
-    /// The bytes that the token has in the text.
+    /// The token's bytes, as in the text.
     pub fn bytes(&self) -> &[u8]
         ensures { result.now ≡ self.now }
     {
         &self.bytes
     }
 
-    /// What the token asks for.
+    /// The function that the token asks for.
     pub fn function(&self) -> Function<'_>
         ensures { result ≡ function_of self.now }
     {
@@ -66,8 +66,8 @@ impl Token {
         }
     }
 
-    /// Where the token leaves the cursor of every terminal of this size, in whatever state it was: a
-    /// place for CUP, `None` for all others.
+    /// The place where the token leaves the cursor of every terminal of this size, whatever its state: the one that
+    /// CUP names; `None` for all other tokens.
     pub fn place(&self, size: Size) -> Option<(usize, usize)>
         ensures value { result ≡ place_of size.rows size.cols self.now }
         ensures leads { IfSome result (λ place. LeadsTo size.rows size.cols self.now place.0 place.1) }
@@ -82,7 +82,8 @@ impl Token {
     }
 }
 
-/// Where a text of these tokens leaves the cursor from every state at rest, if its last token says so.
+/// The place where a text of these tokens leaves the cursor from every state at rest, if the last token determines
+/// it.
 pub fn place_after(tokens: &[Token], size: Size) -> Option<(usize, usize)>
     ensures leads { IfSome result (λ place. (bytes : List ℕ) → Splits bytes tokens.now [] →
         Reaches size.rows size.cols bytes place.0 place.1) }
@@ -96,14 +97,14 @@ pub fn place_after(tokens: &[Token], size: Size) -> Option<(usize, usize)>
     }
 }
 
-/// Why a text is no concatenation of tokens.
+/// The reason why a text isn't a concatenation of tokens.
 #[derive(Clone, Copy, Debug, PartialEq, Eq)]
 pub enum TokenFaultKind {
-    /// A sequence that begins at the place isn't whole where the text ends.
+    /// The sequence that begins at the place isn't whole at the text's end.
     Unfinished,
-    /// The byte at the place fits nothing.
+    /// The byte at the place can neither continue nor begin a token.
     Stuck,
-    /// A request for memory was refused.
+    /// Out of memory.
     NoMemory,
 }
 
@@ -114,7 +115,7 @@ pub struct TokenFault {
     pub kind: TokenFaultKind,
 }
 
-/// A request for memory was refused; the place says nothing.
+/// Out of memory; the place means nothing.
 const REFUSED: TokenFault = TokenFault {
     at: 0,
     kind: TokenFaultKind::NoMemory,
@@ -133,7 +134,7 @@ impl fmt::Display for TokenFault {
 
 impl Error for TokenFault {}
 
-/// The fault of a text, as one of a call that could also run out of memory.
+/// The text's fault as a `TokenFault`, which can also say that memory ran out.
 fn told(fault: TextFault) -> TokenFault
     ensures { (text : List ℕ) → HasFault text fault → TellsFault text result }
 {
@@ -146,7 +147,7 @@ fn told(fault: TextFault) -> TokenFault
     }
 }
 
-/// The tokens of a whole text.
+/// The tokens of a whole text. Fails with the text's first fault, or when out of memory.
 pub fn tokens(alloc: Global, bytes: &[u8]) -> Result<Vec<Token>, TokenFault>
     ensures whole { IfOk result (λ ts. Splits bytes.now ts.items []) }
     ensures fault { IfErr result (λ e. TellsFault bytes.now e) }
@@ -166,7 +167,7 @@ pub fn tokens(alloc: Global, bytes: &[u8]) -> Result<Vec<Token>, TokenFault>
     }
 }
 
-/// Adds the token that was read last, which has these bytes.
+/// Adds the token that `scanner` read last, whose bytes are `bytes`.
 fn push_read(
     alloc: Global,
     found: &mut Vec<Token>,

@@ -1,4 +1,4 @@
-//! Whole control sequences of parameters alone, read at once.
+//! Reading a whole control sequence at once, if it has only parameters.
 
 ghost use Rattle.std.specs.Prelude.{◌≡◌, ◌+◌, ◌<◌, ◌≤◌, length, take, IfSome};
 ghost use Rattle.vt_term.specs.ParserStates.{ReadsTo};
@@ -6,7 +6,7 @@ ghost use Rattle.vt_term.specs.Text.{sequence_limit};
 
 use crate::parser::{SEQUENCE_LIMIT, with_digit};
 
-/// A final byte, its place after the introducer, and how many numbers stand before it.
+/// A final byte, its place after the introducer, and the count of numbers before it.
 #[derive(Clone, Copy)]
 pub(crate) struct Found {
     pub at: usize,
@@ -14,8 +14,8 @@ pub(crate) struct Found {
     pub count: usize,
 }
 
-/// Reads digits and semicolons up to a final byte; `None` if there is no such byte, or another one before it, or the
-/// numbers are more than there is room for.
+/// Reads digits and semicolons up to a final byte into `numbers`; `None` if there is no final byte, another byte
+/// comes before it, the sequence is too long, or there is no room for all numbers.
 pub(crate) fn read_parameters(bytes: &[u8], numbers: &mut [Option<u16>]) -> Option<Found>
     requires { 0 < length numbers.old }
     ensures len { length numbers.new ≡ length numbers.old }

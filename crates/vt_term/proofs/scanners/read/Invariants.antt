@@ -1,4 +1,4 @@
--- The bytes that were gone through are open, and are what the parser has read.
+-- The bytes visited so far are open, and are those that the parser has read.
 use Rattle.std.proofs.Common.{◌≡◌, ◌-◌, ◌≤◌, take, drop, length}
 use Rattle.vt_term.specs.Text.{IsOpen}
 use Rattle.vt_term.proofs.scanners.read.Given as goal

@@ -1,4 +1,4 @@
--- The bytes that were gone through are the tokens found.
+-- The bytes visited so far split into the tokens found.
 use Rattle.std.proofs.Common.{◌≤◌, ◌-◌, drop, length}
 use Rattle.vt_term.specs.Scanned.{Begins}
 use Rattle.vt_term.proofs.tokenizer.tokens.Given as goal

@@ -1,4 +1,4 @@
--- The bytes that were gone through are parameters, and read.
+-- The bytes visited so far are parameters, and their numbers are read.
 use Rattle.std.proofs.Common.{◌≡◌, ◌<◌, ◌++◌, [], ◌∷◌, true, length, take}
 use Rattle.std.specs.List.{list_all}
 use Rattle.vt_term.specs.Parameters.{numbers, is_numeral}

@@ -1,4 +1,4 @@
--- The bytes that were gone through are run.
+-- The bytes visited so far are run.
 use Rattle.std.proofs.Common.{◌≡◌, ◌≤◌, ◌-◌, length, take}
 use Rattle.vt_term.specs.Run.{Runs}
 use Rattle.vt_term.proofs.terminals.Terminal.feed.Given as goal
