@@ -1,4 +1,4 @@
--- The records of the plainest strings.
+-- The records of the most basic strings.
 use Rattle.std.proofs.Common.{◌≡◌, ℕ, ◌+◌, ◌-◌, ◌<◌, min, List, [], ◌∷◌, Some, refl, sym, ap, ◌∙◌, inl, inr, arith, append-nil}
 use Rattle.vt_term.specs.Size.{IsSize}
 use Rattle.vt_term.specs.Text.{Splits, IsWhole}
@@ -41,7 +41,7 @@ clear_splits = (erase, refl, inl home_token, ([], refl, inl erase_token, (refl, 
 of_splitting : (rows cols : ℕ) (start : Start) (text : List ℕ) (ts : List (List ℕ)) (e : Effect) → Splits text ts [] → record_of rows cols start ts ≡ Some e → HasRecord rows cols start text e
 of_splitting rows cols start text ts e s h tokens splits = ap (λ (us : List (List ℕ)). record_of rows cols start us) (one_splitting text ts tokens [] [] s splits).0 ∙ h
 
--- a place on the screen is named as it is
+-- a place on the screen stays in range
 place_held : (row rows : ℕ) → row < rows → min (row + 1 - 1) (rows - 1) ≡ row
 place_held row rows h = omega arith
 

@@ -25,22 +25,22 @@ use Rattle.vt_effects.proofs.MoveFacts.{chosen, given, not_found}
 use Rattle.vt_effects.proofs.Cells.{blanked_again, erased_before, scrolled_before, next_held}
 use Rattle.vt_effects.proofs.Extensions.{IsGood, Right, kept_is, first_is, still_is, screen_is, nothing_is, same_blank}
 
--- these places become blank, by the cursor
+-- the places that become blank, given the cursor
 abbrev pub Places : Type 0
 Places = ℕ → ℕ → ℕ → ℕ → Bool
 
 abbrev pub Blanks : Function → Places → Type 0
 Blanks t places = (s : Screen) → act t s ≡ record s { grid = blanked (places s.row s.col) (blank s.rendition) s.grid }
 
--- on the screens of a start these places are what the erasure takes in
+-- on the screens of a start, these places are those of the erasure
 abbrev pub TakesIn : ℕ → ℕ → Start → Places → Erasure → Type 0
 TakesIn rows cols start places x = (s : Screen) (y : Look) → Allows rows cols start s → blanked (places s.row s.col) y s.grid ≡ erased x s.row s.col y s.grid
 
--- the cells before the erasure: none scrolled
+-- the cells after an effect that doesn't scroll
 pub still_grid : (e : Effect) (s : Screen) → e.scroll ≡ scrolls.Still → (applied e s).grid ≡ erased e.erasure s.row s.col (blank s.rendition) s.grid
 still_grid e s h = ap (λ (w : Scroll). scrolled w s.top s.bottom (blank s.rendition) (erased e.erasure s.row s.col (blank s.rendition) s.grid)) h
 
--- where all cells are blank, they stay so
+-- if all cells are blank, they stay so
 pub again : (places : Places) (e : Effect) (s : Screen) → e.scroll ≡ scrolls.Still → e.erasure ≡ erasures.Screen → keeps_background e ≡ true
     → blanked (places (applied e s).row (applied e s).col) (blank (applied e s).rendition) (applied e s).grid ≡ (applied e s).grid
 again places e s h k b =
@@ -49,7 +49,7 @@ again places e s h k b =
     ∙ ap (λ (g : Grid). blanked (places (applied e s).row (applied e s).col) (blank s.rendition) g) all
     ∙ blanked_again (places (applied e s).row (applied e s).col) (blank s.rendition) s.grid ∙ sym all
 
--- the first erasure, with the cursor where it was
+-- the first erasure, with the cursor unmoved
 pub first : (places : Places) (x : Erasure) (e : Effect) (s : Screen) → e.scroll ≡ scrolls.Still → e.erasure ≡ erasures.Nothing → e.row ≡ moves.Kept → e.col ≡ moves.Kept → keeps_background e ≡ true
     → blanked (places s.row s.col) (blank s.rendition) s.grid ≡ erased x s.row s.col (blank s.rendition) s.grid
     → blanked (places (applied e s).row (applied e s).col) (blank (applied e s).rendition) (applied e s).grid ≡ scrolled e.scroll s.top s.bottom (blank s.rendition) (erased x s.row s.col (blank s.rendition) s.grid)
@@ -84,7 +84,7 @@ cells_right rows cols start t places x e f g blanks takes h = chosen (keeps_back
     (λ d j. not_found f j)))
     (λ b k. not_found f k)
 
--- all cells are erased, whatever was before
+-- everything is erased, whatever happened before
 pub screen_grid : (e : Effect) (s : Screen) → keeps_background e ≡ true → blanked (λ i j. true) (blank (applied e s).rendition) (applied e s).grid ≡ blanked (λ i j. true) (blank s.rendition) s.grid
 screen_grid e s b =
     ap (λ (y : Look). blanked (λ i j. true) y (applied e s).grid) (same_blank e s b)
@@ -101,7 +101,7 @@ screen_right rows cols start t e f g acts h = chosen (keeps_background e) (Some 
     }))
     (λ b k. not_found f k)
 
--- from the first place to the end is everything
+-- everything is from the first place to the end
 from_first : (row col i j : ℕ) → row ≡ 0 → col ≡ 0 → (nat_lt row i || ((i == row) && nat_le col j)) ≡ true
 from_first row col i j h k = grind (arith, nat_tests)
 

@@ -36,7 +36,7 @@ pub record Right (rows cols : ℕ) (start : Start) (t : Function) (e f : Effect)
   pub good : IsGood start f
   pub leads : Extends rows cols start t e f
 
--- tests that say what a part is
+-- a test of a part of an effect tells the part
 pub kept_is : (m : Move) → is_kept m ≡ true → m ≡ moves.Kept
 kept_is moves.Kept h = refl
 kept_is (moves.To k) h = absurd (cc)
@@ -134,7 +134,7 @@ col_forward_right rows cols start n e f g h = found_move (with_col e) (forward_b
     (col_right rows cols start (functions.CursorForward n) e m (λ s. min (s.col + n) (s.cols - 1)) g (λ s. refl) (forward_kept e.col m n start.col_min start.col_max (cols - 1) found g.col)
     (λ s a. ap (λ (c : ℕ). min (moved e.col s.col + n) (c - 1)) a.cols ∙ (forward_leads e.col m n start.col_min start.col_max (cols - 1) s.col found g.col a.col_from a.col_to).there)))
 
--- where the margins are the whole screen, no margin stops a move before the screen's edge does
+-- if the margins are the whole screen, no margin stops a move before the screen's edge does
 up_held : (top row n : ℕ) → top ≡ 0 → (if nat_le top row then max top (row - n) else row - n) ≡ row - n
 up_held top row n h = grind (arith, nat_tests)
 

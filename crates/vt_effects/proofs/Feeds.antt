@@ -1,4 +1,4 @@
--- Lines fed and reversed.
+-- Lines moved down and up.
 use Rattle.std.proofs.Common.{◌≡◌, ℕ, ◌+◌, ◌-◌, ◌<◌, ◌≤◌, ◌==◌, ◌&&◌, nat_le, nat_lt, true, false, Option, Some, None, refl, sym, ap, ◌∙◌, arith}
 use Rattle.std.proofs.lemmas.Bool.{and_parts, eqb-true, leb-true, ltb-true, lt-ltb, ne_eqb, eq-eqb}
 use Rattle.vt_term.specs.Look.{Look, blank}
@@ -22,7 +22,7 @@ use Rattle.vt_effects.specs.Record.{is_kept, keeps_margins, erases_nothing, is_s
 use Rattle.vt_effects.proofs.MoveFacts.{chosen, given, not_found, one_back, one_forward, moved_in_order}
 use Rattle.vt_effects.proofs.Extensions.{IsGood, Right, kept_is, margins_are, still_is, same_blank, AreWhole, known_whole, whole_here}
 
--- a region may scroll where these hold
+-- the conditions under which a region may scroll
 pub record Scrolls (e : Effect) : Type 0 where
   pub row : e.row ≡ moves.Kept
   pub margins : e.margins ≡ None
@@ -64,7 +64,7 @@ grid_down e s h =
     ∙ ap (λ (x : Look). scrolled_down s.top s.bottom 1 x (applied e s).grid) (same_blank e s h.background)
     ∙ ap (λ (w : Scroll). scrolled_down s.top s.bottom 1 (blank s.rendition) (scrolled w s.top s.bottom (blank s.rendition) (erased e.erasure s.row s.col (blank s.rendition) s.grid))) h.still
 
--- the cursor and the margins of a start, after an effect that keeps both
+-- an effect that keeps the cursor and the margins
 row_stays : (e : Effect) (s : Screen) → Scrolls e → (applied e s).row ≡ s.row
 row_stays e s h = ap (λ (m : Move). moved m s.row) h.row
 
@@ -74,7 +74,7 @@ top_stays e s h = ap (λ (m : Option Region). top_of m s.top) h.margins
 bottom_stays : (e : Effect) (s : Screen) → Scrolls e → (applied e s).bottom ≡ s.bottom
 bottom_stays e s h = ap (λ (m : Option Region). bottom_of m s.bottom) h.margins
 
--- which starts are on a margin
+-- starts on a margin
 whole_bottom : (m : Margins) (rows row_min : ℕ) (s : Screen) → (knows_whole rows m && nat_le rows (row_min + 1)) ≡ true → HasMargins m s → s.rows ≡ rows → IsScreen s → row_min ≤ s.row → s.row ≡ s.bottom
 whole_bottom m rows row_min s h k e v le =
     let both = and_parts (knows_whole rows m) (nat_le rows (row_min + 1)) h in
@@ -99,7 +99,7 @@ is_on_top margins.Legal rows row_max s h k e v le = whole_top margins.Legal rows
 is_on_top margins.OnBottom rows row_max s h k e v le = whole_top margins.OnBottom rows row_max s h k e v le
 is_on_top margins.OnTop rows row_max s h k e v le = k
 
--- one line down from everywhere, or everywhere the region scrolls
+-- one line down from every start, or a scroll from every start
 fed_moves : (rows cols : ℕ) (start : Start) (e : Effect) (s : Screen) → IsGood start e → are_whole rows start.margins e.margins ≡ true → nat_lt (moved e.row start.row_max + 1) rows ≡ true → Allows rows cols start s
     → line_feed (applied e s) ≡ applied (with_row e (and_forward e.row 1)) s
 fed_moves rows cols start e s g w h a =

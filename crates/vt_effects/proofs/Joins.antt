@@ -29,7 +29,7 @@ use Rattle.vt_effects.proofs.Extensions.{margins_are, still_is, same_blank, kept
 use Rattle.vt_effects.proofs.Erasures.{Places, still_grid, again, first, screen_grid, all_of_it}
 use Rattle.vt_effects.proofs.Stability.{stays}
 
--- the place of the cursor
+-- the cursor's place
 back_of : (m : Move) (x limit : ℕ) → StaysIn m x limit → IsBack m x
 back_of moves.Kept x limit h = tt
 back_of (moves.To k) x limit h = tt
@@ -55,7 +55,7 @@ then_stays m n j x limit h lt p q =
     let lead : Leads j x x (moved n (moved m x)) = then_leads m n j x limit h p q in
     stays_there j x limit lead.back (subst (λ (y : ℕ). y < limit) lead.there (stays n (moved m x) limit (stays m x limit lt p) q))
 
--- parts that are on or off, colours, margins
+-- switches, colors, margins
 switched_twice : (a b : Switch) (x : Bool) → switched b (switched a x) ≡ switched (then_switched a b) x
 switched_twice a switches.Kept x = refl
 switched_twice a switches.On x = refl
@@ -161,7 +161,7 @@ cells_both : (a b e : Effect) (s : Screen) → both_cells a b ≡ Some e → (ap
 cells_both a b e s h = option_and_then_some (λ here. then_scrolled a here b.scroll) (then_erased a b.erasure) e h
     (λ here found left. ap (λ (g : Grid). scrolled b.scroll (applied a s).top (applied a s).bottom (blank (applied a s).rendition) g) (erases_then a b.erasure here s found) ∙ scrolls_then a here b.scroll e s left)
 
--- screens that differ in no part
+-- screens are equal if all their parts are
 same_screen : (s : Screen) {g h : Grid} {r q c d t u b v : ℕ} {p o w z : Bool} {x y : Rendition} {k l : Charset}
     → g ≡ h → r ≡ q → c ≡ d → p ≡ o → x ≡ y → k ≡ l → t ≡ u → b ≡ v → w ≡ z
     → record s { grid = g; row = r; col = c; pending = p; rendition = x; charset = k; top = t; bottom = b; visible = w } ≡ record s { grid = h; row = q; col = d; pending = o; rendition = y; charset = l; top = u; bottom = v; visible = z }

@@ -1,4 +1,4 @@
--- What SGR and modes do is what the record says.
+-- SGR and modes change screens as their records do.
 use Rattle.std.proofs.Common.{◌≡◌, ℕ, ◌==◌, ◌&&◌, Bool, true, false, if◌then◌else◌, List, [], ◌∷◌, Option, Some, None, refl, sym, ap, ◌∙◌}
 use Rattle.std.specs.Option.{unwrap_or}
 use Rattle.std.proofs.lemmas.Option.{option_and_then_some}
@@ -43,12 +43,12 @@ pub numbers_rendered : (ns : List (Option ℕ)) (r : Rendering) (x : Rendition) 
 numbers_rendered [] r x = refl
 numbers_rendered (n ∷ ns) r x = numbers_rendered ns (rendering (unwrap_or n 0) r) x ∙ ap (λ (y : Rendition). step.all_rendered ns y) (number_rendered (unwrap_or n 0) r x)
 
--- a mode that is set moves no cursor
+-- a mode moves no cursor
 pub record SamePlace (e f : Effect) : Type 0 where
   pub row : f.row ≡ e.row
   pub col : f.col ≡ e.col
 
--- and it does what the record says, from a screen with autowrap on and insertion off
+-- from a screen with autowrap on and insertion off, the step is the record's
 abbrev pub Follows : Effect → Effect → Screen → Screen → Type 0
 Follows e f s to = to ≡ applied f s
 

@@ -1,4 +1,4 @@
--- Moves: what a further move makes of a row or column.
+-- A row or column after two moves.
 use Rattle.std.proofs.Common.{◌≡◌, ℕ, ◌+◌, ◌-◌, ◌<◌, ◌≤◌, ◌==◌, Bool, true, false, min, nat_le, nat_lt, if◌then◌else◌, Option, Some, None, refl, subst, arith}
 use Rattle.std.proofs.lemmas.Bool.{leb-true, ltb-true, ltb-false, eqb-true}
 use Rattle.std.proofs.lemmas.Option.{same_Some, none-some}
@@ -7,12 +7,12 @@ use Rattle.vt_effects.specs.declared.effects.Move.TheVariants as moves
 use Rattle.vt_effects.specs.Effect.{moved}
 use Rattle.vt_effects.specs.Record.{net, and_back, and_forward, back_by, forward_by}
 
--- a choice between two options that gave this value
+-- either branch of a choice may have given the value
 pub chosen : {A G : Type 0} (b : Bool) (x y : Option A) (f : A) → (if b then x else y) ≡ Some f → (b ≡ true → x ≡ Some f → G) → (b ≡ false → y ≡ Some f → G) → G
 chosen true x y f h p q = p refl h
 chosen false x y f h p q = q refl h
 
--- what holds of the value given holds of the value found
+-- a property of the value given holds of the value found
 pub given : {A : Type 0} (P : A → Type 0) (e f : A) → Some e ≡ Some f → P e → P f
 given P e f h p = subst P (same_Some e f h) p
 
@@ -20,7 +20,7 @@ given P e f h p = subst P (same_Some e f h) p
 pub not_found : {A G : Type 0} (f : A) → None ≡ Some f → G
 not_found f h = absurd (none-some f h)
 
--- a move back passes the first row or column from no start
+-- a move, if back, never passes the first row or column
 abbrev pub IsBack : Move → ℕ → Type 0
 IsBack (moves.Back k) low = k ≤ low
 IsBack _ low = Unit {0}
@@ -37,7 +37,7 @@ net_back : (f b low : ℕ) → b ≤ low + f → IsBack (net f b) low
 net_back f b low le = either_move (f == b) (λ m. IsBack m low) _ _ (λ e. tt)
     (λ e. either_move (nat_lt b f) (λ m. IsBack m low) _ _ (λ l. tt) (λ l. (let h : f ≤ b = ltb-false b f l in omega (arith, h))))
 
--- a new move and where it leads from x
+-- a new move, and where it leads from x
 pub record Leads (m : Move) (low x to : ℕ) : Type 0 where
   pub back : IsBack m low
   pub there : to ≡ moved m x
@@ -54,14 +54,14 @@ and_forward_leads (moves.To k) n low x g l = record { back = tt; there = refl }
 and_forward_leads (moves.Back k) n low x g l = record { back = net_back n k low (omega arith); there = (let e = net_moved n k x (omega arith) in omega (arith, e)) }
 and_forward_leads (moves.Forward k) n low x g l = record { back = net_back (k + n) 0 low (omega arith); there = (let e = net_moved (k + n) 0 x (omega arith) in omega (arith, e)) }
 
--- from a greater row or column a move leads no less far
+-- a greater row or column stays at least as great after a move
 pub moved_in_order : (m : Move) (x y : ℕ) → x ≤ y → moved m x ≤ moved m y
 moved_in_order moves.Kept x y h = h
 moved_in_order (moves.To k) x y h = omega arith
 moved_in_order (moves.Back k) x y h = omega arith
 moved_in_order (moves.Forward k) x y h = omega arith
 
--- one step back that no start is cut in
+-- a move back by n that no start is cut in
 pub one_back : (m : Move) (n low x : ℕ) → IsBack m low → low ≤ x → nat_le n (moved m low) ≡ true → Leads (and_back m n) low x (moved m x - n)
 one_back m n low x g l h = and_back_leads m n low x g l (leb-true n (moved m low) h)
 

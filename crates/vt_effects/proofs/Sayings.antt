@@ -1,4 +1,4 @@
--- A record says what becomes of the settings: each function by itself, and then all tokens.
+-- The settings after a record: for each function by itself, and then for all tokens.
 use Rattle.std.proofs.Common.{◌≡◌, ℕ, ◌-◌, ◌==◌, ◌&&◌, nat_lt, min, Bool, true, false, if◌then◌else◌, List, [], ◌∷◌, Option, Some, None, refl, sym, ap, ◌∙◌, subst}
 use Rattle.std.specs.Option.{unwrap_or}
 use Rattle.std.proofs.lemmas.Option.{option_and_then_some, none-some}
@@ -121,7 +121,7 @@ shown_said rows false d = record {
   visible = λ n. absurd (off_kept n);
 }
 
--- nothing is done
+-- nothing changes
 nothing_said : (rows : ℕ) (d : Effect) → Says rows (λ s. s) d d
 nothing_said rows d = says_kept rows (λ s. s) d d (λ t. record { rows = refl; rendition = refl; charset = refl; visible = refl; top = refl; bottom = refl; autowrap = refl; inserting = refl }) (alike d)
 

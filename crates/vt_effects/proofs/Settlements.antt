@@ -1,4 +1,4 @@
--- What becomes of the settings where a screen changes and an effect is extended, and how such changes are put together.
+-- The settings after a screen's change and an effect's extension, and how such changes compose.
 use Rattle.std.proofs.Common.{◌≡◌, ℕ, ◌+◌, ◌==◌, ◌&&◌, nat_lt, nat_le, Bool, true, false, if◌then◌else◌, Option, Some, None, refl, sym, ap, ◌∙◌}
 use Rattle.vt_term.specs.Screen.{Screen}
 use Rattle.vt_term.specs.Step as step
@@ -21,14 +21,14 @@ use Rattle.vt_effects.specs.Record.{if_some, cells_erased, screen_erased}
 use Rattle.vt_effects.specs.Settings.{IsTame, SetsAs, SameMargins}
 use Rattle.vt_effects.proofs.MoveFacts.{chosen, given, not_found}
 
--- the effect says the same of the settings
+-- the two effects change the settings alike
 pub record Same (d g : Effect) : Type 0 where
   pub rendition : g.rendition ≡ d.rendition
   pub charset : g.charset ≡ d.charset
   pub visible : g.visible ≡ d.visible
   pub margins : g.margins ≡ d.margins
 
--- the screen has the same settings
+-- the screens have the same settings
 pub record Keeps (t u : Screen) : Type 0 where
   pub rows : u.rows ≡ t.rows
   pub rendition : u.rendition ≡ t.rendition
@@ -39,7 +39,7 @@ pub record Keeps (t u : Screen) : Type 0 where
   pub autowrap : u.autowrap ≡ t.autowrap
   pub inserting : u.inserting ≡ t.inserting
 
--- where nothing is set at the end, nothing was set before, and this change sets nothing
+-- if no margins are set at the end, none were set before, and this change sets none
 pub record KeepsMargins (rows : ℕ) (a : Screen → Screen) (d : Effect) : Type 0 where
   pub before : d.margins ≡ None
   pub same : (s : Screen) → s.rows ≡ rows → SameMargins s (a s)
@@ -48,7 +48,7 @@ pub record KeepsVisible (a : Screen → Screen) (d : Effect) : Type 0 where
   pub before : d.visible ≡ switches.Kept
   pub same : (s : Screen) → (a s).visible ≡ s.visible
 
--- this change of the screen does what leads from the one effect to the other
+-- this change of the screen turns the settings of one effect into those of the other
 pub record Says (rows : ℕ) (a : Screen → Screen) (d g : Effect) : Type 0 where
   pub rows_stay : (s : Screen) → (a s).rows ≡ s.rows
   pub sets : (s t : Screen) → t.rows ≡ rows → SetsAs d s t → SetsAs g s (a t)
@@ -100,7 +100,7 @@ says_then rows a b d m g h k = record {
   };
 }
 
--- effects that say the same of the settings
+-- effects that change the settings alike
 abbrev pub alike : (d : Effect) → Same d d
 alike d = record { rendition = refl; charset = refl; visible = refl; margins = refl }
 

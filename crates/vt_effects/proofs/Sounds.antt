@@ -24,7 +24,7 @@ use Rattle.vt_effects.proofs.Extensions.{IsGood, Right, col_back_right, col_forw
 use Rattle.vt_effects.proofs.Feeds.{fed_right, next_right, reversed_right}
 use Rattle.vt_effects.proofs.Erasures.{count_right, line_part_right, display_part_right}
 
--- a token whose record is always there
+-- a token that always has a record
 always : (rows cols : ℕ) (start : Start) (t : Function) (e f g : Effect) → Some f ≡ Some g → Right rows cols start t e f → Right rows cols start t e g
 always rows cols start t e f g h r = given (λ w. Right rows cols start t e w) f g h r
 
@@ -111,7 +111,7 @@ all_right rows cols start (t ∷ ts) e f g h s a = option_and_then_some (all_ext
 pub record_right : (rows cols : ℕ) (start : Start) (tokens : List (List ℕ)) (f : Effect) → record_of rows cols start tokens ≡ Some f → StepsAs rows cols start tokens f
 record_right rows cols start tokens f h s a = all_right rows cols start tokens unchanged f (record { row = tt; col = tt }) h s a
 
--- and the run of every text of these tokens
+-- the run of every text of these tokens
 pub runs_right : (rows cols : ℕ) (start : Start) (tokens : List (List ℕ)) (f : Effect) → record_of rows cols start tokens ≡ Some f → RunsAs rows cols start tokens f
 runs_right rows cols start tokens f h s text rest a splits =
     subst (λ (x : Screen). Runs s text (record { screen = x; rest = [] })) (record_right rows cols start tokens f h s.screen a) (text_runs s text tokens rest splits)

@@ -1,4 +1,4 @@
--- Where an effect applies, the cursor stays on the screen and the margins are legal.
+-- After an effect that applies, the cursor is on the screen and the margins are legal.
 use Rattle.std.proofs.Common.{ℕ, ◌<◌, ◌≤◌, arith, Option, None, Some}
 use Rattle.vt_term.specs.Screen.{Screen, IsScreen}
 use Rattle.vt_effects.specs.declared.effects.Move.{Move}
@@ -13,7 +13,7 @@ stays (moves.To k) x limit lt h = h
 stays (moves.Back k) x limit lt h = omega arith
 stays (moves.Forward k) x limit lt h = h
 
--- the screen that the effect is applied to, in the display's numbers
+-- the cursor and the margins before and after the effect fit the display's numbers
 pub record FitsIn (e : Effect) (s : Screen) : Type 0 where
   pub row_from : s.row ≤ 500
   pub col_from : s.col ≤ 500

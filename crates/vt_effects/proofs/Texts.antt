@@ -10,7 +10,7 @@ use Rattle.vt_effects.specs.Record.{IsRecordOf, all_extended, extended, record_o
 use Rattle.vt_effects.specs.Sound.{RunsTextAs}
 use Rattle.vt_effects.proofs.Sounds.{runs_right}
 
--- one token more
+-- one more token
 all_more : (rows cols : ℕ) (start : Start) (ts : List (List ℕ)) (t : List ℕ) (e : Effect) → all_extended rows cols start (ts ++ t ∷ []) e ≡ option_and_then (extended rows cols start (function_of t)) (all_extended rows cols start ts e)
 all_more rows cols start [] t e = last (extended rows cols start (function_of t) e)
   where
@@ -24,7 +24,7 @@ all_more rows cols start (u ∷ ts) t e = later (all_more rows cols start ts t) 
     later h None = refl
     later h (Some f) = h f
 
--- what was read of the text is tokens, and this is what they do
+-- the text read so far is tokens, and this is their effect
 pub record IsReached (rows cols : ℕ) (start : Start) (text : List ℕ) (at : ℕ) (found : Option Effect) : Type 0 where
   pub within : at ≤ length text
   pub tokens : List (List ℕ)
@@ -49,7 +49,7 @@ reached_all rows cols start text at found r e = record { tokens = r.tokens; spli
 recorded_runs : (rows cols : ℕ) (start : Start) (text : List ℕ) (found : Option Effect) (e : Effect) → IsRecordOf rows cols start text found → found ≡ Some e → RunsTextAs rows cols start text e
 recorded_runs rows cols start text found e r h s rest a = runs_right rows cols start r.tokens e (sym r.is ∙ h) s text rest a r.splits
 
--- and so does the text, if there is one
+-- the run of the text is the record's, if there is one
 pub runs_if_some : (rows cols : ℕ) (start : Start) (text : List ℕ) (found : Option Effect) → IsRecordOf rows cols start text found → IfSome found (RunsTextAs rows cols start text)
 runs_if_some rows cols start text None r = tt
 runs_if_some rows cols start text (Some e) r = recorded_runs rows cols start text (Some e) e r refl

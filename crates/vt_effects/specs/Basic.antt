@@ -1,4 +1,4 @@
--- The strings of the plainest terminals, and the effect that each has from every start.
+-- The most basic strings, and the effect of each from every start.
 use Rattle.std.specs.Prelude.{ℕ, ◌≡◌, true, List, [], ◌∷◌, Some}
 use Rattle.vt_term.specs.Text.{Splits}
 use Rattle.vt_effects.specs.declared.effects.Move.TheVariants as moves

@@ -1,4 +1,4 @@
--- One effect and then another, as one.
+-- Two effects, one after the other, as one.
 use Rattle.std.specs.Prelude.{ℕ, ◌+◌, ◌≡◌, ◌&&◌, ◌||◌, nat_le, Bool, true, Option, None, Some, if◌then◌else◌}
 use Rattle.std.specs.Option.{option_and_then, option_map}
 use Rattle.vt_term.specs.Function as functions
@@ -21,7 +21,8 @@ use Rattle.vt_effects.specs.Effect.{applied, Applies}
 use Rattle.vt_effects.specs.Record.{and_back, and_forward, cells_erased, screen_erased, display_erased, keeps_margins}
 use Rattle.vt_effects.specs.Record.{is_still, keeps_background}
 
--- the greatest number of a move is 65535, and none leads above the first row or left of the first column
+-- whether the move can be followed by one back, or forward, by n: none may lead above the first row or left of the
+-- first column, and its number must be at most 65535
 abbrev pub goes_back : Move → ℕ → Bool
 goes_back (moves.To k) n = nat_le n k
 goes_back (moves.Back k) n = nat_le (k + n) 65535
@@ -71,7 +72,7 @@ abbrev pub then_margins : Option Region → Option Region → Option Region
 then_margins a None = a
 then_margins a (Some r) = Some r
 
--- an effect, and then cells erased around its cursor
+-- an effect, and then an erasure around its cursor
 abbrev pub then_erased : Effect → Erasure → Option Effect
 then_erased e erasures.Nothing = Some e
 then_erased e erasures.Screen = screen_erased e
@@ -80,7 +81,8 @@ then_erased e erasures.Tail = cells_erased erasures.Tail e
 then_erased e erasures.Head = cells_erased erasures.Head e
 then_erased e (erasures.Next n) = cells_erased (erasures.Next n) e
 
--- the first effect's cells, here, and then a scroll: of the start's region, with the start's background, and once
+-- whether the first effect and its cells allow a scroll: of the start's region, with the start's background, and only
+-- once
 abbrev pub scrolls_first : Effect → Effect → Bool
 scrolls_first first here = keeps_margins first.margins && (keeps_background first && is_still here.scroll)
 
@@ -88,11 +90,11 @@ abbrev pub then_scrolled : Effect → Effect → Scroll → Option Effect
 then_scrolled first here scrolls.Still = Some here
 then_scrolled first here x = if scrolls_first first here then Some (record here { scroll = x }) else None
 
--- an effect with the cells of both
+-- the first effect with the cells of both
 abbrev pub both_cells : Effect → Effect → Option Effect
 both_cells a b = option_and_then (λ here. then_scrolled a here b.scroll) (then_erased a b.erasure)
 
--- all but the cells
+-- the effect of both, given its cells and moves
 abbrev pub both_else : Effect → Effect → Effect → Move → Move → Effect
 both_else a b cells row col = record {
   row = row;
@@ -114,11 +116,11 @@ both_moved a b cells =
 abbrev pub composed : Effect → Effect → Option Effect
 composed a b = option_and_then (λ cells. both_moved a b cells) (both_cells a b)
 
--- to apply the third is to apply the first and then the second
+-- applying c is applying a and then b
 pub record Joins (a b c : Effect) (s : Screen) : Type 0 where
   pub applies : Applies c s
   pub same : applied b (applied a s) ≡ applied c s
 
--- on every screen that both apply to
+-- c is a and then b on every screen to which both apply
 abbrev pub Composes : Effect → Effect → Effect → Type 0
 Composes a b c = (s : Screen) → IsScreen s → Applies a s → Applies b (applied a s) → Joins a b c s

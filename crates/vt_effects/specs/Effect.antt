@@ -1,5 +1,5 @@
--- What an effect means: a function on screens. Cells are erased and the region scrolls around the cursor and with
--- the background that were there before; then come the cursor, the rendition, the sets, the margins and visibility.
+-- The meaning of an effect: a function on screens. First cells are erased and the region scrolls, with the cursor and
+-- the background from before; then the cursor, the rendition, the sets, the margins and the visibility change.
 use Rattle.std.specs.Prelude.{ℕ, ◌+◌, ◌-◌, ◌<◌, ◌≤◌, ◌==◌, ◌&&◌, ◌||◌, nat_le, nat_lt, Bool, true, false, if◌then◌else◌}
 use Rattle.std.specs.Prelude.{Option, None, Some}
 use Rattle.vt_term.specs.Color.{Color}
@@ -71,7 +71,7 @@ erased erasures.Head row col x g = blanked (λ i j. (i == row) && nat_le j col) 
 erased erasures.Rest row col x g = blanked (λ i j. nat_lt row i || ((i == row) && nat_le col j)) x g
 erased (erasures.Next n) row col x g = blanked (λ i j. (i == row) && (nat_le col j && nat_lt j (col + n))) x g
 
--- the cells after the lines from top to bottom went up or down by one
+-- the cells after the lines from top to bottom moved up or down by one
 abbrev pub scrolled : Scroll → ℕ → ℕ → Look → Grid → Grid
 scrolled scrolls.Still top bottom x g = g
 scrolled scrolls.Up top bottom x g = scrolled_up top bottom 1 x g
@@ -85,7 +85,7 @@ abbrev pub bottom_of : Option Region → ℕ → ℕ
 bottom_of None bottom = bottom
 bottom_of (Some r) bottom = r.bottom
 
--- the screen that an effect makes of a screen
+-- the screen after an effect
 abbrev pub applied : Effect → Screen → Screen
 applied e s = record s {
   grid = scrolled e.scroll s.top s.bottom (blank s.rendition) (erased e.erasure s.row s.col (blank s.rendition) s.grid);
@@ -99,7 +99,7 @@ applied e s = record s {
   visible = switched e.visible s.visible;
 }
 
--- the moved row or column, below this limit, and no move to the left or up passes the first
+-- the row or column after the move is below the limit, and no move up or left passes the first
 abbrev pub StaysIn : Move → ℕ → ℕ → Type 0
 StaysIn moves.Kept x limit = Unit {0}
 StaysIn (moves.To k) x limit = k < limit

@@ -1,5 +1,5 @@
--- Which effect a string has from every state of a start, token by token. A token that has no one effect from all of
--- them has no record, and then the string has none.
+-- The effect of a string from every state of a start, token by token. A token whose effect differs between these
+-- states has no record, and then the string has none.
 use Rattle.std.specs.Prelude.{ℕ, ◌≡◌, ◌+◌, ◌-◌, ◌*◌, ◌/◌, ◌==◌, ◌&&◌, nat_le, nat_lt, min, Bool, true, false, List, []}
 use Rattle.std.specs.Prelude.{◌∷◌, if◌then◌else◌, Option, None, Some}
 use Rattle.std.specs.Option.{unwrap_or, option_and_then}
@@ -61,13 +61,13 @@ abbrev pub is_still : Scroll → Bool
 is_still scrolls.Still = true
 is_still _ = false
 
--- so much forward and so much back is one move
+-- moving forward and then back, as one move
 abbrev pub net : ℕ → ℕ → Move
 net forward back =
     if forward == back then moves.Kept
     else (if nat_lt back forward then moves.Forward (forward - back) else moves.Back (back - forward))
 
--- a move, and then back or forward by n
+-- a move, and then one back or forward by n
 abbrev pub and_back : Move → ℕ → Move
 and_back moves.Kept n = net 0 n
 and_back (moves.To k) n = moves.To (k - n)
@@ -80,31 +80,31 @@ and_forward (moves.To k) n = moves.To (k + n)
 and_forward (moves.Back k) n = net n k
 and_forward (moves.Forward k) n = net (k + n) 0
 
--- up or left by n, from where the move leads from each place of low to high: no start is cut at the first, or all are
+-- up or left by n after the move m, if either no start from low to high is cut at the first row or column, or all are
 abbrev pub back_by : ℕ → ℕ → ℕ → Move → Option Move
 back_by n low high m =
     if nat_le n (moved m low) then Some (and_back m n)
     else (if nat_lt (moved m high) n then Some (moves.To 0) else None)
 
--- down or right by n: no start is cut at the last row or column, or all are
+-- down or right by n after the move m, if either no start is cut at the last row or column, or all are
 abbrev pub forward_by : ℕ → ℕ → ℕ → ℕ → Move → Option Move
 forward_by n low high last m =
     if nat_le (moved m high + n) last then Some (and_forward m n)
     else (if nat_lt last (moved m low + n) then Some (moves.To last) else None)
 
--- the cursor goes to a column, or to a row, and what was printed in the last column is forgotten
+-- the cursor moves to a column, or to a row, and the pending wrap is cleared
 abbrev pub with_col : Effect → Move → Effect
 with_col e m = record e { col = m; ends_pending = true }
 
 abbrev pub with_row : Effect → Move → Effect
 with_row e m = record e { row = m; ends_pending = true }
 
--- what this is for the move, if there is one
+-- f of the value, if there is one
 abbrev pub if_some : {A : Type 0} → (A → Effect) → Option A → Option Effect
 if_some f None = None
 if_some f (Some x) = Some (f x)
 
--- the margins that are known to be the whole screen; on two rows all legal ones are
+-- whether the margins are known to be the whole screen; with two rows all legal margins are
 abbrev pub knows_whole : ℕ → Margins → Bool
 knows_whole rows margins.Whole = true
 knows_whole rows _ = rows == 2
@@ -113,7 +113,7 @@ abbrev pub are_whole : ℕ → Margins → Option Region → Bool
 are_whole rows m None = knows_whole rows m
 are_whole rows m (Some r) = (r.top == 0) && (r.bottom + 1 == rows)
 
--- every start is on its bottom margin, or on its top margin
+-- whether every start is on its bottom margin, or on its top margin
 abbrev pub on_bottom : ℕ → ℕ → Margins → Bool
 on_bottom rows row_min margins.OnBottom = true
 on_bottom rows row_min m = knows_whole rows m && nat_le rows (row_min + 1)
@@ -122,15 +122,15 @@ abbrev pub on_top : ℕ → ℕ → Margins → Bool
 on_top rows row_max margins.OnTop = true
 on_top rows row_max m = knows_whole rows m && (row_max == 0)
 
--- the background is the start's
+-- whether the background is the start's
 abbrev pub keeps_background : Effect → Bool
 keeps_background e = keeps_ink e.rendition.background
 
--- the cursor is where it was at the start
+-- whether the cursor is where it was at the start
 abbrev pub is_unmoved : Effect → Bool
 is_unmoved e = is_kept e.row && is_kept e.col
 
--- the region may scroll: the row and the margins are the start's, and no cell has changed
+-- whether the region may scroll: the row and the margins are the start's, and no cell has changed
 abbrev pub may_scroll : Effect → Bool
 may_scroll e =
     (is_kept e.row && keeps_margins e.margins)
@@ -139,14 +139,14 @@ may_scroll e =
 abbrev pub scrolling : Scroll → Effect → Effect
 scrolling x e = record e { scroll = x; ends_pending = true }
 
--- one line down: no start scrolls, or all do from where they began
+-- one line down: either no start scrolls, or all do from where they began
 abbrev pub line_fed : ℕ → Start → Effect → Option Effect
 line_fed rows start e =
     if are_whole rows start.margins e.margins && nat_lt (moved e.row start.row_max + 1) rows
     then Some (with_row e (and_forward e.row 1))
     else (if on_bottom rows start.row_min start.margins && may_scroll e then Some (scrolling scrolls.Up e) else None)
 
--- one line up
+-- one line up: either no start scrolls, or all do from where they began
 abbrev pub line_reversed : ℕ → Start → Effect → Option Effect
 line_reversed rows start e =
     if are_whole rows start.margins e.margins && nat_le 1 (moved e.row start.row_min)
@@ -157,12 +157,12 @@ abbrev pub tabbed : ℕ → Effect → Move → Option Effect
 tabbed cols e (moves.To k) = Some (with_col e (moves.To (min ((k / 8 + 1) * 8) (cols - 1))))
 tabbed cols e _ = None
 
--- the whole screen is erased, whatever was before
+-- the whole screen is erased, whatever happened before
 abbrev pub screen_erased : Effect → Option Effect
 screen_erased e =
     if keeps_background e then Some (record e { erasure = erasures.Screen; scroll = scrolls.Still }) else None
 
--- cells are erased around the cursor, which must be where it was; where all are erased, all stay so
+-- cells are erased around the cursor, which must be where it was; if all are erased already, they stay so
 abbrev pub cells_erased : Erasure → Effect → Option Effect
 cells_erased x e =
     if keeps_background e && is_still e.scroll then
@@ -180,7 +180,7 @@ display_erased ToEnd e = if is_first e.row && is_first e.col then screen_erased 
 display_erased FromStart e = None
 display_erased functions.Whole e = screen_erased e
 
--- all marks off, and the default colours
+-- all marks off, and the default colors
 abbrev pub all_off : Rendering
 all_off = record {
   bold = switches.Off;
@@ -197,7 +197,7 @@ abbrev pub ink_of : Option Color → Ink
 ink_of None = inks.Default
 ink_of (Some color) = inks.Color color
 
--- what one of the changes that SGR has makes of a rendering
+-- a rendering after one change of SGR
 abbrev pub changing : RenditionChange → Rendering → Rendering
 changing changes.Plain r = all_off
 changing changes.Bold r = record r { bold = switches.On }
@@ -214,21 +214,21 @@ changing changes.Revealed r = record r { concealed = switches.Off }
 changing (changes.Foreground c) r = record r { foreground = ink_of c }
 changing (changes.Background c) r = record r { background = ink_of c }
 
--- a number that stands for no change is ignored
+-- a number that makes no change is ignored
 abbrev pub changing_if : Option RenditionChange → Rendering → Rendering
 changing_if None r = r
 changing_if (Some change) r = changing change r
 
--- one number of SGR (ECMA-48 8.3.117)
+-- a rendering after one number of SGR (ECMA-48 8.3.117)
 abbrev pub rendering : ℕ → Rendering → Rendering
 rendering n r = changing_if (change_of n) r
 
--- all numbers of SGR, one after another; the default is 0
+-- a rendering after all numbers of SGR, one after another; the default is 0
 abbrev pub all_renderings : List (Option ℕ) → Rendering → Rendering
 all_renderings [] r = r
 all_renderings (n ∷ ns) r = all_renderings ns (rendering (unwrap_or n 0) r)
 
--- autowrap stays on and insertion off, or there is no record (VT100 DECAWM, ECMA-48 7.2.10 IRM); VT220 DECTCEM is 25
+-- no record if autowrap turns off or insertion on (VT100 DECAWM, ECMA-48 7.2.10 IRM); VT220 DECTCEM is 25
 abbrev pub mode_set : ModeKind → Bool → ℕ → Effect → Option Effect
 mode_set Private on n e =
     if n == 7 then (if on then Some e else None)
@@ -239,7 +239,7 @@ abbrev pub modes_set : ModeKind → Bool → List (Option ℕ) → Effect → Op
 modes_set kind on [] e = Some e
 modes_set kind on (n ∷ ns) e = option_and_then (modes_set kind on ns) (mode_set kind on (unwrap_or n 0) e)
 
--- DECSTBM acts where the first line is above the last, and does nothing else
+-- DECSTBM sets margins if the first line is above the last, and does nothing otherwise
 abbrev pub margins_set : ℕ → ℕ → ℕ → Effect → Effect
 margins_set rows first last e =
     let top = first - 1 in
@@ -262,7 +262,7 @@ designating G1 graphic e = record e { charset = record e.charset { g1_graphic = 
 abbrev pub shifting : Bool → Effect → Effect
 shifting out e = record e { charset = record e.charset { shifted_out = switch_of out } }
 
--- up or down by n, where the margins are known to be the whole screen
+-- up or down by n, if the margins are known to be the whole screen
 abbrev pub row_back : ℕ → Start → ℕ → Effect → Option Effect
 row_back rows start n e =
     if are_whole rows start.margins e.margins then if_some (with_row e) (back_by n start.row_min start.row_max e.row)
@@ -280,7 +280,7 @@ col_back start n e = if_some (with_col e) (back_by n start.col_min start.col_max
 abbrev pub col_forward : ℕ → Start → ℕ → Effect → Option Effect
 col_forward cols start n e = if_some (with_col e) (forward_by n start.col_min start.col_max (cols - 1) e.col)
 
--- an effect, and then what a token asks for
+-- an effect, and then a token's function
 abbrev pub extended : ℕ → ℕ → Start → Function → Effect → Option Effect
 extended rows cols start LineFeed e = line_fed rows start e
 extended rows cols start CarriageReturn e = Some (with_col e (moves.To 0))
@@ -314,17 +314,17 @@ extended rows cols start (DeleteLines n) e = None
 extended rows cols start (ScrollUp n) e = None
 extended rows cols start (ScrollDown n) e = None
 
--- an effect, and then what all these tokens ask for
+-- an effect, and then the functions of all these tokens
 abbrev pub all_extended : ℕ → ℕ → Start → List (List ℕ) → Effect → Option Effect
 all_extended rows cols start [] e = Some e
 all_extended rows cols start (token ∷ tokens) e =
     option_and_then (all_extended rows cols start tokens) (extended rows cols start (function_of token) e)
 
--- the effect of these tokens from every state of the start, if it has a record
+-- the effect of these tokens from every state of the start, if they have a record
 abbrev pub record_of : ℕ → ℕ → Start → List (List ℕ) → Option Effect
 record_of rows cols start tokens = all_extended rows cols start tokens unchanged
 
--- the record of this text's tokens, or that they have none
+-- `found` is the record of this text's tokens, or None if they have none
 pub record IsRecordOf (rows cols : ℕ) (start : Start) (text : List ℕ) (found : Option Effect) : Type 0 where
   pub tokens : List (List ℕ)
   pub splits : Splits text tokens []

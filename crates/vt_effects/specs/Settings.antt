@@ -1,5 +1,5 @@
--- What a record says of rendition, character sets, margins and visibility from every screen of the size that has
--- autowrap on and insertion off: also from one that its start doesn't allow.
+-- A record's changes of rendition, character sets, margins and visibility, from every screen of the size with
+-- autowrap on and insertion off, even if the start doesn't allow it.
 use Rattle.std.specs.Prelude.{ℕ, ◌≡◌, true, false, List, Some, None}
 use Rattle.std.specs.List.{AllByRecursion}
 use Rattle.vt_term.specs.Screen.{Screen}
@@ -15,7 +15,7 @@ pub record IsTame (s : Screen) : Type 0 where
   pub autowrap : s.autowrap ≡ true
   pub inserting : s.inserting ≡ false
 
--- from the one screen to the other the settings change as the effect says
+-- the settings of t are those of s changed by the effect
 pub record SetsAs (e : Effect) (s t : Screen) : Type 0 where
   pub rendition : t.rendition ≡ rendered e.rendition s.rendition
   pub charset : t.charset ≡ designated e.charset s.charset
@@ -24,7 +24,7 @@ pub record SetsAs (e : Effect) (s t : Screen) : Type 0 where
   pub bottom : t.bottom ≡ bottom_of e.margins s.bottom
   pub tame : IsTame t
 
--- the steps of these tokens change the settings so, whatever the cursor, the cells and the margins are
+-- the steps of these tokens change the settings by the effect, whatever the cursor, the cells and the margins are
 abbrev pub SettingsAs : ℕ → List (List ℕ) → Effect → Type 0
 SettingsAs rows tokens e = (s : Screen) → s.rows ≡ rows → IsTame s → SetsAs e s (steps tokens s)
 
@@ -45,14 +45,14 @@ EachKeepsMargins rows tokens =
 abbrev pub EachKeepsVisible : List (List ℕ) → Type 0
 EachKeepsVisible tokens = AllByRecursion (λ token. (s : Screen) → (step token s).visible ≡ s.visible) tokens
 
--- what tokens with this record do to the settings, together and each by itself
+-- the settings after tokens with this record, and after each single one
 pub record TellsSettings (rows : ℕ) (tokens : List (List ℕ)) (e : Effect) : Type 0 where
   pub settings : SettingsAs rows tokens e
   pub tame : EachTame tokens
   pub margins : e.margins ≡ None → EachKeepsMargins rows tokens
   pub visible : e.visible ≡ Kept → EachKeepsVisible tokens
 
--- every record says so
+-- every record tells the settings
 abbrev pub RecordsTellSettings : Type 0
 RecordsTellSettings =
     (rows cols : ℕ) (start : Start) (tokens : List (List ℕ)) (e : Effect) → record_of rows cols start tokens ≡ Some e

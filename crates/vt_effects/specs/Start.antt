@@ -5,7 +5,7 @@ use Rattle.vt_effects.specs.declared.starts.Start.{Start}
 use Rattle.vt_effects.specs.declared.starts.Margins.{Margins}
 use Rattle.vt_effects.specs.declared.starts.Margins.TheVariants.{Whole, Legal, OnBottom, OnTop}
 
--- the margins of every screen are legal
+-- the margins are of this kind; those of every screen are legal
 abbrev pub HasMargins : Margins → Screen → Type 0
 HasMargins Whole s = (s.top ≡ 0) × (s.bottom + 1 ≡ s.rows)
 HasMargins Legal s = Unit {0}

@@ -6,9 +6,8 @@ ghost use Rattle.vt_term.specs.Look.{blank};
 use crate::effects::{Effect, Erasure, Ink, Move, Region, Rendering, Scroll, Sets, Switch};
 use vt_term::{Charset, Color, EraseExtent, Function, Rendition, Settings, Terminal};
 
-/// Applies an effect to a terminal. That the moves stay on the screen, and that the margins, if it
-/// sets them, are in order and on the screen, is the caller's condition. What is open of a sequence
-/// stays open.
+/// Applies `effect` to `terminal`; an open sequence stays open. The moves must stay on the screen, and margins that
+/// the effect sets must be in order and on the screen.
 pub fn apply(effect: &Effect, terminal: &mut Terminal)
     requires { spec.Applies effect.now terminal.old.screen }
     ensures { terminal.new ≡ record terminal.old { screen = spec.applied effect.now terminal.old.screen } }

@@ -1,4 +1,4 @@
-//! One effect and then another, as one.
+//! Two effects, one after the other, as one.
 ghost use Rattle.std.specs.Prelude.{◌≡◌, IfSome};
 ghost use Rattle.vt_effects.specs.Compose as spec;
 
@@ -7,11 +7,10 @@ use crate::moves::{and_back, and_forward};
 use crate::records::{cells_erased, display_erased, is_still, keeps_background, screen_erased};
 use vt_term::EraseExtent;
 
-/// One effect and then another, as one: from every state on which the first applies, and then the
-/// second, it does what they do. `None` where no such record is found: where cells are erased after
-/// the cursor moved or after other cells were, or after the background was set, or the region scrolls
-/// after its margins or the background were set, or twice, or where a move passes the first row or
-/// column from everywhere.
+/// The effect of `first` and then `second` as one: from every state on which `first` applies and then `second`, it
+/// does what they do. `None` if no such record is found: if cells are erased after the cursor moved, after other
+/// cells were erased or after the background was set; if the region scrolls twice, or after its margins or the
+/// background were set; or if a move passes the first row or column from everywhere.
 pub fn compose(first: &Effect, second: &Effect) -> Option<Effect>
     ensures record { result ≡ spec.composed first.now second.now }
     ensures both { IfSome result (spec.Composes first.now second.now) }

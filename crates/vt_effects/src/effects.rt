@@ -5,7 +5,7 @@ ghost use Rattle.vt_effects.specs.Record as records;
 
 use vt_term::Color;
 
-/// Where the cursor's row or column goes.
+/// A change of the cursor's row or column.
 #[derive(Clone, Copy, Debug, PartialEq, Eq)]
 pub enum Move {
     Kept,
@@ -17,7 +17,7 @@ pub enum Move {
     Forward(u16),
 }
 
-/// Which cells become blank, by the place where the cursor is before it moves.
+/// The cells that are erased, relative to the cursor before it moves.
 #[derive(Clone, Copy, Debug, PartialEq, Eq)]
 pub enum Erasure {
     Nothing,
@@ -33,7 +33,7 @@ pub enum Erasure {
     Next(u16),
 }
 
-/// Which way the region scrolls by one line.
+/// The direction in which the region scrolls by one line.
 #[derive(Clone, Copy, Debug, PartialEq, Eq)]
 pub enum Scroll {
     Still,
@@ -41,7 +41,7 @@ pub enum Scroll {
     Down,
 }
 
-/// What becomes of something that is on or off.
+/// A change of something that is on or off.
 #[derive(Clone, Copy, Debug, PartialEq, Eq)]
 pub enum Switch {
     Kept,
@@ -49,7 +49,7 @@ pub enum Switch {
     Off,
 }
 
-/// What becomes of a colour.
+/// A change of a color.
 #[derive(Clone, Copy, Debug, PartialEq, Eq)]
 pub enum Ink {
     Kept,
@@ -58,7 +58,7 @@ pub enum Ink {
     Color(Color),
 }
 
-/// What becomes of the rendition, part by part (ECMA-48 8.3.117, SGR).
+/// A change of the rendition, part by part (ECMA-48 8.3.117, SGR).
 #[derive(Clone, Copy, Debug, PartialEq, Eq)]
 pub struct Rendering {
     pub bold: Switch,
@@ -71,8 +71,7 @@ pub struct Rendering {
     pub background: Ink,
 }
 
-/// What becomes of the character sets: a set is on if it is the graphic one, the shift if G1 is
-/// active.
+/// A change of the character sets: a set is on if it is the graphic one, the shift if G1 is active.
 #[derive(Clone, Copy, Debug, PartialEq, Eq)]
 pub struct Sets {
     pub g0_graphic: Switch,
@@ -80,32 +79,32 @@ pub struct Sets {
     pub shifted_out: Switch,
 }
 
-/// The first and the last line of the region that scrolls, from 0.
+/// The first and the last line of the region that scrolls; lines count from 0.
 #[derive(Clone, Copy, Debug, PartialEq, Eq)]
 pub struct Region {
     pub top: u16,
     pub bottom: u16,
 }
 
-/// What a string does to the terminal. Cells are erased and the region scrolls first, around the
-/// cursor and with the background that were there before; then come all others.
+/// The effect of a string on the terminal. First cells are erased and the region scrolls, with the cursor and the
+/// background from before; then everything else changes.
 #[derive(Clone, Copy, Debug, PartialEq, Eq)]
 pub struct Effect {
     pub row: Move,
     pub col: Move,
-    /// That the last column was printed is forgotten.
+    /// Whether the pending wrap is cleared.
     pub ends_pending: bool,
     pub erasure: Erasure,
     pub scroll: Scroll,
     pub rendition: Rendering,
     pub charset: Sets,
-    /// The margins that are set.
+    /// The new margins, if they are set.
     pub margins: Option<Region>,
     pub visible: Switch,
 }
 
 impl Switch {
-    /// On or off.
+    /// The switch that turns on or off.
     pub fn set_to(on: bool) -> Switch
         ensures { result ≡ records.switch_of on }
     {
@@ -114,7 +113,7 @@ impl Switch {
 }
 
 impl Rendering {
-    /// Everything stays.
+    /// Changes nothing.
     pub fn kept() -> Rendering
         ensures { result ≡ spec.nothing_rendered }
     {
@@ -130,7 +129,7 @@ impl Rendering {
         }
     }
 
-    /// All marks off, and the default colours.
+    /// Turns all marks off and sets the default colors.
     pub fn all_off() -> Rendering
         ensures { result ≡ records.all_off }
     {
@@ -148,7 +147,7 @@ impl Rendering {
 }
 
 impl Effect {
-    /// The effect of nothing: everything stays.
+    /// The effect that changes nothing.
     pub fn unchanged() -> Effect
         ensures { result ≡ spec.unchanged }
     {

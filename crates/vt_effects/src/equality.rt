@@ -1,10 +1,10 @@
-//! Whether two effects are the same, part by part: a comparison that a proof can rest on.
+//! Equality of effects, compared part by part so that it has a contract.
 ghost use Rattle.std.specs.Prelude.{◌≡◌, IsTrue};
 
 use crate::effects::{Effect, Rendering};
 
 impl Effect {
-    /// Whether the two say the same. It answers as `==`, with a contract.
+    /// Whether the two are equal. The answer is that of `==`, but with a contract.
     pub fn equals(&self, other: &Effect) -> bool
         ensures sound { IsTrue result → self.now ≡ other.now }
         ensures complete { self.now ≡ other.now → IsTrue result }

@@ -7,8 +7,8 @@ ghost use Rattle.vt_effects.specs.Settings.{RecordsTellSettings};
 ghost use Rattle.vt_effects.specs.Basic.{HasRecord, home_text, clear_text, el_text, sgr0_text, placed_at, cleared};
 ghost use Rattle.vt_effects.specs.Basic.{tail_erased, made_plain};
 
-/// The strings of the plainest terminals have their records from every start: to clear, to go to a
-/// place, to make the rendition plain, to go home, and to erase to the line's end.
+/// The most basic strings have their records from every start: those that clear, move to a place, make the rendition
+/// plain, go home, and erase to the line's end.
 pub fn basic_records()
     ensures clear { (rows cols : ℕ) (start : Start) → IsSize rows cols → HasRecord rows cols start clear_text cleared }
     ensures cup { (rows cols row col : ℕ) (start : Start) → IsSize rows cols → row < rows → col < cols →
@@ -19,10 +19,9 @@ pub fn basic_records()
     ensures el { (rows cols : ℕ) (start : Start) → IsSize rows cols → HasRecord rows cols start el_text tail_erased }
 {}
 
-/// What a record says of rendition, character sets, margins and visibility holds from every screen
-/// with autowrap on and insertion off, whatever its cursor and margins: also from one that the
-/// start doesn't allow. Each step by itself leaves autowrap on and insertion off, and keeps the
-/// margins and the visibility where the record does.
+/// A record's changes of rendition, character sets, margins and visibility hold from every screen with autowrap on
+/// and insertion off, whatever its cursor and margins, even if the start doesn't allow it. Each single step leaves
+/// autowrap on and insertion off, and keeps the margins and the visibility if the record does.
 pub fn record_settings()
     ensures { RecordsTellSettings }
 {}

@@ -1,5 +1,5 @@
-//! What a string does to the terminal, from every start of a kind at once: a short record in place
-//! of the millions of states that a test would have to try.
+//! The effect of a string on the terminal from every start of a kind at once: a short record in place of the millions
+//! of states that a test would have to try.
 #![tactic(auto)]
 
 mod application;

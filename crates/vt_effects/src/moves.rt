@@ -7,7 +7,7 @@ ghost use Rattle.vt_effects.specs.Record as spec;
 use crate::effects::Move;
 
 impl Move {
-    /// Where it leads from a row or column: no further up or left than to the first.
+    /// The row or column after the move from `from`; moving up or left ends at the first.
     pub fn leads_from(self, from: u16) -> usize
         ensures { result ≡ meaning.moved self from }
     {
@@ -21,7 +21,7 @@ impl Move {
     }
 }
 
-/// So much forward and so much back as one move.
+/// Moving `forward` and then `back`, as one move.
 fn net(forward: u16, back: u16) -> Move
     ensures { result ≡ spec.net forward back }
 {
@@ -34,7 +34,7 @@ fn net(forward: u16, back: u16) -> Move
     }
 }
 
-/// A move, and then back by `n`.
+/// The move `way`, and then back by `n`.
 pub(crate) fn and_back(way: Move, n: u16) -> Move
     requires { BackFits way n }
     ensures { result ≡ spec.and_back way n }
@@ -47,7 +47,7 @@ pub(crate) fn and_back(way: Move, n: u16) -> Move
     }
 }
 
-/// A move, and then forward by `n`.
+/// The move `way`, and then forward by `n`.
 pub(crate) fn and_forward(way: Move, n: u16) -> Move
     requires { ForwardFits way n }
     ensures { result ≡ spec.and_forward way n }
@@ -60,7 +60,8 @@ pub(crate) fn and_forward(way: Move, n: u16) -> Move
     }
 }
 
-/// Up or left by `n` where no start is cut at the first row or column, or all are.
+/// Up or left by `n` after `way`, if either no start from `low` to `high` is cut at the first row or column, or all
+/// are.
 pub(crate) fn back_by(n: u16, low: u16, high: u16, way: Move) -> Option<Move>
     ensures { result ≡ spec.back_by n low high way }
 {
@@ -73,7 +74,7 @@ pub(crate) fn back_by(n: u16, low: u16, high: u16, way: Move) -> Option<Move>
     }
 }
 
-/// Down or right by `n` where no start is cut at the last row or column, or all are.
+/// Down or right by `n` after `way`, if either no start from `low` to `high` is cut at `last`, or all are.
 pub(crate) fn forward_by(n: u16, low: u16, high: u16, last: u16, way: Move) -> Option<Move>
     ensures { result ≡ spec.forward_by n low high last way }
 {

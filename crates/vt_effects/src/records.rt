@@ -10,10 +10,10 @@ use crate::renditions::all_renderings;
 use crate::starts::{Margins, Start};
 use vt_term::{CodeElement, EraseExtent, Function, ModeKind, Scanner, Size, TextFault, Token};
 
-/// The effect of these tokens from every state that the start allows. `None` where a token has no
-/// one effect from all of them that a record can tell. From each of those states, whatever its
-/// cells, rendition, character sets and visibility, the steps of the tokens end where the effect
-/// does, and so does the run of every text that falls into them.
+/// The effect of `tokens` from every state that `start` allows. From each of them, whatever its cells, rendition,
+/// character sets and visibility, the steps of the tokens end where the effect does, and so does the run of every
+/// text that splits into them. `None` if a token's effect differs between these states, or a record can't describe
+/// it.
 pub fn effect_of(tokens: &[Token], size: Size, start: &Start) -> Option<Effect>
     ensures record { result ≡ spec.record_of size.rows size.cols start.now tokens.now }
     ensures steps { IfSome result (StepsAs size.rows size.cols start.now tokens.now) }
@@ -26,11 +26,11 @@ pub fn effect_of(tokens: &[Token], size: Size, start: &Start) -> Option<Effect>
     Some(effect)
 }
 
-/// The effect of a text from every state that the start allows, as `effect_of` tells it of the text's
-/// tokens. The scanner reads them in place, so that no memory is asked for.
+/// The effect of `text` from every state that `start` allows: what `effect_of` returns for its tokens. The scanner
+/// reads them in place, so this allocates no memory.
 ///
 /// # Errors
-/// The first fault of the text, also where its tokens before that have no effect.
+/// The first fault of the text, even if the tokens before it have no record.
 pub fn effect_of_text(
     scanner: &mut Scanner,
     text: &[u8],
@@ -55,7 +55,7 @@ pub fn effect_of_text(
     }
 }
 
-/// An effect if there is one, and then what a token asks for.
+/// An effect, if there is one, and then a token's function.
 fn further(
     effect: Option<Effect>,
     function: Function<'_>,
@@ -67,7 +67,7 @@ fn further(
     extended(effect?, function, size, start)
 }
 
-/// An effect, and then what a token asks for.
+/// An effect, and then a token's function.
 fn extended(effect: Effect, function: Function<'_>, size: Size, start: &Start) -> Option<Effect>
     ensures { result ≡ spec.extended size.rows size.cols start.now function.entry effect }
 {
@@ -111,7 +111,7 @@ fn extended(effect: Effect, function: Function<'_>, size: Size, start: &Start) -
     }
 }
 
-/// To the row or column of this number, which counts from 1.
+/// The move to the row or column `number`, counted from 1, or to the last one if there are fewer.
 fn place(number: u16, limit: usize) -> Move
     requires some { 0 < limit }
     requires small { limit ≤ 500 }
@@ -186,7 +186,7 @@ fn tabbed(effect: Effect, size: Size) -> Option<Effect>
     Some(with_col(effect, Move::To(stop as u16)))
 }
 
-/// Whether the margins are known to be the whole screen; on two rows all legal ones are.
+/// Whether the margins are known to be the whole screen; with two rows all legal margins are.
 fn knows_whole(size: Size, margins: Margins) -> bool
     ensures { result ≡ spec.knows_whole size.rows margins }
 {
@@ -196,7 +196,7 @@ fn knows_whole(size: Size, margins: Margins) -> bool
     }
 }
 
-/// Whether the margins are the whole screen, where `set` may have been set.
+/// Whether the margins are the whole screen, given those that were `set`, if any.
 fn are_whole(size: Size, margins: Margins, set: Option<Region>) -> bool
     ensures { result ≡ spec.are_whole size.rows margins set }
 {
@@ -245,7 +245,7 @@ fn scrolling(effect: Effect, scroll: Scroll) -> Effect
     }
 }
 
-/// One line down: no start scrolls, or all do.
+/// One line down, if either no start scrolls or all do.
 fn line_fed(effect: Effect, size: Size, start: &Start) -> Option<Effect>
     ensures { result ≡ spec.line_fed size.rows start.now effect }
 {
@@ -260,7 +260,7 @@ fn line_fed(effect: Effect, size: Size, start: &Start) -> Option<Effect>
     }
 }
 
-/// One line up: no start scrolls, or all do.
+/// One line up, if either no start scrolls or all do.
 fn line_reversed(effect: Effect, size: Size, start: &Start) -> Option<Effect>
     ensures { result ≡ spec.line_reversed size.rows start.now effect }
 {
@@ -294,7 +294,7 @@ pub(crate) fn display_erased(effect: Effect, part: EraseExtent) -> Option<Effect
     }
 }
 
-/// The whole screen is erased, whatever was before.
+/// Erases the whole screen, whatever happened before.
 pub(crate) fn screen_erased(effect: Effect) -> Option<Effect>
     ensures { result ≡ spec.screen_erased effect }
 {
@@ -309,7 +309,7 @@ pub(crate) fn screen_erased(effect: Effect) -> Option<Effect>
     }
 }
 
-/// Cells are erased around the cursor, which must be where it was.
+/// Erases cells around the cursor, which must be where it was at the start.
 pub(crate) fn cells_erased(effect: Effect, erasure: Erasure) -> Option<Effect>
     ensures { result ≡ spec.cells_erased erasure effect }
 {
@@ -376,7 +376,7 @@ fn shifting(effect: Effect, out: bool) -> Effect
     }
 }
 
-/// One mode on or off: autowrap stays on and insertion off, or there is no record.
+/// Sets or resets one mode; there is no record if autowrap turns off or insertion on.
 fn mode_set(effect: Effect, kind: ModeKind, on: bool, number: u16) -> Option<Effect>
     ensures { result ≡ spec.mode_set kind on number effect }
 {

@@ -1,11 +1,11 @@
-//! What SGR does to a rendition, as part of an effect.
+//! The effect of SGR on a rendition, as part of an effect record.
 ghost use Rattle.std.specs.Prelude.{◌≡◌};
 ghost use Rattle.vt_effects.specs.Record as spec;
 
 use crate::effects::{Ink, Rendering, Switch};
 use vt_term::{Color, RenditionChange};
 
-/// The ink that a colour of SGR is; `None` is the default colour.
+/// The ink for a color of SGR, where `None` is the default color.
 fn ink_of(color: Option<Color>) -> Ink
     ensures { result ≡ spec.ink_of color }
 {
@@ -42,7 +42,7 @@ fn changing(now: Rendering, change: RenditionChange) -> Rendering
     then
 }
 
-/// A rendering, and then one number of SGR; one that stands for no change is ignored.
+/// A rendering, and then one number of SGR; a number that makes no change is ignored.
 fn rendering(now: Rendering, number: u16) -> Rendering
     ensures { result ≡ spec.rendering number now }
 {

@@ -1,4 +1,4 @@
--- The tokens that are left make of the effect now what all of them make of none.
+-- The remaining tokens applied to the effect now give what all of them applied to no change do.
 use Rattle.std.proofs.Common.{◌≡◌, drop}
 use Rattle.vt_effects.specs.Effect.{unchanged}
 use Rattle.vt_effects.specs.Record.{all_extended}

@@ -1,4 +1,4 @@
--- What was read of the text is tokens, and the effect is what they do.
+-- The text read so far is tokens, and the effect is theirs.
 use Rattle.std.proofs.Common.{◌-◌, length}
 use Rattle.vt_effects.proofs.Texts.{IsReached}
 use Rattle.vt_effects.proofs.records.effect_of_text.Given as goal

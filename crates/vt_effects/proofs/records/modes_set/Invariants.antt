@@ -1,4 +1,4 @@
--- The numbers that are left make of the effect now what all of them make of the first.
+-- The remaining numbers applied to the effect now give what all of them applied to the first do.
 use Rattle.std.proofs.Common.{◌≡◌, drop}
 use Rattle.vt_effects.specs.Record.{modes_set}
 use Rattle.vt_effects.proofs.records.modes_set.Given as goal

@@ -1,4 +1,4 @@
--- The numbers that are left make of the rendering now what all of them make of the first.
+-- The remaining numbers applied to the rendering now give what all of them applied to the first do.
 use Rattle.std.proofs.Common.{◌≡◌, drop}
 use Rattle.vt_effects.specs.Record.{all_renderings}
 use Rattle.vt_effects.proofs.renditions.all_renderings.Given as goal
