@@ -6,7 +6,7 @@ use Rattle.std.proofs.lemmas.List.Quantifiers.{position-Some}
 use Rattle.std.proofs.lemmas.Bool.{eqb-true}
 use Rattle.vt_states.specs.Cases.{Answers, AreAnswers, EachAnswers, IsCase, ended}
 
--- the lines before what is left, of which there are so many, and the answers to them
+-- the lines before the rest, counted by `number`, and their answers
 pub record Answered (rows cols : ℕ) (file rest : List ℕ) (number : ℕ) (text : List ℕ) : Type 0 where
   pub lines : List (List ℕ)
   pub answers : List (List ℕ)
@@ -30,7 +30,7 @@ ended_more : (lines : List (List ℕ)) (line : List ℕ) → flat_map ended (lin
 ended_more [] line = append-nil (ended line)
 ended_more (l ∷ lines) line = ap (λ (t : List ℕ). ended l ++ t) (ended_more lines line) ∙ sym (append_assoc (ended l) (flat_map ended lines) (ended line))
 
--- what is answered is a case
+-- an answered line is a case
 answered_cases : (rows cols : ℕ) (lines answers : List (List ℕ)) → EachAnswers rows cols lines answers → AllByRecursion IsCase lines
 answered_cases rows cols [] [] h = tt
 answered_cases rows cols [] (x ∷ answers) h = absurd h

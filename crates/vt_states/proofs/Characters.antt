@@ -1,4 +1,4 @@
--- A character ends where its text does, at the latest.
+-- A character ends in its text.
 use Rattle.std.proofs.Common.{◌≡◌, ℕ, zero, suc, ◌<◌, ◌≤◌, ◌&&◌, Bool, true, false, List, [], ◌∷◌, length, refl, arith, if◌then◌else◌}
 use Rattle.vt_states.specs.Recordings.{at, begins_two, begins_three, begins_four, continues, character_length}
 
@@ -6,7 +6,7 @@ second_too : (a b : Bool) → (a && b) ≡ true → b ≡ true
 second_too true b h = h
 second_too false b h = cc
 
--- what continues a character is there
+-- a byte that continues a character is in the text
 there : (bytes : List ℕ) (k : ℕ) → continues (at bytes k) ≡ true → k < length bytes
 there [] k h = cc
 there (x ∷ bytes) zero h = omega arith
@@ -16,7 +16,7 @@ either_within : (t : Bool) (n m l : ℕ) → (t ≡ true → n ≤ l) → m ≤ 
 either_within true n m l h k = h refl
 either_within false n m l h k = k
 
--- the second byte of a character of three bytes need not be looked at: the third one continues it
+-- a character of three bytes ends in its text even if its second byte isn't looked at, since the third continues it
 pub character_within : (bytes : List ℕ) → 0 < length bytes → character_length bytes ≤ length bytes
 character_within bytes some =
     either_within (begins_two (at bytes 0) (at bytes 1)) 2 _ (length bytes) (λ h. let far : 1 < length bytes = there bytes 1 (second_too _ (continues (at bytes 1)) h) in omega arith)

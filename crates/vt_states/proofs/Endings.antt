@@ -1,4 +1,4 @@
--- Where a text ends, and what a scan over it has found.
+-- The end of a text, and the result of a scan over it.
 use Rattle.std.proofs.Common.{◌≡◌, ℕ, ◌+◌, ◌-◌, ◌≤◌, List, [], ◌∷◌, ◌++◌, length, take, drop, refl, sym, ap, subst, ◌∙◌, arith, inl, length-append, zero, suc}
 use Rattle.std.proofs.lemmas.List.{drop_all, take-append-drop}
 use Rattle.vt_term.specs.Text.{IsOpen, Splits, IsSplit}
@@ -18,7 +18,7 @@ use Rattle.vt_states.specs.declared.watches.Switches.{Switches}
 use Rattle.vt_states.specs.Watches.{switches_of, first_switches, switches_after, switches_through}
 use Rattle.vt_states.proofs.Switchings.{steps_switches, through_more}
 
--- a scan has come to a place
+-- a scan has reached a place
 pub record Scanned (text : List ℕ) (at : ℕ) : Type 0 where
   pub tokens : List (List ℕ)
   pub begins : Begins text tokens (drop at text)
@@ -70,7 +70,7 @@ rest_at_end text at s e ts rest k =
     let same = one_splitting text ts s.tokens rest [] k (begins_all text s.tokens at s.begins e) in
     sym same.1 ∙ sym (drop_all (length text) text (omega arith))
 
--- a scan has come to a place, and these are the switches there
+-- a scan has reached a place, and these are the switches there
 pub record Switched (text : List ℕ) (at : ℕ) (switches : Switches) : Type 0 where
   pub tokens : List (List ℕ)
   pub begins : Begins text tokens (drop at text)
@@ -100,7 +100,7 @@ whole_has_none text fault h ts s = by_kind fault.kind h
     by_kind Unfinished f = let same = one_splitting text ts f.tokens [] f.rest s f.splits in omega (arith, f.some, ap length same.1)
     by_kind Stuck f = never_stuck text ts [] fault.at s f.fits_nothing
 
--- CAN ends what is open, and changes nothing else
+-- CAN ends an open sequence and changes nothing else
 pub cancelled : (rows cols : ℕ) (text : List ℕ) (after : State) → Runs (reset rows cols) text after → Runs (reset rows cols) (text ++ 24 ∷ []) (record after { rest = [] })
 cancelled rows cols text after r = runs_append (reset rows cols) after (record after { rest = [] }) text (24 ∷ []) r (by_rest after.rest (splits_open text r.tokens after.rest r.splits))
   where

@@ -4,7 +4,7 @@ use Rattle.std.specs.List.{flat_map}
 use Rattle.std.proofs.lemmas.List.{append-nil, drop-drop, drop_all}
 use Rattle.vt_states.specs.Recordings.{begins_string, is_character, part_length, parts, shown, dropped, replaced, total, all_parts, plain_text}
 
--- what is shown of the parts before a place, and enough parts for those behind it
+-- the parts before a place as T gets them, and enough parts for the bytes after it
 pub record ShownSoFar (bytes : List ℕ) (at : ℕ) (text : List ℕ) (gone marks : ℕ) : Type 0 where
   pub within : at ≤ length bytes
   pub fuel : ℕ

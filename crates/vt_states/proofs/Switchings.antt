@@ -1,4 +1,4 @@
--- What each function does to autowrap and insertion.
+-- The effect of each function on autowrap and insertion.
 use Rattle.std.proofs.Common.{◌≡◌, ℕ, ◌==◌, ◌&&◌, Bool, true, false, if◌then◌else◌, List, [], ◌∷◌, ◌++◌, Option, refl, ap, ◌∙◌}
 use Rattle.std.specs.Option.{unwrap_or}
 use Rattle.vt_term.specs.Screen.{Screen}

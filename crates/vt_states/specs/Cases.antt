@@ -11,7 +11,7 @@ use Rattle.vt_states.specs.Snapshots.{Leaves}
 use Rattle.vt_states.specs.declared.cases.CaseFault.{CaseFault}
 use Rattle.vt_states.specs.declared.cases.CaseFault.TheVariants.{BadLine, NoMemory}
 
--- a name, and the bytes that are fed to a terminal
+-- a name, and the bytes to feed to a terminal
 pub record Fed : Type 0 where
   pub name : List ℕ
   pub bytes : List ℕ
@@ -27,17 +27,17 @@ abbrev pub decoded : Result (List ℕ) FromHexError → Option (List ℕ)
 decoded (Ok bytes) = Some bytes
 decoded (Err e) = None
 
--- bytes in hexadecimal, in either case; a dash for none
+-- bytes in hexadecimal, in either case; a dash for no bytes
 abbrev pub hex_in : List ℕ → Option (List ℕ)
 hex_in text =
     if bytes_eq text (codes "-") then Some [] else (if length text == 0 then None else decoded (decode_of text))
 
--- a name and the hexadecimal behind it
+-- a name and the hexadecimal after it
 abbrev pub fed_of : List ℕ → List ℕ → Option Fed
 fed_of name text =
     if is_name name then option_map (λ bytes. record { name = name; bytes = bytes }) (hex_in text) else None
 
--- a line whose first space is there
+-- the case of a line, given the place of its first space
 abbrev pub fed_at : List ℕ → Option ℕ → Option Fed
 fed_at line None = None
 fed_at line (Some k) = fed_of (take k line) (drop (k + 1) line)
@@ -46,7 +46,7 @@ fed_at line (Some k) = fed_of (take k line) (drop (k + 1) line)
 abbrev pub fed_in : List ℕ → Option Fed
 fed_in line = fed_at line (position (λ b. b == 32) line)
 
--- the object of a case: the state that its bytes leave of a terminal of this size
+-- the object of a case: the state of a terminal of this size after its bytes
 pub record Answers (rows cols : ℕ) (line answer : List ℕ) : Type 0 where
   pub fed : Fed
   pub given : fed_in line ≡ Some fed
@@ -73,16 +73,16 @@ pub record AreAnswers (rows cols : ℕ) (file text : List ℕ) : Type 0 where
   pub written : text ≡ flat_map ended answers
   pub each : EachAnswers rows cols lines answers
 
--- a line that is one
+-- a line that is a case
 abbrev pub IsCase : List ℕ → Type 0
 IsCase line = (fed : Fed) × (fed_in line ≡ Some fed)
 
--- a line that is no case, or that has no LF
+-- the rest begins with a line that isn't a case, or that has no LF
 abbrev pub BeginsBadly : List ℕ → Option ℕ → Type 0
 BeginsBadly rest None = 0 < length rest
 BeginsBadly rest (Some k) = fed_in (take k rest) ≡ None
 
--- the lines before this one are cases, and this one is none; lines are counted from 1
+-- the lines before this one are cases, and this one isn't; lines count from 1
 pub record IsBadLine (file : List ℕ) (line : ℕ) : Type 0 where
   pub before : List (List ℕ)
   pub cases : AllByRecursion IsCase before
@@ -95,7 +95,7 @@ abbrev pub IsCaseFault : List ℕ → CaseFault → Type 0
 IsCaseFault file (BadLine line) = IsBadLine file line
 IsCaseFault file NoMemory = Unit {0}
 
--- the fault of one line of this number
+-- the fault of the line with this number
 abbrev pub IsLineFault : List ℕ → ℕ → CaseFault → Type 0
 IsLineFault line number (BadLine told) = (told ≡ number) × (fed_in line ≡ None)
 IsLineFault line number NoMemory = Unit {0}

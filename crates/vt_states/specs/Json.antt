@@ -11,7 +11,7 @@ use Rattle.vt_term.specs.Screen.{Screen, State}
 use Rattle.vt_states.specs.Styles.{rendition_letters}
 use Rattle.vt_states.specs.Lines.{either}
 
--- a text in quotes; the quote and the backslash have a backslash before them
+-- in quotes, a backslash precedes each quote and backslash
 abbrev pub escaped : ℕ → List ℕ
 escaped b = if (b == 34) || (b == 92) then 92 ∷ b ∷ [] else b ∷ []
 
@@ -32,7 +32,7 @@ pair a b = 91 ∷ (decimal a ++ 44 ∷ (decimal b ++ 93 ∷ []))
 abbrev pub bracketed : List ℕ → List ℕ
 bracketed items = 91 ∷ (items ++ 93 ∷ [])
 
--- items between commas: what there is of them, made ready for one more
+-- items separated by commas, ready for one more
 abbrev pub before_next : List ℕ → List ℕ
 before_next items = if length items == 0 then [] else items ++ 44 ∷ []
 
@@ -40,12 +40,12 @@ before_next items = if length items == 0 then [] else items ++ 44 ∷ []
 abbrev pub row_item : List Look → List ℕ
 row_item line = 34 ∷ (flat_map (λ x. escaped x.byte) line ++ 34 ∷ [])
 
--- the rows behind some items
+-- the rows after some items
 abbrev pub rows_behind : List ℕ → Grid → List ℕ
 rows_behind items [] = items
 rows_behind items (line ∷ lines) = rows_behind (before_next items ++ row_item line) lines
 
--- a run of cells in one row that are shown in one way and not plainly: row, first and last column, letters
+-- a run of cells in one row that are shown alike and not plainly: row, first and last column, letters
 abbrev pub look_place : ℕ → ℕ → ℕ → List ℕ
 look_place row first last =
     codes "[" ++ (decimal row ++ (codes "," ++ (decimal first ++ (codes "," ++ (decimal last ++ codes ",\"")))))
@@ -57,12 +57,12 @@ abbrev pub look_behind : List ℕ → ℕ → ℕ → ℕ → List ℕ → List 
 look_behind items row first last style =
     if length style == 0 then items else before_next items ++ look_item row first last style
 
--- the run that ends in this column, if one does, behind some items
+-- the run that ends in this column, if one does, after some items
 abbrev pub run_behind : List ℕ → ℕ → List Look → ℕ → List ℕ
 run_behind items row line k =
     if ends_run line k then look_behind items row (run_start line k) k (style_text (at line k)) else items
 
--- the runs that end before column n
+-- the runs that end before column n, after some items
 abbrev pub runs_behind : List ℕ → ℕ → List Look → ℕ → List ℕ
 runs_behind items row line zero = items
 runs_behind items row line (suc n) = run_behind (runs_behind items row line n) row line n
@@ -113,11 +113,11 @@ members s =
     cursor_members s.screen ++ set_members s.screen ++ look_members s.screen ++ open_members s
     ++ rendition_members s.screen ++ row_members s.screen
 
--- an object with these members before those of a state
+-- an object with these members before the state's
 abbrev pub object : List ℕ → State → List ℕ
 object front s = 123 ∷ (front ++ (members s ++ 125 ∷ []))
 
--- the first members of the object of a case: its name, and where it is stuck if it is
+-- the first members of the object of a case: its name, and the place where it is stuck, if it is
 abbrev pub case_members : List ℕ → Option ℕ → List ℕ
 case_members name None = member (codes "name") (quoted name)
 case_members name (Some at) = member (codes "name") (quoted name) ++ member (codes "stuck") (decimal at)

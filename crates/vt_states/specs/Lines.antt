@@ -6,11 +6,11 @@ use Rattle.vt_term.specs.Printed.{screen_text}
 use Rattle.vt_term.specs.Screen.{Screen, State}
 use Rattle.vt_states.specs.Styles.{rendition_letters}
 
--- a name and what it has, as one line
+-- a name and its value, as one line
 abbrev pub line : List ℕ → List ℕ → List ℕ
 line name value = name ++ 32 ∷ (value ++ 10 ∷ [])
 
--- a dash stands for nothing
+-- a text, or a dash if it is empty
 abbrev pub or_dash : List ℕ → List ℕ
 or_dash text = if length text == 0 then codes "-" else text
 
@@ -44,7 +44,7 @@ set_lines s =
     ++ line (codes "g1") (set_word s.charset.g1_graphic)
     ++ line (codes "active") (active_word s.charset.shifted_out)
 
--- the screen, the modes, the rendition, the sets, and what is open of a sequence in hexadecimal
+-- the screen, the modes, the rendition, the sets, and the open sequence in hexadecimal
 abbrev pub state_text : State → List ℕ
 state_text s =
     screen_text s.screen ++ place_lines s.screen ++ switch_lines s.screen ++ rendition_line s.screen

@@ -1,5 +1,5 @@
--- What T is shown of a recording of today, in place of characters and strings that it doesn't have (ECMA-48 5.6,
--- command strings and character strings; xterm's control sequences, OSC; Unicode, table 3-7).
+-- Recordings of today's programs, reduced to the characters and sequences that T has (ECMA-48 5.6, command strings
+-- and character strings; xterm's control sequences, OSC; Unicode, table 3-7).
 use Rattle.std.specs.Prelude.{ℕ, ◌+◌, ◌==◌, ◌&&◌, ◌||◌, nat_le, Bool, List, [], ◌∷◌, length, take, drop, slice_index_or}
 use Rattle.std.specs.Prelude.{if◌then◌else◌, zero, suc}
 use Rattle.std.specs.List.{flat_map}
@@ -28,7 +28,7 @@ begins_four a b =
     ((a == 240) && is_between 144 191 b) || ((a == 244) && is_between 128 143 b)
     || (is_between 241 243 a && continues b)
 
--- the bytes of the character in front, 1 where none is valid
+-- the length of the first character, 1 if it isn't valid
 abbrev pub character_length : List ℕ → ℕ
 character_length bytes =
     if begins_two (at bytes 0) (at bytes 1) then 2
@@ -44,11 +44,11 @@ introduces b = (b == 80) || (b == 88) || is_between 93 95 b
 abbrev pub begins_string : List ℕ → Bool
 begins_string bytes = (at bytes 0 == 27) && introduces (at bytes 1)
 
--- ESC (of ST, or of what follows), CAN and SUB end a string, and stand behind it
+-- ESC (of ST, or of a following sequence), CAN and SUB end a string without being part of it
 abbrev pub cuts : ℕ → Bool
 cuts b = (b == 27) || (b == 24) || (b == 26)
 
--- the bytes of a string up to its end; BEL is the last byte of an OSC
+-- the number of bytes of a string up to its end; BEL is the last byte of an OSC
 abbrev pub up_to_end : Bool → List ℕ → ℕ
 up_to_end osc [] = 0
 up_to_end osc (b ∷ bytes) = if cuts b then 0 else (if osc && (b == 7) then 1 else 1 + up_to_end osc bytes)
@@ -72,7 +72,7 @@ parts (suc n) [] = []
 parts (suc n) (b ∷ bytes) =
     take (part_length (b ∷ bytes)) (b ∷ bytes) ∷ parts n (drop (part_length (b ∷ bytes)) (b ∷ bytes))
 
--- what T is shown of a part: nothing of a string, a question mark for a character above 127
+-- a part as T gets it: nothing of a string, a question mark for a character above 127
 abbrev pub shown : List ℕ → List ℕ
 shown part = if begins_string part then [] else (if is_character part then 63 ∷ [] else part)
 
@@ -89,6 +89,6 @@ abbrev pub total : (List ℕ → ℕ) → List (List ℕ) → ℕ
 total f [] = 0
 total f (part ∷ rest) = f part + total f rest
 
--- what T is shown of the whole
+-- the whole recording as T gets it
 abbrev pub plain_text : List ℕ → List ℕ
 plain_text bytes = flat_map shown (all_parts bytes)

@@ -1,4 +1,4 @@
-//! Many cases in one run.
+//! The answers to many cases in one run.
 
 ghost use Rattle.std.specs.Prelude.{◌≡◌, ◌<◌, ◌≤◌, ◌/◌, ◌==◌, ◌++◌, ◌∷◌, [], ℕ, List, length, nat_le, ◌&&◌, Some, None};
 ghost use Rattle.std.specs.Prelude.{option_map, IfErr, IfOk, IfSome, OnOk, if◌then◌else◌};
@@ -14,12 +14,12 @@ use std::error::Error;
 use std::fmt;
 use vt_term::Size;
 
-/// Why a file of cases has no answers.
+/// The reason why a file of cases has no answers.
 #[derive(Clone, Copy, Debug, PartialEq, Eq)]
 pub enum CaseFault {
-    /// The line of this number, counted from 1, is no case: a name, a space, and bytes in hexadecimal or a dash.
+    /// The line of this number, counted from 1, isn't a case: a name, a space, and bytes in hexadecimal or a dash.
     BadLine(usize),
-    /// A request for memory was refused.
+    /// Out of memory.
     NoMemory,
 }
 
@@ -50,11 +50,11 @@ impl<T: Drop> From<AllocFailed<T>> for CaseFault {
     }
 }
 
-/// The answers to the cases of a file, a line for each: the state that the case's bytes leave of a terminal of this
-/// size that was reset, as a JSON object that begins with the case's name and, if its bytes are stuck, the place.
+/// The answers to the cases of `file`, a line for each: the state of a terminal of this `size` that was reset and fed
+/// with the case's bytes, as a JSON object. It begins with the case's name and, if its bytes get stuck, the place.
 ///
 /// # Errors
-/// The first line that is no case, or out of memory.
+/// The first line that isn't a case, or out of memory.
 pub fn case_answers(alloc: Global, size: Size, file: &[u8]) -> Result<Vec<u8>, CaseFault>
     ensures answers { IfOk result (λ text. spec.AreAnswers size.rows size.cols file.now text.items) }
     ensures fault { IfErr result (λ e. spec.IsCaseFault file.now e) }
@@ -97,7 +97,7 @@ fn push_answer(
     }
 }
 
-/// A name, and the bytes that are fed to a terminal.
+/// A name, and the bytes to feed to a terminal.
 #[derive(Drop)]
 struct Case<'a> {
     name: &'a [u8],
@@ -121,7 +121,7 @@ fn push_state(
     snapshot.push_object(alloc, front.as_slice(), text)
 }
 
-/// The case of a line, if it is one.
+/// The case of a line; `None` if the line isn't one.
 fn read_case<'a>(alloc: Global, line: &'a [u8]) -> Result<Option<Case<'a>>, AllocError>
     ensures { IfOk result (λ found. option_map (λ c. record { name = c.name.now; bytes = c.bytes.items }) found
         ≡ spec.fed_in line.entry.now) }
@@ -132,7 +132,7 @@ fn read_case<'a>(alloc: Global, line: &'a [u8]) -> Result<Option<Case<'a>>, Allo
     }
 }
 
-/// The case of a name and of the hexadecimal behind it, if they are right.
+/// The case of a name and the hexadecimal after it; `None` if either is malformed.
 fn case_of<'a>(alloc: Global, name: &'a [u8], digits: &[u8]) -> Result<Option<Case<'a>>, AllocError>
     ensures { IfOk result (λ found. option_map (λ c. record { name = c.name.now; bytes = c.bytes.items }) found
         ≡ spec.fed_of name.entry.now digits.now) }
@@ -158,7 +158,7 @@ fn all_shown(name: &[u8]) -> bool
     name.iter().all(|byte| 33 <= *byte && *byte <= 126)
 }
 
-/// Where such a byte stands first.
+/// The first place of `byte` in `text`.
 fn place_of(byte: u8, text: &[u8]) -> Option<usize>
     ensures value { result ≡ position (λ b. b == byte) text.now }
     ensures range { IfSome result (λ at. at < length text.now) }
@@ -166,7 +166,7 @@ fn place_of(byte: u8, text: &[u8]) -> Option<usize>
     text.iter().position(|other| *other == byte)
 }
 
-/// The bytes of a word of hexadecimal digits, or none for a dash. `None` for any other word.
+/// The bytes of a word of hexadecimal digits, no bytes for a dash. `None` for any other word.
 fn bytes_of(alloc: Global, digits: &[u8]) -> Result<Option<Vec<u8>>, AllocError>
     ensures { IfOk result (λ found. option_map (λ bytes. bytes.items) found ≡ spec.hex_in digits.now) }
 {
@@ -191,7 +191,7 @@ fn decoded(alloc: Global, digits: &[u8]) -> Result<Option<Vec<u8>>, AllocError>
     }
 }
 
-/// Decodes a word into room for half as many bytes as it has digits, unless it has other letters.
+/// Decodes `digits` into `bytes`, which must be half as long; returns false if they aren't all hexadecimal digits.
 fn decode_into(digits: &[u8], bytes: &mut [u8]) -> bool
     requires { length bytes.old ≡ length digits.now / 2 }
     ensures { (if result then Some bytes.new else None) ≡ spec.decoded (decode_of digits.now) }

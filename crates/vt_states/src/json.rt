@@ -10,7 +10,7 @@ use crate::styles::letters_of;
 use std::alloc::{AllocError, Global};
 
 impl Snapshot<'_> {
-    /// Adds the state to `text` as a JSON object, of which `front` are the first members, each with its comma. Fails
+    /// Adds the state to `text` as a JSON object that begins with the members `front`, each with its comma. Fails
     /// only when out of memory.
     pub fn push_object(
         &self,
@@ -109,8 +109,8 @@ impl Snapshot<'_> {
     }
 }
 
-/// The first members of the object of a case: its `name`, and where it is stuck if it is. Fails only when out of
-/// memory.
+/// The first members of the object of a case: its `name`, and the place where it is `stuck`, if it is. Fails only
+/// when out of memory.
 pub fn case_members(alloc: Global, name: &[u8], stuck: Option<usize>) -> Result<Vec<u8>, AllocError>
     ensures { IfOk result (λ front. front.items ≡ spec.case_members name.now stuck) }
 {
@@ -136,7 +136,7 @@ fn push_member(text: &mut Vec<u8>, name: &[u8], value: &[u8]) -> Result<(), Allo
     Ok(())
 }
 
-/// A text in quotes.
+/// A text in quotes, with a backslash before each quote and backslash.
 fn quoted(alloc: Global, bytes: &[u8]) -> Result<Vec<u8>, AllocError>
     ensures { IfOk result (λ text. text.items ≡ spec.quoted bytes.now) }
 {
@@ -190,7 +190,7 @@ fn truth(value: bool) -> &'static [u8]
     if value { b"true" } else { b"false" }
 }
 
-/// The word of a set, in quotes.
+/// The word for a character set, in quotes.
 fn set_word(graphic: bool) -> &'static [u8]
     ensures { result.now ≡ spec.set_value graphic }
 {

@@ -1,4 +1,4 @@
-//! The whole state of T as a text or as JSON: of the end of a stream, and of many cases in one run.
+//! The whole state of T as a text or as JSON, after a stream or after each of many cases.
 #![tactic(auto)]
 
 mod cases;

@@ -8,7 +8,7 @@ use crate::styles::letters_of;
 use std::alloc::{AllocError, Global};
 
 impl Snapshot<'_> {
-    /// The whole state as lines: the screen, the modes, and what is open of a sequence. Fails only when out of memory.
+    /// The whole state as lines: the screen, the modes, and the open sequence. Fails only when out of memory.
     pub fn print(&self, alloc: Global) -> Result<Vec<u8>, AllocError>
         ensures { IfOk result (λ text. text.items ≡ spec.state_text self.now) }
     {
@@ -22,7 +22,7 @@ impl Snapshot<'_> {
         Ok(text)
     }
 
-    /// The lines of the wrap and of the margins.
+    /// Adds the lines of the wrap and of the margins.
     #[tactic(auto, unfolding(crate::specs::Lines::place_lines))]
     fn push_places(&self, alloc: Global, text: &mut Vec<u8>) -> Result<(), AllocError>
         ensures { OnOk result (text.new.items ≡ text.old.items ++ spec.place_lines self.now.screen) }
@@ -34,7 +34,7 @@ impl Snapshot<'_> {
         push_line(text, b"margins", margins.as_bytes())
     }
 
-    /// The lines of autowrap and insertion.
+    /// Adds the lines of autowrap and insertion.
     #[tactic(auto, unfolding(crate::specs::Lines::switch_lines))]
     fn push_switches(&self, text: &mut Vec<u8>) -> Result<(), AllocError>
         ensures { OnOk result (text.new.items ≡ text.old.items ++ spec.switch_lines self.now.screen) }
@@ -51,7 +51,7 @@ impl Snapshot<'_> {
         )
     }
 
-    /// The line of the rendition that the next character takes.
+    /// Adds the line of the rendition that the next character takes.
     #[tactic(auto, unfolding(crate::specs::Lines::rendition_line))]
     fn push_rendition(&self, alloc: Global, text: &mut Vec<u8>) -> Result<(), AllocError>
         ensures { OnOk result (text.new.items ≡ text.old.items ++ spec.rendition_line self.now.screen) }
@@ -60,7 +60,7 @@ impl Snapshot<'_> {
         push_line(text, b"rendition", or_dash(letters.as_slice()))
     }
 
-    /// The lines of the character sets.
+    /// Adds the lines of the character sets.
     #[tactic(auto, unfolding(crate::specs::Lines::set_lines))]
     fn push_sets(&self, text: &mut Vec<u8>) -> Result<(), AllocError>
         ensures { OnOk result (text.new.items ≡ text.old.items ++ spec.set_lines self.now.screen) }
@@ -80,7 +80,7 @@ impl Snapshot<'_> {
     }
 }
 
-/// Adds a line of a name and what it has.
+/// Adds the line of a name and its value.
 fn push_line(text: &mut Vec<u8>, name: &[u8], value: &[u8]) -> Result<(), AllocError>
     ensures { OnOk result (text.new.items ≡ text.old.items ++ spec.line name.now value.now) }
 {
@@ -91,14 +91,14 @@ fn push_line(text: &mut Vec<u8>, name: &[u8], value: &[u8]) -> Result<(), AllocE
     Ok(())
 }
 
-/// A dash for nothing.
+/// `text`, or a dash if it is empty.
 fn or_dash(text: &[u8]) -> &[u8]
     ensures { result.now ≡ spec.or_dash text.entry.now }
 {
     if text.is_empty() { b"-" } else { text }
 }
 
-/// One of two words.
+/// The word `yes` if `chosen`, otherwise `no`.
 pub(crate) fn either<'a>(chosen: bool, yes: &'a [u8], no: &'a [u8]) -> &'a [u8]
     ensures { result.now ≡ spec.either chosen yes.entry.now no.entry.now }
 {

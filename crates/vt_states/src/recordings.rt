@@ -1,4 +1,4 @@
-//! What T is shown of a recording of today.
+//! Recordings of today's programs, reduced to characters and sequences that T has.
 
 ghost use Rattle.std.specs.Prelude.{◌≡◌, ℕ, ◌+◌, ◌<◌, ◌≤◌, ◌++◌, ◌==◌, length, take, IfOk, OnOk};
 ghost use Rattle.std.specs.List.{flat_map};
@@ -6,14 +6,14 @@ ghost use Rattle.vt_states.specs.Recordings as spec;
 
 use std::alloc::{AllocError, Global};
 
-/// A recording without what T doesn't have.
+/// A recording without the characters and strings that T doesn't have.
 #[derive(Debug, Drop)]
 pub struct Recording {
-    /// What T is shown.
+    /// The bytes for T.
     pub text: Vec<u8>,
-    /// How many bytes of strings were dropped.
+    /// The number of bytes of dropped strings.
     pub dropped: usize,
-    /// How many characters above 127 are question marks.
+    /// The number of characters above 127, which are question marks now.
     pub replaced: usize,
 }
 
@@ -39,7 +39,7 @@ pub fn plain_recording(alloc: Global, bytes: &[u8]) -> Result<Recording, AllocEr
 }
 
 impl Recording {
-    /// Adds what T is shown of one part.
+    /// Adds one part, as T gets it.
     fn add(&mut self, part: &[u8]) -> Result<(), AllocError>
         requires dropped { self.old.dropped + length part.now ≤ 18446744073709551615 }
         requires replaced { self.old.replaced < 18446744073709551615 }
@@ -83,7 +83,7 @@ fn replaced_of(part: &[u8]) -> usize
     }
 }
 
-/// The length of the part that the bytes begin with.
+/// The length of the first part of `bytes`, which must not be empty.
 fn part_length(bytes: &[u8]) -> usize
     requires { 0 < length bytes.now }
     ensures value { result ≡ spec.part_length bytes.now }
@@ -99,7 +99,7 @@ fn part_length(bytes: &[u8]) -> usize
     }
 }
 
-/// The length of the string that the bytes begin with.
+/// The length of the string that `bytes` begins with.
 fn string_length(bytes: &[u8]) -> usize
     requires { 2 ≤ length bytes.now }
     ensures value { result ≡ spec.string_length bytes.now }
@@ -108,7 +108,7 @@ fn string_length(bytes: &[u8]) -> usize
     2 + up_to_end(byte_at(bytes, 1) == b']', &bytes[2..])
 }
 
-/// How many bytes a string has up to its end; BEL is the last byte of an OSC.
+/// The number of bytes of a string up to its end; BEL is the last byte of an OSC.
 fn up_to_end(osc: bool, bytes: &[u8]) -> usize
     ensures value { result ≡ spec.up_to_end osc bytes.now }
     ensures within { result ≤ length bytes.now }
@@ -148,7 +148,7 @@ fn is_character(bytes: &[u8]) -> bool
     128 <= byte_at(bytes, 0)
 }
 
-/// The length of the character in UTF-8 that the bytes begin with, 1 where none is valid.
+/// The length of the UTF-8 character that `bytes` begins with, 1 if it isn't valid.
 fn character_length(bytes: &[u8]) -> usize
     ensures { result ≡ spec.character_length bytes.now }
 {
@@ -199,7 +199,7 @@ fn is_between(low: u8, high: u8, byte: u8) -> bool
     low <= byte && byte <= high
 }
 
-/// The byte at a place, 0 behind the end.
+/// The byte at a place, 0 after the end.
 fn byte_at(bytes: &[u8], at: usize) -> u8
     ensures { result ≡ spec.at bytes.now at }
 {

@@ -23,7 +23,7 @@ pub(crate) fn row_items(alloc: Global, terminal: &Terminal) -> Result<Vec<u8>, A
     Ok(items)
 }
 
-/// Each run of cells that are shown in one way and not plainly, with commas between them.
+/// The runs of cells that are shown alike and not plainly, with commas between them.
 pub(crate) fn look_items(alloc: Global, terminal: &Terminal) -> Result<Vec<u8>, AllocError>
     ensures { IfOk result (λ items. items.items ≡ spec.looks_behind [] 0 terminal.now.screen.grid) }
 {
@@ -47,7 +47,7 @@ fn row_cells(alloc: Global, terminal: &Terminal, row: usize) -> Result<Vec<Cell>
     Ok(cells)
 }
 
-/// Adds a comma behind what is there, if anything is.
+/// Adds a comma if there are items already.
 fn begin_item(items: &mut Vec<u8>) -> Result<(), AllocError>
     ensures { OnOk result (items.new.items ≡ spec.before_next items.old.items) }
 {
@@ -102,7 +102,7 @@ fn push_runs(
     Ok(())
 }
 
-/// Adds the run that ends in this column, if one does.
+/// Adds the run that ends in the column `col`, if one does.
 fn push_run(
     alloc: Global,
     items: &mut Vec<u8>,

@@ -1,4 +1,4 @@
-//! The whole state that a stream leaves.
+//! The whole state of a terminal after a stream.
 
 ghost use Rattle.std.specs.Prelude.{◌≡◌, IfOk};
 ghost use Rattle.vt_states.specs.Snapshots.{Leaves};
@@ -8,12 +8,12 @@ use std::alloc::{AllocError, Global};
 use std::marker::Model;
 use vt_term::{Size, Stuck, Terminal};
 
-/// A terminal that was reset and fed with a stream: its whole state.
+/// The whole state of a terminal that was reset and fed with a stream.
 #[derive(Drop)]
 pub struct Snapshot<'a> {
     pub(crate) terminal: Terminal,
     pub(crate) switches: Switches,
-    /// The sequence that is open.
+    /// The open sequence.
     pub(crate) rest: &'a [u8],
 }
 
@@ -30,8 +30,8 @@ impl<'a> Model for Snapshot<'a> {
 }
 
 impl<'a> Snapshot<'a> {
-    /// The state that `bytes` leave of a terminal in its reset state, and where they are stuck if they are: then the
-    /// state is that of the bytes before. Fails only when out of memory.
+    /// The state of a terminal of this `size` that was reset and fed with `bytes`, and the place where they get
+    /// stuck, if they do: then the state is that after the bytes before it. Fails only when out of memory.
     pub fn after(
         alloc: Global,
         size: Size,

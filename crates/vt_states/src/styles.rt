@@ -1,4 +1,4 @@
-//! How a rendition is shown, in letters.
+//! The letters that say how a rendition is shown.
 
 ghost use Rattle.std.specs.Prelude.{◌≡◌, IfOk};
 ghost use Rattle.vt_states.specs.Styles.{rendition_letters};

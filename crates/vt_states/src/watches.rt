@@ -1,4 +1,4 @@
-//! What `Terminal` doesn't tell of its state: autowrap, insertion, and the sequence that is open.
+//! The parts of its state that `Terminal` doesn't return: autowrap, insertion, and the open sequence.
 
 ghost use Rattle.std.specs.Prelude.{◌≡◌, ◌≤◌, ℕ, ◌∷◌, ◌++◌, [], List, drop, length, IfOk};
 ghost use Rattle.vt_term.specs.Screen.{State, reset};
@@ -9,29 +9,29 @@ ghost use Rattle.vt_states.specs.Watches.{IsWatch, all_switched, switched, switc
 use std::alloc::{AllocError, Global};
 use vt_term::{Function, ModeKind, Scanner};
 
-/// The modes that a stream switches and that no setting of the terminal tells.
+/// The modes that a stream switches and that `Terminal` doesn't return.
 #[derive(Clone, Copy, Debug, PartialEq, Eq)]
 pub struct Switches {
-    /// Autowrap (DECAWM) is on.
+    /// Whether autowrap (DECAWM) is on.
     pub autowrap: bool,
-    /// Insert mode (IRM) is on.
+    /// Whether insert mode (IRM) is on.
     pub inserting: bool,
 }
 
-/// What a stream says of the state that it leaves.
+/// The part of the state after a stream that can be read off the stream.
 #[derive(Clone, Copy, Debug)]
 pub struct Watch<'a> {
     /// The modes after it.
     pub switches: Switches,
-    /// The sequence that is open at its end, empty if none is.
+    /// The sequence that is open at the stream's end, empty if none is.
     pub rest: &'a [u8],
 }
 
-/// CAN, which drops what is open.
+/// CAN, which drops an open sequence.
 const CANCEL: u8 = 24;
 
 impl Switches {
-    /// Those after one function.
+    /// The switches after one function.
     fn after(self, function: Function<'_>) -> Switches
         ensures { result ≡ switches_after function.entry self }
     {
@@ -98,7 +98,7 @@ fn switch(kind: ModeKind, on: bool, number: u16, before: Switches) -> Switches
     }
 }
 
-/// What `text` says of the state that it leaves a terminal in that was reset. Fails only when out of memory.
+/// The modes and the open sequence that `text` leaves in a terminal that was reset. Fails only when out of memory.
 pub fn watched<'a>(alloc: Global, text: &'a [u8]) -> Result<Watch<'a>, AllocError>
     ensures { IfOk result (λ watch. IsWatch text.entry.now watch) }
 {
@@ -109,7 +109,7 @@ pub fn watched<'a>(alloc: Global, text: &'a [u8]) -> Result<Watch<'a>, AllocErro
     Ok(Watch { switches, rest })
 }
 
-/// Where the sequence begins that is open at the end of `text`, if it splits; its length if none is.
+/// The place where the open sequence at the end of `text` begins, if `text` splits; its length if nothing is open.
 fn open_place(alloc: Global, text: &[u8]) -> Result<usize, AllocError>
     ensures within { IfOk result (λ at. at ≤ length text.now) }
     ensures rest { IfOk result (λ at. (tokens : List (List ℕ)) (rest : List ℕ) → Splits text.now tokens rest →

@@ -1,4 +1,4 @@
--- The lines before what is left are answered.
+-- The lines before the rest are answered.
 use Rattle.std.proofs.Common.{length}
 use Rattle.vt_states.proofs.Answered.{Answered}
 use Rattle.vt_states.proofs.cases.case_answers.Given as goal

@@ -1,4 +1,4 @@
--- What is shown so far, and the parts that are left.
+-- The text so far, and the remaining parts.
 use Rattle.std.proofs.Common.{◌-◌, length}
 use Rattle.vt_states.proofs.Shown.{ShownSoFar}
 use Rattle.vt_states.proofs.recordings.plain_recording.Given as goal

@@ -1,4 +1,4 @@
--- Those that were gone through don't end the string.
+-- The bytes visited so far don't end the string.
 use Rattle.std.proofs.Common.{◌≡◌, ◌+◌, drop}
 use Rattle.vt_states.specs.Recordings.{up_to_end}
 use Rattle.vt_states.proofs.recordings.up_to_end.Given as goal

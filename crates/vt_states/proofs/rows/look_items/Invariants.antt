@@ -1,4 +1,4 @@
--- The runs of the rows that are left, behind those so far, are all.
+-- The runs of the remaining rows, after those so far, are all runs.
 use Rattle.std.proofs.Common.{◌≡◌, [], drop}
 use Rattle.vt_states.specs.Json.{looks_behind}
 use Rattle.vt_states.proofs.rows.look_items.Given as goal

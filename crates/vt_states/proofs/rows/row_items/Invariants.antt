@@ -1,4 +1,4 @@
--- The rows that are left, behind those so far, are all.
+-- The remaining rows, after those so far, are all rows.
 use Rattle.std.proofs.Common.{◌≡◌, [], drop}
 use Rattle.vt_states.specs.Json.{rows_behind}
 use Rattle.vt_states.proofs.rows.row_items.Given as goal

@@ -1,4 +1,4 @@
--- The bytes that were gone through are tokens.
+-- The bytes visited so far are tokens.
 use Rattle.std.proofs.Common.{◌≤◌, ◌-◌, length}
 use Rattle.vt_states.proofs.Endings.{Scanned}
 use Rattle.vt_states.proofs.watches.open_place.Given as goal

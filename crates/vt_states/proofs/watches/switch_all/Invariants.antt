@@ -1,4 +1,4 @@
--- The numbers that are left lead from these switches to those after all.
+-- The remaining numbers lead from these switches to the final ones.
 use Rattle.std.proofs.Common.{◌≡◌, drop}
 use Rattle.vt_states.specs.Watches.{all_switched}
 use Rattle.vt_states.proofs.watches.switch_all.Given as goal

@@ -1,4 +1,4 @@
--- The bytes that were gone through are tokens, and these are the switches after them.
+-- The bytes visited so far are tokens, and these are the switches after them.
 use Rattle.std.proofs.Common.{◌≤◌, ◌-◌, length}
 use Rattle.vt_states.proofs.Endings.{Switched}
 use Rattle.vt_states.proofs.watches.switches_in.Given as goal
