@@ -7,7 +7,7 @@ use Rattle.ti_caps.specs.Fits.{names_fit}
 use Rattle.ti_caps.specs.declared.value.Value.{Value}
 use Rattle.ti_caps.specs.Entry.{Content, value_at, with_value, bare_entry, FitsPlace, HasBytes, IsEntry, SetsOnly}
 
--- setting the row of a capability sets just that
+-- setting the row of a capability sets only that
 pub with_value_sets : (entry : Content) (place : ℕ) (value : Option Value) → length entry.values ≡ 497 → place < 497 → SetsOnly entry (with_value entry place value) place value
 unfolding with_value value_at
 with_value_sets entry place value size inside = record {
@@ -16,7 +16,7 @@ with_value_sets entry place value size inside = record {
   others = λ other apart. get_or-set_other entry.values place other value None apart;
 }
 
--- and leaves an entry, where the value fits
+-- an entry with a fitting value set is an entry
 pub with_value_fits : (entry : Content) (place : ℕ) (value : Option Value) → IsEntry entry → place < 497 → FitsPlace place value → HasBytes value → IsEntry (with_value entry place value)
 unfolding with_value
 with_value_fits entry place value is inside fits bytes =
@@ -34,7 +34,7 @@ with_value_fits entry place value is inside fits bytes =
           (cases_eq other place);
     }
 
--- an entry of names alone has no capability
+-- an entry that has only names has no capability
 pub bare_has_none : (names : List ℕ) (place : ℕ) → value_at (bare_entry names) place ≡ None
 unfolding value_at bare_entry
 bare_has_none names place =

@@ -1,4 +1,4 @@
--- What the table's words give, from tests of the whole table that compute.
+-- Facts about the table, from tests that compute over all of it.
 use Rattle.std.proofs.Common.{◌≡◌, ◌≢◌, ℕ, zero, suc, ◌<◌, ◌≤◌, ◌+◌, ◌-◌, ◌==◌, Bool, true, ◌&&◌, List, [], ◌∷◌, Option, Some, None, ⊎_elim, refl, ◌∙◌, ap, subst, length, get_or, arith}
 use Rattle.std.specs.Prelude.{nat_lt, nat_le}
 use Rattle.std.specs.Int.{from_be_bytes, w64}
@@ -22,7 +22,7 @@ each_below test n = agree_below test (λ _. true) n
 each_at : (test : ℕ → Bool) (n k : ℕ) → each_below test n ≡ true → k < n → test k ≡ true
 each_at test n k all less = agree_below_at test (λ _. true) n k all less
 
--- the rank of the name of a place
+-- the rank of the name at a place
 unfoldable rank_of : ℕ → ℕ
 rank_of place = unwrap_or (position_from (λ p. p == place) 0 SORTED) 497
 
@@ -91,14 +91,14 @@ rank_key_rises i j less inside =
     let e : j ≡ i + (j - i - 1) + 1 = omega arith in
     rw e (rises_by (j - i - 1) i (omega arith))
 
--- the row of a name is the name, with zeros after it, and has 8 bytes
+-- the row of a name is the name padded to 8 bytes
 row_is_padded : (place : ℕ) → place < 497 → (row_at place ≡ padded (name_at place)) × (length (name_at place) ≤ 8)
 unfolding is_padded
 row_is_padded place inside =
     let both = and_parts _ _ (each_at is_padded 497 place each_is_padded inside) in
     ((bytes_eq-Decides (row_at place) (padded (name_at place))).0 both.0, leb-true _ _ both.1)
 
--- a name has 8 bytes at most
+-- a name has at most 8 bytes
 pub name_is_short : (place : ℕ) → place < 497 → length (name_at place) ≤ 8
 name_is_short place inside = (row_is_padded place inside).1
 
@@ -129,7 +129,7 @@ named_rank place text inside named =
       key = ap (λ p. from_be_bytes w64 (row_at p)) there ∙ ap (from_be_bytes w64) ((row_is_padded place inside).0 ∙ ap padded named);
     }
 
--- a text whose key is not among the ranks below it, and is not the one of a rank, is no name
+-- a text isn't a name if the ranks below `low` have lower keys, the others have none, and the name at `low` differs
 pub unnamed_at : (text : List ℕ) (key low : ℕ) → key ≡ key_of text → ((rank : ℕ) → rank < low → rank_key rank < key) → ((rank : ℕ) → low ≤ rank → rank < 497 → key ≤ rank_key rank) → (low < 497 → name_at (place_of_rank low) ≢ text) → (place : ℕ) → place < 497 → name_at place ≢ text
 unnamed_at text key low is_key below above other place inside named =
     let found = named_rank place text inside named in
@@ -142,7 +142,7 @@ unnamed_at text key low is_key below above other place inside named =
     apart)
     (cases_order rank low)
 
--- what a search from a place on gives
+-- a search that finds no row gives no position
 no_position : (test : List ℕ → Bool) (i : ℕ) (rows : List (List ℕ)) → ((k : ℕ) → k < length rows → test (get_or rows k []) ≡ true → ⊥) → position_from test i rows ≡ None
 no_position test i [] none = refl
 no_position test i (row ∷ rows) none =

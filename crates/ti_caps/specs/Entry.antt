@@ -8,7 +8,7 @@ use Rattle.ti_caps.specs.declared.value.Value.TheVariants.{Flag, Number, String}
 use Rattle.ti_caps.specs.Table.{kind_of}
 use Rattle.ti_caps.specs.Fits.{names_fit, string_fits}
 
--- the bytes of the names field, and for each place of the table the value of its capability, if it has one
+-- the bytes of the names field, and the value of each place's capability, if the entry has it
 pub record Content : Type 0 where
   pub names : List ℕ
   pub values : List (Option Value)
@@ -17,7 +17,7 @@ pub record Content : Type 0 where
 unfoldable pub value_at : Content → ℕ → Option Value
 value_at entry place = slice_index_or entry.values place None
 
--- the entry with this value at a place, or with none
+-- the entry with this value at a place, or without one there
 unfoldable pub with_value : Content → ℕ → Option Value → Content
 with_value entry place value = record { names = entry.names; values = slice_set entry.values place value }
 
@@ -25,7 +25,7 @@ with_value entry place value = record { names = entry.names; values = slice_set 
 unfoldable pub bare_entry : List ℕ → Content
 bare_entry names = record { names = names; values = replicate 497 None }
 
--- whether a value is a flag, and the number or the bytes that it is
+-- whether a value is a flag; its number; its bytes
 abbrev pub has_flag : Option Value → Bool
 has_flag (Some Flag) = true
 has_flag _ = false
@@ -48,7 +48,7 @@ number_at entry place = number_in (value_at entry place)
 abbrev pub string_at : Content → ℕ → Option (List ℕ)
 string_at entry place = string_in (value_at entry place)
 
--- what the value of a capability at a place can be
+-- the values that a capability at a place can have
 abbrev pub FitsPlace : ℕ → Option Value → Type 0
 FitsPlace place None = Unit {0}
 FitsPlace place (Some Flag) = kind_of place ≡ kinds.Flag
@@ -67,7 +67,7 @@ pub record IsEntry (entry : Content) : Type 0 where
   pub fits : (place : ℕ) → FitsPlace place (value_at entry place)
   pub bytes : (place : ℕ) → HasBytes (value_at entry place)
 
--- new is old with this value at the place: the names and all other values stay
+-- new is old with this value at the place; the names and all other values stay
 pub record SetsOnly (old new : Content) (place : ℕ) (value : Option Value) : Type 0 where
   pub names : new.names ≡ old.names
   pub there : value_at new place ≡ value

@@ -1,5 +1,5 @@
--- The names of the capabilities, as terminfo(5) lists them ("Predefined Capabilities"): booleans, numbers
--- and strings, each in the order of term(5). The table of the code is this one.
+-- The names of the capabilities, as terminfo(5) lists them ("Predefined Capabilities"): booleans, numbers and
+-- strings, each in the order of term(5). The table of the code is proved to be this one.
 use Rattle.std.specs.Prelude.{ℕ, ◌≡◌, ◌+◌, ◌<◌, ◌==◌, List, ◌++◌, [], codes, length, slice_index_or}
 use Rattle.std.specs.List.{slice_split}
 use Rattle.ti_caps.specs.declared.types.Kind.{Kind}

@@ -1,6 +1,6 @@
--- The table of terminfo(5)'s capabilities: flags, numbers and strings, each in the order of term(5).
--- A capability is seen as its place among all of them, from 0 to 496. The words that read the table
--- are never opened where a place is not a literal.
+-- The table of terminfo(5)'s capabilities: flags, numbers and strings, each in the order of term(5). Definitions see
+-- a capability as its place among all of them, from 0 to 496. The definitions that read the table are never unfolded
+-- unless the place is a literal.
 use Rattle.std.specs.Prelude.{ℕ, Bool, true, false, ◌+◌, ◌-◌, ◌<◌, ◌≡◌, List, [], ◌++◌, Option, Some, None, ◌==◌}
 use Rattle.std.specs.Prelude.{nat_lt, if◌then◌else◌, length, replicate, slice_index_or}
 use Rattle.std.specs.Int.{from_be_bytes, w64}
@@ -13,11 +13,11 @@ use Rattle.ti_caps.specs.declared.types.Kind.{Kind}
 use Rattle.ti_caps.specs.declared.types.Kind.TheVariants.{Flag, Number, String}
 use Rattle.ti_caps.specs.declared.table.TheConstants.{NAMES, SORTED}
 
--- the name in a row of the table, which has zeros after it
+-- the name in a row of the table, without the zeros after it
 abbrev pub unpadded : List ℕ → List ℕ
 unpadded row = before_first (λ b. b == 0) row
 
--- a name with zeros after it, up to 8 bytes
+-- a name padded with zeros to 8 bytes
 abbrev pub padded : List ℕ → List ℕ
 padded name = name ++ replicate (8 - length name) 0
 
@@ -29,7 +29,7 @@ row_at place = slice_index_or NAMES place []
 unfoldable pub name_at : ℕ → List ℕ
 name_at place = unpadded (row_at place)
 
--- the place of the capability that a text names
+-- the place of the capability named by a text
 unfoldable pub place_in : List ℕ → Option ℕ
 place_in text = position_from (λ row. bytes_eq (unpadded row) text) 0 NAMES
 
@@ -43,13 +43,13 @@ is_kind Number Number = true
 is_kind String String = true
 is_kind _ _ = false
 
--- how many capabilities of a kind there are
+-- the number of capabilities of a kind
 abbrev pub count_of : Kind → ℕ
 count_of Flag = 44
 count_of Number = 39
 count_of String = 414
 
--- the place of the first one of a kind
+-- the place of the first capability of a kind
 abbrev pub first_of : Kind → ℕ
 first_of Flag = 0
 first_of Number = 44
@@ -63,11 +63,11 @@ position_of place = place - first_of (kind_of place)
 unfoldable pub place_from : Kind → ℕ → Option ℕ
 place_from kind position = if nat_lt position (count_of kind) then Some (first_of kind + position) else None
 
--- the place of the capability whose name is the one of that rank in the order of names as bytes
+-- the place of the capability whose name has this rank in the byte order of names
 unfoldable pub place_of_rank : ℕ → ℕ
 place_of_rank rank = slice_index_or SORTED rank 0
 
--- the place of the name of a rank, if there is such a rank
+-- the place of the name with this rank, if there is such a rank
 unfoldable pub place_ranked : ℕ → Option ℕ
 place_ranked rank = if nat_lt rank 497 then Some (place_of_rank rank) else None
 
@@ -81,10 +81,10 @@ NamesRise =
 abbrev pub EachHasRank : Type 0
 EachHasRank = (place : ℕ) → place < 497 → (rank : ℕ) × (rank < 497) × (place_of_rank rank ≡ place)
 
--- a name as a number: names in the order of their bytes are in the order of their keys
+-- a name as a number; keys sort as names do
 abbrev pub key_of : List ℕ → ℕ
 key_of name = from_be_bytes w64 (padded name)
 
--- the key of the name of a rank
+-- the key of the name with this rank
 unfoldable pub rank_key : ℕ → ℕ
 rank_key rank = from_be_bytes w64 (row_at (place_of_rank rank))

@@ -14,8 +14,8 @@ use crate::value::{Bytes, Value, are_bytes};
 use std::alloc::{AllocError, Global};
 use std::marker::Model;
 
-/// An entry of terminfo(5). Contracts see the bytes of its names field, and a finite map from the places
-/// of capabilities to their values.
+/// An entry of terminfo(5). Contracts see the bytes of its names field, and a finite map from the places of
+/// capabilities to their values.
 #[derive(Debug, Drop)]
 pub struct Entry {
     names: Bytes,
@@ -43,7 +43,7 @@ fn empty_rows(alloc: Global) -> Result<Vec<Option<Value>>, AllocError>
     Ok(rows)
 }
 
-/// Copies of rows.
+/// A copy of the rows.
 fn copied_rows(rows: &Vec<Option<Value>>) -> Result<Vec<Option<Value>>, AllocError>
     ensures { IfOk result (λ copy. copy.items ≡ rows.now.items) }
 {
@@ -65,7 +65,8 @@ fn copied_row(row: &Option<Value>) -> Result<Option<Value>, AllocError>
 }
 
 impl Entry {
-    /// The entry with these names, separated by `|`, and no capabilities. The error is out of memory.
+    /// The entry with these `names`, separated by `|`, and no capabilities. The names must fit (`names_fit`). Fails
+    /// only when out of memory.
     pub fn new(alloc: Global, names: &[u8]) -> Result<Entry, AllocError>
         requires { IsTrue (names_fit names.now) }
         ensures value { IfOk result (λ entry. entry ≡ bare_entry names.now) }
@@ -78,7 +79,7 @@ impl Entry {
         })
     }
 
-    /// The names field, in which the names are separated by `|`.
+    /// The names field; `|` separates the names.
     pub fn names(&self) -> &[u8]
         ensures value { result.now ≡ self.now.names }
         ensures entry { IsEntry self.now }
@@ -94,7 +95,7 @@ impl Entry {
         self.values[cap.place()].as_ref()
     }
 
-    /// Whether the entry has this flag.
+    /// Whether the entry has the flag `cap`.
     pub fn get_flag(&self, cap: Cap) -> bool
         ensures { result ≡ flag_at self.now cap }
     {
@@ -104,7 +105,7 @@ impl Entry {
         }
     }
 
-    /// The number of this capability, if the entry has it.
+    /// The number of the capability `cap`, if the entry has it.
     pub fn get_number(&self, cap: Cap) -> Option<u32>
         ensures { result ≡ number_at self.now cap }
     {
@@ -114,7 +115,7 @@ impl Entry {
         }
     }
 
-    /// The string of this capability, if the entry has it.
+    /// The string of the capability `cap`, if the entry has it.
     pub fn get_string(&self, cap: Cap) -> Option<&[u8]>
         ensures { option_copied result ≡ string_at self.now cap }
     {
@@ -124,7 +125,7 @@ impl Entry {
         }
     }
 
-    /// Sets the row of a capability.
+    /// Sets the row of the capability `cap`.
     #[tactic(auto, using(crate::proofs::Entries::with_value_fits, crate::proofs::Entries::with_value_sets), unfolding(crate::specs::Entry::with_value))]
     fn put(&mut self, cap: Cap, value: Option<Value>)
         requires fits { FitsPlace cap value }
@@ -135,7 +136,7 @@ impl Entry {
         self.values[cap.place()] = value;
     }
 
-    /// Gives the entry this flag.
+    /// Sets the capability `cap`, which must be a flag.
     pub fn set_flag(&mut self, cap: Cap)
         requires { kind_of cap ≡ kinds.Flag }
         ensures value { self.new ≡ with_value self.old cap (Some values.Flag) }
@@ -144,7 +145,7 @@ impl Entry {
         self.put(cap, Some(Value::Flag));
     }
 
-    /// Gives the entry this number of a capability.
+    /// Sets the capability `cap`, which must be a number, to `number`, which must be below 2^31.
     pub fn set_number(&mut self, cap: Cap, number: u32)
         requires kind { kind_of cap ≡ kinds.Number }
         requires range { number < 2 ^ 31 }
@@ -154,8 +155,8 @@ impl Entry {
         self.put(cap, Some(Value::Number(number)));
     }
 
-    /// Gives the entry a copy of these bytes as the string of a capability. The error is out of memory,
-    /// and then nothing has changed.
+    /// Sets the capability `cap`, which must be a string, to a copy of `bytes`, which must fit (`string_fits`). Fails
+    /// only when out of memory, and then nothing has changed.
     pub fn set_string(&mut self, cap: Cap, bytes: &[u8]) -> Result<(), AllocError>
         requires kind { kind_of cap ≡ kinds.String }
         requires fits { IsTrue (string_fits bytes.now) }
@@ -169,7 +170,7 @@ impl Entry {
         Ok(())
     }
 
-    /// The entry without this capability.
+    /// The entry without the capability `cap`.
     pub fn without(mut self, cap: Cap) -> Entry
         ensures value { result ≡ with_value self cap None }
         ensures only { SetsOnly self result cap None }
@@ -178,7 +179,7 @@ impl Entry {
         self
     }
 
-    /// A copy of the entry. The error is out of memory.
+    /// A copy of the entry. Fails only when out of memory.
     pub fn try_copy(&self) -> Result<Entry, AllocError>
         ensures { IfOk result (λ copy. copy ≡ self.now) }
     {

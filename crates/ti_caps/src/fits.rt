@@ -1,4 +1,4 @@
-//! What an entry can hold, as tests for its callers.
+//! Tests for callers of what an entry can hold.
 
 ghost use Rattle.std.specs.Prelude.{◌≡◌, ◌&&◌, ◌==◌, not, false, nat_le};
 ghost use Rattle.std.specs.List.{list_all};
@@ -6,7 +6,7 @@ ghost use Rattle.ti_caps.specs.Fits as Fits;
 
 use crate::types::LONGEST;
 
-/// What stands open before a byte of a source text's field, and takes that byte with it.
+/// The byte, if any, that takes the next byte of a source text's field with it.
 #[derive(Clone, Copy, Debug, PartialEq, Eq)]
 pub enum Opener {
     Nothing,
@@ -15,7 +15,7 @@ pub enum Opener {
 }
 
 impl Opener {
-    /// What stands open after a byte.
+    /// The opener after a byte.
     pub fn after(self, byte: u8) -> Opener
         ensures { result ≡ Fits.opener_after self byte }
     {
@@ -26,7 +26,7 @@ impl Opener {
         }
     }
 
-    /// Whether a comma that comes next ends the field: it does unless a backslash stands open.
+    /// Whether a comma as the next byte ends the field: it does except after a backslash.
     pub fn ends_at_comma(self) -> bool
         ensures { result ≡ Fits.ends_at_comma self }
     {
@@ -36,7 +36,7 @@ impl Opener {
         }
     }
 
-    /// Whether this byte is a comma that ends the field.
+    /// Whether `byte` is a comma that ends the field.
     pub fn ends_field(self, byte: u8) -> bool
         ensures { result ≡ (Fits.ends_at_comma self && (byte == 44)) }
     {
@@ -44,7 +44,7 @@ impl Opener {
     }
 }
 
-/// Whether no comma in these bytes ends their field, and one after them does.
+/// Whether no comma in `field` ends it, and a comma after it does.
 fn is_one_field(field: &[u8]) -> bool
     ensures { result ≡ Fits.is_one_field Opener.Nothing field.now }
 {
@@ -58,7 +58,7 @@ fn is_one_field(field: &[u8]) -> bool
     opener.ends_at_comma()
 }
 
-/// Whether these bytes begin as a names field does.
+/// Whether these bytes begin like a names field.
 fn begins_names(names: &[u8]) -> bool
     ensures { result ≡ Fits.begins_names names.now }
 {
@@ -82,15 +82,15 @@ fn has_no_zero(bytes: &[u8]) -> bool
     bytes.iter().all(|byte| *byte != 0)
 }
 
-/// Whether these bytes can be the names field of an entry: a source text of terminfo(5) that has them
-/// in column one, a comma after them, gives an entry with just these names.
+/// Whether `names` can be the names field of an entry: a source text of terminfo(5) that has it in column one,
+/// followed by a comma, gives an entry with just these names.
 pub fn names_fit(names: &[u8]) -> bool
     ensures { result ≡ Fits.names_fit names.now }
 {
     names.len() <= LONGEST && begins_names(names) && has_no_controls(names) && is_one_field(names)
 }
 
-/// Whether these bytes can be the value of a string: none is 0, and there are 4095 at most.
+/// Whether these bytes can be the value of a string: none is 0, and there are at most 4095.
 pub fn string_fits(bytes: &[u8]) -> bool
     ensures { result ≡ Fits.string_fits bytes.now }
 {

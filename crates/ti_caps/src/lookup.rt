@@ -1,4 +1,4 @@
-//! The capabilities by name, and by kind and position.
+//! Finding capabilities by name, and by kind and position.
 
 ghost use Rattle.std.specs.Prelude.{◌≡◌, ◌≢◌, ℕ, ◌<◌, ◌≤◌, ◌↔◌, Some, length, IfSome, IfNone, IsNone, ◌==◌};
 ghost use Rattle.std.specs.List as List;
@@ -9,7 +9,7 @@ ghost use Rattle.ti_caps.specs.Table.{place_of_rank, place_ranked, rank_key, key
 use crate::table::{rank_at, row};
 use crate::types::{CAPABILITIES, Cap, FLAGS, Kind, NUMBERS, STRINGS};
 
-/// The place of the capability whose name has this rank in the order of names.
+/// The place of the capability whose name has this rank in the byte order of names.
 #[tactic(auto, using(crate::proofs::Tables::place_in_table))]
 fn ranked_place(rank: usize) -> u16
     requires { rank < 497 }
@@ -19,7 +19,7 @@ fn ranked_place(rank: usize) -> u16
     rank_at(rank)
 }
 
-/// The key of the name of a rank.
+/// The key of the name with this rank.
 #[tactic(auto, unfolding(crate::specs::Table::rank_key))]
 fn ranked_key(rank: usize) -> u64
     requires { rank < 497 }
@@ -28,7 +28,7 @@ fn ranked_key(rank: usize) -> u64
     u64::from_be_bytes(*row(usize::from(ranked_place(rank))))
 }
 
-/// The key of a name, which sorts as the name does.
+/// The key of a name; keys sort as names do.
 fn name_key(name: &[u8]) -> u64
     requires { length name.now ≤ 8 }
     ensures { result ≡ key_of name.now }
@@ -38,7 +38,7 @@ fn name_key(name: &[u8]) -> u64
     u64::from_be_bytes(bytes)
 }
 
-/// The lowest rank whose key is not below this one, or 497.
+/// The lowest rank whose key isn't below `key`, or 497.
 #[tactic(auto, using(crate::proofs::Tables::rank_key_rises))]
 fn lowest_rank(key: u64) -> usize
     ensures range { result ≤ 497 }
@@ -58,7 +58,7 @@ fn lowest_rank(key: u64) -> usize
     low
 }
 
-/// The capability with this name, if there is one.
+/// The capability named `text`, if there is one.
 pub fn by_name(text: &[u8]) -> Option<Cap>
     ensures value { result ≡ place_in text.now }
     ensures found { IfSome result (λ cap. name_at cap ≡ text.now) }
@@ -75,7 +75,7 @@ pub fn by_name(text: &[u8]) -> Option<Cap>
     if name(cap) == text { Some(cap) } else { None }
 }
 
-/// Where the zeros of a row begin.
+/// The place where the zeros of a row begin.
 fn name_end(row: &[u8]) -> Option<usize>
     ensures { result ≡ List.position (λ byte. byte == 0) row.now }
 {
@@ -92,7 +92,7 @@ fn without_zeros(row: &[u8]) -> &[u8]
     }
 }
 
-/// The name of a capability.
+/// The name of the capability `cap`.
 #[tactic(auto, using(crate::proofs::Tables::place_in_name), unfolding(crate::specs::Table::name_at))]
 pub fn name(cap: Cap) -> &'static [u8]
     ensures value { result.now ≡ name_at cap }
@@ -101,7 +101,7 @@ pub fn name(cap: Cap) -> &'static [u8]
     without_zeros(row(cap.place()))
 }
 
-/// Whether a capability is a flag, a number or a string.
+/// Whether the capability `cap` is a flag, a number or a string.
 #[tactic(auto, unfolding(crate::specs::Table::kind_of))]
 pub fn kind(cap: Cap) -> Kind
     ensures { result ≡ kind_of cap }
@@ -116,14 +116,14 @@ pub fn kind(cap: Cap) -> Kind
     }
 }
 
-/// Whether a capability is of this kind.
+/// Whether the capability `cap` is of the kind `wanted`.
 pub fn is_kind(cap: Cap, wanted: Kind) -> bool
     ensures { result ≡ is_kind (kind_of cap) wanted }
 {
     kind(cap) == wanted
 }
 
-/// The position of a capability among those of its kind.
+/// The position of the capability `cap` among those of its kind.
 #[tactic(auto, unfolding(crate::specs::Table::kind_of, crate::specs::Table::position_of, crate::specs::Table::place_from))]
 pub fn position(cap: Cap) -> usize
     ensures value { result ≡ position_of cap }
@@ -137,7 +137,7 @@ pub fn position(cap: Cap) -> usize
     }
 }
 
-/// The capability of a kind at a position, or None past the last one of that kind.
+/// The capability of the kind `kind` at `position`, or `None` past the last one of that kind.
 #[tactic(auto, unfolding(crate::specs::Table::kind_of, crate::specs::Table::position_of, crate::specs::Table::place_from))]
 pub fn at(kind: Kind, position: usize) -> Option<Cap>
     ensures value { result ≡ place_from kind position }
@@ -157,7 +157,7 @@ pub fn at(kind: Kind, position: usize) -> Option<Cap>
     }
 }
 
-/// The capability whose name has this rank in the order of all names as bytes, or None past the last.
+/// The capability whose name has this rank in the byte order of all names, or `None` past the last.
 #[tactic(auto, unfolding(crate::specs::Table::place_ranked))]
 pub fn at_rank(rank: usize) -> Option<Cap>
     ensures value { result ≡ place_ranked rank }
@@ -170,14 +170,14 @@ pub fn at_rank(rank: usize) -> Option<Cap>
     }
 }
 
-/// A law: the ranks are the order of the names as bytes, and each capability has one.
+/// Law: the ranks are the byte order of the names, and each capability has one.
 #[tactic(auto, using(crate::proofs::Tables::names_rise, crate::proofs::Tables::each_has_rank))]
 pub fn ranks_order_names()
     ensures rising { NamesRise }
     ensures each { EachHasRank }
 {}
 
-/// A law: the names are those of terminfo(5), each at its position among the booleans, numbers or strings.
+/// Law: the names are those of terminfo(5), each at its position among the booleans, numbers or strings.
 pub fn names_are_standard()
     ensures counts { CountsAreStandard }
     ensures names { NamesAreStandard }

@@ -3,8 +3,8 @@
 ghost use Rattle.std.specs.Prelude.{◌≡◌, ◌<◌};
 ghost use Rattle.ti_caps.specs.Table.{row_at, place_of_rank};
 
-/// The names by place, as terminfo(5) spells them, each with zeros up to 8 bytes: the flags, then the
-/// numbers, then the strings, each kind in the order of term(5).
+/// The names by place, as terminfo(5) spells them, each padded with zeros to 8 bytes: the flags, then the numbers,
+/// then the strings, each kind in the order of term(5).
 pub(crate) const NAMES: [[u8; 8]; 497] = [
     *b"bw\0\0\0\0\0\0",
     *b"am\0\0\0\0\0\0",
@@ -505,7 +505,7 @@ pub(crate) const NAMES: [[u8; 8]; 497] = [
     *b"box1\0\0\0\0",
 ];
 
-/// The places in the order of their names as bytes.
+/// The places in the byte order of their names.
 pub(crate) const SORTED: [u16; 497] = [
     485, 483, 484, 486, 493, 490, 491, 488, 487, 489, 492, 40, 41, 480, 37, 80, 78, 79, 81, 477,
     82, 481, 482, 39, 479, 38, 42, 478, 77, 43, 229, 1, 28, 84, 455, 454, 453, 75, 76, 109, 110,
@@ -548,7 +548,7 @@ pub(crate) fn row(place: usize) -> &'static [u8; 8]
     &ROWS[place]
 }
 
-/// The place of the name of this rank.
+/// The place of the name with this rank.
 #[tactic(auto, unfolding(crate::specs::Table::place_of_rank))]
 pub(crate) fn rank_at(rank: usize) -> u16
     requires { rank < 497 }

@@ -4,32 +4,32 @@ ghost use Rattle.std.specs.Prelude.{◌≡◌, ◌<◌};
 
 use std::marker::Model;
 
-/// How many capabilities there are.
+/// The number of capabilities.
 pub const CAPABILITIES: usize = 497;
 
-/// How many flags there are.
+/// The number of flags.
 pub const FLAGS: usize = 44;
 
-/// How many numbers there are.
+/// The number of numbers.
 pub const NUMBERS: usize = 39;
 
-/// How many strings there are.
+/// The number of strings.
 pub const STRINGS: usize = 414;
 
-/// The most bytes that the names field of an entry has, and a string.
+/// The greatest length in bytes of an entry's names field, and of a string.
 pub const LONGEST: usize = 4095;
 
-/// The greatest number that a capability or a parameter has.
+/// The greatest number that a capability or a parameter can have.
 pub const GREATEST: u32 = 2_147_483_647;
 
-/// What a capability's value is, as in terminfo(5).
+/// The kind of a capability's value, as in terminfo(5).
 #[derive(Clone, Copy, Debug, PartialEq, Eq)]
 pub enum Kind {
-    /// There or not, as `am`.
+    /// Present or absent, like `am`.
     Flag,
-    /// A number, as `cols`.
+    /// A number, like `cols`.
     Number,
-    /// Bytes, mostly to be sent to the terminal, as `cup`.
+    /// Bytes, mostly to be sent to the terminal, like `cup`.
     String,
 }
 

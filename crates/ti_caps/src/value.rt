@@ -6,7 +6,7 @@ ghost use Rattle.std.specs.List.{AllByRecursion};
 use std::alloc::{AllocError, Global};
 use std::marker::Model;
 
-/// Bytes that are owned. Contracts see the list of them.
+/// Owned bytes. Contracts see them as a list.
 #[derive(Debug, Drop)]
 pub struct Bytes {
     bytes: Vec<u8>,
@@ -20,7 +20,7 @@ impl Model for Bytes {
     ghost view = { λ b. b.bytes.items };
 }
 
-/// The range of a byte's type, read at each: nothing of the loop is left in the program.
+/// Proves that each byte is below 256; the compiled program has nothing of the loop.
 pub(crate) fn are_bytes(bytes: &[u8])
     ensures { AllByRecursion (λ b. b < 256) bytes.now }
 {
@@ -31,7 +31,7 @@ pub(crate) fn are_bytes(bytes: &[u8])
 }
 
 impl Bytes {
-    /// A copy of these bytes. The error is out of memory.
+    /// A copy of `bytes`. Fails only when out of memory.
     pub fn from_slice(alloc: Global, bytes: &[u8]) -> Result<Bytes, AllocError>
         ensures { IfOk result (λ copy. copy ≡ bytes.now) }
     {
@@ -40,14 +40,14 @@ impl Bytes {
         })
     }
 
-    /// The bytes of a vector, which takes no memory.
+    /// The bytes of a vector. It allocates no memory.
     pub fn from_vec(bytes: Vec<u8>) -> Bytes
         ensures { result ≡ bytes.items }
     {
         Self { bytes }
     }
 
-    /// The vector of these bytes, which takes no memory.
+    /// The bytes as a vector. It allocates no memory.
     pub fn into_vec(self) -> Vec<u8>
         ensures { result.items ≡ self }
     {
@@ -61,7 +61,7 @@ impl Bytes {
         self.bytes.as_slice()
     }
 
-    /// A copy, by the same allocator. The error is out of memory.
+    /// A copy, made by the same allocator. Fails only when out of memory.
     pub fn try_copy(&self) -> Result<Bytes, AllocError>
         ensures { IfOk result (λ copy. copy ≡ self.now) }
     {
@@ -72,16 +72,16 @@ impl Bytes {
 /// The value of a capability, as in terminfo(5).
 #[derive(Debug, Drop)]
 pub enum Value {
-    /// A flag that is there, as `am`.
+    /// A flag that is present, like `am`.
     Flag,
-    /// A number from 0 to 2147483647, as of `cols`.
+    /// A number from 0 to 2147483647, like that of `cols`.
     Number(u32),
-    /// Bytes without 0, as of `cup`.
+    /// Bytes without 0, like those of `cup`.
     String(Bytes),
 }
 
 impl Value {
-    /// A copy. The error is out of memory.
+    /// A copy. Fails only when out of memory.
     pub fn try_copy(&self) -> Result<Value, AllocError>
         ensures { IfOk result (λ copy. copy ≡ self.now) }
     {

@@ -26,7 +26,7 @@ returns-then-rank-eq-CAPABILITIES-clause-none c = past_the_last c
 pub returns-then-rank-eq-CAPABILITIES-clause-value : goal.returns-then-rank-eq-CAPABILITIES-clause-value
 returns-then-rank-eq-CAPABILITIES-clause-value c = sym (place_in_none _ (past_the_last c))
 
--- the name of the lowest key that is not below differs
+-- the name with the lowest key that isn't below is another
 another : (c : goal.Else-eq) (place : ℕ) → place < 497 → name_at place ≢ c.args.text.now
 another c =
     unnamed_at _ _ _ c.name_key.ensures c.lowest_rank-rank.ensures.below c.lowest_rank-rank.ensures.above

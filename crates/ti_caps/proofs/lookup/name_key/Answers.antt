@@ -4,7 +4,7 @@ use Rattle.std.proofs.lemmas.List.{drop-replicate}
 use Rattle.ti_caps.specs.Table.{padded}
 use Rattle.ti_caps.proofs.lookup.name_key.Goals as goal
 
--- the bytes are the name, written over the front of eight zeros
+-- the bytes are the name, written over the first of eight zeros
 pub returns : goal.returns
 returns c =
     let behind = drop-replicate {X = ℕ} (length c.args.name.now) 8 0 in
