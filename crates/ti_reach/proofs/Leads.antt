@@ -1,4 +1,4 @@
--- An effect from rest: where it leaves the cursor, and that some state at rest stands at each place.
+-- The place where an effect leaves the cursor from rest; for each place, some state at rest has its cursor there.
 use Rattle.std.proofs.Common.{◌≡◌, ℕ, ◌-◌, ◌<◌, inl, inr, ◌==◌, ◌&&◌, Bool, false, eq-eqb, true≢false, List, [], Result, Ok, Err, OnOk, IfErr, length, refl, sym, ap, ◌∙◌, subst, arith}
 use Rattle.std.proofs.lemmas.List.{get_or-replicate, get_or_past, length-replicate}
 use Rattle.std.specs.Prelude.{replicate, slice_index_or}
@@ -22,11 +22,11 @@ use Rattle.ti_reach.specs.Reach as spec
 use Rattle.ti_reach.specs.declared.MissKind.{MissKind}
 use Rattle.ti_reach.specs.declared.MissKind.TheVariants.{Parm, Token, Misses, Undecided, NoMemory}
 
--- between two equal ends a move leads nowhere else
+-- a move that leads from both ends to one place leads there from everywhere between
 pub between_ends : (way : Move) (count to : ℕ) → moved way 0 ≡ to → moved way (count - 1) ≡ to → spec.LeadsAll way count to
 between_ends way count to low high from lt = omega (arith, low, high, moved_in_order way 0 from (omega arith), moved_in_order way from (count - 1) (omega (arith, lt)))
 
--- every state at rest is one of the start's
+-- the start allows every state at rest
 rest_allowed : (rows cols : ℕ) (s : State) → IsOfSize rows cols s → IsAtRest s → Allows rows cols (spec.at_rest rows cols) s.screen
 rest_allowed rows cols s size rest = record {
   screen = size.state.screen;
@@ -116,7 +116,7 @@ effect_misses rows cols tokens e row col Token size says h bytes split = absurd 
 effect_misses rows cols tokens e row col Undecided size says h bytes split = absurd h
 effect_misses rows cols tokens e row col NoMemory size says h bytes split = absurd h
 
--- a last CUP to another place
+-- a last CUP that leads to another place
 pub other_place : (rows cols : ℕ) (tokens : List (List ℕ)) (row col to_row to_col : ℕ) → IsSize rows cols → spec.TokensReach rows cols tokens to_row to_col → (to_row ≡ row → to_col ≡ col → ⊥)
     → spec.TokensMiss rows cols tokens row col Misses
 other_place rows cols tokens row col to_row to_col size reach apart bytes split =
@@ -132,7 +132,7 @@ other_place rows cols tokens row col to_row to_col size reach apart bytes split 
       elsewhere = λ a b. apart (sym run.at_row ∙ a) (sym run.at_col ∙ b);
     }
 
--- what is told of an effect, of the tokens whose record it is
+-- a fact about an effect holds of the tokens whose record it is
 pub effect_checked : (rows cols : ℕ) (tokens : List (List ℕ)) (e : Effect) (row col : ℕ) (start : Start) (r : Result (Unit {0}) MissKind) → start ≡ spec.at_rest rows cols → RunsAs rows cols start tokens e
     → OnOk r (spec.EndsThere rows cols e row col) → OnOk r (spec.TokensReach rows cols tokens row col)
 effect_checked rows cols tokens e row col start (Ok _) is says there = effect_reaches rows cols tokens e row col (subst (λ (x : Start). RunsAs rows cols x tokens e) is says) there
@@ -143,6 +143,6 @@ pub effect_failed : (rows cols : ℕ) (tokens : List (List ℕ)) (e : Effect) (r
 effect_failed rows cols tokens e row col start (Ok _) size is says there = tt
 effect_failed rows cols tokens e row col start (Err kind) size is says there = effect_misses rows cols tokens e row col kind size (subst (λ (x : Start). RunsAs rows cols x tokens e) is says) there
 
--- two places that a test tells apart
+-- two different places
 pub told_apart : (a b c d : ℕ) → ((a == b) && (c == d)) ≡ false → a ≡ b → c ≡ d → ⊥
 told_apart a b c d h e f = true≢false (sym (ap (λ (x : Bool). x && (c == d)) (eq-eqb a b e) ∙ eq-eqb c d f) ∙ h)

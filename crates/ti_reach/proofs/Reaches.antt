@@ -1,4 +1,4 @@
--- One place that is reached.
+-- Reaching one place.
 use Rattle.std.proofs.Common.{◌≡◌, ◌<◌, ℕ, List, Ok, Err, Result, OnOk, subst, sym, arith, to_z, w32, pos}
 use Rattle.std.proofs.lemmas.Int.{ints}
 use Rattle.ti_parm.specs.Meaning.{sent}
@@ -7,18 +7,18 @@ use Rattle.ti_reach.specs.Reach as spec
 use Rattle.ti_reach.specs.declared.Miss.{Miss}
 use Rattle.ti_reach.specs.declared.MissKind.{MissKind}
 
--- bytes that the string sends, judged
+-- the bytes that the string sends, checked
 pub place_reached : (string : List ℕ) (rows cols row col : ℕ) (bytes : List ℕ) (judged : Result (Unit {0}) MissKind)
     → sent string (spec.place row col) ≡ Ok bytes
     → OnOk judged (spec.IsWhole bytes) → OnOk judged (Run.Reaches rows cols bytes row col) → OnOk judged (spec.StringReaches string rows cols row col)
 place_reached string rows cols row col bytes (Ok _) sends whole leads = record { bytes = bytes; sends = sends; whole = whole; leads = leads }
 place_reached string rows cols row col bytes (Err _) sends whole leads = tt
 
--- a row or a column as a number with sign
+-- a row or a column as a signed number
 pub number_of_place : (n : ℕ) → n < 500 → to_z w32 n ≡ pos n
 number_of_place n below = omega (arith, ints)
 
--- the first place that is missed lies in this row
+-- the first place that is missed is in this row
 pub first_missed : (string : List ℕ) (rows cols row : ℕ) (miss : Miss) → ((i : ℕ) → i < row → spec.ReachesInRow string rows cols i cols) → miss.row ≡ row
     → spec.ReachesInRow string rows cols row miss.col → spec.ReachesBefore string rows cols miss.row miss.col
 first_missed string rows cols row miss above same left = record {

@@ -23,15 +23,15 @@ place row col = Number (pos row) ∷ Number (pos col) ∷ []
 abbrev pub IsWhole : List ℕ → Type 0
 IsWhole bytes = (tokens : List (List ℕ)) × Splits bytes tokens []
 
--- the string can be expanded for this place, what it sends (its delays are not sent) is whole tokens, and
--- from every state at rest they leave the cursor of a terminal of this size there
+-- the string can be expanded for this place, the bytes sent (without delays) are whole tokens, and from every state
+-- at rest they leave the cursor of a terminal of this size there
 pub record StringReaches (string : List ℕ) (rows cols row col : ℕ) : Type 0 where
   pub bytes : List ℕ
   pub sends : sent string (place row col) ≡ Ok bytes
   pub whole : IsWhole bytes
   pub leads : Run.Reaches rows cols bytes row col
 
--- the places of a row to the left of a column are reached
+-- the places of a row left of a column are reached
 abbrev pub ReachesInRow : List ℕ → ℕ → ℕ → ℕ → ℕ → Type 0
 ReachesInRow string rows cols row end = (col : ℕ) → col < end → StringReaches string rows cols row col
 
@@ -47,7 +47,7 @@ HasFaultAt string row col = (fault : ParmFault) × (sent string (place row col) 
 abbrev pub IsNoText : List ℕ → Type 0
 IsNoText bytes = (at : ℕ) × (IsUnfinished bytes at ⊎ IsStuck bytes at)
 
--- the bytes for this place are no whole text
+-- the bytes for this place aren't a whole text
 pub record IsNoTextAt (string : List ℕ) (row col : ℕ) : Type 0 where
   pub bytes : List ℕ
   pub sends : sent string (place row col) ≡ Ok bytes
@@ -73,7 +73,7 @@ abbrev pub at_rest : ℕ → ℕ → Start
 at_rest rows cols =
     record { row_min = 0; row_max = rows - 1; col_min = 0; col_max = cols - 1; pending = true; margins = Whole }
 
--- the tokens of the bytes have no record from rest, and the last of them is no CUP
+-- the tokens of the bytes have no record from rest, and the last of them isn't CUP
 pub record IsUndecided (rows cols : ℕ) (bytes : List ℕ) : Type 0 where
   pub tokens : List (List ℕ)
   pub splits : Splits bytes tokens []
@@ -86,7 +86,7 @@ pub record IsUndecidedAt (string : List ℕ) (rows cols row col : ℕ) : Type 0 
   pub sends : sent string (place row col) ≡ Ok bytes
   pub undecided : IsUndecided rows cols bytes
 
--- what it says of a place that nothing is sent for
+-- the reason why nothing is sent for a place
 abbrev pub TellsWhyUnsent : List ℕ → ℕ → ℕ → MissKind → Type 0
 TellsWhyUnsent string row col Parm = HasFaultAt string row col
 TellsWhyUnsent string row col Token = ⊥
@@ -94,7 +94,7 @@ TellsWhyUnsent string row col Misses = ⊥
 TellsWhyUnsent string row col Undecided = ⊥
 TellsWhyUnsent string row col NoMemory = Unit {0}
 
--- what an answer says of the bytes for a place
+-- the reason why the bytes for a place don't reach it
 abbrev pub IsMiss : ℕ → ℕ → List ℕ → ℕ → ℕ → MissKind → Type 0
 IsMiss rows cols bytes row col Parm = ⊥
 IsMiss rows cols bytes row col Token = IsNoText bytes
@@ -102,7 +102,7 @@ IsMiss rows cols bytes row col Misses = LeavesElsewhere rows cols bytes row col
 IsMiss rows cols bytes row col Undecided = IsUndecided rows cols bytes
 IsMiss rows cols bytes row col NoMemory = Unit {0}
 
--- every text of these tokens reaches the place, or misses it
+-- every text of these tokens reaches the place; every text of these tokens misses it
 abbrev pub TokensReach : ℕ → ℕ → List (List ℕ) → ℕ → ℕ → Type 0
 TokensReach rows cols tokens row col = (bytes : List ℕ) → Splits bytes tokens [] → Run.Reaches rows cols bytes row col
 
@@ -110,7 +110,7 @@ abbrev pub TokensMiss : ℕ → ℕ → List (List ℕ) → ℕ → ℕ → Miss
 TokensMiss rows cols tokens row col kind =
     (bytes : List ℕ) → Splits bytes tokens [] → IsMiss rows cols bytes row col kind
 
--- a move leads from each of this many rows or columns to this one, or from one of them elsewhere
+-- a move leads from each of this many rows or columns to this one; a move leads from one of them elsewhere
 abbrev pub LeadsAll : Move → ℕ → ℕ → Type 0
 LeadsAll way count to = (from : ℕ) → from < count → moved way from ≡ to
 
@@ -119,7 +119,7 @@ pub record MissesFromSome (way : Move) (count to : ℕ) : Type 0 where
   pub within : from < count
   pub misses : moved way from ≡ to → ⊥
 
--- an effect leaves every cursor at this place, or one of them elsewhere
+-- an effect leaves every cursor at this place; an effect leaves some cursor elsewhere
 pub record EndsThere (rows cols : ℕ) (e : Effect) (row col : ℕ) : Type 0 where
   pub row_there : LeadsAll e.row rows row
   pub col_there : LeadsAll e.col cols col
@@ -128,7 +128,7 @@ abbrev pub EndsElsewhere : ℕ → ℕ → Effect → ℕ → ℕ → MissKind �
 EndsElsewhere rows cols e row col Misses = MissesFromSome e.row rows row ⊎ MissesFromSome e.col cols col
 EndsElsewhere rows cols e row col _ = ⊥
 
--- what an answer says of a place; where memory was refused it says nothing
+-- the reason why a place isn't reached; out of memory says nothing
 abbrev pub TellsWhy : List ℕ → ℕ → ℕ → ℕ → ℕ → MissKind → Type 0
 TellsWhy string rows cols row col Parm = HasFaultAt string row col
 TellsWhy string rows cols row col Token = IsNoTextAt string row col

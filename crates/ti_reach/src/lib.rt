@@ -1,5 +1,5 @@
-//! Whether a parameter string serves as `cup`: whether it brings the cursor to every place of the
-//! screen, whatever stood there before.
+//! Whether a parameter string serves as `cup`: whether it moves the cursor to every place of the screen, wherever the
+//! cursor was before.
 #![tactic(auto)]
 
 ghost use Rattle.std.specs.Prelude.{◌≡◌, ◌<◌, ◌≤◌, false, IfErr, IfOk, IsTrue, Ok, OnOk};
@@ -12,38 +12,39 @@ use ti_parm::{Param, ParmFault};
 use vt_effects::{Effect, Margins, Move, Start, effect_of};
 use vt_term::{Size, Token, TokenFaultKind, place_after, tokens};
 
-/// Why a string doesn't reach a place.
+/// The reason why a string doesn't reach a place.
 #[derive(Clone, Copy, Debug, PartialEq, Eq)]
 pub enum MissKind {
     /// The string can't be expanded for this place.
     Parm,
-    /// The expanded bytes end inside a sequence, or one of them fits nothing.
+    /// The expanded bytes end inside a sequence, or one of them can neither continue nor begin a token.
     Token,
-    /// There is a state at rest from which the bytes leave the cursor elsewhere.
+    /// From some state at rest, the bytes leave the cursor elsewhere.
     Misses,
-    /// Neither: the bytes have no one effect from all states at rest, and they don't end in CUP.
+    /// Nothing is known: the effect of the bytes differs between states at rest, or no record can describe it, and
+    /// they don't end in CUP.
     Undecided,
-    /// A request for memory was refused.
+    /// Out of memory.
     NoMemory,
 }
 
-/// The first place that a string doesn't reach: row by row, each from column 0.
+/// The first place that a string isn't known to reach: row by row, each from column 0.
 #[derive(Clone, Copy, Debug, PartialEq, Eq)]
 pub struct Miss {
     /// The row, from 0.
     pub row: usize,
     /// The column, from 0.
     pub col: usize,
-    /// Why.
+    /// The reason.
     pub kind: MissKind,
 }
 
-/// Whether the string serves as `cup` on a terminal of this size (terminfo(5), "Cursor Motions").
+/// Whether `string` serves as `cup` on a terminal of this `size` (terminfo(5), "Cursor Motions").
 ///
-/// Ok is a theorem: for each row and column the string expands to whole tokens, and from every state
-/// at rest they leave the cursor there. So are the errors `Parm`, `Token` and `Misses`, each of its
-/// place, and all places before that one are reached. `Undecided` is the answer where the tokens have no
-/// one effect from all states at rest, and the last of them is no CUP.
+/// Ok is proved: for each row and column the string expands to whole tokens, and from every state at rest they leave
+/// the cursor there. The errors `Parm`, `Token` and `Misses` are proved too, each for its place, and all places
+/// before that one are reached. `Undecided` says that the tokens have no effect record from all states at rest, and
+/// that the last one is no CUP.
 pub fn reach_cup(alloc: Global, string: &[u8], size: Size) -> Result<(), Miss>
     ensures reached { OnOk result (spec.ServesAsCup string.now size.rows size.cols) }
     ensures row { IfErr result (λ miss. miss.row < size.rows) }
@@ -58,7 +59,7 @@ pub fn reach_cup(alloc: Global, string: &[u8], size: Size) -> Result<(), Miss>
     Ok(())
 }
 
-/// Whether the string reaches each place of one row. `bytes` is room for what is sent for one place.
+/// Checks that the string reaches each place of one row. `bytes` is room for the bytes sent for one place.
 fn reach_row(
     alloc: Global,
     string: &[u8],
@@ -82,7 +83,7 @@ fn reach_row(
     Ok(())
 }
 
-/// Whether the string reaches one place.
+/// Checks that the string reaches one place.
 fn reach_place(
     alloc: Global,
     string: &[u8],
@@ -100,7 +101,7 @@ fn reach_place(
     check_bytes(alloc, bytes.as_slice(), size, row, col)
 }
 
-/// What the string sends for one place, in place of what `bytes` held.
+/// Replaces the contents of `bytes` by what the string sends for one place.
 fn send(
     alloc: Global,
     string: &[u8],
@@ -122,7 +123,7 @@ fn send(
     }
 }
 
-/// Whether the bytes are whole tokens that leave the cursor at the place.
+/// Checks that the bytes `sent` are whole tokens that leave the cursor at the place.
 fn check_bytes(
     alloc: Global,
     sent: &[u8],
@@ -145,7 +146,7 @@ fn check_bytes(
     }
 }
 
-/// Whether these tokens leave the cursor at the place: by their effect from rest, or else by the last.
+/// Checks that these tokens leave the cursor at the place, by their effect from rest, or else by the last one.
 fn check_tokens(tokens: &[Token], size: Size, row: usize, col: usize) -> Result<(), MissKind>
     ensures leads { OnOk result (spec.TokensReach size.rows size.cols tokens.now row col) }
     ensures why { IfErr result (λ kind. spec.TokensMiss size.rows size.cols tokens.now row col kind) }
@@ -160,7 +161,7 @@ fn check_tokens(tokens: &[Token], size: Size, row: usize, col: usize) -> Result<
     }
 }
 
-/// Whether an effect leaves the cursor at the place, from wherever it stands.
+/// Checks that an effect leaves every cursor at the place.
 fn check_effect(effect: &Effect, size: Size, row: usize, col: usize) -> Result<(), MissKind>
     ensures reached { OnOk result (spec.EndsThere size.rows size.cols effect.now row col) }
     ensures why { IfErr result (λ kind. spec.EndsElsewhere size.rows size.cols effect.now row col kind) }
@@ -172,8 +173,7 @@ fn check_effect(effect: &Effect, size: Size, row: usize, col: usize) -> Result<(
     }
 }
 
-/// Whether a move leads from each of `count` rows or columns to `to`. It does if it does from the first
-/// and from the last.
+/// Whether a move leads from each of `count` rows or columns to `to`. It suffices to test the first and the last.
 fn leads_all(way: Move, count: usize, to: usize) -> bool
     requires some { 1 ≤ count }
     requires small { count ≤ 500 }
