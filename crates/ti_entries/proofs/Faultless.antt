@@ -1,4 +1,4 @@
--- Where each entry can be read, none is refused because one can't.
+-- If each entry can be read, none is refused because one can't.
 use Rattle.std.proofs.Common.{◌≡◌, ◌<◌, ◌∙◌, ℕ, zero, suc, List, [], ◌∷◌, length, get_or, Option, Some, None, refl, sym, ap, subst, arith}
 use Rattle.std.proofs.lemmas.Option.{slice_get-get_or}
 use Rattle.std.specs.Option.{option_or}
@@ -10,7 +10,7 @@ use Rattle.ti_source.specs.Fitting.{NamesFit}
 use Rattle.ti_source.specs.declared.types.RawEntry.{RawEntry}
 use Rattle.ti_source.specs.declared.types.SourceFault.{SourceFault}
 
--- the names of an entry that can be read
+-- the names of a readable entry fit
 names_fit_there : (raws : List RawEntry) (faults : List (Option SourceFault)) (place : ℕ) (raw : RawEntry) → NamesFit raws faults → slice_get raws place ≡ Some raw → slice_get faults place ≡ Some None → IsTrue (names_fit (names_at raws place))
 unfolding names_at
 names_fit_there raws faults place raw fit there read = subst (λ (o : Option RawEntry). IsTrue (names_fit (names_in_entry o))) (sym there) (fit place raw there read)

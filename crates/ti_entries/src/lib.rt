@@ -1,4 +1,4 @@
-//! The entries of a source text that were read one by one, each with all that it uses.
+//! Resolving the entries of a source text that were read one by one, some of which may be unreadable.
 #![tactic(auto)]
 
 mod resolution;

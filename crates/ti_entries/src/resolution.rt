@@ -1,4 +1,4 @@
-//! An entry with all that it uses, where some of the text can't be read.
+//! An entry with all that it uses, if some entries of the text can't be read.
 
 ghost use Rattle.std.specs.Prelude.{◌≡◌, ◌<◌, None, Some, IfErr, IfOk, length, slice_get};
 ghost use Rattle.std.specs.List.{AllByRecursion};
@@ -10,16 +10,16 @@ use ti_caps::Entry;
 use ti_resolve::{Index, ResolveFault, entered_from, resolve_from};
 use ti_source::SourceFault;
 
-/// Why an entry of a source text can't be had whose entries were read one by one.
+/// The reason why an entry of a source text that was read entry by entry can't be resolved.
 #[derive(Debug, Drop)]
 pub enum ApartFault {
-    /// The entry can't be read, or one that it uses: the fault is that of the first.
+    /// The entry, or one that it uses, can't be read; this is the first such fault.
     Unread(SourceFault),
-    /// It can't be resolved, or memory ran out.
+    /// The entry can't be resolved, or memory ran out.
     Unresolved(ResolveFault),
 }
 
-/// Why the entry at `place` can't be read; `None` where it can.
+/// The fault of the entry at `place`; `None` if it can be read.
 #[tactic(auto, using(std::proofs::lemmas::Option::slice_get_read))]
 fn own_fault(faults: &[Option<SourceFault>], place: usize) -> Option<SourceFault>
     requires { place < length faults.now }
@@ -28,7 +28,7 @@ fn own_fault(faults: &[Option<SourceFault>], place: usize) -> Option<SourceFault
     faults[place]
 }
 
-/// Why the entry at `place` can't be read; `None` where it can, or where there is none.
+/// The fault of the entry at `place`; `None` if it can be read, or if there is no such entry.
 fn fault_in(faults: &[Option<SourceFault>], place: usize) -> Option<SourceFault>
     ensures { result ≡ fault_in faults.now place }
 {
@@ -38,7 +38,7 @@ fn fault_in(faults: &[Option<SourceFault>], place: usize) -> Option<SourceFault>
     }
 }
 
-/// Why the first of the entries at these places that can't be read can't be.
+/// The fault of the first entry among these `places` that can't be read.
 #[tactic(auto, using(ti_resolve::proofs::OriginFacts::first_more, ti_resolve::proofs::OriginFacts::first_found))]
 fn first_fault(faults: &[Option<SourceFault>], places: &[usize]) -> Option<SourceFault>
     ensures { result ≡ first_fault faults.now places.now }
@@ -51,7 +51,7 @@ fn first_fault(faults: &[Option<SourceFault>], places: &[usize]) -> Option<Sourc
     None
 }
 
-/// The entry at `place`, which can be read.
+/// The entry at `place`, which must be readable, with all that it uses.
 fn resolve_read(
     alloc: Global,
     index: &Index<'_>,
@@ -77,13 +77,13 @@ fn resolve_read(
     }
 }
 
-/// The entry at `place` of a source text whose entries were read one by one (`ti_source::read_apart`), with all that it
-/// uses, as `ti_resolve::resolve_at` gives it. The `index` is that of the entries, and `faults` says which can't be
-/// read.
+/// The entry at `place` of a source text that was read entry by entry (`ti_source::read_apart`), with all that it
+/// uses, as `ti_resolve::resolve_at` returns it. The `index` must be that of the entries, and `faults` must say which
+/// can't be read.
 ///
 /// # Errors
-/// `Unread` where it or one that it uses can't be read, with the first such fault in the order of the walk;
-/// `Unresolved` with the first fault of the walk, or where memory ran out.
+/// `Unread` if the entry or one that it uses can't be read, with the first such fault in the order of the walk;
+/// `Unresolved` with the first fault of the walk, or if memory ran out.
 pub fn resolve_apart(
     alloc: Global,
     index: &Index<'_>,
@@ -103,8 +103,8 @@ pub fn resolve_apart(
     }
 }
 
-/// A law: where each entry can be read, an entry is what resolving it in the whole text gives, and none is refused but
-/// as resolving refuses it.
+/// Law: if each entry can be read, an entry is what resolving it in the whole text gives, and it is refused only if
+/// resolving refuses it.
 pub fn faultless_are_resolved()
     ensures { FaultlessAreResolved }
 {}

@@ -3,7 +3,7 @@ use Rattle.ti_entries.specs.Resolution.{IsUnread, first_fault}
 use Rattle.ti_entries.proofs.Faultless.{names_fit_below}
 use Rattle.ti_entries.proofs.resolution.resolve_read.Goals as goal
 
--- the first fault of those that the walk entered
+-- the first fault of the entries that the walk entered
 pub returns-in-Some-clause-fault : goal.returns-in-Some-clause-fault
 returns-in-Some-clause-fault c =
     IsUnread.Used c.in-Ok.entered.items c.requires.read c.in-Ok.ensures (sym (c.in-Some.ensures ∙ ap (first_fault c.args.faults.now) c.as_slice.ensures.value))
