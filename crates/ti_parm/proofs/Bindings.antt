@@ -1,4 +1,4 @@
--- Answers that may be faults, in a row.
+-- Results that may be faults, chained.
 use Rattle.std.proofs.Common.{◌≡◌, Bool, true, false, cond, Result, Ok, Err, refl}
 use Rattle.ti_parm.specs.declared.fault.ParmFault.{ParmFault}
 use Rattle.ti_parm.specs.Fault.{◌>>=◌}

@@ -1,4 +1,4 @@
--- A code has bytes, so what follows it is shorter.
+-- A code has at least one byte, so the rest is shorter than the text.
 use Rattle.std.proofs.Common.{ℕ, suc, ◌≤◌, Bool, true, false, cond, List, [], ◌∷◌, length, Result, Option, Some, None, IfOk, nat_le, ◌==◌, ◌&&◌, arith}
 use Rattle.ti_parm.specs.declared.code.Code.{Code}
 use Rattle.ti_parm.specs.declared.fault.ParmFault.{ParmFault}
@@ -10,12 +10,12 @@ use Rattle.ti_parm.specs.declared.formats.Flags.{Flags}
 use Rattle.ti_parm.specs.declared.formats.Format.{Format}
 use Rattle.ti_parm.specs.declared.code.Variable.{Variable}
 
--- what both choices have, the choice has
+-- a property of both branches holds of the choice
 pub both : {A : Type 0} (P : A → Type 0) (b : Bool) (x y : Result A ParmFault) → IfOk x P → IfOk y P → IfOk (cond b x y) P
 both P true x y p q = p
 both P false x y p q = q
 
--- what follows a code is at most so long
+-- the rest after a code is at most n bytes long
 abbrev pub IsWithin : ℕ → Code × List ℕ → Type 0
 IsWithin n x = length x.1 ≤ n
 
@@ -43,7 +43,7 @@ read_conversion-within : (f : Flags) (w : ℕ) (p : Option ℕ) (k : Option Conv
 read_conversion-within f w p None rest n h = tt
 read_conversion-within f w p (Some k) rest n h = read_format-within (finished f w p k) rest n h
 
--- a format takes a byte at least
+-- a format takes at least one byte
 conversion-within : (f : Flags) (w : ℕ) (p : Option ℕ) (text : List ℕ) (n : ℕ) → length text ≤ suc n → IfOk (conversion_code f w p text) (IsWithin n)
 conversion-within f w p [] n h = tt
 conversion-within f w p (b ∷ rest) n h = read_conversion-within f w p (conversion b) rest n (omega arith)

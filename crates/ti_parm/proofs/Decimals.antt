@@ -5,7 +5,7 @@ use Rattle.std.proofs.Math.Nat.{pow-suc, div-lt_iff_lt-mul}
 use Rattle.std.proofs.lemmas.List.{drop-set}
 use Rattle.std.specs.Fmt.{digit_glyph, digits, digits_onto}
 
--- the digits of a number in front of later ones, where some places are left
+-- the digits of a number, prepended to later ones, as far as there are places left
 unfoldable pub digits_before : ℕ → ℕ → Bool → ℕ → List ℕ → List ℕ
 digits_before places base upper n later = digits_onto (52 + places) base upper n later
 
@@ -22,7 +22,7 @@ onto-last k base upper n later h = grind (arith)
 onto-same : (start base : ℕ) (upper : Bool) (n : ℕ) (places : List ℕ) → 0 < start → digits_onto (suc (52 + (start - 1))) base upper n (drop start places) ≡ digits_onto (52 + start) base upper n (drop start places)
 onto-same start base upper n places p = let e : suc (52 + (start - 1)) ≡ 52 + start = omega arith in ap (λ k. digits_onto k base upper n (drop start places)) e
 
--- a digit goes to its place
+-- a digit is written to its place
 placed : (places : List ℕ) (start digit : ℕ) → 0 < start → start ≤ length places → drop (start - 1) (set places (start - 1) digit) ≡ digit ∷ drop start places
 placed places start digit p q =
     let e : start - 1 + 1 ≡ start = omega arith in

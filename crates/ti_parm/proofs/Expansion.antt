@@ -1,4 +1,4 @@
--- A whole expansion: it begins after what the output has already.
+-- A whole expansion, appended to the output so far.
 use Rattle.std.proofs.Common.{◌≡◌, ◌⊎◌, ℕ, ℤ, List, [], ◌∷◌, ◌++◌, Result, Ok, Err, refl, ap, ◌∙◌, sym, inl, inr, append-nil, append_assoc}
 use Rattle.ti_parm.specs.declared.fault.ParmFault.{ParmFault}
 use Rattle.ti_parm.specs.declared.fault.ParmFault.TheVariants.{Underflow, BadNest, BadCode, Overflow, BadChar, WrongKind, NoMemory}
@@ -25,7 +25,7 @@ fault-or_memory BadChar meant h = inr h
 fault-or_memory WrongKind meant h = inr h
 fault-or_memory NoMemory meant h = inl refl
 
--- a string that ends its conditionals, run from its front on
+-- a string that ends its conditionals, run from its start on
 whole-run : (string : List ℕ) (s : State) → verdict string ≡ Ok tt → run_from string s ≡ run (ahead string).parts s
 unfolding run_from run_ahead follow
 whole-run string s e = ap (λ b. run (ahead string).parts s >>= follow b) (verdict-ended string e) ∙ bind-Ok (run (ahead string).parts s)
@@ -34,7 +34,7 @@ whole-meaning : (string : List ℕ) (given : List Value) (statics : List ℤ) �
 unfolding meaning syntax
 whole-meaning string given statics e = ap (λ b. whole (ahead string).parts b >>= λ parts. run parts (start_of given statics)) (verdict-ended string e)
 
--- running after what is there, and the meaning
+-- the run of a string after earlier output is its meaning
 run_from-meaning : (string before : List ℕ) (given : List Value) (statics : List ℤ) (s : State) → verdict string ≡ Ok tt → s ≡ after before (start_of given statics) → run_from string s ≡ all_after before (meaning string given statics)
 run_from-meaning string before given statics s fine e =
     whole-run string s fine
@@ -42,7 +42,7 @@ run_from-meaning string before given statics s fine e =
     ∙ run-after (ahead string).parts before (start_of given statics)
     ∙ sym (ap (all_after before) (whole-meaning string given statics fine))
 
--- judging and running after what is there, and the meaning
+-- checking and running a string after earlier output is its meaning
 judged_run-meaning : (string before : List ℕ) (given : List Value) (statics : List ℤ) (s : State) → s ≡ after before (start_of given statics) → judged_run string s ≡ all_after before (meaning string given statics)
 unfolding meaning
 judged_run-meaning string before given statics s e = along (syntax string) refl

@@ -1,4 +1,4 @@
--- A fault that is passed on.
+-- Faults passed on.
 use Rattle.std.proofs.Common.{◌≡◌, ◌∙◌, ap, Result, Ok, Err, IfOk, IfErr}
 use Rattle.ti_parm.specs.declared.fault.ParmFault.{ParmFault}
 use Rattle.ti_parm.specs.declared.fault.ParmFault.TheVariants.{Underflow, BadNest, BadCode, Overflow, BadChar, WrongKind, NoMemory}
@@ -30,7 +30,7 @@ pub Gives-ended : {R S : Type 0} (r : Result R ParmFault) (p : Result (Unit {0})
 Gives-ended (Ok x) p q t e h = e ∙ ap (λ v. v >>= λ _. Ok t) h
 Gives-ended (Err x) p q t e h = Fails-from x q (e ∙ ap (λ v. v >>= λ _. Ok t) h)
 
--- of what a call answers
+-- two properties of a call's result imply a third
 pub IfOk-on : {A E : Type 0} (r : Result A E) (P Q S : A → Type 0) → IfOk r P → IfOk r Q → ((x : A) → P x → Q x → S x) → IfOk r S
 IfOk-on (Ok x) P Q S p q f = f x p q
 IfOk-on (Err e) P Q S p q f = tt

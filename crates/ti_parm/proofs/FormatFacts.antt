@@ -1,4 +1,4 @@
--- Reading a format piece by piece, and its numbers no further than a limit.
+-- Reading a format part by part, with its numbers capped at a limit.
 use Rattle.std.proofs.Common.{◌≡◌, ◌⊎◌, inl, inr, ℕ, ℤ, ◌-◌, length, ◌<◌, min, Bool, true, false, cond, ◌&&◌, List, [], ◌∷◌, Option, Some, None, nat_le, refl, sym, ap, ◌∙◌, arith}
 use Rattle.std.specs.Option.{option_map}
 use Rattle.ti_parm.specs.declared.formats.Conversion.{Conversion}
@@ -41,7 +41,7 @@ behind_flags-none f (b ∷ rest) e = ap (λ d. cond d (behind_flags rest) (b ∷
 too_large : (n : ℕ) → 255 < n → nat_le n 255 ≡ false
 too_large n h = grind arith
 
--- a number is read rightly if it is small, and is too large if it is not
+-- a small number is read exactly, and a large one is seen to be too large
 small-or-large : (n : ℕ) → (min 2147483648 n ≡ n) ⊎ ((nat_le n 255 ≡ false) × (nat_le (min 2147483648 n) 255 ≡ false))
 small-or-large n = elim (le_or_ge n 2147483648) [
   | inl h ↦ inl (omega arith)
@@ -75,7 +75,7 @@ finished-precision f w (Some n) k = elim (small-or-large n) [
 pub finished-capped : (f : Flags) (w : ℕ) (p : Option ℕ) (k : Conversion) → finished f (min 2147483648 w) (option_map (min 2147483648) p) k ≡ finished f w p k
 finished-capped f w p k = finished-width f w (option_map (min 2147483648) p) k ∙ finished-precision f w p k
 
--- what the pieces of a number's text are
+-- the parts of a number in a format
 pub shown-by : (f : Format) (n : ℤ) (prefix : List ℕ) (zeros : ℕ) (text : List ℕ) → text ≡ digits_shown f (magnitude f.conversion n) → zeros ≡ least_digits f.precision - length text → prefix ≡ prefix_of f.conversion f n → padded f prefix zeros text ≡ number_shown f n
 unfolding number_shown
 shown-by f n prefix zeros text t z p =

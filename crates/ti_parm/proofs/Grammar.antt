@@ -1,4 +1,4 @@
--- A code is read as it is written, and what is read is written so.
+-- Reading a code and spelling it are inverse to each other.
 use Rattle.std.proofs.Common.{◌≡◌, ◌≢◌, ◌⊎◌, inl, inr, ◌≤◌, ◌-◌, ◌+◌, ◌*◌, ◌==◌, ◌&&◌, ℕ, pos, Bool, true, false, cond, zero, suc, List, [], ◌∷◌, ◌++◌, Result, Ok, Err, IfOk, Option, Some, None, nat_le, refl, ap, sym, ◌∙◌, append_assoc, arith}
 use Rattle.ti_parm.specs.declared.code.Action.TheVariants.{Push, Set, Get}
 use Rattle.ti_parm.specs.declared.code.Code.{Code}
@@ -12,7 +12,7 @@ use Rattle.ti_parm.specs.declared.formats.Format.{Format}
 use Rattle.ti_parm.specs.Codes.{Read, as_code, behind_digits, behind_flags, behind_precision, character_code, code_at, conversion, conversion_code, finished, flags_on, format_code, is_digit, is_flag, no_flags, number_code, number_on, parameter_code, percent_code, precision_at, read_conversion, read_format, read_number, read_short, read_variable, short_code, variable, variable_code, with_flag}
 use Rattle.ti_parm.specs.Spellings.{AreDigits, AreFlags, IsBare, IsCode, IsFormat, IsPrecision, IsWidth, bare, character, format, get, literal, made, number, parameter, set, short, within, without}
 
--- the first byte, if there is one, is none of these
+-- the text is empty, or its first byte isn't a flag
 abbrev pub NoFlag : List ℕ → Type 0
 NoFlag [] = Unit {0}
 NoFlag (b ∷ rest) = is_flag b ≡ false
@@ -251,14 +251,14 @@ flag-opens b p q r = elim (three b p q r) [
 digit-opens : (b : ℕ) → is_digit b ≡ true → Opens b
 digit-opens b p = figure b (grind (arith, p)) (grind (arith, p))
 
--- what a format begins with
+-- the first byte of a format
 format-opens : (text : List ℕ) (f : Format) (more : List ℕ) → IsFormat text f → IsBare text → percent_code (text ++ more) ≡ format_code (text ++ more)
 format-opens _ _ more (made (b ∷ flags) width point precision l kind f fs w p c m) h = percent-opens b ((flags ++ (width ++ (point ++ l ∷ []))) ++ more) (flag-opens b fs.0 h.0 h.1)
 format-opens _ _ more (made [] (b ∷ width) point precision l kind f fs w p c m) h = percent-opens b ((width ++ (point ++ l ∷ [])) ++ more) (digit-opens b w.0)
 format-opens _ _ more (made [] [] _ precision l kind f fs w without c m) h = percent-opens l more (letter l (is_last l kind c))
 format-opens _ _ more (made [] [] _ precision l kind f fs w (within digits p) c m) h = percent-opens 46 ((digits ++ l ∷ []) ++ more) full_stop
 
--- the two-byte codes are none of the longer ones
+-- the codes of two bytes aren't the start of longer ones
 percent-none : (b : ℕ) (rest : List ℕ) → (b == 112) ≡ false → (b == 80) ≡ false → (b == 103) ≡ false → (b == 39) ≡ false → (b == 123) ≡ false → (b == 58) ≡ false → percent_code (b ∷ rest) ≡ read_short (short_code b) b rest
 percent-none b rest h1 h2 h3 h4 h5 h6 =
     at_false (b == 112) _ _ h1 ∙ at_false (b == 80) _ _ h2 ∙ at_false (b == 103) _ _ h3 ∙ at_false (b == 39) _ _ h4 ∙ at_false (b == 123) _ _ h5 ∙ at_false (b == 58) _ _ h6
@@ -355,7 +355,7 @@ width-split : (width rest : List ℕ) → AreDigits width → NoFlag (width ++ r
 width-split [] rest ds h = tt
 width-split (b ∷ width) rest ds h = (ds.0, flag-zero b h, ds.1)
 
--- what was read of a format
+-- the text of a format that was read
 abbrev IsReadFormat : List ℕ → Code × List ℕ → Type 0
 IsReadFormat text x = (front : List ℕ) × (f : Format) × (text ≡ front ++ x.1) × IsFormat front f × (x.0 ≡ as_code f)
 
@@ -404,7 +404,7 @@ format-written text = along (behind_precision point) refl
     along [] b = tt
     along (l ∷ more) b = kinds l more (conversion l) b refl
 
--- what was read of a code
+-- the text of a code that was read
 abbrev pub IsRead : List ℕ → Code × List ℕ → Type 0
 IsRead text x = (front : List ℕ) × (text ≡ front ++ x.1) × IsCode front x.0
 

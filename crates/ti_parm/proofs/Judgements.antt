@@ -1,4 +1,4 @@
--- Judging a string from a place on.
+-- Checking a string's syntax from a place on.
 use Rattle.std.proofs.Common.{◌≡◌, ℕ, ◌<◌, List, [], ◌∷◌, length, Result, Ok, Err, refl, sym, ◌∙◌, ap}
 use Rattle.ti_parm.specs.declared.code.Code.{Code}
 use Rattle.ti_parm.specs.declared.code.Code.TheVariants.{Act as ActCode, If, Of}
@@ -46,7 +46,7 @@ judged-before (ActCode action) a branches = refl
 judged-before If a branches = judged-conditional a.parts a.behind branches
 judged-before (Of mark) a branches = refl
 
--- judging from a code on is judging from the place after it on
+-- checking from a code on is checking from the place after it on
 pub judged-code : (text rest : List ℕ) (code : Code) (branches : Branches) → 0 < length text → code_at text ≡ Ok (code, rest) → judged (ahead text).behind branches ≡ (nest_behind code branches >>= judged (ahead rest).behind)
 judged-code text rest code branches some e = ap (λ a. judged a.behind branches) (ahead-code text rest code some e) ∙ judged-before code (ahead rest) branches
 
@@ -100,7 +100,7 @@ has_end-along a c e h = rw e at h
 pub HasEnd-code : (text rest : List ℕ) (code : Code) → 0 < length text → code_at text ≡ Ok (code, rest) → HasEnd (ahead text).behind → HasEnd (before code (ahead rest)).behind
 HasEnd-code text rest code some e h = has_end-along _ _ (ahead-code text rest code some e) h
 
--- what ends well comes to its end
+-- text that ends its conditionals reaches its end
 pub judged-HasEnd : (b : Behind) (n : Branches) → judged b n ≡ Ok tt → HasEnd b
 unfolding judged
 judged-HasEnd Ends n e = tt
@@ -111,7 +111,7 @@ judged-HasEnd (Closes mark parts behind) n e = along (nest_behind_mark mark n) (
     along (Ok further) f p = f further p
     along (Err x) f p = cc
 
--- passing a code
+-- moving past a code
 pub judged-passed : (code : Code) (a : Ahead) (n m : Branches) → nest_behind code n ≡ Ok m → judged a.behind m ≡ judged (before code a).behind n
 judged-passed code a n m e = sym (judged-before code a n ∙ ap (λ r. r >>= judged a.behind) e)
 

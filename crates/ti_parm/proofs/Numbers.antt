@@ -1,4 +1,4 @@
--- Reading a number digit by digit, no further than a limit.
+-- Reading a number digit by digit, capped at a limit.
 use Rattle.std.proofs.Common.{◌≡◌, ◌⊎◌, inl, inr, ℕ, zero, suc, Option, Some, None, ◌+◌, ◌-◌, ◌*◌, ◌≤◌, min, Bool, true, false, cond, List, [], ◌∷◌, refl, ap, ◌∙◌, arith}
 use Rattle.ti_parm.specs.Codes.{behind_digits, digit_at, is_digit, number_on}
 
@@ -19,7 +19,7 @@ capped-by : (limit n : ℕ) (text : List ℕ) → (n ≤ limit) ⊎ (limit ≤ n
 capped-by limit n text (inl h) = let same : min limit n ≡ n = omega arith in ap (λ m. min limit (number_on m text)) same
 capped-by limit n text (inr h) = omega (arith, number_on-above (min limit n) limit text (omega arith), number_on-above n limit text h)
 
--- past the limit more digits change nothing
+-- above the limit more digits change nothing
 pub number_on-capped : (limit n : ℕ) (text : List ℕ) → min limit (number_on (min limit n) text) ≡ min limit (number_on n text)
 number_on-capped limit n text = capped-by limit n text (le_or_ge n limit)
 

@@ -1,4 +1,4 @@
--- What was written before a code is run is kept in front, and has no say in what the code does.
+-- The output before a code is kept, and doesn't influence the code.
 use Rattle.std.proofs.Common.{◌≡◌, Bool, true, false, cond, ℤ, ℕ, ◌≤◌, List, [], ◌∷◌, ◌++◌, Result, Ok, Err, length, take, refl, ap, ◌∙◌, sym, append_assoc, append-nil, arith, length-take}
 use Rattle.std.proofs.lemmas.List.{take-append-le}
 use Rattle.ti_parm.specs.declared.code.Action.{Action}
@@ -88,7 +88,7 @@ mutual
       ap (λ r. r >>= choose (run chosen) (run_otherwise otherwise)) (run-after condition before s)
       ∙ bind-after before (run condition s) (choose (run chosen) (run_otherwise otherwise)) (λ t. choose-after before t (run chosen) (run_otherwise otherwise) (run-after chosen before) (run_otherwise-after otherwise before))
 
--- a code only adds to what is written
+-- a code only appends to the output
 pub grows : (r : Result State ParmFault) (before : List ℕ) (t : State) → all_after before r ≡ Ok t → (more : List ℕ) × (t.output ≡ before ++ more)
 grows (Ok s) before t e = (s.output, cc)
 grows (Err x) before t e = cc

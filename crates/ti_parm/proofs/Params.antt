@@ -4,7 +4,7 @@ use Rattle.ti_parm.specs.declared.param.Param.{Param}
 use Rattle.ti_parm.specs.declared.param.Param.TheVariants.{Number as NumberParam}
 use Rattle.ti_parm.specs.Value.{Value, Number, values_of}
 
--- the nine, before they are cut
+-- the nine parameters before they are cut
 abbrev pub padded : List Param → List Value
 padded given = values_of given ++ replicate 9 (Number (pos 0))
 

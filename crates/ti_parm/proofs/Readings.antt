@@ -1,4 +1,4 @@
--- Static variables that a run does not read before it sets them have no say in it.
+-- A run doesn't depend on static variables that it doesn't read before it sets them.
 use Rattle.std.proofs.Common.{◌≡◌, ◌⊎◌, inl, inr, ℕ, zero, suc, ℤ, pos, Bool, true, false, cond, List, [], ◌∷◌, ◌++◌, Result, Ok, Err, IfOk, length, set, get_or, replicate, refl, ap, sym, ◌∙◌, arith}
 use Rattle.std.proofs.lemmas.List.{length-set}
 use Rattle.ti_parm.specs.declared.code.Action.{Action}
@@ -17,7 +17,7 @@ use Rattle.ti_parm.specs.Syntax.{Act, Conditional, Done, Else, ElseIf, Next, Not
 use Rattle.ti_parm.specs.Uses.{further, noted}
 use Rattle.ti_parm.specs.Value.{Number, Value, Values}
 
--- what a run did first with each variable, one use later
+-- the first use of each variable after one more use
 
 noted-keeps : (now : FirstUse) (uses : List FirstUse) (index i : ℕ) → get_or uses i Unused ≡ ReadFirst → get_or (noted now index uses) i Unused ≡ ReadFirst
 noted-keeps now [] index i h = h
@@ -38,7 +38,7 @@ set-before (u ∷ uses) zero (suc i) h = h
 set-before (u ∷ uses) (suc index) zero h = h
 set-before (u ∷ uses) (suc index) (suc i) h = set-before uses index i h
 
--- a variable that is set is equal after that, and the others are as before
+-- a variable that is set has one value in both runs after that, and the others keep theirs
 set-equal : (E : Type 0) (a b : List ℤ) (uses : List FirstUse) (index i : ℕ) (n : ℤ) → length a ≡ length b
     → (E ⊎ (get_or uses i Unused ≡ SetFirst) → get_or a i (pos 0) ≡ get_or b i (pos 0))
     → E ⊎ (get_or (noted SetFirst index uses) i Unused ≡ SetFirst) → get_or (set a index n) i (pos 0) ≡ get_or (set b index n) i (pos 0)
@@ -58,7 +58,7 @@ first-equal E x y Unused same read = same (inl (read refl))
 first-equal E x y ReadFirst same read = same (inl (read refl))
 first-equal E x y SetFirst same read = same (inr refl)
 
--- a variable that is read was set before, or counts as read
+-- a variable that is read was set before, or counts as read first
 read-equal : (E : Type 0) (a b : List ℤ) (uses : List FirstUse) (index : ℕ) → length a ≡ length b → length a ≡ length uses
     → (E ⊎ (get_or uses index Unused ≡ SetFirst) → get_or a index (pos 0) ≡ get_or b index (pos 0))
     → (get_or (noted ReadFirst index uses) index Unused ≡ ReadFirst → E) → get_or a index (pos 0) ≡ get_or b index (pos 0)
@@ -69,7 +69,7 @@ read-equal E (x ∷ a) (y ∷ b) [] index p q same read = absurd (omega arith)
 read-equal E (x ∷ a) (y ∷ b) (u ∷ uses) zero p q same read = first-equal E x y u same read
 read-equal E (x ∷ a) (y ∷ b) (u ∷ uses) (suc index) p q same read = read-equal E a b uses index (omega arith) (omega arith) same read
 
--- what was read first stays so
+-- a variable read first stays so
 
 abbrev Keeps : State → State → Type 0
 Keeps s t = (i : ℕ) → get_or s.first_uses i Unused ≡ ReadFirst → get_or t.first_uses i Unused ≡ ReadFirst
@@ -149,12 +149,12 @@ mutual
       bind-keeps s (run condition s) (choose (run chosen) (run_otherwise otherwise)) (run-keeps condition s)
       (λ m. choose-keeps m (run chosen) (run_otherwise otherwise) (run-keeps chosen) (run_otherwise-keeps otherwise))
 
--- a run from other static variables goes the same way
+-- a run with other static variables goes the same way
 
 abbrev with_statics : List ℤ → State → State
 with_statics b s = record s { statics = b }
 
--- the variables that the whole run read first, and those that it has set so far, are equal
+-- the variables that the whole run reads first, and those that it has set so far, are equal
 record Equals (all : List FirstUse) (s : State) (b : List ℤ) : Type 0 where
   pub long : length s.statics ≡ length b
   pub noted : length s.statics ≡ length s.first_uses
@@ -163,7 +163,7 @@ record Equals (all : List FirstUse) (s : State) (b : List ℤ) : Type 0 where
 abbrev Leads : List FirstUse → State → Type 0
 Leads all t = (i : ℕ) → get_or t.first_uses i Unused ≡ ReadFirst → get_or all i Unused ≡ ReadFirst
 
--- where the one run comes to an end, so does the other, and they differ in static variables alone
+-- if one run ends without a fault, so does the other, and their states differ in static variables only
 abbrev Follows : List FirstUse → Result State ParmFault → Result State ParmFault → Type 0
 Follows all (Ok t) r = Leads all t → (b : List ℤ) × (r ≡ Ok (with_statics b t)) × Equals all t b
 Follows all (Err e) r = Unit {0}

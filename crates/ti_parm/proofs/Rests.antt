@@ -1,4 +1,4 @@
--- The rest of a conditional, by its three shapes.
+-- The rest of a conditional, in its three shapes.
 use Rattle.std.proofs.Common.{◌≡◌, Result, Ok, Err, IfOk}
 use Rattle.std.proofs.lemmas.Result.{IfOk-at_ok}
 use Rattle.ti_parm.specs.declared.code.Code.{Code}

@@ -34,7 +34,7 @@ follow-rest _ _ (ends parts behind) s = refl
 follow-rest _ _ (elses first parts behind) s = refl
 follow-rest _ _ (goes_on first chosen behind r d) s = left-rest behind r d s
 
--- after the condition of a conditional, given what its otherwise does
+-- after a conditional's condition, given the run of its otherwise part
 chosen-by : (chosen : Parts) (b : Behind) (r : Rest) (s : State) → ((t : State) → follow b t ≡ onward r t) → ((t : State) → follow_past true b t ≡ (run_otherwise r.otherwise t >>= onward r)) → follow (Closes ThenMark chosen b) s ≡ (choose (run chosen) (run_otherwise r.otherwise) s >>= onward r)
 unfolding follow
 chosen-by chosen b r s p q =
@@ -56,7 +56,7 @@ by_conditional condition _ _ (is_conditional chosen behind r d) s =
     ∙ bind-bind (run condition s) (choose (run chosen) (run_otherwise r.otherwise)) (onward r)
     ∙ sym (bind-same (run condition s) _ _ (λ t. chosen-by chosen behind r t (follow-rest behind r d) (past-rest behind r d)))
 
--- a `%?` does nothing by itself
+-- a `%?` does nothing
 pub run-If : (a : Ahead) (s : State) → HasEnd (before If a).behind → run_ahead (before If a) s ≡ run_ahead a s
 unfolding run_ahead
 run-If a s h = by_conditional a.parts a.behind _ (conditional-is a.parts a.behind h) s
@@ -71,12 +71,12 @@ act-goes_on action a s t e = run-Act action a s ∙ ap (λ m. m >>= run_ahead a)
 pub act-fails : (action : Action) (a : Ahead) (s : State) (fault : ParmFault) → act action s ≡ Err fault → run_ahead (before (ActCode action) a) s ≡ Err fault
 act-fails action a s fault e = run-Act action a s ∙ ap (λ m. m >>= run_ahead a) e
 
--- a `%;` does nothing by itself
+-- a `%;` does nothing
 pub run-End : (a : Ahead) (s : State) → run_ahead (before (Of EndMark) a) s ≡ run_ahead a s
 unfolding run_ahead run follow
 run-End a s = refl
 
--- passing over is going on after what is passed over
+-- skipping parts is going on after them
 run_ahead-past : (to_else : Bool) (b : Behind) (s : State) → run_ahead (past to_else zero b) s ≡ follow_past to_else b s
 unfolding run_ahead run follow
 run_ahead-past to_else Ends s = refl
@@ -90,12 +90,12 @@ pub run-Else : (a : Ahead) (s : State) → run_ahead (before (Of ElseMark) a) s 
 unfolding run_ahead run follow
 run-Else a s = sym (run_ahead-past false a.behind s)
 
--- a `%t` takes the top of the stack
+-- a `%t` pops the stack
 run-Then : (a : Ahead) (s : State) → run_ahead (before (Of ThenMark) a) s ≡ choose (run_ahead a) (follow_past true a.behind) s
 unfolding run_ahead run follow
 run-Then a s = refl
 
--- a `%t` above another number than 0, above 0, and above nothing that can be tested
+-- a `%t` with a number other than 0 on top, with 0, and with nothing that can be tested
 pub then-holds : (a : Ahead) (s t : State) → pop_test s.stack s ≡ Ok (true, t) → run_ahead (before (Of ThenMark) a) s ≡ run_ahead a t
 then-holds a s t e = run-Then a s ∙ ap (λ m. m >>= λ x. cond x.0 (run_ahead a x.1) (follow_past true a.behind x.1)) e
 
@@ -108,11 +108,11 @@ then-skips a s t e =
 pub then-fails : (a : Ahead) (s : State) (fault : ParmFault) → pop_test s.stack s ≡ Err fault → run_ahead (before (Of ThenMark) a) s ≡ Err fault
 then-fails a s fault e = run-Then a s ∙ ap (λ m. m >>= λ x. cond x.0 (run_ahead a x.1) (follow_past true a.behind x.1)) e
 
--- after what is passed over
+-- after the skipped parts
 pub passed : (to_else : Bool) (text rest : List ℕ) (s : State) → ahead rest ≡ past to_else zero (ahead text).behind → run_ahead (ahead rest) s ≡ run_ahead (past to_else zero (ahead text).behind) s
 passed to_else text rest s e = ap (λ a. run_ahead a s) e
 
--- judged in the same way, and run in the same way where there is no fault
+-- checked alike, and run alike if there is no fault
 along-same : (p q : Result (Unit {0}) ParmFault) (x y : Result State ParmFault) → p ≡ q → (q ≡ Ok tt → x ≡ y) → (p >>= λ _. x) ≡ (q >>= λ _. y)
 along-same p (Ok u) x y e f = ap (λ r. r >>= λ _. x) e ∙ f refl
 along-same p (Err z) x y e f = ap (λ r. r >>= λ _. x) e
@@ -134,7 +134,7 @@ Fails-first e fault v r (inr p) h = Fails-on e v (judged_behind v r) (judged_beh
 pub judged_ahead-code : (text rest : List ℕ) (code : Code) (n : Branches) (s : State) → 0 < length text → code_at text ≡ Ok (code, rest) → judged_ahead (ahead text) n s ≡ judged_ahead (before code (ahead rest)) n s
 judged_ahead-code text rest code n s some e = ap (λ a. judged_ahead a n s) (ahead-code text rest code some e)
 
--- at the end there is no more to do
+-- at the end nothing is left to do
 nothing-ahead : (n : Branches) (s : State) → judged_ahead (record { parts = Done; behind = Ends }) n s ≡ (judged Ends n >>= λ _. Ok s)
 unfolding run_ahead run follow
 nothing-ahead n s = refl

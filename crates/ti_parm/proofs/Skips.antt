@@ -1,4 +1,4 @@
--- Passing over what is not run.
+-- Skipping parts that aren't run.
 use Rattle.std.proofs.Common.{◌≡◌, ◌<◌, ◌≤◌, ◌+◌, List, length, Ok, arith, ℕ, zero, suc, Bool, true, false, Some, None, refl, sym, ◌∙◌, ap}
 use Rattle.ti_parm.specs.declared.code.Code.{Code}
 use Rattle.ti_parm.specs.declared.code.Code.TheVariants.{Act as ActCode, If, Of}
@@ -21,7 +21,7 @@ past-rest false depth _ _ (goes_on first chosen behind r d) = past-rest false de
 past-conditional : (to_else : Bool) (depth : ℕ) (condition : Parts) (b : Behind) (a : Ahead) → IsConditional condition b a → past to_else (suc depth) b ≡ past to_else depth a.behind
 past-conditional to_else depth condition _ _ (is_conditional chosen behind r d) = past-rest to_else depth behind r d
 
--- the way goes on after a code
+-- the skipping goes on after a code
 pub past-on : (code : Code) (a : Ahead) (depth further : ℕ) (to_else : Bool) → HasEnd (before code a).behind → depth_behind code depth to_else ≡ Some further → past to_else depth (before code a).behind ≡ past to_else further a.behind
 past-on (ActCode action) a depth further to_else h e = let same : depth ≡ further = cc in ap (λ d. past to_else d a.behind) same
 past-on If a depth further to_else h e =
@@ -35,7 +35,7 @@ past-on (Of ElseMark) a (suc depth) further false h e = let same : suc depth ≡
 past-on (Of EndMark) a zero further to_else h e = cc
 past-on (Of EndMark) a (suc depth) further to_else h e = let same : depth ≡ further = cc in ap (λ d. past to_else d a.behind) same
 
--- the way ends after a code
+-- the skipping ends after a code
 pub past-end : (code : Code) (a : Ahead) (depth : ℕ) (to_else : Bool) → depth_behind code depth to_else ≡ None → past to_else depth (before code a).behind ≡ a
 past-end (ActCode action) a depth to_else e = cc
 past-end If a depth to_else e = cc
@@ -46,7 +46,7 @@ past-end (Of ElseMark) a (suc depth) to_else e = cc
 past-end (Of EndMark) a zero to_else e = refl
 past-end (Of EndMark) a (suc depth) to_else e = cc
 
--- the same, of texts
+-- the skipping goes on after a code, in terms of texts
 pub skip-on : (text rest : List ℕ) (code : Code) (depth further : ℕ) (to_else : Bool) → 0 < length text → code_at text ≡ Ok (code, rest) → HasEnd (ahead text).behind → depth_behind code depth to_else ≡ Some further → past to_else depth (ahead text).behind ≡ past to_else further (ahead rest).behind
 skip-on text rest code depth further to_else some e h p =
     ap (λ a. past to_else depth a.behind) (ahead-code text rest code some e)

@@ -1,4 +1,4 @@
--- A tree is read as it is written, and what is read is written so.
+-- Reading a tree and spelling it are inverse to each other.
 use Rattle.std.proofs.Common.{◌≡◌, ◌<◌, ℕ, zero, suc, ℤ, Bool, true, false, cond, ◌==◌, List, [], ◌∷◌, ◌++◌, length, Result, Ok, Err, IfOk, Option, Some, None, refl, ap, sym, ◌∙◌, append_assoc, append-nil, arith}
 use Rattle.ti_parm.specs.declared.code.Action.{Action}
 use Rattle.ti_parm.specs.declared.code.Action.TheVariants.{Literal, Operate, Change, Length, Increment, Character}
@@ -61,7 +61,7 @@ ahead-If more = ahead-of (37 ∷ 63 ∷ []) IfCode (short 63 IfCode refl) more
 abbrev IsRestAt : List ℕ → Otherwise → List ℕ → Type 0
 IsRestAt text other more = (b : Behind) × (ahead text ≡ record { parts = Done; behind = b }) × (rest_of b ≡ Ok (record { otherwise = other; parts = (ahead more).parts; behind = (ahead more).behind }))
 
--- parts after which a mark closes them
+-- parts closed by a mark
 before-mark : (text : List ℕ) (parts : Parts) (mark : Mark) (more : List ℕ) → ahead (text ++ (37 ∷ mark_byte mark ∷ more)) ≡ with_parts parts (ahead (37 ∷ mark_byte mark ∷ more)) → ahead (text ++ (37 ∷ mark_byte mark ∷ more)) ≡ record { parts = parts; behind = Closes mark (ahead more).parts (ahead more).behind }
 before-mark text parts mark more e = e ∙ ap (with_parts parts) (ahead-mark mark more) ∙ ap (λ p. record { parts = p; behind = Closes mark (ahead more).parts (ahead more).behind }) (join-Done parts)
 
@@ -121,7 +121,7 @@ syntax-read string parts h =
 
 -- what is read is written so
 
--- what lies ahead is written so; after a fault there may be anything
+-- the text ahead spells this tree; after a fault any text may follow
 data Trails : List ℕ → Behind → Type 0 where
   ended : Trails [] Ends
   faulty : (text : List ℕ) (fault : ParmFault) → Trails text (Breaks fault)
@@ -142,7 +142,7 @@ some-same e = cc
 equal : (b k : ℕ) → (b == k) ≡ true → b ≡ k
 equal b k e = grind (arith, e)
 
--- the byte of a code of two bytes
+-- the second byte of an operator's code
 abbrev operator_byte : Operator → ℕ
 operator_byte Add = 43
 operator_byte Subtract = 45
@@ -194,7 +194,7 @@ If-bytes _ (short b _ h) = ap (λ k. 37 ∷ k ∷ []) (short-back b IfCode h)
 mark-bytes : (front : List ℕ) (mark : Mark) → IsCode front (MarkCode mark) → front ≡ 37 ∷ mark_byte mark ∷ []
 mark-bytes _ mark (short b _ h) = ap (λ k. 37 ∷ k ∷ []) (short-back b (MarkCode mark) h)
 
--- the rest of a conditional, as it is written
+-- the spelling of the rest of a conditional
 abbrev IsRestOf : List ℕ → Rest → Type 0
 IsRestOf text r = (o : List ℕ) × (f : List ℕ) × (k : List ℕ) × (text ≡ o ++ (f ++ k)) × IsOtherwise o r.otherwise × Spells f r.parts × Trails k r.behind
 

@@ -1,4 +1,4 @@
--- Leaving out delays one after the other.
+-- Removing delays one after the other.
 use Rattle.std.proofs.Common.{◌≡◌, ℕ, zero, suc, ◌<◌, ◌≤◌, Bool, true, false, cond, ◌&&◌, ◌==◌, List, [], ◌∷◌, ◌++◌, length, drop, get_or, Option, Some, None, IfSome, refl, sym, ap, ◌∙◌, append_assoc, arith, ◌-◌, length-append, length-drop, subst, take, set, ◌+◌, append-nil}
 use Rattle.std.proofs.Math.Seq.{drop-append_seam}
 use Rattle.std.proofs.lemmas.List.{drop_more, drop-set-lt, take-append-drop, take_more_set}
@@ -89,7 +89,7 @@ pub strip-undelayed : (text : List ℕ) → HasNoOpening text → strip text ≡
 unfolding strip
 strip-undelayed text none = strip_in-undelayed (length text) text (omega arith) none
 
--- what follows a delay is an end of the text
+-- the rest after a delay is a suffix of the text
 record IsEndOf (text rest : List ℕ) : Type 0 where
   front : List ℕ
   is : text ≡ front ++ rest
@@ -144,17 +144,17 @@ dropped text rest e =
     let count : length text - length rest ≡ length e.front = omega (arith, ap length e.is, length-append e.front rest) in
     ap (λ n. drop n text) count ∙ (ap (drop (length e.front)) e.is ∙ drop-append_seam e.front rest)
 
--- what follows a delay that begins at a place
+-- the rest after a delay that begins at a place
 pub delay-dropped : (bytes : List ℕ) (at : ℕ) (rest : List ℕ) → behind_delay (drop at bytes) ≡ Some rest → drop (length bytes - length rest) bytes ≡ rest
 delay-dropped bytes at rest e =
     let behind : IsEndOf bytes (drop at bytes) = record { front = take at bytes; is = sym (take-append-drop at bytes) } in
     dropped bytes rest (end-of-end bytes (drop at bytes) rest behind (subst (λ o. IfSome o (IsEndOf (drop at bytes))) e (delay-end (drop at bytes))))
 
--- a delay is passed over
+-- a delay is skipped
 pub strip-past : (bytes : List ℕ) (at end : ℕ) → at < length bytes → behind_delay (drop at bytes) ≡ Some (drop end bytes) → strip (drop end bytes) ≡ strip (drop at bytes)
 strip-past bytes at end some e = sym (strip-delay (drop at bytes) (drop end bytes) (omega (arith, length-drop at bytes)) e)
 
--- a byte that begins no delay is kept, at a place that was passed
+-- a byte that doesn't begin a delay is kept, at a place already passed
 pub strip-kept : (bytes : List ℕ) (kept read b : ℕ) → kept ≤ read → read < length bytes → b ≡ get_or bytes read b → behind_delay (drop read bytes) ≡ None → take (kept + 1) (set bytes kept b) ++ strip (drop (read + 1) (set bytes kept b)) ≡ take kept bytes ++ strip (drop read bytes)
 strip-kept bytes kept read b ordered some is none =
     let cut : drop read bytes ≡ b ∷ drop (read + 1) bytes = drop_more bytes read b some ∙ ap (λ x. x ∷ drop (read + 1) bytes) (sym is) in

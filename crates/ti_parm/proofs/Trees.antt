@@ -1,4 +1,4 @@
--- What lies ahead of a code, and what lies ahead after it.
+-- The tree from a code on, and the tree after it.
 use Rattle.std.proofs.Common.{◌≡◌, ◌≢◌, ℕ, zero, suc, ◌<◌, ◌≤◌, List, [], ◌∷◌, length, Result, Ok, Err, IfOk, refl, sym, ◌∙◌, ap, arith}
 use Rattle.std.proofs.lemmas.Result.{IfOk-at_ok}
 use Rattle.ti_parm.specs.declared.code.Action.TheVariants.{Literal}
@@ -17,7 +17,7 @@ read_before-same : (f g : List ℕ → Ahead) (n : ℕ) (r : Result (Code × Lis
 read_before-same f g n (Ok x) h same = ap (before x.0) (same x.1 h)
 read_before-same f g n (Err e) h same = refl
 
--- any number that is large enough shows the same ahead
+-- every sufficiently large bound gives the same tree
 ahead_in-enough : (n m : ℕ) (text : List ℕ) → length text ≤ n → length text ≤ m → ahead_in n text ≡ ahead_in m text
 ahead_in-enough n m [] p q = unfold ahead_in in refl
 ahead_in-enough zero m (b ∷ text) p q = absurd (omega arith)

@@ -22,17 +22,17 @@ use Rattle.ti_parm.specs.declared.fault.ParmFault.TheVariants.{BadCode}
 abbrev pub is_digit : ℕ → Bool
 is_digit b = nat_le 48 b && nat_le b 57
 
--- the value of the digit that a text begins with, and what follows it
+-- the value of the digit that a text begins with, and the rest
 abbrev pub digit_at : List ℕ → Option (ℕ × List ℕ)
 digit_at [] = None
 digit_at (b ∷ rest) = cond (is_digit b) (Some (b - 48, rest)) None
 
--- the number that a text begins with, after digits whose number is n
+-- the number that a text begins with, if digits before it make n
 abbrev pub number_on : ℕ → List ℕ → ℕ
 number_on n [] = n
 number_on n (b ∷ rest) = cond (is_digit b) (number_on (10 * n + (b - 48)) rest) n
 
--- what follows the digits that a text begins with
+-- the rest after the digits that a text begins with
 abbrev pub behind_digits : List ℕ → List ℕ
 behind_digits [] = []
 behind_digits (b ∷ rest) = cond (is_digit b) (behind_digits rest) (b ∷ rest)
@@ -81,17 +81,17 @@ with_flag b f =
 abbrev pub no_flags : Flags
 no_flags = record { left = false; plus = false; alternate = false; zero = false; space = false }
 
--- the flags with the one that a text begins with, and what follows it
+-- the flags with the one that a text begins with, and the rest
 abbrev pub flag_at : Flags → List ℕ → Option (Flags × List ℕ)
 flag_at f [] = None
 flag_at f (b ∷ rest) = cond (is_flag b) (Some (with_flag b f, rest)) None
 
--- the flags that a text begins with, after others
+-- the flags that a text begins with, added to others
 abbrev pub flags_on : Flags → List ℕ → Flags
 flags_on f [] = f
 flags_on f (b ∷ rest) = cond (is_flag b) (flags_on (with_flag b f) rest) f
 
--- what follows the flags that a text begins with
+-- the rest after the flags that a text begins with
 abbrev pub behind_flags : List ℕ → List ℕ
 behind_flags [] = []
 behind_flags (b ∷ rest) = cond (is_flag b) (behind_flags rest) (b ∷ rest)
@@ -125,7 +125,7 @@ abbrev pub finished : Flags → ℕ → Option ℕ → Conversion → Option For
 finished f width precision kind =
     cond (nat_le width 255 && is_byte precision) (Some (format_of f width precision kind)) None
 
--- the code of a format
+-- a format as a code
 abbrev pub as_code : Format → Code
 as_code format = Act (Show format)
 
@@ -151,15 +151,15 @@ abbrev pub behind_precision : List ℕ → List ℕ
 behind_precision [] = []
 behind_precision (b ∷ rest) = cond (b == 46) (behind_digits rest) (b ∷ rest)
 
--- a format after its `%` and `:`: flags, a width, perhaps `.` and a precision, and a conversion; width
--- and precision are at most 255
+-- A format after its `%` and `:`: flags, a width, perhaps `.` and a precision, and a conversion. Width and precision
+-- are at most 255.
 abbrev pub format_code : List ℕ → Read
 format_code text =
     let digits = behind_flags text in
     let point = behind_digits digits in
     conversion_code (flags_on no_flags text) (number_on 0 digits) (precision_at point) (behind_precision point)
 
--- where no code of two bytes stands there is a format, whose first flag is then neither `-` nor `+`
+-- text that isn't a code of two bytes is a format, whose first flag is then neither `-` nor `+`
 abbrev pub read_short : Option Code → ℕ → List ℕ → Read
 read_short None b rest = format_code (b ∷ rest)
 read_short (Some code) b rest = Ok (code, rest)
@@ -169,7 +169,7 @@ abbrev pub parameter_code : List ℕ → Read
 parameter_code [] = Err BadCode
 parameter_code (b ∷ rest) = cond (nat_le 49 b && nat_le b 57) (Ok (Act (Parameter (b - 49)), rest)) (Err BadCode)
 
--- a letter: `a` to `z` for a dynamic variable, `A` to `Z` for a static one
+-- a variable by its letter: `a` to `z` are dynamic, `A` to `Z` static
 abbrev pub variable : ℕ → Option Variable
 variable b =
     cond (nat_le 97 b && nat_le b 122) (Some (Dynamic (b - 97)))
@@ -194,7 +194,7 @@ abbrev pub read_number : ℕ → List ℕ → Read
 read_number n [] = Err BadCode
 read_number n (b ∷ rest) = cond (b == 125 && nat_le n 2147483647) (Ok (Act (Push (pos n)), rest)) (Err BadCode)
 
--- after `%{`: one digit at least
+-- after `%{`: at least one digit
 abbrev pub number_code : List ℕ → Read
 number_code [] = Err BadCode
 number_code (b ∷ rest) =
@@ -212,7 +212,7 @@ percent_code (b ∷ rest) =
     (cond (b == 58) (format_code rest)
     (read_short (short_code b) b rest))))))
 
--- the code at the front of a text, and what follows it: a byte that is no `%` stands for itself
+-- the first code of a text, and the rest; a byte other than `%` is written as it is
 unfoldable pub code_at : List ℕ → Read
 code_at [] = Err BadCode
 code_at (b ∷ rest) = cond (b == 37) (percent_code rest) (Ok (Act (Literal b), rest))

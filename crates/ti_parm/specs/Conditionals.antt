@@ -1,4 +1,4 @@
--- (Serves the code alone.) The shape of conditionals, one code after the other.
+-- (Serves the code alone.) The shape of conditionals, code by code.
 use Rattle.std.specs.Prelude.{List, [], ◌∷◌, Result, Ok, Err, Option, Some, None}
 use Rattle.ti_parm.specs.Fault.{◌>>=◌}
 use Rattle.ti_parm.specs.declared.code.Code.{Code}
@@ -40,7 +40,7 @@ nest_behind (Act action) branches = Ok branches
 nest_behind If branches = Ok (Condition ∷ branches)
 nest_behind (Of mark) branches = nest_behind_mark mark branches
 
--- whether what comes after a place in these conditionals ends them all, and ends well
+-- whether the codes after a place in these conditionals end all of them, without a fault
 unfoldable pub judged : Behind → Branches → Result (Unit {0}) ParmFault
 judged Ends [] = Ok tt
 judged Ends (branch ∷ outer) = Err BadNest

@@ -1,4 +1,4 @@
--- Delays in what is sent (terminfo(5), "Delays and Padding").
+-- Delays in the bytes sent (terminfo(5), "Delays and Padding").
 use Rattle.std.specs.Prelude.{◌≡◌, ℕ, zero, suc, ◌&&◌, ◌||◌, ◌==◌, Bool, cond, List, [], ◌∷◌, length, Option, Some}
 use Rattle.std.specs.Prelude.{None}
 use Rattle.ti_parm.specs.Codes.{behind_digits, is_digit}
@@ -11,7 +11,7 @@ abbrev pub behind_mark : List ℕ → Option (List ℕ)
 behind_mark [] = None
 behind_mark (b ∷ rest) = cond (is_mark b) (Some rest) None
 
--- after the digits: any number of `*` and `/`, then `>`; what follows it
+-- the rest after any number of `*` and `/`, then `>`, which follow the digits
 abbrev pub behind_marks : List ℕ → Option (List ℕ)
 behind_marks [] = None
 behind_marks (b ∷ rest) = cond (is_mark b) (behind_marks rest) (cond (b == 62) (Some rest) None)
@@ -30,8 +30,8 @@ abbrev pub behind_opening : List ℕ → Option (List ℕ)
 behind_opening [] = None
 behind_opening (b ∷ rest) = cond (is_digit b) (behind_number (behind_digits rest)) None
 
--- what follows the delay that a text begins with, if it begins with one: `$<`, one digit or more,
--- perhaps `.` and one digit, any number of `*` and `/`, and `>`
+-- the rest after the delay that a text begins with, if it begins with one: `$<`, one digit or more, perhaps `.` and
+-- one digit, any number of `*` and `/`, and `>`
 abbrev pub behind_delay : List ℕ → Option (List ℕ)
 behind_delay [] = None
 behind_delay (b ∷ []) = None
@@ -41,13 +41,13 @@ abbrev pub strip_first : (List ℕ → List ℕ) → ℕ → List ℕ → Option
 strip_first further b rest None = b ∷ further rest
 strip_first further b rest (Some behind) = further behind
 
--- no `$<`
+-- the text has no `$<`
 abbrev pub HasNoOpening : List ℕ → Type 0
 HasNoOpening [] = Unit {0}
 HasNoOpening (b ∷ []) = Unit {0}
 HasNoOpening (b ∷ c ∷ rest) = ((b ≡ 36) → (c ≡ 60) → ⊥) × HasNoOpening (c ∷ rest)
 
--- a text of at most n bytes without its delays, from left to right
+-- a text of at most n bytes without its delays, removed from left to right
 unfoldable pub strip_in : ℕ → List ℕ → List ℕ
 strip_in n [] = []
 strip_in zero (b ∷ rest) = []

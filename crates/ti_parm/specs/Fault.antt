@@ -1,29 +1,29 @@
--- Answers that may be faults.
+-- Results that may be faults.
 use Rattle.std.specs.Prelude.{◌≡◌, ℕ, List, ◌++◌, Result, Ok, Err}
 use Rattle.ti_parm.specs.declared.fault.ParmFault.{ParmFault}
 use Rattle.ti_parm.specs.declared.fault.ParmFault.TheVariants.{NoMemory}
 
--- what f makes of it, or its fault
+-- f of the value, or the fault
 abbrev pub ◌>>=◌ : {A B : Type 0} → Result A ParmFault → (A → Result B ParmFault) → Result B ParmFault
 Ok x >>= f = f x
 Err e >>= f = Err e
 
 infixl 10 ◌>>=◌
--- a call fails as the meaning does; that memory ran out says nothing of the meaning
+-- a call fails as the meaning does; out of memory says nothing of the meaning
 abbrev pub FailsBy : {S : Type 0} → ParmFault → Result S ParmFault → Type 0
 FailsBy NoMemory meant = Unit {0}
 FailsBy e meant = meant ≡ Err e
 
--- a call answers what is meant, seen through the view, or memory ran out
+-- a call returns the meaning, seen through the view, or memory ran out
 abbrev pub Gives : {R S : Type 0} → (R → S) → Result R ParmFault → Result S ParmFault → Type 0
 Gives view (Ok x) meant = meant ≡ Ok (view x)
 Gives view (Err e) meant = FailsBy e meant
 
--- a call answers what is meant, seen through the view
+-- a call returns the meaning, seen through the view
 abbrev pub Answers : {R S : Type 0} → (R → S) → Result R ParmFault → Result S ParmFault → Type 0
 Answers view (Ok x) meant = meant ≡ Ok (view x)
 Answers view (Err e) meant = meant ≡ Err e
 
--- the new bytes are the old ones and more
+-- the new bytes are the old ones, followed by more
 abbrev pub Extends : List ℕ → List ℕ → Type 0
 Extends old new = (more : List ℕ) × (new ≡ old ++ more)

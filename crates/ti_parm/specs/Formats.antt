@@ -1,4 +1,4 @@
--- How formats show numbers and texts, as C's printf shows an int and a string (X/Open, printf).
+-- Numbers and texts in a format, as C's printf shows an int and a string (X/Open, printf).
 use Rattle.std.specs.Prelude.{ℕ, ℤ, pos, negsuc, ◌+◌, ◌-◌, ◌&&◌, Bool, false, true, cond, not, List, [], ◌∷◌, ◌++◌}
 use Rattle.std.specs.Prelude.{length, take, replicate, Option, Some, None, Result, Ok, Err, ◌==◌, unsigned_abs}
 use Rattle.std.specs.Fmt.{digits}
@@ -30,7 +30,7 @@ magnitude LowerHex n = cast_unsigned w32 n
 magnitude UpperHex n = cast_unsigned w32 n
 magnitude TextConversion n = unsigned_abs n
 
--- the precision, the least number of digits
+-- the least number of digits, which is the precision
 abbrev pub least_digits : Option ℕ → ℕ
 least_digits None = 1
 least_digits (Some p) = p
@@ -44,7 +44,7 @@ abbrev pub digits_shown : Format → ℕ → List ℕ
 digits_shown f m =
     cond (m == 0 && least_digits f.precision == 0) [] (digits (base_of f.conversion) (is_upper f.conversion) m)
 
--- zeros make up the precision
+-- the zeros that fill up the precision
 abbrev pub zeros_shown : Format → ℕ → ℕ
 zeros_shown f m = least_digits f.precision - length (digits_shown f m)
 
@@ -56,8 +56,8 @@ abbrev pub sign_of : Format → ℤ → List ℕ
 sign_of f (negsuc n) = 45 ∷ []
 sign_of f (pos n) = cond f.plus (43 ∷ []) (cond f.space (32 ∷ []) [])
 
--- what stands before the digits: a sign, or under `#` a `0` unless the first digit is one, or `0x`, `0X`
--- unless the value is 0
+-- the bytes before the digits: a sign, or under `#` a `0` unless the first digit is one, or `0x` or `0X` unless the
+-- value is 0
 abbrev pub prefix_of : Conversion → Format → ℤ → List ℕ
 prefix_of Decimal f n = sign_of f n
 prefix_of Octal f n =
@@ -72,7 +72,7 @@ abbrev pub laid_out : ℕ → List ℕ → ℕ → List ℕ → ℕ → List ℕ
 laid_out before prefix zeros text behind =
     replicate before 32 ++ prefix ++ replicate zeros 48 ++ text ++ replicate behind 32
 
--- padded to the width: on the right under `-`, else by zeros under `0` if no precision stands, else on
+-- padded to the width: on the right under `-`, otherwise with zeros under `0` if there is no precision, otherwise on
 -- the left
 abbrev pub padded : Format → List ℕ → ℕ → List ℕ → List ℕ
 padded f prefix zeros text =
@@ -81,18 +81,18 @@ padded f prefix zeros text =
     (cond (f.zero && has_none f.precision) (laid_out 0 prefix (zeros + room) text 0)
     (laid_out room prefix zeros text 0))
 
--- a number, shown
+-- a number in a format
 unfoldable pub number_shown : Format → ℤ → List ℕ
 number_shown f n =
     padded f (prefix_of f.conversion f n) (zeros_shown f (magnitude f.conversion n))
     (digits_shown f (magnitude f.conversion n))
 
--- the precision cuts a text
+-- a text cut to the precision
 abbrev pub cut : Option ℕ → List ℕ → List ℕ
 cut None text = text
 cut (Some p) text = take p text
 
--- a text, shown: of the flags only `-` counts
+-- a text in a format; of the flags only `-` counts
 unfoldable pub text_shown : Format → List ℕ → List ℕ
 text_shown f text =
     let shown = cut f.precision text in

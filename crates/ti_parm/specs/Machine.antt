@@ -1,4 +1,4 @@
--- The state that a machine and the bytes written are.
+-- The state made up of a machine and the bytes written.
 use Rattle.std.specs.Prelude.{ℕ, List}
 use Rattle.ti_parm.specs.Meaning.{State}
 use Rattle.ti_parm.specs.declared.machine.Machine.{Machine}

@@ -1,4 +1,4 @@
--- How codes and trees are written (terminfo(5), "Parameterized Strings").
+-- The spelling of codes and trees (terminfo(5), "Parameterized Strings").
 use Rattle.std.specs.Prelude.{◌≡◌, ◌≢◌, ◌≤◌, ◌-◌, ℕ, pos, ℤ, true, List, [], ◌∷◌, ◌++◌, Result, Err, Option, Some, None}
 use Rattle.ti_parm.specs.declared.code.Action.{Action}
 use Rattle.ti_parm.specs.declared.code.Action.TheVariants.{Literal, Push, Parameter, Set, Get, Show}
@@ -22,7 +22,7 @@ abbrev pub AreFlags : List ℕ → Type 0
 AreFlags [] = Unit {0}
 AreFlags (b ∷ rest) = (is_flag b ≡ true) × AreFlags rest
 
--- a width: no digits, or digits of which the first is no `0`, since that is a flag
+-- a width: no digits, or digits that don't begin with `0`, since that is a flag
 abbrev pub IsWidth : List ℕ → Type 0
 IsWidth [] = Unit {0}
 IsWidth (b ∷ rest) = (is_digit b ≡ true) × (b ≢ 48) × AreDigits rest
@@ -44,7 +44,7 @@ abbrev pub IsBare : List ℕ → Type 0
 IsBare [] = ⊥
 IsBare (b ∷ rest) = (b ≢ 45) × (b ≢ 43)
 
--- a code is written so
+-- the bytes spell the code
 pub data IsCode : List ℕ → Code → Type 0 where
   literal : (b : ℕ) → b ≢ 37 → IsCode (b ∷ []) (ActCode (Literal b))
   short : (b : ℕ) (code : Code) → short_code b ≡ Some code → IsCode (37 ∷ b ∷ []) code
@@ -58,7 +58,7 @@ pub data IsCode : List ℕ → Code → Type 0 where
   bare : (text : List ℕ) (f : Format) → IsFormat text f → IsBare text → IsCode (37 ∷ text) (ActCode (Show f))
 
 mutual
-  -- a tree is written so
+  -- the bytes spell the tree
   pub data IsPart : List ℕ → Part → Type 0 where
     act : (text : List ℕ) (action : Action) → IsCode text (ActCode action) → IsPart text (Act action)
     conditional : (c d o : List ℕ) (condition chosen : Parts) (otherwise : Otherwise) → Spells c condition
@@ -77,7 +77,7 @@ mutual
     else_if : (c d o : List ℕ) (condition chosen : Parts) (more : Otherwise) → Spells c condition → Spells d chosen
         → IsOtherwise o more → IsOtherwise (37 ∷ 101 ∷ c ++ (37 ∷ 116 ∷ d ++ o)) (ElseIf condition chosen more)
 
--- what a string answers: what the tree that it spells does, or, if it spells none, its syntax's first fault
+-- the answer of a string: that of the tree that it spells or, if it spells none, the first fault of its syntax
 pub data IsAnswer (string : List ℕ) (given : List Value) (statics : List ℤ) : Result State ParmFault → Type 0 where
   runs : (parts : Parts) → Spells string parts → IsAnswer string given statics (run parts (start_of given statics))
   unread : (fault : ParmFault) → ((parts : Parts) → Spells string parts → ⊥) → syntax string ≡ Err fault

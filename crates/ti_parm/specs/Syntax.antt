@@ -11,7 +11,7 @@ use Rattle.ti_parm.specs.declared.fault.ParmFault.{ParmFault}
 use Rattle.ti_parm.specs.declared.fault.ParmFault.TheVariants.{BadNest, BadCode}
 
 mutual
-  -- a code that acts by itself, or `%? condition %t chosen` and what else there is
+  -- a code that acts by itself, or `%? condition %t chosen` and the rest of the conditional
   pub data Part : Type 0 where
     Act : Action → Part
     Conditional : Parts → Parts → Otherwise → Part
@@ -21,20 +21,20 @@ mutual
     Done : Parts
     Next : Part → Parts → Parts
 
-  -- `%;`, or `%e parts %;`, or `%e condition %t chosen` and what else there is
+  -- `%;`, or `%e parts %;`, or `%e condition %t chosen` and the rest of the conditional
   pub data Otherwise : Type 0 where
     Nothing : Otherwise
     Else : Parts → Otherwise
     ElseIf : Parts → Parts → Otherwise → Otherwise
 
--- what comes after the parts that begin at a place: the string's end, or a fault, or a mark of a
--- conditional that began before the place, the parts after the mark, and what comes after those
+-- the continuation after the parts that begin at a place: the string's end, or a fault, or a mark of a conditional
+-- that began before the place, the parts after the mark, and their continuation
 pub data Behind : Type 0 where
   Ends : Behind
   Breaks : ParmFault → Behind
   Closes : Mark → Parts → Behind → Behind
 
--- what lies ahead of a place in a string: the parts that begin there, and what comes after them
+-- the string from a place on: the parts that begin there, and their continuation
 pub record Ahead : Type 0 where
   pub parts : Parts
   pub behind : Behind
@@ -42,7 +42,7 @@ pub record Ahead : Type 0 where
 abbrev pub broken : ParmFault → Ahead
 broken fault = record { parts = Done; behind = Breaks fault }
 
--- what stands between a conditional's chosen parts and its end, and what lies ahead of the end
+-- the codes between a conditional's chosen parts and its end, and those after the end
 pub record Rest : Type 0 where
   pub otherwise : Otherwise
   pub parts : Parts
@@ -69,7 +69,7 @@ closed condition chosen (Ok r) =
     record { parts = Next (Conditional condition chosen r.otherwise) r.parts; behind = r.behind }
 closed condition chosen (Err fault) = broken fault
 
--- what lies ahead of a `%?`, by what lies ahead after it
+-- the string from a `%?` on, given the string after it
 abbrev pub conditional : Parts → Behind → Ahead
 conditional condition Ends = broken BadNest
 conditional condition (Breaks fault) = broken fault
@@ -77,7 +77,7 @@ conditional condition (Closes ThenMark chosen behind) = closed condition chosen 
 conditional condition (Closes ElseMark parts behind) = broken BadNest
 conditional condition (Closes EndMark parts behind) = broken BadNest
 
--- what lies ahead of a code, by what lies ahead after it
+-- the string from a code on, given the string after it
 abbrev pub before : Code → Ahead → Ahead
 before (ActCode action) a = record { parts = Next (Act action) a.parts; behind = a.behind }
 before IfCode a = conditional a.parts a.behind
@@ -87,7 +87,7 @@ abbrev pub read_before : (List ℕ → Ahead) → Result (Code × List ℕ) Parm
 read_before further (Ok x) = before x.0 (further x.1)
 read_before further (Err fault) = broken fault
 
--- what lies ahead in a text of at most n bytes
+-- the tree of a text of at most n bytes, from its start on
 unfoldable pub ahead_in : ℕ → List ℕ → Ahead
 ahead_in n [] = record { parts = Done; behind = Ends }
 ahead_in zero (b ∷ text) = broken BadCode
@@ -96,7 +96,7 @@ ahead_in (suc n) (b ∷ text) = read_before (ahead_in n) (code_at (b ∷ text))
 abbrev pub ahead : List ℕ → Ahead
 ahead text = ahead_in (length text) text
 
--- no conditional began before the string does
+-- no conditional is open at the string's start
 abbrev pub whole : Parts → Behind → Result Parts ParmFault
 whole parts Ends = Ok parts
 whole parts (Breaks fault) = Err fault
@@ -110,7 +110,7 @@ abbrev pub without_tree : Result Parts ParmFault → Result (Unit {0}) ParmFault
 without_tree (Ok parts) = Ok tt
 without_tree (Err e) = Err e
 
--- whether the syntax of the string has a fault, and which is the first
+-- whether the syntax of the string has a fault, and the first one
 abbrev pub verdict : List ℕ → Result (Unit {0}) ParmFault
 verdict string = without_tree (syntax string)
 
@@ -118,12 +118,12 @@ verdict string = without_tree (syntax string)
 abbrev pub HasSyntax : List ℕ → Type 0
 HasSyntax string = (parts : Parts) × (syntax string ≡ Ok parts)
 
--- no `%`
+-- the text has no `%`
 abbrev pub IsPlain : List ℕ → Type 0
 IsPlain [] = Unit {0}
 IsPlain (b ∷ rest) = (b ≢ 37) × IsPlain rest
 
--- what lies ahead comes to the string's end without a fault
+-- the continuation reaches the string's end without a fault
 abbrev pub HasEnd : Behind → Type 0
 HasEnd Ends = Unit {0}
 HasEnd (Breaks fault) = ⊥

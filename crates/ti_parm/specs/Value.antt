@@ -3,7 +3,7 @@ use Rattle.std.specs.Prelude.{ℕ, ℤ, pos, List, ◌++◌, take, map, replicat
 use Rattle.ti_parm.specs.declared.param.Param.{Param}
 use Rattle.ti_parm.specs.declared.param.Param.TheVariants.{Number as NumberParam, Text as TextParam}
 
--- a number of 32 bits with sign, or a text
+-- a signed number of 32 bits, or a text
 pub data Value : Type 0 where
   Number : ℤ → Value
   Text : List ℕ → Value
@@ -11,7 +11,7 @@ pub data Value : Type 0 where
 abbrev pub Values : Type 0
 Values = List Value
 
--- the value that a parameter hands in
+-- the value of a parameter
 abbrev pub value_of : Param → Value
 value_of (NumberParam n) = Number n
 value_of (TextParam bytes) = Text bytes.now
@@ -19,7 +19,7 @@ value_of (TextParam bytes) = Text bytes.now
 abbrev pub values_of : List Param → List Value
 values_of given = map value_of given
 
--- the parameters of a run: the first nine, and 0 for those that were not handed in
+-- the parameters of a run: the first nine passed, and 0 for those missing
 unfoldable pub nine : List Value → List Value
 nine given = take 9 (given ++ replicate 9 (Number (pos 0)))
 

@@ -8,7 +8,7 @@ use crate::fault::ParmFault;
 use crate::formats::{Format, PLAIN, format_ahead};
 use crate::number::{LARGEST, number};
 
-/// What one code does by itself.
+/// The effect of a code that acts by itself.
 #[derive(Clone, Copy, Debug, PartialEq, Eq)]
 pub enum Action {
     /// Writes a byte.
@@ -21,9 +21,9 @@ pub enum Action {
     Set(Variable),
     /// Pushes a variable.
     Get(Variable),
-    /// Takes two numbers and pushes what an operator makes of them.
+    /// Takes two numbers and pushes the operator's result.
     Operate(Operator),
-    /// Takes a number and pushes what becomes of it.
+    /// Takes a number and pushes the operator's result.
     Change(Unary),
     /// Takes a text and pushes its length.
     Length,
@@ -40,7 +40,7 @@ pub enum Action {
 pub enum Variable {
     /// `a` to `z`, 0 at the start of each expansion.
     Dynamic(u8),
-    /// `A` to `Z`, which last.
+    /// `A` to `Z`, which keep their values from one expansion to the next.
     Static(u8),
 }
 
@@ -71,14 +71,14 @@ pub enum Operator {
     Less,
     /// `%A`: neither is 0
     Both,
-    /// `%O`: not both are 0
+    /// `%O`: at least one isn't 0
     Either,
 }
 
 /// An operator of one operand.
 #[derive(Clone, Copy, Debug, PartialEq, Eq)]
 pub enum Unary {
-    /// `%!`: it is 0
+    /// `%!`: whether it is 0
     Not,
     /// `%~`: each bit inverted
     Complement,
@@ -89,7 +89,7 @@ pub enum Unary {
 pub enum Mark {
     /// `%t`, after a condition.
     Then,
-    /// `%e`, after the parts that are run if the condition holds.
+    /// `%e`, after the parts to run if the condition holds.
     Else,
     /// `%;`, after everything.
     End,
@@ -98,15 +98,15 @@ pub enum Mark {
 /// A code.
 #[derive(Clone, Copy, Debug, PartialEq, Eq)]
 pub enum Code {
-    /// One that acts by itself.
+    /// A code that acts by itself.
     Act(Action),
     /// `%?`, which begins a conditional.
     If,
-    /// A mark of the conditional that was begun last and has not ended.
+    /// A mark of the innermost open conditional.
     Of(Mark),
 }
 
-/// What stands after `%{`.
+/// Reads the code after its `%{`.
 #[inline(always)]
 fn number_behind(text: &[u8]) -> Result<(Code, &[u8]), ParmFault>
     ensures code { Answers (λ x. (x.0, x.1.now)) result (number_code text.now) }
@@ -124,7 +124,7 @@ fn number_behind(text: &[u8]) -> Result<(Code, &[u8]), ParmFault>
     }
 }
 
-/// The variable of a letter.
+/// The variable with this letter.
 #[inline(always)]
 fn variable_of(letter: u8) -> Option<Variable>
     ensures { result ≡ variable letter }
@@ -136,7 +136,7 @@ fn variable_of(letter: u8) -> Option<Variable>
     }
 }
 
-/// The variable whose letter stands at the front, and what follows it.
+/// The variable whose letter `text` begins with, and the rest.
 #[inline(always)]
 fn variable_ahead(text: &[u8]) -> Result<(Variable, &[u8]), ParmFault>
     ensures variable { (f : Variable → Action) →
@@ -152,7 +152,7 @@ fn variable_ahead(text: &[u8]) -> Result<(Variable, &[u8]), ParmFault>
     }
 }
 
-/// The code of two bytes that ends in this one.
+/// The code of `%` and `byte`, if these two are a whole code.
 #[tactic(auto, unfolding(crate::specs::Codes::short_code))]
 #[inline(always)]
 fn short_of(byte: u8) -> Option<Code>
@@ -187,7 +187,7 @@ fn short_of(byte: u8) -> Option<Code>
     Some(code)
 }
 
-/// What stands after `%p`.
+/// Reads the code after its `%p`.
 #[inline(always)]
 fn parameter_behind(text: &[u8]) -> Result<(Code, &[u8]), ParmFault>
     ensures code { Answers (λ x. (x.0, x.1.now)) result (parameter_code text.now) }
@@ -199,7 +199,7 @@ fn parameter_behind(text: &[u8]) -> Result<(Code, &[u8]), ParmFault>
     }
 }
 
-/// What stands after `%'`.
+/// Reads the code after its `%'`.
 #[inline(always)]
 fn character_behind(text: &[u8]) -> Result<(Code, &[u8]), ParmFault>
     ensures code { Answers (λ x. (x.0, x.1.now)) result (character_code text.now) }
@@ -211,7 +211,7 @@ fn character_behind(text: &[u8]) -> Result<(Code, &[u8]), ParmFault>
     }
 }
 
-/// What stands after a `%`.
+/// Reads the code after its `%`.
 #[inline(always)]
 fn behind_percent(text: &[u8]) -> Result<(Code, &[u8]), ParmFault>
     ensures code { Answers (λ x. (x.0, x.1.now)) result (percent_code text.now) }
@@ -239,7 +239,7 @@ fn behind_percent(text: &[u8]) -> Result<(Code, &[u8]), ParmFault>
     }
 }
 
-/// A format, after its `%` and `:`.
+/// Reads a format after its `%` and `:`.
 #[inline(always)]
 fn format_behind(text: &[u8]) -> Result<(Code, &[u8]), ParmFault>
     ensures code { Answers (λ x. (x.0, x.1.now)) result (format_code text.now) }
@@ -249,7 +249,7 @@ fn format_behind(text: &[u8]) -> Result<(Code, &[u8]), ParmFault>
     Ok((Code::Act(Action::Show(format)), rest))
 }
 
-/// The code at the front of a text, and what follows it.
+/// The first code of `text`, which must not be empty, and the rest. Fails with `BadCode` if there is no code.
 #[tactic(auto, unfolding(crate::specs::Codes::code_at))]
 #[inline(always)]
 pub fn next_code(text: &[u8]) -> Result<(Code, &[u8]), ParmFault>

@@ -1,4 +1,4 @@
-//! Delays in what is sent (terminfo(5), "Delays and Padding").
+//! Delays in the bytes sent (terminfo(5), "Delays and Padding").
 ghost use Rattle.std.specs.Prelude.{◌≡◌, ◌<◌, ◌≤◌, ◌++◌, IfNone, IfOk, IfSome, MatchOption, None, Some, drop, length};
 ghost use Rattle.std.specs.Prelude.{take};
 ghost use Rattle.ti_parm.specs.Delays.{behind_delay, behind_mark, behind_marks, behind_number, behind_opening};
@@ -7,7 +7,7 @@ ghost use Rattle.ti_parm.specs.Delays.{behind_tenth, strip};
 use crate::number::number;
 use std::alloc::{AllocError, Global};
 
-/// What follows a `*` or a `/`.
+/// The rest of `text` after a `*` or a `/`.
 fn behind_mark(text: &[u8]) -> Option<&[u8]>
     ensures mark { MatchOption result (behind_mark text.now ≡ None) (λ r. behind_mark text.now ≡ Some r.now) }
     ensures shorter { IfSome result (λ r. length r.now < length text.now) }
@@ -18,7 +18,7 @@ fn behind_mark(text: &[u8]) -> Option<&[u8]>
     }
 }
 
-/// What follows a `>` and the marks before it.
+/// The rest of `text` after marks and a `>`.
 fn behind_marks(text: &[u8]) -> Option<&[u8]>
     ensures marks { MatchOption result (behind_marks text.now ≡ None) (λ r. behind_marks text.now ≡ Some r.now) }
     ensures shorter { IfSome result (λ r. length r.now < length text.now) }
@@ -33,7 +33,7 @@ fn behind_marks(text: &[u8]) -> Option<&[u8]>
     }
 }
 
-/// What follows the end of a delay, from after its `.` on.
+/// The rest of `text` after the delay whose `.` comes before it.
 fn behind_tenth(text: &[u8]) -> Option<&[u8]>
     ensures tenth { MatchOption result (behind_tenth text.now ≡ None) (λ r. behind_tenth text.now ≡ Some r.now) }
     ensures shorter { IfSome result (λ r. length r.now < length text.now) }
@@ -44,7 +44,7 @@ fn behind_tenth(text: &[u8]) -> Option<&[u8]>
     }
 }
 
-/// What follows the end of a delay, from after its first digits on.
+/// The rest of `text` after the delay whose first digits come before it.
 fn behind_number(text: &[u8]) -> Option<&[u8]>
     ensures number { MatchOption result (behind_number text.now ≡ None) (λ r. behind_number text.now ≡ Some r.now) }
     ensures shorter { IfSome result (λ r. length r.now < length text.now) }
@@ -56,7 +56,7 @@ fn behind_number(text: &[u8]) -> Option<&[u8]>
     }
 }
 
-/// What follows the end of a delay, from after its `$<` on.
+/// The rest of `text` after the delay whose `$<` comes before it.
 fn behind_opening(text: &[u8]) -> Option<&[u8]>
     ensures opening { MatchOption result (behind_opening text.now ≡ None) (λ r. behind_opening text.now ≡ Some r.now) }
     ensures shorter { IfSome result (λ r. length r.now < length text.now) }
@@ -70,7 +70,7 @@ fn behind_opening(text: &[u8]) -> Option<&[u8]>
     }
 }
 
-/// What follows the delay that a text begins with, if it begins with one.
+/// The rest of `text` after the delay that it begins with, if it begins with one.
 fn behind_delay(text: &[u8]) -> Option<&[u8]>
     ensures delay { MatchOption result (behind_delay text.now ≡ None) (λ r. behind_delay text.now ≡ Some r.now) }
     ensures shorter { IfSome result (λ r. length r.now < length text.now) }
@@ -81,7 +81,7 @@ fn behind_delay(text: &[u8]) -> Option<&[u8]>
     }
 }
 
-/// The place after the delay that begins at a place, if one begins there.
+/// The place after the delay that begins at the place `at`, if one begins there.
 fn after_delay(bytes: &[u8], at: usize) -> Option<usize>
     requires { at ≤ length bytes.now }
     ensures none { IfNone result (behind_delay (drop at bytes.now) ≡ None) }
@@ -94,7 +94,7 @@ fn after_delay(bytes: &[u8], at: usize) -> Option<usize>
     }
 }
 
-/// Leaves the delays out of the bytes from a place on. It takes no memory.
+/// Removes the delays from the bytes from the place `start` on, which must be in them. Allocates no memory.
 pub fn strip_from(bytes: &mut Vec<u8>, start: usize)
     requires { start ≤ length bytes.old.items }
     ensures { bytes.new.items ≡ take start bytes.old.items ++ strip (drop start bytes.old.items) }
@@ -114,10 +114,10 @@ pub fn strip_from(bytes: &mut Vec<u8>, start: usize)
     bytes.truncate(kept);
 }
 
-/// The bytes without their delays: each `$<`, one digit or more, perhaps `.` and one digit, any number
-/// of `*` and `/`, and `>` is left out, from left to right. What only looks like a delay stays.
+/// A copy of `bytes` without their delays. A delay is `$<`, one digit or more, perhaps `.` and one digit, any number
+/// of `*` and `/`, and `>`; delays are removed from left to right. Text that only looks like one stays.
 ///
-/// The error is that a growth of memory was refused. terminfo(5), "Delays and Padding".
+/// Fails only when out of memory. terminfo(5), "Delays and Padding".
 pub fn strip_delays(alloc: Global, bytes: &[u8]) -> Result<Vec<u8>, AllocError>
     ensures { IfOk result (λ sent. sent.items ≡ strip bytes.now) }
 {

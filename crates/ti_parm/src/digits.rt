@@ -2,10 +2,10 @@
 ghost use Rattle.std.specs.Prelude.{◌≡◌, ◌<◌, ◌≤◌, drop};
 ghost use Rattle.std.specs.Fmt.{digit_glyph, digits};
 
-/// Places for the digits of a number of 32 bits, in base 8 or more.
+/// Room for the digits of a number of 32 bits, in base 8 or more.
 pub const PLACES: usize = 12;
 
-/// The digit for a value.
+/// The digit for a value, which must be below 16.
 fn glyph(value: u32, upper: bool) -> u8
     requires { value < 16 }
     ensures { result ≡ digit_glyph upper value }
@@ -20,7 +20,8 @@ fn glyph(value: u32, upper: bool) -> u8
     }
 }
 
-/// Writes the digits of a number at the end of the buffer, and says where they begin.
+/// Writes the digits of `number` at the end of the buffer, and returns the place where they begin. The base must be
+/// from 8 to 16.
 pub fn digits_at_end(number: u32, base: u32, upper: bool, buffer: &mut [u8; PLACES]) -> usize
     requires { (8 ≤ base) × (base ≤ 16) }
     ensures within { result ≤ 12 }

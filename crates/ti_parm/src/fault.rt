@@ -1,29 +1,29 @@
-//! Why a parameter string is not expanded.
+//! The reasons why a parameter string isn't expanded.
 use thiserror::Error;
 
-/// Why a parameter string is not expanded. `BadNest` and `BadCode` are faults of its syntax, and are
+/// The reason why a parameter string isn't expanded. `BadNest` and `BadCode` are faults of its syntax, and are
 /// reported before any of the others, which are faults of the codes that are run. Each shows as its name.
 #[derive(Clone, Copy, Debug, PartialEq, Eq, Error)]
 pub enum ParmFault {
     /// A code took a value from the empty stack.
     #[error("Underflow")]
     Underflow,
-    /// A conditional has another shape than `%? %t %e %;`, or its marks stand outside one.
+    /// A conditional has another shape than `%? %t %e %;`, or a mark is outside of conditionals.
     #[error("BadNest")]
     BadNest,
-    /// What follows a `%` is no code.
+    /// No code begins with this `%`.
     #[error("BadCode")]
     BadCode,
-    /// A result does not fit 32 bits with sign.
+    /// A result doesn't fit in 32 bits with sign.
     #[error("Overflow")]
     Overflow,
-    /// A number to be written as one byte is not 0 to 255.
+    /// A number to be written as one byte isn't from 0 to 255.
     #[error("BadChar")]
     BadChar,
-    /// A text stands where a number is due, or the reverse.
+    /// A text was given where a number is needed, or a number where a text is needed.
     #[error("WrongKind")]
     WrongKind,
-    /// A growth of memory was refused.
+    /// Out of memory.
     #[error("NoMemory")]
     NoMemory,
 }

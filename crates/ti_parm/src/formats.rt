@@ -1,4 +1,4 @@
-//! Formats, as they stand in a parameter string.
+//! Formats as a parameter string spells them.
 ghost use Rattle.std.specs.Prelude.{◌≡◌, ◌<◌, ◌≤◌, IfOk, IfSome, MatchOption, None, Some, length, min, option_map};
 ghost use Rattle.ti_parm.specs.Codes.{as_code, behind_flags, behind_precision, conversion, finished, flag_at, flags_on};
 ghost use Rattle.ti_parm.specs.Codes.{format_code, no_flags, precision_at};
@@ -7,7 +7,7 @@ ghost use Rattle.ti_parm.specs.Fault.{Answers};
 use crate::fault::ParmFault;
 use crate::number::number;
 
-/// How a format shows a value.
+/// The way in which a format shows a value.
 #[derive(Clone, Copy, Debug, PartialEq, Eq)]
 pub enum Conversion {
     /// `d`
@@ -42,19 +42,19 @@ pub struct Flags {
 pub struct Format {
     /// `-`: pads on the right.
     pub left: bool,
-    /// `+`: shows a sign also before a number that is not negative.
+    /// `+`: shows a sign even before a number that isn't negative.
     pub plus: bool,
     /// `#`: shows the base.
     pub alternate: bool,
     /// `0`: pads with zeros.
     pub zero: bool,
-    /// A space: shows a space before a number that is not negative.
+    /// A space: shows a space before a number that isn't negative.
     pub space: bool,
-    /// The least number of bytes.
+    /// The least number of bytes to show.
     pub width: u8,
-    /// The least number of digits, or of a text the largest number of bytes.
+    /// The least number of digits or, for a text, the greatest number of bytes.
     pub precision: Option<u8>,
-    /// What is shown.
+    /// The kind of value shown, and its base.
     pub conversion: Conversion,
 }
 
@@ -70,7 +70,7 @@ pub const PLAIN: Format = Format {
     conversion: Conversion::Decimal,
 };
 
-/// The flags with the one at the front of a text, and what follows it.
+/// `flags` with the flag that `text` begins with, and the rest.
 fn flag_ahead(flags: Flags, text: &[u8]) -> Option<(Flags, &[u8])>
     ensures flag { MatchOption result (flag_at flags text.now ≡ None) (λ x. flag_at flags text.now ≡
         Some (x.0, x.1.now)) }
@@ -105,7 +105,7 @@ fn flag_ahead(flags: Flags, text: &[u8]) -> Option<(Flags, &[u8])>
     Some((more, rest))
 }
 
-/// The flags that a text begins with, and what follows them.
+/// The flags that `text` begins with, and the rest.
 fn flags_ahead(text: &[u8]) -> (Flags, &[u8])
     ensures flags { result.0 ≡ flags_on no_flags text.now }
     ensures rest { result.1.now ≡ behind_flags text.now }
@@ -126,7 +126,7 @@ fn flags_ahead(text: &[u8]) -> (Flags, &[u8])
     (flags, rest)
 }
 
-/// The conversion of a byte.
+/// The conversion with this letter.
 fn conversion_of(byte: u8) -> Option<Conversion>
     ensures { result ≡ conversion byte }
 {
@@ -140,7 +140,7 @@ fn conversion_of(byte: u8) -> Option<Conversion>
     }
 }
 
-/// The precision that a text begins with, and what follows it.
+/// The precision that `text` begins with, and the rest.
 fn precision_ahead(text: &[u8]) -> (Option<u64>, &[u8])
     ensures precision { result.0 ≡ option_map (min 2147483648) (precision_at text.now) }
     ensures rest { result.1.now ≡ behind_precision text.now }
@@ -155,7 +155,7 @@ fn precision_ahead(text: &[u8]) -> (Option<u64>, &[u8])
     }
 }
 
-/// The format, if its numbers are small enough.
+/// The format of these parts, if its numbers are small enough.
 fn finished(
     flags: Flags,
     width: u64,
@@ -184,7 +184,7 @@ fn finished(
     })
 }
 
-/// The format that a text begins with, after its `%` and `:`, and what follows it.
+/// The format that `text` begins with, after its `%` and `:`, and the rest.
 pub fn format_ahead(text: &[u8]) -> Result<(Format, &[u8]), ParmFault>
     ensures code { Answers (λ x. (as_code x.0, x.1.now)) result (format_code text.now) }
     ensures shorter { IfOk result (λ x. length x.1.now < length text.now) }

@@ -1,4 +1,4 @@
-//! The faults of a string's syntax.
+//! Faults of a string's syntax.
 ghost use Rattle.std.specs.Prelude.{◌≡◌, ◌⊎◌, Ok};
 ghost use Rattle.ti_parm.specs.Fault.{FailsBy, Gives};
 ghost use Rattle.ti_parm.specs.Conditionals.{judged};
@@ -8,7 +8,7 @@ use crate::code::next_code;
 use crate::fault::ParmFault;
 use crate::nest::Nest;
 
-/// Checks the syntax from a place on that lies in these conditionals: the error is its first fault.
+/// Checks the syntax of `text`, which begins in the conditionals `nest`. The error is its first fault.
 fn check_rest(nest: &mut Nest, text: &[u8]) -> Result<(), ParmFault>
     ensures { Gives (λ _. tt) result (judged (ahead text.now).behind nest.old) }
 {
@@ -21,8 +21,8 @@ fn check_rest(nest: &mut Nest, text: &[u8]) -> Result<(), ParmFault>
     nest.end()
 }
 
-/// The first fault of the syntax from a place on that lies in these conditionals, or, if it has none,
-/// the fault that a run met before the place.
+/// The first fault of the syntax of `text`, which begins in the conditionals `nest`; `fault`, which a run met before,
+/// if there is none.
 pub fn first_fault(nest: &mut Nest, text: &[u8], fault: ParmFault) -> ParmFault
     ensures { ((judged (ahead text.now).behind nest.old ≡ Ok tt) × (result ≡ fault)) ⊎
         FailsBy result (judged (ahead text.now).behind nest.old) }

@@ -1,5 +1,5 @@
-//! Parameter strings of terminfo: a small language in which a capability says what is sent for which
-//! parameters (terminfo(5), "Parameterized Strings").
+//! Parameter strings of terminfo: a small language in which a capability gives the bytes to send for its parameters
+//! (terminfo(5), "Parameterized Strings").
 #![tactic(auto)]
 
 mod code;

@@ -1,4 +1,4 @@
-//! What a run has, and what each code does to it.
+//! The state of a run, and the effect of each code on it.
 ghost use Rattle.std.specs.Prelude.{◌≡◌, ◌↔◌, ℕ, List, [], ◌≤◌, IfErr, IfOk, IsTrue, length, pos, slice_index_or};
 ghost use Rattle.std.specs.Prelude.{slice_set};
 ghost use Rattle.ti_parm.specs.Fault.{Answers, Extends, FailsBy, Gives};
@@ -24,7 +24,7 @@ use crate::statics::Statics;
 use crate::uses::{FirstUse, note, reads_first};
 use std::alloc::Global;
 
-/// The parameters, variables and stack of a run. The bytes that it writes are handed to it.
+/// The parameters, variables and stack of a run. Callers pass the bytes written so far.
 #[derive(Drop)]
 pub struct Machine<'a> {
     params: Params<'a>,
@@ -34,7 +34,7 @@ pub struct Machine<'a> {
     stack: Stack<'a>,
 }
 
-/// A parameter and one.
+/// A parameter plus one.
 fn one_more(value: Param<'_>) -> Result<Param<'_>, ParmFault>
     ensures { Answers value_of result (one_more (value_of value.entry)) }
 {
@@ -47,14 +47,14 @@ fn one_more(value: Param<'_>) -> Result<Param<'_>, ParmFault>
     }
 }
 
-/// The number in a place of 26, or 0.
+/// The number at `index`, 0 past the end.
 fn number_at(numbers: &[i32; 26], index: u8) -> i32
     ensures { result ≡ slice_index_or numbers.now index (pos 0) }
 {
     numbers.get(usize::from(index)).copied().unwrap_or(0)
 }
 
-/// Puts a number into a place of 26.
+/// Sets the number at `index`, if it exists.
 fn put_at(numbers: &mut [i32; 26], index: u8, number: i32)
     ensures { numbers.new ≡ slice_set numbers.old index number }
 {
@@ -64,7 +64,7 @@ fn put_at(numbers: &mut [i32; 26], index: u8, number: i32)
 }
 
 impl<'a> Machine<'a> {
-    /// The state in which a run begins.
+    /// The state at the start of a run.
     #[tactic(auto, unfolding(crate::specs::Value::zeros))]
     #[inline(always)]
     pub fn new(alloc: Global, given: &[Param<'a>], statics: &Statics) -> Self
@@ -79,15 +79,15 @@ impl<'a> Machine<'a> {
         }
     }
 
-    /// Whether a static variable was read that had not been set before.
+    /// Whether a static variable was read before it was set.
     pub fn reads_unset(&self) -> bool
         ensures { (output : List ℕ) → IsTrue result ↔ ReadsUnset (state_of self.now output) }
     {
         reads_first(&self.first_uses)
     }
 
-    /// Runs the code that stands before a place, and says where to go on. The syntax is judged on the
-    /// way, and as a whole where the run meets a fault.
+    /// Runs `code`, with the text `behind` after it, and returns the text to go on with. Checks the syntax on the
+    /// way, and that of the whole rest if the run meets a fault.
     #[inline(always)]
     pub fn step<'s>(
         &mut self,
@@ -119,7 +119,7 @@ impl<'a> Machine<'a> {
         }
     }
 
-    /// Goes on after a mark, or after what the mark says to pass over.
+    /// The text to go on with after `mark`: `behind` it, or after the parts to skip.
     fn pass<'s>(
         &mut self,
         mark: Mark,
@@ -147,7 +147,7 @@ impl<'a> Machine<'a> {
         }
     }
 
-    /// Takes the top of the stack: whether it is another number than 0.
+    /// Takes the top of the stack; whether it is a number other than 0.
     fn pop_test(&mut self) -> Result<bool, ParmFault>
         ensures { (output : List ℕ) →
             Gives (λ holds. (holds, state_of self.new output)) result
@@ -157,7 +157,7 @@ impl<'a> Machine<'a> {
         Ok(number != 0)
     }
 
-    /// Does what one code does.
+    /// Runs one code that acts by itself.
     #[tactic(auto, unfolding(crate::specs::Meaning::act))]
     #[inline(always)]
     pub fn act(&mut self, action: Action, out: &mut Vec<u8>) -> Result<(), ParmFault>
@@ -228,7 +228,7 @@ impl<'a> Machine<'a> {
         Ok(())
     }
 
-    /// Writes the number on top as one byte.
+    /// Writes the number on top of the stack as one byte.
     fn write_character(&mut self, out: &mut Vec<u8>) -> Result<(), ParmFault>
         ensures meant { Gives (λ _. state_of self.new out.new.items) result
             (writing character (state_of self.old out.old.items)) }
@@ -239,7 +239,7 @@ impl<'a> Machine<'a> {
         out.push(byte).map_err(|_| ParmFault::NoMemory)
     }
 
-    /// Writes the value on top in a format.
+    /// Writes the value on top of the stack in a format.
     fn show(&mut self, format: Format, out: &mut Vec<u8>) -> Result<(), ParmFault>
         ensures meant { Gives (λ _. state_of self.new out.new.items) result
             (writing (shown format) (state_of self.old out.old.items)) }

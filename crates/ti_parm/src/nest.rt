@@ -1,4 +1,4 @@
-//! The conditionals that a place in a string lies in.
+//! The conditionals in which a place of a string is.
 ghost use Rattle.std.specs.Prelude.{◌≡◌};
 ghost use Rattle.ti_parm.specs.Conditionals.{branch_behind};
 
@@ -8,7 +8,7 @@ use smallvec::SmallVec;
 use std::alloc::Global;
 use std::marker::Model;
 
-/// Which part of a conditional a place lies in.
+/// A part of a conditional.
 #[derive(Clone, Copy, Debug, PartialEq, Eq)]
 pub enum Branch {
     /// Between `%?` and `%t`.
@@ -19,7 +19,7 @@ pub enum Branch {
     Otherwise,
 }
 
-/// The part that a conditional begins with.
+/// The part at the start of a conditional.
 impl Default for Branch {
     fn default() -> Self
         ensures { result ≡ Branch.Condition }
@@ -28,7 +28,7 @@ impl Default for Branch {
     }
 }
 
-/// The conditionals that a place lies in. Contracts see the list of their branches, the innermost first.
+/// The conditionals in which a place is. Contracts see the list of their branches, the innermost first.
 #[derive(Drop)]
 pub struct Nest {
     branches: SmallVec<Branch, 16>,
@@ -43,7 +43,7 @@ impl Model for Nest {
     ghost view = { λ n. reverse n.branches.items };
 }
 
-/// The branch after a mark, if that may stand there, or nothing if the mark ends the conditional.
+/// The branch after `mark`, `None` if it ends the conditional. Fails if the mark isn't allowed in `branch`.
 fn branch_behind(mark: Mark, branch: Branch) -> Result<Option<Branch>, ParmFault>
     ensures { result ≡ branch_behind mark branch }
 {
@@ -61,7 +61,7 @@ impl Nest {
     ghost use Rattle.ti_parm.specs.Conditionals.{judged, nest_behind, nest_behind_mark};
     ghost use Rattle.ti_parm.specs.Syntax.{Ends};
 
-    /// Outside any conditional.
+    /// The place outside of all conditionals.
     pub fn new(alloc: Global) -> Self
         ensures { result ≡ [] }
     {
@@ -70,14 +70,14 @@ impl Nest {
         }
     }
 
-    /// Whether the place is outside any conditional.
+    /// Whether the place is outside of all conditionals.
     fn is_empty(&self) -> bool
         ensures { IsTrue result ↔ (self.now ≡ []) }
     {
         self.branches.is_empty()
     }
 
-    /// Whether a string may end at the place.
+    /// Checks that a string may end at the place.
     pub fn end(&self) -> Result<(), ParmFault>
         ensures { Answers (λ _. tt) result (judged Ends self.now) }
     {
@@ -88,7 +88,7 @@ impl Nest {
         }
     }
 
-    /// Goes over a code.
+    /// Moves past a code.
     #[inline(always)]
     pub fn pass(&mut self, code: Code) -> Result<(), ParmFault>
         ensures { Gives (λ _. self.new) result (nest_behind code self.old) }
@@ -103,7 +103,7 @@ impl Nest {
         }
     }
 
-    /// Goes over a mark.
+    /// Moves past a mark.
     #[inline(always)]
     fn pass_mark(&mut self, mark: Mark) -> Result<(), ParmFault>
         ensures { Gives (λ _. self.new) result (nest_behind_mark mark self.old) }

@@ -2,10 +2,10 @@
 ghost use Rattle.std.specs.Prelude.{◌≡◌, ◌<◌, ◌≤◌, IfSome, MatchOption, None, Some, length, min};
 ghost use Rattle.ti_parm.specs.Codes.{behind_digits, digit_at, number_on};
 
-/// The largest number that `%{..}` may hold.
+/// The greatest number that `%{..}` may hold.
 pub const LARGEST: u64 = 2_147_483_647;
 
-/// The value of the digit that a text begins with, and what follows it.
+/// The value of the digit that `text` begins with, and the rest.
 fn digit_ahead(text: &[u8]) -> Option<(u8, &[u8])>
     ensures digit { MatchOption result (digit_at text.now ≡ None) (λ x. digit_at text.now ≡ Some (x.0, x.1.now)) }
     ensures small { IfSome result (λ x. x.0 < 10) }
@@ -17,7 +17,7 @@ fn digit_ahead(text: &[u8]) -> Option<(u8, &[u8])>
     }
 }
 
-/// The number that a text begins with, or one past the largest, and what follows its digits.
+/// The number that `text` begins with, at most one above the greatest, and the rest after its digits.
 pub fn number(text: &[u8]) -> (u64, &[u8])
     ensures value { result.0 ≡ min 2147483648 (number_on 0 text.now) }
     ensures rest { result.1.now ≡ behind_digits text.now }

@@ -1,4 +1,4 @@
-//! What operators make of numbers.
+//! The results of operators.
 ghost use Rattle.std.specs.Prelude.{◌≡◌};
 ghost use Rattle.ti_parm.specs.Fault.{Answers};
 ghost use Rattle.ti_parm.specs.Operators.{byte_of, fitting, is_true, operate, truth, apply_unary};
@@ -6,14 +6,14 @@ ghost use Rattle.ti_parm.specs.Operators.{byte_of, fitting, is_true, operate, tr
 use crate::code::{Operator, Unary};
 use crate::fault::ParmFault;
 
-/// The truth value of a test: 1 where it holds, else 0.
+/// The truth value of a test: 1 if it holds, otherwise 0.
 fn truth_of(holds: bool) -> i32
     ensures { result ≡ truth holds }
 {
     if holds { 1 } else { 0 }
 }
 
-/// What a binary operator makes of its left and its right operand.
+/// The result of a binary operator for its left and right operands.
 pub fn operate(operator: Operator, left: i32, right: i32) -> Result<i32, ParmFault>
     ensures { Answers (λ n. n) result (operate operator left right) }
 {
@@ -36,7 +36,7 @@ pub fn operate(operator: Operator, left: i32, right: i32) -> Result<i32, ParmFau
     }
 }
 
-/// What a unary operator makes of its operand.
+/// The result of a unary operator for its operand.
 pub fn apply_unary(operator: Unary, number: i32) -> i32
     ensures { result ≡ apply_unary operator number }
 {
@@ -46,7 +46,7 @@ pub fn apply_unary(operator: Unary, number: i32) -> i32
     }
 }
 
-/// The byte that a number writes: 128 for 0.
+/// The byte that a number is written as: 128 for 0.
 pub fn byte_of(number: i32) -> Result<u8, ParmFault>
     ensures { Answers (λ b. b) result (byte_of number) }
 {

@@ -1,4 +1,4 @@
-//! Parameters, as they are handed in and as they are kept during a run.
+//! Parameters as callers pass them, and as a run keeps them.
 ghost use Rattle.std.specs.Prelude.{◌≡◌, pos, slice_index_or};
 
 use smallvec::SmallVec;
@@ -8,13 +8,13 @@ use std::marker::Model;
 /// A parameter of an expansion.
 #[derive(Clone, Copy, Debug, PartialEq, Eq)]
 pub enum Param<'a> {
-    /// A number, with sign.
+    /// A signed number.
     Number(i32),
     /// A text.
     Text(&'a [u8]),
 }
 
-/// The parameter that stands where none is handed in.
+/// The value of a parameter that isn't passed.
 impl Default for Param<'_> {
     fn default() -> Self
         ensures { result ≡ Param.Number (pos 0) }
@@ -37,7 +37,7 @@ impl<'a> Model for Params<'a> {
     ghost view = { λ p. values_of p.values.items };
 }
 
-/// The parameter that is handed in at an index, or 0.
+/// The parameter passed at `index`, or 0.
 #[inline(always)]
 fn given_or_zero<'a>(given: &[Param<'a>], index: usize) -> Param<'a>
     ensures { result ≡ slice_index_or given.now index (Param.Number (pos 0)) }
@@ -49,7 +49,7 @@ impl<'a> Params<'a> {
     ghost use Rattle.std.specs.Prelude.{◌≡◌, pos, slice_index_or, slice_set};
     ghost use Rattle.ti_parm.specs.Value.{Number, nine, value_of, values_of};
 
-    /// The first nine that are handed in, and 0 for those that are not.
+    /// The first nine parameters passed, and 0 for those that aren't.
     #[inline(always)]
     pub fn new(alloc: Global, given: &[Param<'a>]) -> Self
         ensures { result ≡ nine (values_of given.now) }
@@ -72,14 +72,14 @@ impl<'a> Params<'a> {
         }
     }
 
-    /// The parameter at an index from 0 on.
+    /// The parameter at `index`, from 0 on.
     pub fn get(&self, index: u8) -> Param<'a>
         ensures { value_of result ≡ slice_index_or self.now index (Number (pos 0)) }
     {
         given_or_zero(self.values.as_slice(), usize::from(index))
     }
 
-    /// Puts a value in place of the parameter at an index.
+    /// Sets the parameter at `index`.
     pub fn set(&mut self, index: usize, value: Param<'a>)
         ensures { self.new ≡ slice_set self.old index (value_of value.entry) }
     {

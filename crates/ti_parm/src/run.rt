@@ -19,8 +19,8 @@ use crate::param::Param;
 use crate::statics::Statics;
 use std::alloc::Global;
 
-/// Judges a string and runs it, from the machine's state on, after what `out` has already, in a
-/// single pass. Where that fails a part may have been written.
+/// Checks the syntax of `string` and runs it from the state of `machine` on, in a single pass, appending to `out`. On
+/// an error some bytes may have been appended.
 fn run(
     alloc: Global,
     string: &[u8],
@@ -40,13 +40,12 @@ fn run(
     nest.end()
 }
 
-/// Expands a parameter string: appends to `out` the bytes that it sends for these parameters, and
-/// leaves the static variables as it sets them.
+/// Expands a parameter string: appends to `out` the bytes that it writes for these parameters, and sets the static
+/// variables as the string does.
 ///
-/// Of `params` the first nine are used, and those that are not there are 0. The string's syntax is
-/// judged before anything is run, and its first fault reported (`BadCode`, `BadNest`); the other faults
-/// are those of the codes that are run, the first met. On every error `out` and `statics` stay as
-/// they were.
+/// The first nine of `params` are used, and 0 for those missing. The syntax of `string` comes first: the error is its
+/// first fault (`BadCode`, `BadNest`). The other errors are the first fault of the codes that are run, and out of
+/// memory. On every error `out` and `statics` stay as they were.
 ///
 /// terminfo(5), "Parameterized Strings".
 pub fn expand(
@@ -77,11 +76,11 @@ pub fn expand(
     }
 }
 
-/// Appends to `out` the bytes that a string sends to a terminal for these parameters: its expansion
-/// from an empty stack and from variables that are all 0, without its delays.
+/// Appends to `out` the bytes that a string sends to a terminal for these parameters: its expansion with all
+/// variables 0, without its delays.
 ///
-/// It takes no other memory than `out` needs to grow and what `expand` takes for a deep stack. The
-/// errors are those of `expand`, and on every error `out` stays as it was.
+/// Allocates only for the growth of `out` and, like `expand`, for a deep stack. The errors are those of `expand`, and
+/// on every error `out` stays as it was.
 ///
 /// terminfo(5), "Parameterized Strings", "Delays and Padding".
 pub fn sent(
@@ -102,8 +101,8 @@ pub fn sent(
     Ok(())
 }
 
-/// Runs a string from static variables that are all 0, appends what it writes to `out`, and says
-/// whether it reads one that it has not set before. On an error a part may have been written.
+/// Runs a string with all static variables 0 and appends the bytes written to `out`. Returns whether the string reads
+/// a static variable that it has not set before. On an error some bytes may have been appended.
 fn run_alone(
     alloc: Global,
     string: &[u8],
@@ -121,9 +120,8 @@ fn run_alone(
     Ok(machine.reads_unset())
 }
 
-/// Whether a string, expanded for these parameters with all static variables 0, reads a static
-/// variable that it has not set before. Where it does not, what it sends is the same whatever the
-/// static variables are.
+/// Whether `string`, expanded for `params` with all static variables 0, reads a static variable that it has not set
+/// before. If not, the bytes that it sends don't depend on the static variables.
 ///
 /// The errors are those of `expand` for these parameters and static variables.
 ///
@@ -138,10 +136,10 @@ pub fn reads_unset(alloc: Global, string: &[u8], params: &[Param]) -> Result<boo
     run_alone(alloc, string, params, &mut out)
 }
 
-/// What `sent` and `reads_unset` do, in one run: appends to `out` the bytes that a string sends for
-/// these parameters, and says whether it reads a static variable that it has not set before.
+/// `sent` and `reads_unset` in one run: appends to `out` the bytes that a string sends for these parameters, and
+/// returns whether it reads a static variable that it has not set before.
 ///
-/// The errors are those of `expand`. On an error a part may have been written.
+/// The errors are those of `expand`. On an error some bytes may have been appended.
 ///
 /// terminfo(5), "Parameterized Strings", "Delays and Padding".
 pub fn sent_and_reads_unset(
@@ -161,8 +159,8 @@ pub fn sent_and_reads_unset(
     Ok(reads)
 }
 
-/// A string without `%` is written as it stands, whatever the parameters, and changes no static
-/// variable; and if it has no `$<` either, it is sent as it stands.
+/// Law: a string without `%` is written as it is, whatever the parameters, and changes no static variable; if it has
+/// no `$<` either, it is sent as it is.
 pub fn plain_text_is_itself()
     ensures written { (string : List ℕ) (given : List Value) (statics : List ℤ) → IsPlain string →
         meaning string given statics ≡ Ok (record (start_of given statics) { output = string }) }
@@ -170,23 +168,23 @@ pub fn plain_text_is_itself()
         sent_with string given statics ≡ Ok string }
 {}
 
-/// Static variables that a string does not read before it sets them have no say in what it sends: from
-/// other ones, if they agree on those that it reads so, it has no fault either, and sends the same.
+/// Law: the bytes sent don't depend on static variables that the string doesn't read before it sets them. With other
+/// variables that agree on those it does read so, it has no fault either, and sends the same bytes.
 pub fn unread_statics_have_no_say()
     ensures { (string : List ℕ) (given : List Value) (one other : List ℤ) (end : State) → length one ≡ 26 →
         length other ≡ 26 → meaning string given one ≡ Ok end → Agree end one other →
         sent_with string given other ≡ sent_with string given one }
 {}
 
-/// A string has a syntax tree exactly if it spells that tree, by the grammar of codes and conditionals;
-/// so it spells one tree at most.
+/// Law: a string has a syntax tree exactly if it spells that tree, by the grammar of codes and conditionals; so it
+/// spells at most one tree.
 pub fn strings_spell_trees()
     ensures read { (string : List ℕ) (parts : Parts) → Spells string parts → syntax string ≡ Ok parts }
     ensures written { (string : List ℕ) (parts : Parts) → syntax string ≡ Ok parts → Spells string parts }
 {}
 
-/// For each string, parameters and static variables there is one answer and no other: what the tree does
-/// that the string spells, or, if it spells none, the first fault of its syntax.
+/// Law: each string has exactly one answer for given parameters and static variables: that of the tree that it spells
+/// or, if it spells none, the first fault of its syntax.
 pub fn strings_have_one_answer()
     ensures some { (string : List ℕ) (given : List Value) (statics : List ℤ) →
         IsAnswer string given statics (meaning string given statics) }

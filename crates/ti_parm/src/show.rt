@@ -8,7 +8,7 @@ use crate::digits::{PLACES, digits_at_end};
 use crate::formats::{Conversion, Format};
 use std::alloc::AllocError;
 
-/// Writes a byte some times.
+/// Writes a byte `count` times.
 fn write_many(out: &mut Vec<u8>, byte: u8, count: usize) -> Result<(), AllocError>
     ensures ok { OnOk result (out.new.items ≡ out.old.items ++ replicate count byte) }
     ensures grows { Extends out.old.items out.new.items }
@@ -61,7 +61,7 @@ fn write_padded(
     }
 }
 
-/// The sign that stands before a number.
+/// The sign shown before a number.
 fn sign_of(format: &Format, number: i32) -> &'static [u8]
     ensures sign { result.now ≡ sign_of format.now number }
     ensures short { length result.now ≤ 2 }
@@ -120,7 +120,8 @@ fn least_digits(format: &Format) -> usize
     }
 }
 
-/// Writes the digits that a format shows of a number at the end of the buffer, and says where they begin.
+/// Writes the digits that a format shows of a number at the end of the buffer, and returns the place where they
+/// begin.
 fn put_digits(format: &Format, magnitude: u32, buffer: &mut [u8; PLACES]) -> usize
     ensures within { result ≤ 12 }
     ensures digits { drop result buffer.new ≡ digits_shown format.now magnitude }
@@ -137,7 +138,7 @@ fn put_digits(format: &Format, magnitude: u32, buffer: &mut [u8; PLACES]) -> usi
     }
 }
 
-/// What stands before the digits of a number.
+/// The bytes before the digits of a number.
 fn prefix_of(format: &Format, number: i32, zeros: usize, digits: &[u8]) -> &'static [u8]
     requires fill { zeros ≡ zeros_shown format.now (magnitude format.now.conversion number) }
     requires text { digits.now ≡ digits_shown format.now (magnitude format.now.conversion number) }
@@ -164,7 +165,7 @@ fn begins_with_zero(zeros: usize, digits: &[u8]) -> bool
     }
 }
 
-/// Shows a number at the end of `out`. Where memory runs out a part may have been written.
+/// Appends a number to `out` in a format. If memory runs out, some bytes may have been appended.
 #[tactic(auto, unfolding(crate::specs::Formats::number_shown))]
 pub fn write_number(format: &Format, number: i32, out: &mut Vec<u8>) -> Result<(), AllocError>
     ensures ok { OnOk result (out.new.items ≡ out.old.items ++ number_shown format.now number) }
@@ -178,7 +179,7 @@ pub fn write_number(format: &Format, number: i32, out: &mut Vec<u8>) -> Result<(
     write_padded(format, prefix, zeros, digits, out)
 }
 
-/// Shows a text at the end of `out`. Where memory runs out a part may have been written.
+/// Appends a text to `out` in a format. If memory runs out, some bytes may have been appended.
 #[tactic(auto, unfolding(crate::specs::Formats::text_shown))]
 pub fn write_text(format: &Format, text: &[u8], out: &mut Vec<u8>) -> Result<(), AllocError>
     ensures ok { OnOk result (out.new.items ≡ out.old.items ++ text_shown format.now text.now) }
@@ -193,7 +194,7 @@ pub fn write_text(format: &Format, text: &[u8], out: &mut Vec<u8>) -> Result<(),
     }
 }
 
-/// What the precision leaves of a text.
+/// The part of a text that the precision leaves.
 fn cut<'t>(format: &Format, text: &'t [u8]) -> &'t [u8]
     ensures { result.now ≡ cut format.now.precision text.now }
 {

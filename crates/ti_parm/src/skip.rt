@@ -1,4 +1,4 @@
-//! Going over the parts of a conditional that are not run.
+//! Skipping the parts of a conditional that aren't run.
 ghost use Rattle.std.specs.Prelude.{◌≡◌, ◌<◌, ◌≤◌, ◌^◌, IfErr, IfOk, length};
 ghost use Rattle.ti_parm.specs.Fault.{FailsBy};
 ghost use Rattle.ti_parm.specs.Conditionals.{judged};
@@ -9,8 +9,8 @@ use crate::code::{Code, Mark, next_code};
 use crate::fault::ParmFault;
 use crate::nest::Nest;
 
-/// How many conditionals deep the place after a code is, or nothing if the way ends there: at the
-/// `%;` of the conditional that it began in, or, if wanted, at its `%e`.
+/// The number of open conditionals after `code`; `None` if the skipping ends there: at the `%;` of the conditional
+/// that it began in or, if `to_else`, at its `%e`.
 #[inline(always)]
 fn depth_behind(code: Code, depth: usize, to_else: bool) -> Option<usize>
     requires { depth < 2 ^ 63 }
@@ -25,8 +25,8 @@ fn depth_behind(code: Code, depth: usize, to_else: bool) -> Option<usize>
     }
 }
 
-/// What follows the `%;` of the conditional that a text begins in, or, if wanted, its first `%e`. The
-/// syntax is judged on the way.
+/// The text after the `%;` of the conditional in which `text` begins or, if `to_else`, after its first `%e`. Checks
+/// the syntax on the way.
 #[inline(always)]
 pub fn skip<'s>(nest: &mut Nest, text: &'s [u8], to_else: bool) -> Result<&'s [u8], ParmFault>
     ensures judged { IfOk result (λ rest. judged (ahead rest.now).behind nest.new ≡

@@ -7,7 +7,7 @@ use smallvec::SmallVec;
 use std::alloc::{AllocError, Global};
 use std::marker::Model;
 
-/// The stack of values. Contracts see it as a list, its top first.
+/// The stack of values. Contracts see it as a list, the top first.
 #[derive(Drop)]
 pub struct Stack<'a> {
     values: SmallVec<Param<'a>, 16>,
@@ -37,7 +37,7 @@ impl<'a> Stack<'a> {
         }
     }
 
-    /// Puts a value on top.
+    /// Pushes a value.
     pub fn push(&mut self, value: Param<'a>) -> Result<(), AllocError>
         ensures ok { OnOk result (self.new ≡ value_of value.entry ∷ self.old) }
         ensures err { OnErr result (self.new ≡ self.old) }
@@ -46,14 +46,14 @@ impl<'a> Stack<'a> {
         Ok(())
     }
 
-    /// Takes the top off, if there is one.
+    /// Pops the top value, if there is one.
     pub fn pop(&mut self) -> Option<Param<'a>>
         ensures { MatchOption result ((self.old ≡ []) × (self.new ≡ [])) (λ top. self.old ≡ value_of top ∷ self.new) }
     {
         self.values.pop()
     }
 
-    /// Puts a number on top.
+    /// Pushes a number.
     pub fn push_number(&mut self, number: i32) -> Result<(), ParmFault>
         ensures { Gives (λ _. self.new) result (Ok (Number number ∷ self.old)) }
     {
@@ -61,7 +61,7 @@ impl<'a> Stack<'a> {
             .map_err(|_| ParmFault::NoMemory)
     }
 
-    /// Takes a number off.
+    /// Pops a number.
     pub fn pop_number(&mut self) -> Result<i32, ParmFault>
         ensures { Answers (λ n. (n, self.new)) result (pop_number self.old) }
     {
@@ -72,7 +72,7 @@ impl<'a> Stack<'a> {
         }
     }
 
-    /// Puts what an operator makes of the two values on top in their place.
+    /// Replaces the two values on top by the operator's result.
     pub fn operate(&mut self, operator: Operator) -> Result<(), ParmFault>
         ensures { Gives (λ _. self.new) result (binary operator self.old) }
     {
@@ -88,7 +88,7 @@ impl<'a> Stack<'a> {
         }
     }
 
-    /// Puts what becomes of the number on top in its place.
+    /// Replaces the number on top by the operator's result.
     pub fn change(&mut self, operator: Unary) -> Result<(), ParmFault>
         ensures { Gives (λ _. self.new) result (unary operator self.old) }
     {
@@ -96,7 +96,7 @@ impl<'a> Stack<'a> {
         self.push_number(apply_unary(operator, number))
     }
 
-    /// Puts the length of the text on top in its place.
+    /// Replaces the text on top by its length.
     pub fn measure(&mut self) -> Result<(), ParmFault>
         ensures { Gives (λ _. self.new) result (text_length self.old) }
     {

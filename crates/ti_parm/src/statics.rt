@@ -1,8 +1,8 @@
 //! Static variables.
 use std::marker::Model;
 
-/// The static variables `A` to `Z` of parameter strings, which last from one expansion to the next.
-/// Contracts see them as the list of the 26 numbers.
+/// The static variables `A` to `Z` of parameter strings, which keep their values from one expansion to the next.
+/// Contracts see them as a list of 26 numbers.
 #[derive(Drop)]
 pub struct Statics {
     numbers: [i32; 26],
@@ -20,7 +20,7 @@ impl Statics {
     ghost use Rattle.std.specs.Prelude.{◌≡◌};
     ghost use Rattle.ti_parm.specs.Value.{zeros};
 
-    /// All variables 0. It takes no memory.
+    /// All variables 0. Allocates no memory.
     #[tactic(auto, unfolding(crate::specs::Value::zeros))]
     pub fn new() -> Self
         ensures { result ≡ zeros }
@@ -35,7 +35,7 @@ impl Statics {
         self.numbers
     }
 
-    /// Puts other numbers in place of all.
+    /// Replaces all numbers.
     pub(crate) fn replace(&mut self, numbers: [i32; 26])
         ensures { self.new ≡ numbers }
     {

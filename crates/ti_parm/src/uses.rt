@@ -1,20 +1,20 @@
-//! What a run did first with each static variable.
+//! A run's first use of each static variable.
 ghost use Rattle.std.specs.Prelude.{◌≡◌, ◌↔◌, Contains, IsTrue, slice_index_or};
 ghost use Rattle.ti_parm.specs.Uses.{further, noted};
 ghost use Rattle.ti_parm.specs.declared.uses.FirstUse.TheVariants.{ReadFirst};
 
-/// What a run did first with a static variable.
+/// A run's first use of a static variable.
 #[derive(Clone, Copy, Debug, PartialEq, Eq)]
 pub enum FirstUse {
-    /// Nothing so far.
+    /// Not used so far.
     Unused,
-    /// It read it.
+    /// Read before it was set.
     ReadFirst,
-    /// It set it.
+    /// Set before it was read.
     SetFirst,
 }
 
-/// What was done first, where something more is done.
+/// The first use after another use `now`.
 fn further(so_far: FirstUse, now: FirstUse) -> FirstUse
     ensures { result ≡ further so_far now }
 {
@@ -24,7 +24,7 @@ fn further(so_far: FirstUse, now: FirstUse) -> FirstUse
     }
 }
 
-/// What was done first with a variable.
+/// The first use of the variable at `index`.
 fn use_at(uses: &[FirstUse; 26], index: u8) -> FirstUse
     ensures { result ≡ slice_index_or uses.now index FirstUse.Unused }
 {
@@ -33,7 +33,7 @@ fn use_at(uses: &[FirstUse; 26], index: u8) -> FirstUse
         .unwrap_or(FirstUse::Unused)
 }
 
-/// Notes what is done with a variable.
+/// Records that the variable at `index` is used.
 pub fn note(uses: &mut [FirstUse; 26], index: u8, now: FirstUse)
     ensures { uses.new ≡ noted now index uses.old }
 {
