@@ -1,4 +1,4 @@
--- What each fault of the walk says is so.
+-- Each fault of the walk is true.
 use Rattle.std.proofs.Common.{◌≡◌, ℕ, zero, suc, ◌+◌, ◌≤◌, ◌<◌, ◌==◌, true, false, List, [], ◌∷◌, ◌++◌, Option, Some, None, Result, Ok, Err, length, refl, sym, ap, ◌∙◌, subst, arith, length-append, ⊎_elim}
 use Rattle.std.specs.Prelude.{Contains, IsOk, nat_le}
 use Rattle.std.proofs.lemmas.Bool.{cases_Bool, both_ways, cond_both, eq-eqb, eqb-true, leb-false, leb-true, or_cases, or_from, or_left, or_parts, or_right}
@@ -15,7 +15,7 @@ use Rattle.ti_resolve.proofs.Law.{holds-append}
 use Rattle.ti_resolve.proofs.Once as Once
 use Rattle.ti_resolve.proofs.Whole.{resolved_is}
 
--- what is so of the entered entries: the first is the one asked for, all are reached and different
+-- the entered entries: the first is the resolved one, all are reached and different
 record IsEntered (raws : List RawEntry) (root : ℕ) (entered : List ℕ) : Type 0 where
   others : List ℕ
   first : entered ≡ root ∷ others
@@ -23,13 +23,13 @@ record IsEntered (raws : List RawEntry) (root : ℕ) (entered : List ℕ) : Type
   reached : (place : ℕ) → holds entered place ≡ true → Reaches raws root place
   few : length entered ≤ 65
 
--- what is so of the chain that leads to an entry
+-- the chain that leads to an entry
 record IsChain (raws : List RawEntry) (root : ℕ) (chain : List ℕ) (current : ℕ) : Type 0 where
   current_reached : Reaches raws root current
   reached : (place : ℕ) → holds chain place ≡ true → Reaches raws root place
   leads : (place : ℕ) → holds chain place ≡ true → Reaches raws place current
 
--- a part of the walk adds reached entries, or its fault is so
+-- a part of the walk adds reached entries, or its fault is true
 abbrev Goes : List RawEntry → ℕ → List ℕ → Result (List ℕ) ResolveFault → Type 0
 Goes raws root before (Ok after) = IsEntered raws root after × (length before ≤ length after)
 Goes raws root before (Err fault) = FaultFrom raws root fault
@@ -143,7 +143,7 @@ enter-goes (suc depth) raws root chain deep name place entered so_far held short
     (entered-push raws root entered place so_far held.current_reached apart few)
     (omega (arith, short, length-append chain (place ∷ []), length-append entered (place ∷ []))))
 
--- the entry that is asked for is entered first
+-- the resolved entry is entered first
 root-goes : (depth : ℕ) (raws : List RawEntry) (root : ℕ) (asked : List ℕ) → depth ≡ 64 → Goes raws root [] (enter (suc depth) raws [] asked root [])
 unfolding enter
 root-goes depth raws root asked deep =

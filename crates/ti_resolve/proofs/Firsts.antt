@@ -1,4 +1,4 @@
--- The first field about a capability, by entries.
+-- The first field about a capability, entry by entry.
 use Rattle.std.proofs.Common.{◌≡◌, ℕ, Bool, List, [], ◌∷◌, ◌++◌, Option, Some, None, refl, sym, ap, ◌∙◌}
 use Rattle.std.specs.Prelude.{cond, ◌==◌, is_some, option_and_then}
 use Rattle.std.specs.List.{find}
@@ -20,7 +20,7 @@ found_first : {X : Type 0} (found : ℕ → Option X) (places : List ℕ) → fi
 found_first found [] = refl
 found_first found (place ∷ places) = found_one found place places (found place) refl (found_first found places)
 
--- where each test finds the same place first, so does each search
+-- if each test finds the same place first, so does each search
 pub first_same : {X : Type 0} (found : ℕ → Option X) (xs ys : List ℕ) → ((q : ℕ → Bool) → find q xs ≡ find q ys) → first_of found xs ≡ first_of found ys
 first_same found xs ys same = found_first found xs ∙ (ap (option_and_then found) (same (λ p. is_some (found p))) ∙ sym (found_first found ys))
 
@@ -28,7 +28,7 @@ first-append : (cap : ℕ) (xs ys : List Field) → first_about cap (xs ++ ys) �
 unfolding first_about
 first-append cap xs ys = find-append (is_about cap) xs ys
 
--- fields that include are about no capability
+-- fields that are uses are about no capability
 first-own : (cap : ℕ) (fields : List Field) → first_about cap (own_in fields) ≡ first_about cap fields
 unfolding first_about
 first-own cap [] = refl
@@ -55,6 +55,6 @@ own_first raws cap (place ∷ places) =
     ∙ (ap (λ o. option_or o (first_about cap (own_of_all raws places))) (first-own cap (fields_at raws place))
     ∙ ap (option_or (about_at raws cap place)) (own_first raws cap places))
 
--- the first field about a capability in entries of which each test finds the same first
+-- the first field about a capability in two lists of entries on which each test finds the same first
 pub fields_same : (raws : List RawEntry) (cap : ℕ) (xs ys : List ℕ) → ((q : ℕ → Bool) → find q xs ≡ find q ys) → first_about cap (fields_of_all raws xs) ≡ first_about cap (own_of_all raws ys)
 fields_same raws cap xs ys same = fields_first raws cap xs ∙ (first_same (about_at raws cap) xs ys same ∙ sym (own_first raws cap ys))

@@ -24,7 +24,7 @@ or-none (Some x) = refl
 abbrev if_so : Bool → ℕ → Option ℕ
 if_so b place = cond b (Some place) None
 
--- a name that had no place
+-- a name that had no place so far
 pub added : (old new : Places) (own : List ℕ) (place : ℕ) → place_in old own ≡ None → ((name : List ℕ) → place_in new name ≡ update bytes_eq (place_in old) own (Some place) name) → Adds old new (λ asked. bytes_eq own asked) place
 added old new own place none is name =
     ⊎_elim
@@ -38,7 +38,7 @@ stays : (o : Option ℕ) (more : Option ℕ) → is_some o ≡ true → o ≡ op
 stays (Some x) more is = refl
 stays None more is = cc
 
--- a name that had one
+-- a name that had a place already
 pub kept : (old : Places) (own : List ℕ) (place : ℕ) → is_some (place_in old own) ≡ true → Adds old old (λ asked. bytes_eq own asked) place
 kept old own place some name =
     ⊎_elim
@@ -90,7 +90,7 @@ none_of (Some x) is = cc
 pub empty_index : (places : Places) (name : List ℕ) → IsEmpty places → place_in places name ≡ None
 empty_index places name is = ap (lookup (is_at (λ key. slice_cmp nat_cmp name key.now))) is
 
--- one entry more
+-- one more entry
 pushed : (n m len : ℕ) (b : Bool) → n ≤ len → m ≡ cond (eqb n len) (len + cond b 0 1) n → cond (nat_lt m (len + 1)) (Some m) None ≡ option_or (cond (nat_lt n len) (Some n) None) (if_so b len)
 pushed n m len b within is =
     ⊎_elim

@@ -1,4 +1,5 @@
--- The walk enters each entry once; what is first in what it enters is so in the whole list of entries.
+-- The walk enters each entry once; the first match among the entered entries is the first in the whole list of
+-- entries.
 use Rattle.std.proofs.Common.{◌≡◌, ℕ, zero, suc, Bool, List, [], ◌∷◌, ◌++◌, Option, Some, None, true, false, ◌||◌, ◌⊎◌, ◌==◌, Result, Ok, Err, refl, sym, ap, ◌∙◌, subst, inl, inr, ⊎_elim, append_assoc, length}
 use Rattle.std.specs.Prelude.{nat_le}
 use Rattle.std.specs.List.{find}
@@ -37,7 +38,7 @@ or_else_assoc : {X : Type 0} (a b c : Option X) → option_or (option_or a b) c 
 or_else_assoc None b c = refl
 or_else_assoc (Some x) b c = refl
 
--- what adds nothing to the first adds nothing to both
+-- a value that adds nothing to the first adds nothing to both
 or_else_both : {X : Type 0} (a b c : Option X) → option_or a c ≡ a → option_or (option_or a b) c ≡ option_or a b
 or_else_both None None c none = none
 or_else_both None (Some x) c none = refl
@@ -48,7 +49,7 @@ or_else_twice None None = refl
 or_else_twice None (Some x) = refl
 or_else_twice (Some x) b = refl
 
--- all that an entry uses, which was finished, is among what was entered: no test finds more in it
+-- all that a finished entry uses is among the entered entries: no test finds more in it
 record Closed (raws : List RawEntry) (entered : List ℕ) (place : ℕ) : Type 0 where
   used : List ℕ
   expands : Expands raws (uses_in (fields_at raws place)) used
@@ -57,14 +58,14 @@ record Closed (raws : List RawEntry) (entered : List ℕ) (place : ℕ) : Type 0
 abbrev IsClosed : List RawEntry → List ℕ → List ℕ → Type 0
 IsClosed raws chain entered = (place : ℕ) → holds entered place ≡ true → holds chain place ≡ false → Closed raws entered place
 
--- from the places before to those after, the entry at this place was walked
+-- the walk of the entry at this place adds the places after to those before
 record Went (raws : List RawEntry) (chain : List ℕ) (place : ℕ) (before after : List ℕ) : Type 0 where
   used : List ℕ
   expands : Expands raws (uses_in (fields_at raws place)) used
   same : (q : ℕ → Bool) → find q (before ++ (place ∷ used)) ≡ find q after
   closed : IsClosed raws chain after
 
--- and these uses were followed
+-- following these uses adds the places after to those before
 record Followed (raws : List RawEntry) (chain : List ℕ) (names : List (List ℕ)) (before after : List ℕ) : Type 0 where
   used : List ℕ
   expands : Expands raws names used
@@ -75,7 +76,7 @@ bind_ok : {X Y : Type 0} (first : Result X ResolveFault) (next : X → Result Y 
 bind_ok (Ok x) next y is = (x, refl, is)
 bind_ok (Err fault) next y is = cc
 
--- where a use led
+-- the entry to which a use led
 abbrev Led : Option ℕ → List ℕ → List ℕ → Option ℕ → Type 0
 Led found chain entered to = (place : ℕ) × (found ≡ Some place) × (((to ≡ None) × (holds chain place ≡ false) × (holds entered place ≡ true)) ⊎ (to ≡ Some place))
 
@@ -91,11 +92,11 @@ target_ok (Some place) name chain entered to is =
     (λ g. cond_both (nat_le 65 (length entered)) _ _ P (λ t e. cc) (λ h e. let some : to ≡ Some place = cc in (place, refl, inr some))))
     is
 
--- what the entry that a use leads to adds
+-- entering the entry to which a use leads is walking it
 abbrev GoLaw : List RawEntry → List ℕ → (List ℕ → ℕ → List ℕ → Result (List ℕ) ResolveFault) → Type 0
 GoLaw raws chain go = (name : List ℕ) (place : ℕ) (before after : List ℕ) → IsClosed raws chain before → go name place before ≡ Ok after → Went raws chain place before after
 
--- a use that leads to an entry which was finished changes nothing, and otherwise that entry is walked
+-- a use that leads to a finished entry changes nothing; otherwise that entry is walked
 use_law : (raws : List RawEntry) (chain : List ℕ) (go : List ℕ → ℕ → List ℕ → Result (List ℕ) ResolveFault) → GoLaw raws chain go → (name : List ℕ) (place : ℕ) (before after : List ℕ) (to : Option ℕ) → IsClosed raws chain before → ((to ≡ None) × (holds chain place ≡ false) × (holds before place ≡ true)) ⊎ (to ≡ Some place) → go_to (go name) before to ≡ Ok after → Went raws chain place before after
 use_law raws chain go law name place before after to closed led goes =
     ⊎_elim
@@ -130,7 +131,7 @@ follow_law raws chain go law (name ∷ names) before after closed is =
       closed = rest.closed;
     }
 
--- more entered entries keep a finished one finished
+-- entering more entries keeps a finished one finished
 closed_grows : (raws : List RawEntry) (entered : List ℕ) (last place : ℕ) → Closed raws entered place → Closed raws (entered ++ last ∷ []) place
 closed_grows raws entered last place held = record {
   used = held.used;
@@ -145,7 +146,7 @@ closed_grows raws entered last place held = record {
       ∙ (or_else_both a (find q (last ∷ [])) (find q whole) adds_none ∙ sym grown));
 }
 
--- from the uses of an entry to the entry
+-- following the uses of an entry is walking it
 went_from : (raws : List RawEntry) (chain : List ℕ) (place : ℕ) (before after : List ℕ) → Followed raws (chain ++ place ∷ []) (uses_in (fields_at raws place)) (before ++ place ∷ []) after → Went raws chain place before after
 went_from raws chain place before after done =
     let whole = place ∷ done.used in

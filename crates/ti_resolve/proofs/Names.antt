@@ -1,4 +1,4 @@
--- A field of names, cut at its first bar.
+-- A names field, cut at its first `|`.
 use Rattle.std.proofs.Common.{◌≡◌, ℕ, ◌+◌, ◌≤◌, List, [], ◌∷◌, Some, None, Bool, true, false, not, cond, refl, sym, ◌∙◌, ap, length, take, drop, arith, ◌==◌, ⊎_elim}
 use Rattle.std.specs.Prelude.{nat_lt}
 use Rattle.std.specs.List.{position, position_or_len, slice_split, onto_first}

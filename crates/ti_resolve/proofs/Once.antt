@@ -1,4 +1,4 @@
--- Uses stand for one list of entries at most.
+-- Uses expand to at most one list of entries.
 use Rattle.std.proofs.Common.{◌≡◌, ℕ, List, [], ◌∷◌, ◌++◌, Some, refl, sym, ap, ◌∙◌, subst}
 use Rattle.ti_source.specs.declared.types.RawEntry.{RawEntry}
 use Rattle.ti_caps.proofs.Entries.{same_entry}
@@ -8,7 +8,7 @@ use Rattle.ti_resolve.specs.Uses.{place_named, fields_at, uses_in, first_about, 
 some_same : (a b : ℕ) → Some a ≡ Some b → a ≡ b
 some_same a b e = cc
 
--- how the uses of a list of names came to these places
+-- the expansion of a list of names begins with that of the first
 record First (raws : List RawEntry) (name : List ℕ) (names : List (List ℕ)) (places : List ℕ) : Type 0 where
   place : ℕ
   inner : List ℕ
@@ -43,7 +43,7 @@ whole_at_once raws root places others w v =
     let used : w.used ≡ v.used = expands_once raws (uses_in (fields_at raws root)) w.used v.used w.expands v.expands in
     w.whole ∙ (ap (λ u. root ∷ u) used ∙ sym v.whole)
 
--- a name asks for one place
+-- a name leads to one place
 pub root_once : (raws : List RawEntry) (name : List ℕ) (root other_root : ℕ) → place_named raws name ≡ Some root → place_named raws name ≡ Some other_root → root ≡ other_root
 root_once raws name root other_root found other_found = some_same root other_root (sym found ∙ other_found)
 

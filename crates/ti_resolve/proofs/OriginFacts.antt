@@ -1,4 +1,4 @@
--- Where the value of a capability stands, and that it is the value of the resolved entry.
+-- The field that gives a capability its value gives that of the resolved entry.
 use Rattle.std.proofs.Common.{◌≡◌, ℕ, ◌<◌, ◌≤◌, Bool, true, false, List, [], ◌∷◌, Option, Some, None, Ok, refl, sym, ap, subst, ◌∙◌, length, get_or, drop, ◌+◌, arith}
 use Rattle.std.specs.Prelude.{⊤, if◌then◌else◌, nat_lt, option_map, slice_get}
 use Rattle.std.specs.List.{find, position, position_or_len}
@@ -22,7 +22,7 @@ use Rattle.ti_resolve.proofs.Firsts.{about_at, first_same, own_first}
 use Rattle.ti_resolve.proofs.Law.{walk_is_whole}
 use Rattle.ti_resolve.proofs.Once.{root_once, whole_at_once}
 
--- the places from one on: nothing is found at it, or something is
+-- the search from a place on, if nothing is found at the place or something is
 pub first_more : {X : Type 0} (found : ℕ → Option X) (places : List ℕ) (i place : ℕ) (all : Option X) → i < length places → place ≡ get_or places i 0 → found place ≡ None → first_of found (drop i places) ≡ all → first_of found (drop (i + 1) places) ≡ all
 first_more found places i place all inside is none was =
     ap (λ o. option_or o (first_of found (drop (i + 1) places))) (sym none ∙ ap found is) ∙ (ap (first_of found) (sym (drop_more places i 0 inside)) ∙ was)
@@ -31,7 +31,7 @@ pub first_found : {X : Type 0} (found : ℕ → Option X) (places : List ℕ) (i
 first_found found places i place x all inside is some was =
     ap (λ o. option_or o (first_of found (drop (i + 1) places))) (sym some ∙ ap found is) ∙ (ap (first_of found) (sym (drop_more places i 0 inside)) ∙ was)
 
--- what the walk entered first
+-- the origin of the value, given the entries that the walk entered
 pub origin_there : (raws : List RawEntry) (after : List ℕ) (root cap : ℕ) (origin : Option Origin) → walk_at raws root ≡ Ok after → origin ≡ giving raws (first_of (origin_in raws cap) after) → IsOriginAt raws root cap origin
 origin_there raws after root cap origin walked is =
     let whole = walk_is_whole raws 65 root (names_at raws root) after walked in
@@ -51,7 +51,7 @@ less n m e = grind (arith, nat_tests)
 past : (n m : ℕ) → nat_lt n m ≡ false → m ≤ n
 past n m e = grind (arith, nat_tests)
 
--- the first element that passes stands at the first place at which one does
+-- the first element that passes is at the first place at which one does
 position_find : (test : Field → Bool) (xs : List Field) → option_map (slice_get xs) (position test xs) ≡ option_map Some (find test xs)
 position_find test xs =
     let n = position_or_len test xs in
@@ -75,7 +75,7 @@ all_there raws cap (place ∷ places) =
     ∙ (ap (option_or (option_map Some (about_at raws cap place))) (all_there raws cap places)
     ∙ sym (map_or Some (about_at raws cap place) (first_of (about_at raws cap) places))))
 
--- what is found is about the capability
+-- the field found is about the capability
 abbrev IsAbout : ℕ → Option Field → Type 0
 IsAbout cap None = ⊤
 IsAbout cap (Some field) = is_about cap field ≡ true
@@ -122,6 +122,6 @@ gives_value_at raws root cap origin inside o entry r =
     ∙ (given raws cap (first_of (origin_in raws cap) o.places) field (all_there raws cap o.places) (all_about raws cap o.places)
     ∙ ap (set_to cap) (sym value))
 
--- the entry that a name asks for is at one place
+-- the value's origin in the entry with a name
 pub gives_value : (raws : List RawEntry) (name : List ℕ) (root cap : ℕ) (origin : Option Origin) → place_named raws name ≡ Some root → GivesValueAt raws root cap origin → GivesValue raws name cap origin
 gives_value raws name root cap origin found gives entry r = gives entry (subst (λ p. IsResolvedAt raws p entry) (root_once raws name r.root root r.found found) r.there)

@@ -1,4 +1,4 @@
--- Of the fields that are taken over, the first about a capability decides.
+-- Of the fields copied into an entry, the first about a capability decides.
 use Rattle.std.proofs.Common.{◌≡◌, ◌≢◌, ℕ, zero, suc, ◌<◌, List, [], ◌∷◌, ◌++◌, Option, Some, None, Bool, true, false, refl, sym, ap, ◌∙◌, subst, ⊎_elim, length, get_or, set, drop, ◌+◌, replicate, length-set, get_or-set_same, get_or-set_other, arith}
 use Rattle.std.specs.Prelude.{slice_get, IsTrue}
 use Rattle.std.specs.List.{AllByRecursion, find}
@@ -27,7 +27,7 @@ fits_in : (raws : List RawEntry) (place : ℕ) (o : Option RawEntry) → AllByRe
 fits_in raws place None all is = tt
 fits_in raws place (Some raw) all is = all_at FieldsFit raws place raw all is
 
--- the fields of an entry fit, where each entry's do
+-- the fields of an entry fit, if each entry's do
 pub fields_fit : (raws : List RawEntry) (place : ℕ) → AllByRecursion FieldsFit raws → AllByRecursion FitsField (fields_at raws place)
 unfolding fields_at
 fields_fit raws place all = fits_in raws place (slice_get raws place) all refl
@@ -37,7 +37,7 @@ pub raws_fields : (raws : List RawEntry) → AllByRecursion IsRaw raws → AllBy
 raws_fields [] all = tt
 raws_fields (raw ∷ raws) all = (all.0.fields, raws_fields raws all.1)
 
--- rows for each capability
+-- there is a row for each capability
 pub record IsSized (so_far : Filled) : Type 0 where
   pub values : length so_far.entry.values ≡ 497
   pub decided : length so_far.decided ≡ 497
@@ -63,7 +63,7 @@ still_marked decided cap place size inside is =
     (λ apart. get_or-set_other decided cap place true false (λ e. apart (sym e)) ∙ is)
     (cases_eq cap place)
 
--- what a field leaves of a capability that was decided
+-- a field keeps the value of a capability that was decided
 record Stays (so_far next : Filled) (place : ℕ) : Type 0 where
   decided : get_or next.decided place false ≡ true
   value : value_at next.entry place ≡ value_at so_far.entry place
@@ -89,7 +89,7 @@ decided_stays place so_far (field ∷ fields) sized inside is =
     let one = one_stays place so_far field sized inside is in
     decided_stays place (take_field so_far field) fields (take_sized so_far field sized) inside one.decided ∙ one.value
 
--- what a field leaves of one that was not
+-- a field decides a capability that was not decided
 record Decides (next : Filled) (place : ℕ) (field : Field) : Type 0 where
   decided : get_or next.decided place false ≡ true
   value : value_at next.entry place ≡ value_given (Some field)
@@ -129,7 +129,7 @@ one_leaves place so_far (Set cap value) is none about =
       value = get_or-set_other so_far.entry.values cap place (Some value) None apart ∙ none;
     })
 
--- one that was not decided takes the value of the first field about it
+-- a capability that was not decided gets the value of the first field about it
 first_decides : (place : ℕ) (so_far : Filled) (fields : List Field) → IsSized so_far → place < 497 → get_or so_far.decided place false ≡ false → value_at so_far.entry place ≡ None → value_at (take_fields so_far fields).entry place ≡ value_given (first_about place fields)
 unfolding first_about
 first_decides place so_far [] sized inside is none = none
@@ -145,7 +145,7 @@ first_decides place so_far (field ∷ fields) sized inside is none =
     ∙ ap value_given (sym (cond-false (is_about place field) (Some field) (find (is_about place) fields) f)))
     (cases_Bool (is_about place field))
 
--- an entry of names alone, and then these fields
+-- the values of an entry that has only names, after these fields
 pub taken_values : (names : List ℕ) (fields : List Field) (place : ℕ) → place < 497 → value_at (take_fields (start names) fields).entry place ≡ value_given (first_about place fields)
 unfolding bare_entry
 taken_values names fields place inside =
@@ -168,7 +168,7 @@ pub take_fields-append : (so_far : Filled) (xs ys : List Field) → take_fields 
 take_fields-append so_far [] ys = refl
 take_fields-append so_far (x ∷ xs) ys = take_fields-append (take_field so_far x) xs ys
 
--- the entries from a place on, after one more
+-- the fields of the entries from a place on, after one more entry
 pub entries_go_on : (raws : List RawEntry) (places : List ℕ) (i place : ℕ) (fields : List Field) (before after whole : Filled) → i < length places → place ≡ get_or places i 0 → fields ≡ fields_at raws place → after ≡ take_fields before fields → take_fields before (fields_of_all raws (drop i places)) ≡ whole → take_fields after (fields_of_all raws (drop (i + 1) places)) ≡ whole
 entries_go_on raws places i place fields before after whole inside is there next was =
     let rest = fields_of_all raws (drop (i + 1) places) in
@@ -177,7 +177,7 @@ entries_go_on raws places i place fields before after whole inside is there next
     ∙ (sym (take_fields-append before (fields_at raws (get_or places i 0)) rest)
     ∙ (ap (λ ps. take_fields before (fields_of_all raws ps)) (sym (drop_more places i 0 inside)) ∙ was))
 
--- what was taken over into an entry of names alone
+-- the entry that had only names, after all fields
 pub filled_is : (names : List ℕ) (fields : List Field) (entry : Content) (decided : List Bool) (next : Filled) → entry ≡ bare_entry names → decided ≡ replicate 497 false → next ≡ take_fields (record { entry = entry; decided = decided }) fields → next.entry ≡ (take_fields (start names) fields).entry
 filled_is names fields entry decided next bare none is =
     let with_entry : Content → Filled = λ e. record { entry = e; decided = decided } in
@@ -187,7 +187,7 @@ filled_is names fields entry decided next bare none is =
 names_fit_in : (raws : List RawEntry) (place : ℕ) (raw : RawEntry) → AllByRecursion IsRaw raws → slice_get raws place ≡ Some raw → IsTrue (names_fit (names_in_entry (slice_get raws place)))
 names_fit_in raws place raw all is = subst (λ o. IsTrue (names_fit (names_in_entry o))) (sym is) (all_at IsRaw raws place raw all is).names
 
--- the names of an entry fit, where each entry's do
+-- the names of an entry fit, if each entry's do
 pub names_fit_at : (raws : List RawEntry) (place : ℕ) → AllByRecursion IsRaw raws → place < length raws → IsTrue (names_fit (names_at raws place))
 unfolding names_at
 names_fit_at [] place all inside = absurd (omega arith)

@@ -1,4 +1,4 @@
--- What a fault that was made tells of a walk.
+-- Faults of the code as faults of the walk.
 use Rattle.std.proofs.lemmas.List.{drop_more, drop_all}
 use Rattle.std.proofs.Common.{get_or, length, ◌≤◌, ◌≡◌, ◌<◌, ◌+◌, ◌-◌, suc, zero, [], ◌∷◌, ◌++◌, List, ℕ, drop, subst, arith, Result, Ok, Err, refl, sym, ap, ◌∙◌}
 use Rattle.ti_resolve.specs.declared.faults.ResolveFault.{ResolveFault}
@@ -42,8 +42,8 @@ first_fails (NoSuchEntry name) first next fails = ap (λ r. and_then r next) fai
 first_fails (Cycle name) first next fails = ap (λ r. and_then r next) fails
 first_fails (TooMany name) first next fails = ap (λ r. and_then r next) fails
 
--- The walk through the fields from a place on, after one more field, where that fails, and at the end.
--- `chain` is what the code holds, `held` what it held at first.
+-- The walk through the fields from a place on, after one more field, if that fails, and at the end. `chain` is the
+-- code's chain, `held` the chain at the start.
 module _ (depth : ℕ) (raws : List RawEntry) (held chain : List ℕ) (fields : List Field) (i : ℕ) (entered : List ℕ) (whole : Result (List ℕ) ResolveFault) where
   abbrev from_place : ℕ → List ℕ → Result (List ℕ) ResolveFault
   from_place k seen = follow_uses (enter depth raws held) raws held (uses_in (drop k fields)) seen

@@ -1,4 +1,4 @@
--- What the calls of `resolve` give together.
+-- Facts about the calls of `resolve` taken together.
 use Rattle.std.proofs.Common.{◌≡◌, ℕ, List, Some, None, Ok, Err, refl, sym, ap, ◌∙◌}
 use Rattle.ti_caps.specs.Entry.{Content, value_at, bare_entry}
 use Rattle.ti_source.specs.declared.types.RawEntry.{RawEntry}

@@ -1,4 +1,4 @@
--- What each fault of resolving says of the entries and their uses (terminfo(5), "Similar Terminals").
+-- The meaning of each fault of resolving for the entries and their uses (terminfo(5), "Similar Terminals").
 use Rattle.std.specs.Prelude.{ℕ, ◌≡◌, true, false, List, [], ◌∷◌, Option, Some, None, Result, Ok, Err, Contains, IfOk}
 use Rattle.std.specs.Prelude.{IsOk, length}
 use Rattle.ti_caps.specs.Entry.{Content, IsEntry}
@@ -9,7 +9,7 @@ use Rattle.ti_resolve.specs.Uses.{place_named, fields_at, uses_in}
 use Rattle.ti_resolve.specs.Resolved.{IsResolved}
 use Rattle.ti_resolve.specs.Walk.{holds, walk_at, walk_of}
 
--- the entry at a place includes this name
+-- the entry at a place uses this name
 abbrev pub Includes : List RawEntry → ℕ → List ℕ → Type 0
 Includes raws user name = Contains (uses_in (fields_at raws user)) name
 
@@ -19,14 +19,14 @@ pub data Reaches (raws : List RawEntry) (from : ℕ) : ℕ → Type 0 where
   by_use : (user to : ℕ) (name : List ℕ) → Reaches raws from user → Includes raws user name
       → place_named raws name ≡ Some to → Reaches raws from to
 
--- a use of the name is reached, and no entry has the name
+-- a use of the name is reached, but no entry has the name
 pub record ReachesNothing (raws : List RawEntry) (root : ℕ) (name : List ℕ) : Type 0 where
   pub user : ℕ
   pub reached : Reaches raws root user
   pub includes : Includes raws user name
   pub unnamed : place_named raws name ≡ None
 
--- an entry is reached from which a chain of uses comes back to it, by this name
+-- an entry is reached from which a chain of uses leads back to it, by this name
 pub record ReachesCycle (raws : List RawEntry) (root : ℕ) (name : List ℕ) : Type 0 where
   pub place : ℕ
   pub user : ℕ
@@ -39,7 +39,7 @@ abbrev pub AreDifferent : List ℕ → Type 0
 AreDifferent [] = Unit {0}
 AreDifferent (place ∷ places) = (holds places place ≡ false) × AreDifferent places
 
--- 65 different entries beside the one asked for are reached, the one with this name among them
+-- 65 different entries besides the resolved one are reached, the one with this name among them
 pub record ReachesTooMany (raws : List RawEntry) (root : ℕ) (name : List ℕ) : Type 0 where
   pub places : List ℕ
   pub count : length places ≡ 65
@@ -52,7 +52,7 @@ pub record ReachesTooMany (raws : List RawEntry) (root : ℕ) (name : List ℕ) 
   pub named : place_named raws name ≡ Some last
   pub among : holds places last ≡ true
 
--- the fault is so, from the entry at a place on
+-- the fault is true, for the entry at a place
 abbrev pub FaultFrom : List RawEntry → ℕ → ResolveFault → Type 0
 FaultFrom raws root (NoSuchEntry name) = ReachesNothing raws root name
 FaultFrom raws root (Cycle name) = ReachesCycle raws root name
@@ -63,33 +63,33 @@ abbrev pub FaultAt : List RawEntry → List ℕ → Option ℕ → ResolveFault 
 FaultAt raws asked None fault = fault ≡ NoSuchEntry asked
 FaultAt raws asked (Some root) fault = FaultFrom raws root fault
 
--- the fault is so, where this name is asked for
+-- the fault is true, for the entry with this name
 abbrev pub IsFaultOf : List RawEntry → List ℕ → ResolveFault → Type 0
 IsFaultOf raws asked fault = FaultAt raws asked (place_named raws asked) fault
 
--- each fault of the walk from a place is so
+-- each fault of the walk from a place is true
 abbrev pub FaultsFromAreSo : Type 0
 FaultsFromAreSo =
     (raws : List RawEntry) (root : ℕ) (fault : ResolveFault) → walk_at raws root ≡ Err fault → FaultFrom raws root fault
 
--- each fault of the walk from the entry that a name asks for is so
+-- each fault of the walk from a name is true
 abbrev pub FaultsAreSo : Type 0
 FaultsAreSo =
     (raws : List RawEntry) (asked : List ℕ) (fault : ResolveFault) → walk_of raws asked ≡ Err fault
     → IsFaultOf raws asked fault
 
--- a walk without a fault finds the entry that is asked for
+-- if the walk has no fault, an entry resolves the name
 abbrev pub WalksResolve : Type 0
 WalksResolve =
     (raws : List RawEntry) (asked places : List ℕ) → walk_of raws asked ≡ Ok places
     → (entry : Content) × IsResolved raws asked entry
 
--- the answer to a name: the entry where the walk has no fault, and else the fault
+-- the answer to a name: the entry if the walk has no fault, otherwise the fault
 abbrev pub IsAnswer : List RawEntry → List ℕ → Result Content ResolveFault → Type 0
 IsAnswer raws asked (Ok entry) = IsOk (walk_of raws asked) × IsResolved raws asked entry
 IsAnswer raws asked (Err fault) = walk_of raws asked ≡ Err fault
 
--- a name has one answer: where the walk has a fault there is no entry, and no other fault
+-- a name has one answer: if the walk has a fault, there is neither an entry nor another fault
 abbrev pub AnswersOnce : Type 0
 AnswersOnce =
     (raws : List RawEntry) (asked : List ℕ) (one other : Result Content ResolveFault) → IfOk one IsEntry

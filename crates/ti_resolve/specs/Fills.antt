@@ -1,4 +1,4 @@
--- (Serves the code alone.) An entry while fields are taken over into it, first ones first.
+-- (Serves the code alone.) An entry into which fields are copied, the first ones first.
 use Rattle.std.specs.Prelude.{ℕ, Bool, true, false, List, [], ◌∷◌, ◌++◌, Some, slice_index_or, slice_set, replicate}
 use Rattle.std.specs.Prelude.{if◌then◌else◌}
 use Rattle.ti_caps.specs.Entry.{Content, bare_entry, with_value}
@@ -7,12 +7,12 @@ use Rattle.ti_source.specs.declared.types.Field.TheVariants.{Set, Cancel, Includ
 use Rattle.ti_source.specs.declared.types.RawEntry.{RawEntry}
 use Rattle.ti_resolve.specs.Uses.{fields_at}
 
--- the entry so far, and for each place whether a field about its capability came
+-- the entry so far, and whether an earlier field was about the capability at each place
 pub record Filled : Type 0 where
   pub entry : Content
   pub decided : List Bool
 
--- a field decides, unless one before it did
+-- a field decides, unless an earlier one did
 unfoldable pub take_field : Filled → Field → Filled
 take_field so_far (Set cap value) =
     if slice_index_or so_far.decided cap false then so_far
@@ -29,6 +29,6 @@ abbrev pub fields_of_all : List RawEntry → List ℕ → List Field
 fields_of_all raws [] = []
 fields_of_all raws (place ∷ places) = fields_at raws place ++ fields_of_all raws places
 
--- the entry of names alone, before any field
+-- the entry with only names, before any field
 abbrev pub start : List ℕ → Filled
 start names = record { entry = bare_entry names; decided = replicate 497 false }

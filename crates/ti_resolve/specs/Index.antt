@@ -1,4 +1,4 @@
--- (Serves the code alone.) The index of names, which serves the code's look-up alone.
+-- (Serves the code alone.) The index in which the code looks up names.
 use Rattle.std.specs.Prelude.{ℕ, ◌≡◌, Bool, List, Option, Some, None, if◌then◌else◌}
 use Rattle.std.specs.BTreeMap.{BTreeMap, get_by}
 use Rattle.std.specs.Cmp.Lexicographic.{slice_cmp}
@@ -19,7 +19,7 @@ place_in places name = get_by (λ key. slice_cmp nat_cmp name key.now) places
 abbrev pub IsIndexOf : List RawEntry → Places → Type 0
 IsIndexOf raws places = (name : List ℕ) → place_in places name ≡ place_named raws name
 
--- names that had no place have this one now, if they pass the test; all others stay as they were
+-- names that had no place have this one now, if they pass the test; all others keep theirs
 abbrev pub Adds : Places → Places → (List ℕ → Bool) → ℕ → Type 0
 Adds old new test place =
     (name : List ℕ) → place_in new name ≡ option_or (place_in old name) (if test name then Some place else None)

@@ -1,4 +1,4 @@
--- Where the value of a capability stands that an entry has with all that it uses.
+-- The field that gives a capability its value in an entry with all that it uses.
 use Rattle.std.specs.Prelude.{ℕ, ◌≡◌, Bool, true, false, List, [], ◌∷◌, Option, Some, None, if◌then◌else◌, slice_get}
 use Rattle.std.specs.Prelude.{option_map}
 use Rattle.std.specs.List.{position}
@@ -15,16 +15,16 @@ use Rattle.ti_resolve.specs.Uses.{place_named, fields_at, is_about}
 abbrev pub origin_at : ℕ → ℕ → Origin
 origin_at entry field = record { entry = entry; field = field }
 
--- the first field about a capability of the entry at a place
+-- the first field about a capability in the entry at a place
 unfoldable pub origin_in : List RawEntry → ℕ → ℕ → Option Origin
 origin_in raws cap place = option_map (origin_at place) (position (is_about cap) (fields_at raws place))
 
--- what is found at the first place at which something is
+-- the first result that is found at one of the places
 abbrev pub first_of : {X : Type 0} → (ℕ → Option X) → List ℕ → Option X
 first_of found [] = None
 first_of found (place ∷ places) = option_or (found place) (first_of found places)
 
--- the field that stands there
+-- the field at an origin
 unfoldable pub field_there : List RawEntry → Origin → Option Field
 field_there raws origin = slice_get (fields_at raws origin.entry) origin.field
 
@@ -37,24 +37,24 @@ abbrev pub giving : List RawEntry → Option Origin → Option Origin
 giving raws None = None
 giving raws (Some origin) = if is_set (field_there raws origin) then Some origin else None
 
--- The first field about the capability in the entry at a place and all that it uses, in their order; or
--- None, if there is no such field or it cancels.
+-- The first field about the capability in the entry at a place and all that it uses, in their order; None if there is
+-- no such field or it cancels.
 pub record IsOriginAt (raws : List RawEntry) (root cap : ℕ) (origin : Option Origin) : Type 0 where
   pub places : List ℕ
   pub whole : IsWhole raws root places
   pub first : origin ≡ giving raws (first_of (origin_in raws cap) places)
 
--- the same for the entry that a name asks for
+-- the origin in the first entry with a name
 pub record IsOrigin (raws : List RawEntry) (name : List ℕ) (cap : ℕ) (origin : Option Origin) : Type 0 where
   pub root : ℕ
   pub found : place_named raws name ≡ Some root
   pub there : IsOriginAt raws root cap origin
 
--- the field there sets the capability to this value, and there is one if there is a value
+-- the field at the origin sets the capability to this value; there is an origin exactly if there is a value
 abbrev pub Gives : List RawEntry → ℕ → Option Origin → Option Value → Type 0
 Gives raws cap origin value = option_map (field_there raws) origin ≡ option_map (λ given. Some (Set cap given)) value
 
--- it is the value that the entry has
+-- the origin gives the value that the entry has
 abbrev pub GivesValueAt : List RawEntry → ℕ → ℕ → Option Origin → Type 0
 GivesValueAt raws root cap origin = (entry : Content) → IsResolvedAt raws root entry
     → Gives raws cap origin (value_at entry cap)

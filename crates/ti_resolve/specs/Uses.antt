@@ -1,4 +1,4 @@
--- The entries of a source, by their places, and what `use` includes (terminfo(5), "Similar Terminals").
+-- The entries of a source, by their places, and the entries that `use` includes (terminfo(5), "Similar Terminals").
 use Rattle.std.specs.Prelude.{ℕ, Bool, false, List, [], ◌∷◌, Option, Some, None, ◌==◌, slice_get}
 use Rattle.std.specs.List.{find, list_any, position}
 use Rattle.std.specs.Str.{bytes_eq}
@@ -8,7 +8,7 @@ use Rattle.ti_source.specs.declared.types.Field.{Field}
 use Rattle.ti_source.specs.declared.types.Field.TheVariants.{Set, Cancel, Include}
 use Rattle.ti_source.specs.declared.types.RawEntry.{RawEntry}
 
--- the bytes are one of the names of a field of names
+-- the bytes are one of the names in a names field
 abbrev pub is_name_in : List ℕ → List ℕ → Bool
 is_name_in names name = list_any (λ own. bytes_eq own name) (names_in names)
 
@@ -31,13 +31,13 @@ fields_at raws place = fields_in (slice_get raws place)
 unfoldable pub names_at : List RawEntry → ℕ → List ℕ
 names_at raws place = names_in_entry (slice_get raws place)
 
--- the names that these fields include, in order
+-- the names used by these fields, in order
 abbrev pub uses_in : List Field → List (List ℕ)
 uses_in [] = []
 uses_in (Include name ∷ fields) = name ∷ uses_in fields
 uses_in (_ ∷ fields) = uses_in fields
 
--- these fields without those that include
+-- these fields without the uses
 abbrev pub own_in : List Field → List Field
 own_in [] = []
 own_in (Include name ∷ fields) = own_in fields
@@ -53,7 +53,7 @@ is_about place (Include name) = false
 unfoldable pub first_about : ℕ → List Field → Option Field
 first_about place fields = find (is_about place) fields
 
--- the value that this field gives
+-- the value that a field gives
 abbrev pub value_given : Option Field → Option Value
 value_given (Some (Set cap value)) = Some value
 value_given _ = None

@@ -1,5 +1,5 @@
--- The walk through the uses of an entry, depth first and left to right. It gives the places of the
--- entries in the order in which they are entered, or the first fault.
+-- The walk through the uses of an entry, depth first and left to right. It returns the places of the entries in the
+-- order in which they are entered, or the first fault.
 use Rattle.std.specs.Prelude.{ℕ, zero, suc, ◌≡◌, Bool, List, [], ◌∷◌, ◌++◌, Option, Some, None, Result, Ok, Err, ◌==◌}
 use Rattle.std.specs.Prelude.{nat_le, if◌then◌else◌, length}
 use Rattle.std.specs.List.{list_any}
@@ -10,7 +10,7 @@ use Rattle.ti_source.specs.declared.types.Field.TheVariants.{Set, Cancel, Includ
 use Rattle.ti_source.specs.declared.types.RawEntry.{RawEntry}
 use Rattle.ti_resolve.specs.Uses.{place_named, fields_at, names_at, uses_in}
 
--- what a walk gives from an answer, if it is no fault
+-- the next step of a walk, unless there was a fault
 abbrev pub and_then : {X Y : Type 0} → Result X ResolveFault → (X → Result Y ResolveFault) → Result Y ResolveFault
 and_then (Ok x) next = next x
 and_then (Err fault) next = Err fault
@@ -18,8 +18,8 @@ and_then (Err fault) next = Err fault
 abbrev pub holds : List ℕ → ℕ → Bool
 holds places place = list_any (λ p. p == place) places
 
--- Where a use leads. An entry that is being walked is met again: a cycle. One that was finished adds
--- nothing. After the entry that was asked for, 64 entries can be entered.
+-- The entry to which a use leads. Meeting an entry that is still being walked is a cycle; meeting one that is
+-- finished adds nothing. Besides the resolved entry, at most 64 can be entered.
 unfoldable pub target : Option ℕ → List ℕ → List ℕ → List ℕ → Result (Option ℕ) ResolveFault
 target None name chain entered = Err (NoSuchEntry name)
 target (Some place) name chain entered =
@@ -27,12 +27,12 @@ target (Some place) name chain entered =
     if holds entered place then Ok None else (
     if nat_le 65 (length entered) then Err (TooMany name) else Ok (Some place)))
 
--- enters the entry that a use leads to, if it leads to one
+-- enters the entry to which a use leads, if there is one to enter
 abbrev pub go_to : (ℕ → List ℕ → Result (List ℕ) ResolveFault) → List ℕ → Option ℕ → Result (List ℕ) ResolveFault
 go_to go entered None = Ok entered
 go_to go entered (Some place) = go place entered
 
--- the uses of these names in turn; `go` enters an entry that has this name
+-- the uses of these names in turn; `go` enters the entry with a name
 unfoldable pub follow_uses : (List ℕ → ℕ → List ℕ → Result (List ℕ) ResolveFault) → List RawEntry → List ℕ
     → List (List ℕ) → List ℕ → Result (List ℕ) ResolveFault
 follow_uses go raws chain [] entered = Ok entered
@@ -40,7 +40,7 @@ follow_uses go raws chain (name ∷ names) entered =
     and_then (and_then (target (place_named raws name) name chain entered) (go_to (go name) entered))
     (follow_uses go raws chain names)
 
--- what one field makes the walk do
+-- the walk for one field
 abbrev pub follow_field : (List ℕ → ℕ → List ℕ → Result (List ℕ) ResolveFault) → List RawEntry → List ℕ → Field → List ℕ
     → Result (List ℕ) ResolveFault
 follow_field go raws chain (Include name) entered =
@@ -48,19 +48,19 @@ follow_field go raws chain (Include name) entered =
 follow_field go raws chain (Set cap value) entered = Ok entered
 follow_field go raws chain (Cancel cap) entered = Ok entered
 
--- Enters the entry at a place, and then all that it uses. The number is how many entries the chain of
--- those being walked can still take: there are never more of them than were entered.
+-- Enters the entry at a place, and then all that it uses. The number says how many more entries the chain of those
+-- being walked can take; it never has more than were entered.
 unfoldable pub enter : ℕ → List RawEntry → List ℕ → List ℕ → ℕ → List ℕ → Result (List ℕ) ResolveFault
 enter zero raws chain name place entered = Err (TooMany name)
 enter (suc depth) raws chain name place entered =
     follow_uses (enter depth raws (chain ++ place ∷ [])) raws (chain ++ place ∷ []) (uses_in (fields_at raws place))
     (entered ++ place ∷ [])
 
--- the walk from the entry at a place, which no name leads to: its own names stand for one
+-- the walk from the entry at a place; in place of a name that leads to it, it takes the entry's own names
 abbrev pub walk_at : List RawEntry → ℕ → Result (List ℕ) ResolveFault
 walk_at raws root = enter 65 raws [] (names_at raws root) root []
 
--- the walk from the entry that a name asks for
+-- the walk from the first entry with a name
 abbrev pub walk_from : List RawEntry → List ℕ → Option ℕ → Result (List ℕ) ResolveFault
 walk_from raws name None = Err (NoSuchEntry name)
 walk_from raws name (Some root) = walk_at raws root
@@ -68,7 +68,7 @@ walk_from raws name (Some root) = walk_at raws root
 unfoldable pub walk_of : List RawEntry → List ℕ → Result (List ℕ) ResolveFault
 walk_of raws name = walk_from raws name (place_named raws name)
 
--- the fault that is reported is the walk's, unless memory ran out
+-- the reported fault is the walk's, unless memory ran out
 abbrev pub FailsBy : {X : Type 0} → ResolveFault → Result X ResolveFault → Type 0
 FailsBy NoMemory walk = Unit {0}
 FailsBy (NoSuchEntry name) walk = walk ≡ Err (NoSuchEntry name)
@@ -82,7 +82,7 @@ Tells (NoSuchEntry name) fault = NoSuchEntry name ≡ fault
 Tells (Cycle name) fault = Cycle name ≡ fault
 Tells (TooMany name) fault = TooMany name ≡ fault
 
--- what was answered, seen by view, is what the walk gives
+-- the result, seen through the view, is that of the walk
 abbrev pub Gives : {X Y : Type 0} → (X → Y) → Result X ResolveFault → Result Y ResolveFault → Type 0
 Gives view (Ok x) walk = walk ≡ Ok (view x)
 Gives view (Err fault) walk = FailsBy fault walk

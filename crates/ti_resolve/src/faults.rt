@@ -1,4 +1,4 @@
-//! Why an entry cannot be resolved.
+//! The reasons why an entry can't be resolved.
 
 ghost use Rattle.std.specs.Prelude.{◌≡◌};
 ghost use Rattle.ti_resolve.specs.declared.faults.ResolveFault.TheVariants.{NoMemory};
@@ -8,19 +8,19 @@ use std::alloc::{AllocError, AllocFailed, Global};
 use thiserror::Error;
 use ti_caps::Bytes;
 
-/// Why an entry cannot be resolved, with the name as the use has it.
+/// The reason why an entry can't be resolved, with the name as the use spells it.
 #[derive(Debug, Drop, Error)]
 pub enum ResolveFault {
     /// No entry has this name.
     #[error("NoSuchEntry")]
     NoSuchEntry(Bytes),
-    /// An entry uses itself, by whatever way.
+    /// An entry uses itself, directly or through others.
     #[error("Cycle")]
     Cycle(Bytes),
-    /// Out of memory: a growth was refused.
+    /// Out of memory.
     #[error("NoMemory")]
     NoMemory,
-    /// A 65th entry would be used.
+    /// More than 64 entries would be used.
     #[error("TooMany")]
     TooMany(Bytes),
 }

@@ -1,4 +1,4 @@
-//! Taking fields over into an entry, of which the first about a capability decides.
+//! Copying fields into an entry; the first field about a capability decides.
 
 ghost use Rattle.std.specs.Prelude.{◌≡◌, ◌<◌, Bool, false, List, ℕ, Some, IfOk, OnOk, length, replicate};
 ghost use Rattle.std.specs.Prelude.{slice_index_or, slice_set, true, IsTrue};
@@ -14,7 +14,7 @@ use std::alloc::{AllocError, Global};
 use ti_caps::{CAPABILITIES, Cap, Entry, Value};
 use ti_source::{Field, RawEntry};
 
-/// Sets a capability of the entry to a copy of a value.
+/// Sets the capability `cap` of the entry to a copy of `value`, which must fit.
 fn set_value(entry: &mut Entry, cap: Cap, value: &Value) -> Result<(), AllocError>
     requires { FitsPlace cap (Some value.now) }
     ensures { OnOk result (entry.new ≡ with_value entry.old cap (Some value.now)) }
@@ -27,7 +27,7 @@ fn set_value(entry: &mut Entry, cap: Cap, value: &Value) -> Result<(), AllocErro
     Ok(())
 }
 
-/// Whether a field about the capability came before.
+/// Whether an earlier field was about the capability `cap`.
 fn is_decided(decided: &[bool], cap: Cap) -> bool
     requires { length decided.now ≡ 497 }
     ensures { result ≡ slice_index_or decided.now cap false }
@@ -35,7 +35,7 @@ fn is_decided(decided: &[bool], cap: Cap) -> bool
     decided[cap.place()]
 }
 
-/// Notes that a field about the capability came.
+/// Records that a field was about the capability `cap`.
 fn decide(decided: &mut [bool], cap: Cap)
     requires { length decided.old ≡ 497 }
     ensures { decided.new ≡ slice_set decided.old cap true }
@@ -43,7 +43,7 @@ fn decide(decided: &mut [bool], cap: Cap)
     decided[cap.place()] = true;
 }
 
-/// Takes a field over, unless one about its capability came before.
+/// Copies a field into the entry, unless an earlier one was about its capability.
 #[tactic(auto, unfolding(crate::specs::Fills::take_field))]
 fn take_field(entry: &mut Entry, decided: &mut [bool], field: &Field) -> Result<(), AllocError>
     requires sized { length decided.old ≡ 497 }
@@ -64,7 +64,7 @@ fn take_field(entry: &mut Entry, decided: &mut [bool], field: &Field) -> Result<
     Ok(())
 }
 
-/// Takes these fields over.
+/// Copies these fields into the entry, one after another.
 fn take_each(entry: &mut Entry, decided: &mut [bool], fields: &[Field]) -> Result<(), AllocError>
     requires sized { length decided.old ≡ 497 }
     requires fits { AllByRecursion FitsField fields.now }
@@ -77,7 +77,7 @@ fn take_each(entry: &mut Entry, decided: &mut [bool], fields: &[Field]) -> Resul
     Ok(())
 }
 
-/// Takes over the fields of the entries at these places, one entry after another.
+/// Copies the fields of the entries at these `places`, one entry after another.
 #[tactic(auto, using(crate::proofs::Taken::fields_fit))]
 fn take_entries(
     entry: &mut Entry,
@@ -96,7 +96,7 @@ fn take_entries(
     Ok(())
 }
 
-/// The entry with these names, and with the fields of the entries at these places.
+/// The entry with these `names`, and with the fields of the entries at these `places`.
 pub(crate) fn filled(
     alloc: Global,
     raws: &[RawEntry],

@@ -1,4 +1,4 @@
-//! An entry with all that it uses: terminfo(5)'s `use`.
+//! Resolving entries: terminfo(5)'s `use`.
 #![tactic(auto)]
 
 mod faults;

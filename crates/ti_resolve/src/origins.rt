@@ -1,4 +1,4 @@
-//! Where the value of a capability stands.
+//! The field that gives a capability its value.
 
 ghost use Rattle.std.specs.Prelude.{◌≡◌};
 ghost use Rattle.std.specs.List.{position};
@@ -9,12 +9,12 @@ use crate::search::fields_of;
 use ti_caps::Cap;
 use ti_source::{Field, RawEntry};
 
-/// A field of an entry of a source text, by places that count from 0.
+/// A field of an entry of a source text; both places count from 0.
 #[derive(Clone, Copy, Debug, PartialEq, Eq)]
 pub struct Origin {
-    /// The place of the entry among all.
+    /// The entry's place among all.
     pub entry: usize,
-    /// The place of the field among those of the entry.
+    /// The field's place in the entry.
     pub field: usize,
 }
 
@@ -28,14 +28,14 @@ fn is_about(field: &Field, cap: Cap) -> bool
     }
 }
 
-/// The place of the first field about the capability.
+/// The place of the first field about the capability `cap`.
 fn first_about(fields: &[Field], cap: Cap) -> Option<usize>
     ensures { result ≡ position (is_about cap) fields.now }
 {
     fields.iter().position(|field| is_about(field, cap))
 }
 
-/// The first field about the capability of the entry at a place.
+/// The first field about the capability `cap` in the entry at `place`.
 #[tactic(auto, unfolding(crate::specs::Origins::origin_in))]
 fn origin_in(raws: &[RawEntry], cap: Cap, place: usize) -> Option<Origin>
     ensures { result ≡ origin_in raws.now cap place }
@@ -49,7 +49,7 @@ fn origin_in(raws: &[RawEntry], cap: Cap, place: usize) -> Option<Origin>
     }
 }
 
-/// The first field about the capability of the entries at these places.
+/// The first field about the capability `cap` in the entries at these `places`.
 #[tactic(auto, using(crate::proofs::OriginFacts::first_more, crate::proofs::OriginFacts::first_found))]
 fn first_origin(raws: &[RawEntry], cap: Cap, places: &[usize]) -> Option<Origin>
     ensures { result ≡ first_of (origin_in raws.now cap) places.now }
@@ -62,7 +62,7 @@ fn first_origin(raws: &[RawEntry], cap: Cap, places: &[usize]) -> Option<Origin>
     None
 }
 
-/// Whether a field sets a capability.
+/// Whether the field at `origin` sets a capability.
 #[tactic(auto, unfolding(crate::specs::Origins::field_there))]
 fn sets(raws: &[RawEntry], origin: Origin) -> bool
     ensures { result ≡ is_set (field_there raws.now origin) }
@@ -75,7 +75,7 @@ fn sets(raws: &[RawEntry], origin: Origin) -> bool
     }
 }
 
-/// The first field about the capability of the entries at these places, if it gives a value.
+/// The first field about the capability `cap` in the entries at these `places`; `None` if it gives no value.
 pub(crate) fn giving(raws: &[RawEntry], cap: Cap, places: &[usize]) -> Option<Origin>
     ensures { result ≡ giving raws.now (first_of (origin_in raws.now cap) places.now) }
 {

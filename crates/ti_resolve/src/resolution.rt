@@ -20,11 +20,11 @@ use std::alloc::Global;
 use ti_caps::{Cap, Entry};
 use ti_source::RawEntry;
 
-/// The places of the entries that the walk from the one at `root` enters, in that order: the entry itself and all that
-/// it uses.
+/// The places of the entries that the walk from the one at `root` enters, in that order: the entry itself and all
+/// that it uses.
 ///
 /// # Errors
-/// The first fault that is met on the way, or out of memory.
+/// The first fault met on the way, or out of memory.
 pub fn entered_from(
     alloc: Global,
     index: &Index<'_>,
@@ -43,11 +43,11 @@ pub fn entered_from(
     Ok(entered)
 }
 
-/// The entry at the place `root`, as `resolve_at` gives it, in entries with their index: it serves where many entries
-/// of one source are resolved. Only the names of this entry must fit one.
+/// The entry at the place `root`, as `resolve_at` returns it, but with an index that serves many calls. Only the
+/// names of this entry must fit.
 ///
 /// # Errors
-/// The first fault that is met on the way, or out of memory.
+/// The first fault met on the way, or out of memory.
 pub fn resolve_from(alloc: Global, index: &Index<'_>, root: usize) -> Result<Entry, ResolveFault>
     requires fit { AllByRecursion FieldsFit index.now.raws.now }
     requires names { IsTrue (names_fit (names_at index.now.raws.now root)) }
@@ -66,7 +66,7 @@ pub fn resolve_from(alloc: Global, index: &Index<'_>, root: usize) -> Result<Ent
     Ok(entry)
 }
 
-/// The entry that `name` asks for, in entries with their index.
+/// The first entry named `name`, with all that it uses.
 #[tactic(auto, using(crate::proofs::Taken::raws_fields, crate::proofs::Taken::names_fit_at))]
 fn resolve_in(alloc: Global, index: &Index<'_>, name: &[u8]) -> Result<Entry, ResolveFault>
     requires { AllByRecursion IsRaw index.now.raws.now }
@@ -80,11 +80,11 @@ fn resolve_in(alloc: Global, index: &Index<'_>, name: &[u8]) -> Result<Entry, Re
     }
 }
 
-/// Where the value of `cap` stands in the entry at the place `root`, as `origin_at` says it, in entries with their
-/// index.
+/// The field that gives `cap` its value in the entry at the place `root`, as `origin_at` returns it, but with an
+/// index that serves many calls.
 ///
 /// # Errors
-/// The first fault that is met on the way, or out of memory.
+/// The first fault met on the way, or out of memory.
 pub fn origin_from(
     alloc: Global,
     index: &Index<'_>,
@@ -103,7 +103,7 @@ pub fn origin_from(
     Ok(giving(index.raws, cap, entered.as_slice()))
 }
 
-/// Where the value of `cap` stands in the entry that `name` asks for, in entries with their index.
+/// The field that gives `cap` its value in the first entry named `name`.
 fn origin_of(
     alloc: Global,
     index: &Index<'_>,
@@ -121,13 +121,13 @@ fn origin_of(
     }
 }
 
-/// The entry that a name asks for, with all that it uses: depth first and left to right, an entry's own
-/// fields before its uses. Of several fields about a capability the first decides, a cancellation too.
+/// The first entry of `raws` named `name`, with all that it uses: depth first and left to right, an entry's own
+/// fields before its uses. Of several fields about one capability the first decides, even if it cancels.
 ///
-/// The fault is the first that is met on the way, or out of memory.
+/// Fails with the first fault met on the way, or when out of memory.
 ///
-/// With N names in all entries, and M uses in those that are entered, at most 65, it takes
-/// (N + M) log N comparisons of names, and one pass over the fields that are entered.
+/// With N names in all entries and M uses in the at most 65 entries entered, this takes (N + M) log N comparisons of
+/// names, and one pass over the fields of the entries entered.
 pub fn resolve(alloc: Global, raws: &[RawEntry], name: &[u8]) -> Result<Entry, ResolveFault>
     requires { AllByRecursion IsRaw raws.now }
     ensures entry { IfOk result (λ entry. IsResolved raws.now name.now entry) }
@@ -138,11 +138,11 @@ pub fn resolve(alloc: Global, raws: &[RawEntry], name: &[u8]) -> Result<Entry, R
     resolve_in(alloc, &index, name)
 }
 
-/// The entry at `place` in `raws`, with all that it uses, as `resolve` gives it; its names don't count, so that of
-/// several entries with one name each can be had.
+/// The entry at `place` in `raws`, with all that it uses, like `resolve`; since its names don't matter, this reaches
+/// each of several entries with one name.
 ///
 /// # Errors
-/// The first fault that is met on the way, or out of memory.
+/// The first fault met on the way, or out of memory.
 #[tactic(auto, using(crate::proofs::Taken::raws_fields, crate::proofs::Taken::names_fit_at))]
 pub fn resolve_at(alloc: Global, raws: &[RawEntry], place: usize) -> Result<Entry, ResolveFault>
     requires fit { AllByRecursion IsRaw raws.now }
@@ -155,13 +155,13 @@ pub fn resolve_at(alloc: Global, raws: &[RawEntry], place: usize) -> Result<Entr
     resolve_from(alloc, &index, place)
 }
 
-/// Where the value of `cap` stands in the entry of `raws` that `name` asks for, with all that it uses: the first
-/// field about `cap`, in the order of `resolve`. None where the entry has no value of it.
+/// The field that gives `cap` its value in the first entry of `raws` named `name`, with all that it uses: the first
+/// field about `cap`, in the order of `resolve`. `None` if the entry has no value for it.
 ///
-/// The time is that of `resolve`, but that fields are passed over only up to that one.
+/// This takes as long as `resolve`, but passes over fields only up to that one.
 ///
 /// # Errors
-/// Those of `resolve`.
+/// Like those of `resolve`.
 pub fn origin(
     alloc: Global,
     raws: &[RawEntry],
@@ -177,11 +177,11 @@ pub fn origin(
     origin_of(alloc, &index, name, cap)
 }
 
-/// Where the value of `cap` stands in the entry at `place` in `raws`, as `origin` says it; the entry's names don't
-/// count, as in `resolve_at`.
+/// The field that gives `cap` its value in the entry at `place` in `raws`, like `origin`; the entry's names don't
+/// matter, as in `resolve_at`.
 ///
 /// # Errors
-/// Those of `resolve_at`.
+/// Like those of `resolve_at`.
 pub fn origin_at(
     alloc: Global,
     raws: &[RawEntry],
@@ -198,38 +198,38 @@ pub fn origin_at(
     origin_from(alloc, &index, place, cap)
 }
 
-/// A law: uses stand for one list of entries.
+/// Law: uses expand to at most one list of entries.
 #[tactic(auto, using(crate::proofs::Once::expands_once))]
 pub fn expands_once()
     ensures { ExpandsOnce }
 {}
 
-/// A law: at a place there is one entry.
+/// Law: the entry at a place, resolved, is unique.
 pub fn resolved_at_once()
     ensures { ResolvedAtOnce }
 {}
 
-/// A law: a name asks for one entry.
+/// Law: the entry with a name, resolved, is unique.
 pub fn resolved_once()
     ensures { ResolvedOnce }
 {}
 
-/// A law: a walk without a fault resolves the name.
+/// Law: a walk without a fault resolves the name.
 pub fn walks_resolve()
     ensures { WalksResolve }
 {}
 
-/// A law: what each fault of the walk from a place says of the entries and their uses is so.
+/// Law: each fault of the walk from a place is true of the entries and their uses.
 pub fn faults_from_are_so()
     ensures { FaultsFromAreSo }
 {}
 
-/// A law: what each fault of the walk from a name says of the entries and their uses is so.
+/// Law: each fault of the walk from a name is true of the entries and their uses.
 pub fn faults_are_so()
     ensures { FaultsAreSo }
 {}
 
-/// A law: a name has one answer. Where the walk has a fault, no entry is the answer, and no other fault.
+/// Law: a name has one answer. If the walk has a fault, neither an entry nor another fault is an answer.
 pub fn answers_once()
     ensures { AnswersOnce }
 {}

@@ -1,4 +1,4 @@
-//! Entries by their names and places.
+//! Finding entries by their names and places.
 
 ghost use Rattle.std.specs.Prelude.{◌≡◌, ◌==◌, ◌<◌, [], ◌∷◌, length, IfNone, IfOk, IfSome, OnOk};
 ghost use Rattle.std.specs.List as List;
@@ -11,7 +11,7 @@ use std::alloc::{AllocError, Global};
 use std::collections::BTreeMap;
 use ti_source::{Field, RawEntry};
 
-/// The place of the first bar.
+/// The place of the first `|`.
 fn bar_in(names: &[u8]) -> Option<usize>
     ensures value { result ≡ List.position (λ byte. byte == 124) names.now }
     ensures range { IfSome result (λ at. at < length names.now) }
@@ -19,7 +19,7 @@ fn bar_in(names: &[u8]) -> Option<usize>
     names.iter().position(|byte| *byte == b'|')
 }
 
-/// The first name of a field of names that has several, and the others.
+/// The first name of a names field, and the other names; `None` if it has only one.
 #[tactic(auto, using(crate::proofs::Names::cut_found, crate::proofs::Names::cut_none))]
 fn cut_name(names: &[u8]) -> Option<(&[u8], &[u8])>
     ensures found { IfSome result (λ x. names_in names.now ≡ x.0.now ∷ names_in x.1.now) }
@@ -32,7 +32,7 @@ fn cut_name(names: &[u8]) -> Option<(&[u8], &[u8])>
     }
 }
 
-/// Adds a name to the index, unless an entry before has it.
+/// Adds a name with its `place` to the index, unless an earlier entry has it.
 fn add_name<'r>(
     places: &mut BTreeMap<&'r [u8], usize>,
     name: &'r [u8],
@@ -46,7 +46,7 @@ fn add_name<'r>(
     Ok(())
 }
 
-/// Adds the names of the entry at a place.
+/// Adds the names of the entry at `place`, unless an earlier entry has them.
 fn add_names<'r>(
     places: &mut BTreeMap<&'r [u8], usize>,
     names: &'r [u8],
@@ -73,10 +73,9 @@ fn places_of(alloc: Global, raws: &[RawEntry]) -> Result<BTreeMap<&[u8], usize>,
     Ok(places)
 }
 
-/// Entries with the index of their names, of which the first entry with a name has it.
+/// Entries with an index of their names; a name is that of the first entry that has it.
 ///
-/// It is made in N log N comparisons of names, N being the number of names, and then a name is found
-/// in log N.
+/// The index takes N log N comparisons to build, for N names, and log N to look up a name.
 #[derive(Drop)]
 pub struct Index<'r> {
     /// The entries.
@@ -105,7 +104,7 @@ impl<'r> Index<'r> {
         self.places.get(name).copied()
     }
 
-    /// The fields of the entry at a place, if there is one.
+    /// The fields of the entry at `place`; none if there is no such entry.
     pub(crate) fn fields_of(&self, place: usize) -> &'r [Field]
         ensures { result.now ≡ fields_at self.now.raws.now place }
     {
@@ -113,7 +112,7 @@ impl<'r> Index<'r> {
     }
 }
 
-/// The fields of the entry at a place, if there is one.
+/// The fields of the entry at `place`; none if there is no such entry.
 #[tactic(auto, unfolding(crate::specs::Uses::fields_at))]
 pub(crate) fn fields_of(raws: &[RawEntry], place: usize) -> &[Field]
     ensures { result.now ≡ fields_at raws.now place }
@@ -124,7 +123,7 @@ pub(crate) fn fields_of(raws: &[RawEntry], place: usize) -> &[Field]
     }
 }
 
-/// The names of the entry at a place.
+/// The names of the entry at `place`, which must exist.
 #[tactic(auto, using(std::proofs::lemmas::Option::slice_get_read), unfolding(crate::specs::Uses::names_at))]
 pub(crate) fn names_of(raws: &[RawEntry], place: usize) -> &[u8]
     requires { place < length raws.now }

@@ -9,17 +9,17 @@ use crate::search::Index;
 use std::alloc::Global;
 use ti_source::Field;
 
-/// The most entries that uses reach, beside the one asked for.
+/// The greatest number of used entries, not counting the resolved one.
 pub(crate) const MOST_USED: usize = 64;
 
-/// An entry by its place among all, and the name that led to it.
+/// The place of an entry among all, and the name that led to it.
 #[derive(Clone, Copy)]
 pub(crate) struct Destination<'a> {
     pub(crate) name: &'a [u8],
     pub(crate) place: usize,
 }
 
-/// Where a use leads: to an entry that is to be entered, or to one that was.
+/// The place of the entry to enter for a use of `name`; `None` if that entry was entered before.
 #[tactic(auto, using(crate::proofs::Told::told_fails), unfolding(crate::specs::Walk::target))]
 fn lead(
     alloc: Global,
@@ -49,8 +49,8 @@ fn lead(
 
 /// Enters the entry `to`, and then all that it uses.
 ///
-/// An entry is entered once, and never more than 65 of them, so that calls nest no deeper than 65 and each
-/// field of an entered entry is looked at once, however often and in whatever diamonds entries are used.
+/// Each entry is entered once, and at most 65 are, so calls nest at most 65 deep and each field of an entered entry
+/// is looked at once, however often and in whatever diamonds entries are used.
 #[cycle(walk)]
 pub(crate) fn enter(
     alloc: Global,
@@ -124,7 +124,7 @@ fn follow_field(
     }
 }
 
-/// Follows the use of a name.
+/// Follows the use of `name`.
 #[cycle(walk)]
 fn follow(
     alloc: Global,
