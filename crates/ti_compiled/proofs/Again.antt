@@ -206,7 +206,7 @@ sections_again form sizes names flags padding numbers offsets table rest a b c d
       cut_again table rest sizes.table f,
     ) refl
 
--- what sections hold, as bytes
+-- the sections as bytes
 abbrev pub held_parts : Sections → Parts
 held_parts held = record { form = held.form; names = held.names; flags = held.flags; numbers = flat_map (number_bytes held.form) held.numbers; offsets = flat_map word held.offsets; table = held.table }
 

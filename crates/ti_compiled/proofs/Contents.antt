@@ -1,4 +1,4 @@
--- The values of an entry that the sections of a file hold, capability by capability.
+-- The values of an entry in the sections of a file, capability by capability.
 use Rattle.std.proofs.Common.{◌≡◌, ℕ, ◌+◌, ◌-◌, ◌<◌, ◌≤◌, zero, suc, Bool, true, false, List, [], ◌∷◌, ◌++◌, length, get_or, drop, replicate, refl, ap, sym, ◌∙◌, arith, Option, Some, None, nat_lt, nat_eq, subst}
 use Rattle.std.specs.Prelude.{slice_get, option_and_then, map, if◌then◌else◌}
 use Rattle.std.proofs.lemmas.Bool.Decides.{nat_tests}
@@ -25,11 +25,11 @@ mapped_at f count [] i = nones count i
 mapped_at f count (x ∷ xs) zero = refl
 mapped_at f count (x ∷ xs) (suc i) = mapped_at f count xs i
 
--- a row holds the value at its index
+-- a row has the value at its index
 pub filled_at : (f : ℕ → Option Value) (count : ℕ) (xs : List ℕ) (i : ℕ) → i < count → get_or (filled count (map f xs)) i None ≡ option_and_then f (slice_get xs i)
 filled_at f count xs i h = get_or-take count (map f xs ++ replicate count None) i None h ∙ mapped_at f count xs i
 
--- rows are as many as wanted
+-- there are as many rows as wanted
 pub length-filled : (count : ℕ) (values : List (Option Value)) → length (filled count values) ≡ count
 length-filled count values = simp (length-take, length-append, length-replicate) (omega arith)
 
@@ -74,7 +74,7 @@ unfolding entry_of value_at
 past_read parts place h = get_or_past (rows_of (flag_values parts) (number_values parts) (string_values parts)) place None
     (simp (length-append, length-filled) (omega arith))
 
--- where the capabilities of a kind have their places
+-- the places of the capabilities of each kind
 first_kind : (a b : Bool) → (if a then kinds.Flag else (if b then kinds.Number else kinds.String)) ≡ kinds.Flag → a ≡ true
 first_kind true b k = refl
 first_kind false true k = cc
@@ -135,7 +135,7 @@ string_there parts place k small =
     let below : place - 83 < 414 = omega arith in
     ap (λ i. string_at (entry_of parts) i) (sym e) ∙ ap string_in (string_read parts (place - 83) below) ∙ ap (λ i. string_in (value_of parts kinds.String i)) (sym p)
 
--- A value is of the kind of its place.
+-- a value is of the kind of its place
 abbrev pub IsOf : Kind → Option Value → Type 0
 IsOf kinds.Flag value = (number_in value ≡ None) × (string_in value ≡ None)
 IsOf kinds.Number value = (has_flag value ≡ false) × (string_in value ≡ None)
@@ -205,7 +205,7 @@ no_string parts place kinds.Flag k other = sym (value_kind parts place kinds.Fla
 no_string parts place kinds.Number k other = sym (value_kind parts place kinds.Number k).1
 no_string parts place kinds.String k other = absurd (other refl)
 
--- the same for an entry that is what the sections hold, as the getters see it
+-- the values of the sections' entry, as the getters see it
 pub flag_got : (parts : Parts) (entry : Content) (place position : ℕ) (got : Bool) → entry_of parts ≡ entry → kind_of place ≡ kinds.Flag → position ≡ position_of place → got ≡ has_flag (value_of parts kinds.Flag position) → got ≡ flag_at entry place
 flag_got parts entry place position got read k p g =
     g ∙ ap (λ i. has_flag (value_of parts kinds.Flag i)) p ∙ sym (flag_there parts place k) ∙ ap (λ e. flag_at e place) read

@@ -1,4 +1,4 @@
--- What `decode` answers is in the layout, and what is in the layout is answered.
+-- `decode` returns exactly the entries in the layout.
 use Rattle.std.proofs.Common.{◌≡◌, ℕ, suc, ◌<◌, List, [], ◌∷◌, get_or, sym, ◌∙◌, Ok, Err}
 use Rattle.std.specs.Prelude.{Result, IfOk, IsOkAnd}
 use Rattle.ti_caps.specs.Entry.{Content}

@@ -1,4 +1,4 @@
--- A list's last byte, and what stands before the first NUL.
+-- A list's last byte, and the bytes before the first NUL.
 use Rattle.std.proofs.Common.{◌≡◌, ◌≢◌, zero, suc, take, ℕ, ◌-◌, ◌<◌, false, List, [], ◌∷◌, length, get_or, refl, ap, arith, nat_eq, sub-one}
 use Rattle.std.proofs.lemmas.Bool.Decides.{nat_tests}
 use Rattle.ti_compiled.specs.Layout.{ends_with_nul}
@@ -8,7 +8,7 @@ last_of : (b c : ℕ) (rest : List ℕ) → nat_eq (get_or (c ∷ rest) (length 
 last_of b c [] = refl
 last_of b c (d ∷ rest) = last_of c d rest
 
--- where a list is not empty, its last byte is that at its length less one
+-- the last byte of a nonempty list is at its length less one
 pub ends_last : (bytes : List ℕ) → nat_eq (length bytes) 0 ≡ false → nat_eq (get_or bytes (length bytes - 1) 0) 0 ≡ ends_with_nul bytes
 ends_last [] h = cc
 ends_last (b ∷ rest) h = rw sub-one (last_of b b rest)

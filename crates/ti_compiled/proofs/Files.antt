@@ -1,4 +1,4 @@
--- The sizes of what is written, and the whole file.
+-- The sizes of the parts written, and the whole file.
 use Rattle.std.proofs.Common.{◌≡◌, ℕ, ◌+◌, ◌*◌, ◌^◌, ◌%◌, ◌<◌, ◌≤◌, suc, Bool, true, false, List, [], ◌∷◌, ◌++◌, length, get_or, replicate, refl, ap, sym, ◌∙◌, subst, arith, Option, Some, None, Ok, Err, nat_lt, nat_le, nat_eq}
 use Rattle.std.specs.Prelude.{map, flat_map, if◌then◌else◌, is_some, IsTrue, Result, IsOk}
 use Rattle.std.specs.Int.{from_bool}
@@ -22,7 +22,7 @@ use Rattle.ti_compiled.proofs.Fills.{number_is}
 use Rattle.ti_compiled.proofs.Rows.{number_row_at, numbers_length, any_yes, any_no}
 use Rattle.ti_compiled.proofs.Takes.{and_ok}
 
--- a number that is not wide is small, and each is below 2 ^ 31
+-- a number that isn't wide is small, and each is below 2 ^ 31
 pub any_none : (xs : List (Option ℕ)) (i : ℕ) (t : Bool) → i < length xs → is_wide (get_or xs i None) ≡ t → list_any is_wide xs ≡ false → t ≡ false
 any_none xs i true h e none = sym (any_yes is_wide xs i None h e) ∙ none
 any_none xs i false h e none = refl
@@ -106,7 +106,7 @@ at_most a b h = grind (arith, nat_tests)
 pub names_small : (names : List ℕ) → IsTrue (names_fit names) → length names ≤ 4095
 names_small names h = at_most (length names) 4095 (and_ok (nat_le (length names) 4095) _ h).0
 
--- the file, piece by piece
+-- the file, part by part
 pieces_join : (a b c d e f names nul flags padding numbers offsets table o0 o1 o2 o3 o4 o5 o6 o7 : List ℕ)
     → o0 ≡ [] ++ a ++ b ++ c ++ d ++ e ++ f → o1 ≡ o0 ++ names → o2 ≡ o1 ++ nul → o3 ≡ o2 ++ flags → o4 ≡ o3 ++ padding → o5 ≡ o4 ++ numbers → o6 ≡ o5 ++ offsets → o7 ≡ o6 ++ table
     → o7 ≡ a ++ (b ++ (c ++ (d ++ (e ++ (f ++ ((names ++ nul) ++ (flags ++ (padding ++ (numbers ++ (offsets ++ (table ++ [])))))))))))
@@ -147,7 +147,7 @@ file_is entry plan names o0 o1 o2 o3 o4 o5 o6 o7 h n e0 e1 e2 e3 e4 e5 e6 e7 =
     ∙ same_pieces (ap (λ f. word (magic f)) h.form) (ap word named) (ap word flags) (ap word numbers) (ap word offsets) (ap word h.table) (ap (λ xs. xs ++ 0 ∷ []) n)
     (flat_map_single from_bool (trimmed itself (flags_of entry))) padding (numbers_joined plan.form (form_for entry) (trimmed is_some (numbers_of entry)) h.form) refl refl
 
--- whether it is too large
+-- whether the file is too large
 pub packing_by : (entry : Content) (t : Bool) → nat_lt (limit (form_for entry)) (length (written entry)) ≡ t → packing_of entry ≡ (if t then Err TooLarge else Ok (written entry))
 unfolding packing_of
 packing_by entry t e = ap (λ b. if b then Err TooLarge else Ok (written entry)) e

@@ -1,4 +1,4 @@
--- An entry is filled with the values of a file, capability by capability.
+-- Filling an entry with the values of a file, capability by capability.
 use Rattle.std.proofs.Common.{◌≡◌, ℕ, ◌+◌, ◌-◌, ◌<◌, zero, suc, Bool, true, false, not, ◌||◌, List, [], ◌∷◌, ◌++◌, length, get_or, take, drop, set, replicate, refl, ap, sym, ◌∙◌, subst, arith, Option, Some, None, Ok, Err, nat_lt, nat_le, nat_eq}
 use Rattle.std.specs.Prelude.{slice_get, option_and_then, if◌then◌else◌, IsTrue, Result, IsOk}
 use Rattle.std.specs.List.{list_any, list_all}
@@ -15,7 +15,7 @@ use Rattle.ti_compiled.specs.Layout.{Parts, half, numbers_in, words}
 use Rattle.ti_compiled.specs.Contents.{before_nul, filled, entry_of, value_of, string_value, flag_values, number_values, string_values, is_long_string, with_row, partly, fit_of}
 use Rattle.ti_compiled.proofs.Contents.{IsOf, flag_of, number_of, string_of, length-filled, flag_read, number_read, string_read, filled_at}
 
--- A value of a kind is determined by what it is as that kind.
+-- a value of a kind is determined by its flag, number or string
 pub flag_is : (v : Option Value) → IsOf kinds.Flag v → has_flag v ≡ true → v ≡ Some Flag
 flag_is None h e = let bad : ⊥ = cc in absurd bad
 flag_is (Some Flag) h e = refl
@@ -52,7 +52,7 @@ string_none (Some Flag) h e = let first = h.0 in let bad : ⊥ = cc in absurd ba
 string_none (Some (Number m)) h e = let second = h.1 in let bad : ⊥ = cc in absurd bad
 string_none (Some (String t)) h e = let bad : ⊥ = cc in absurd bad
 
--- one capability more
+-- one more capability
 same_rows : (names : List ℕ) {v w : List (Option Value)} → v ≡ w → ◌≡◌ {A = Content} (record { names = names; values = v }) (record { names = names; values = w })
 same_rows names e = cc
 
@@ -116,7 +116,7 @@ pub partly_none : (parts : Parts) → bare_entry (before_nul parts.names) ≡ pa
 unfolding partly bare_entry entry_of
 partly_none parts = refl
 
--- what one call puts
+-- the entry after one call
 pub flag_put : (parts : Parts) (old : Content) (cap k : ℕ) → cap ≡ 0 + k → has_flag (value_of parts kinds.Flag k) ≡ true → with_value old cap (Some Flag) ≡ with_row old k (value_of parts kinds.Flag k)
 unfolding with_row
 flag_put parts old cap k e there =
@@ -169,7 +169,7 @@ string_fit parts k s there short =
     let fits : nat_le (length s) 4095 ≡ true = grind (arith, nat_tests) in
     rw fits (string_clean parts.table (slice_get (words parts.offsets) k) s is)
 
--- a string that is too long is one of the rows
+-- a string that is too long is in one of the rows
 right_true : (a : Bool) {b : Bool} → b ≡ true → (a || b) ≡ true
 right_true true h = refl
 right_true false h = h
@@ -207,7 +207,7 @@ string_rows parts =
     ap (drop 83) (sym (append_assoc (filled 44 (flag_values parts)) (filled 39 (number_values parts)) (filled 414 (string_values parts))))
     ∙ drop_at front (filled 414 (string_values parts)) 83 size
 
--- whether an entry can hold what was read
+-- whether an entry can hold the contents
 fit_by : (entry : Content) (named long : Bool) → names_fit entry.names ≡ named → list_any is_long_string (drop 83 entry.values) ≡ long
     → fit_of entry ≡ (if named then (if long then Err TooLarge else Ok entry) else Err BadNames)
 unfolding fit_of

@@ -1,4 +1,4 @@
--- Files of the legacy form have the answers of the legacy rules alone.
+-- Files of the legacy form are read and written by the legacy rules alone.
 use Rattle.std.proofs.Common.{◌≡◌, ℕ, ◌+◌, ◌*◌, ◌%◌, ◌<◌, Bool, true, false, List, [], ◌∷◌, length, refl, ap, ◌∙◌, arith, Option, Ok, Err, nat_lt, nat_eq}
 use Rattle.std.specs.Prelude.{if◌then◌else◌, Result}
 use Rattle.std.specs.List.{list_any, AllByRecursion}

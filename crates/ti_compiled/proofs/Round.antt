@@ -37,7 +37,7 @@ trimmed_all : {A : Type 0} (P : A → Type 0) (there : A → Bool) (xs : List A)
 trimmed_all P there [] h = tt
 trimmed_all P there (x ∷ xs) h = kept_all P there x (trimmed there xs) (there x) refl h.0 (trimmed_all P there xs h.1)
 
--- the values that the rows stand for
+-- the values of the rows
 abbrev flag_back : Bool → Option Value
 flag_back flag = if flag then Some Flag else None
 
@@ -49,7 +49,7 @@ abbrev string_back : Option (List ℕ) → Option Value
 string_back None = None
 string_back (Some bytes) = Some (String bytes)
 
--- absent items at the end come back
+-- absent items dropped at the end are read as absent
 abbrev nothing : Option Value
 nothing = None
 
@@ -166,7 +166,7 @@ values_back entry h =
     filled_back string_back is_some 414 (strings_of entry) string_absent (strings_length entry h.size) ∙ strings_same entry h in
     sym (rows_joined entry.values) ∙ sym (three_rows flags numbers strings)
 
--- each cell stands for its value
+-- each cell encodes its value
 flags_each : (flags : List Bool) → Each IsFlag (map from_bool flags) (map flag_back flags)
 flags_each [] = tt
 flags_each (true ∷ flags) = (refl, flags_each flags)
@@ -253,7 +253,7 @@ unfolding strings_of value_at
 strings_clean entry h = mapped_all IsClean (drop 83 entry.values) (all_by_index (λ v. IsClean (string_in v)) (drop 83 entry.values) None (λ i below.
     string_clean (83 + i) (get_or (drop 83 entry.values) i None) (subst (FitsPlace (83 + i)) (sym (get_or-drop 83 entry.values i None)) (h.fits (83 + i)))))
 
--- the held of an entry
+-- the sections of an entry
 held_for : Content → Sections
 held_for entry = record {
   form = form_for entry;

@@ -1,4 +1,4 @@
--- The rows of an entry, one by one, and what is written of them.
+-- The rows of an entry, one by one, and the bytes written for them.
 use Rattle.std.proofs.Common.{◌≡◌, ℕ, ◌+◌, ◌<◌, ◌≤◌, zero, suc, Bool, true, false, ◌||◌, List, [], ◌∷◌, ◌++◌, length, get_or, take, drop, refl, ap, sym, ◌∙◌, arith, Option, Some, None, nat_eq}
 use Rattle.std.specs.Prelude.{map, flat_map, if◌then◌else◌, is_some}
 use Rattle.std.specs.List.{list_any}
@@ -45,7 +45,7 @@ pub strings_length : (entry : Content) → length entry.values ≡ 497 → lengt
 unfolding strings_of
 strings_length entry e = simp (length-map, length-drop) (omega arith)
 
--- what is cut off at the end
+-- dropping absent items at the end
 kept_full : {A : Type 0} (there : A → Bool) (y : A) (ys : List A) (x : A) → kept there y (ys ++ x ∷ []) ≡ y ∷ (ys ++ x ∷ [])
 kept_full there y [] x = refl
 kept_full there y (z ∷ zs) x = refl
@@ -58,7 +58,7 @@ push_no : {A : Type 0} (there : A → Bool) (xs : List A) (x : A) → there x �
 push_no there [] x e = rw e refl
 push_no there (y ∷ ys) x e = ap (kept there y) (push_no there ys x e)
 
--- counting up to the last one that is there
+-- counting up to the last one that isn't absent
 pub count_step : {A : Type 0} (there : A → Bool) (xs : List A) (i : ℕ) (d : A) (count : ℕ) (t : Bool) → i < length xs → count ≡ length (trimmed there (take i xs))
     → t ≡ there (get_or xs i d) → (if t then i + 1 else count) ≡ length (trimmed there (take (i + 1) xs))
 count_step there xs i d count true h before e =
@@ -103,7 +103,7 @@ pub any_no : {A : Type 0} (p : A → Bool) (xs : List A) (d : A) → ((k : ℕ) 
 any_no p [] d h = refl
 any_no p (x ∷ xs) d h = rw (h 0 (omega arith)) (any_no p xs d (λ k below. h (suc k) (omega arith)))
 
--- writing one item more, and all
+-- writing one more item, and all items
 pub flat_more : {A : Type 0} (f : A → List ℕ) (xs : List A) (i : ℕ) (d : A) → i < length xs → flat_map f (take (i + 1) xs) ≡ flat_map f (take i xs) ++ f (get_or xs i d)
 flat_more f xs i d h =
     ap (flat_map f) (take_more xs i d h) ∙ flat_map-append f (take i xs) (get_or xs i d ∷ [])

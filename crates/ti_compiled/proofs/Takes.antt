@@ -1,4 +1,4 @@
--- What is read of a file lies in it in the layout.
+-- A file that is read has its sections in the layout.
 use Rattle.std.proofs.Common.{◌≡◌, ◌≢◌, ◌⊎◌, inl, inr, ℕ, ◌+◌, ◌-◌, ◌*◌, ◌/◌, ◌%◌, ◌<◌, ◌≤◌, zero, suc, Bool, true, false, ◌||◌, ◌&&◌, List, [], ◌∷◌, ◌++◌, length, take, drop, refl, ap, sym, ◌∙◌, subst, arith, Some, None, Ok, Err, nat_lt, nat_le, nat_eq}
 use Rattle.std.specs.Prelude.{map, flat_map, Result, if◌then◌else◌}
 use Rattle.std.specs.List.{list_all, list_any, AllByRecursion}
@@ -19,7 +19,7 @@ use Rattle.ti_compiled.specs.Packed.{word, long, magic, number_bytes, layout, St
 abbrev pub AreBytes : List ℕ → Type 0
 AreBytes bytes = AllByRecursion (λ b. b < 256) bytes
 
--- the steps of a reading that went well
+-- the steps of a successful reading
 pub bind_ok : {A B : Type 0} (r : Result A PackFault) (f : A → Result B PackFault) (y : B) → (r >>= f) ≡ Ok y → (x : A) × (r ≡ Ok x) × (f x ≡ Ok y)
 bind_ok (Ok x) f y e = (x, refl, e)
 bind_ok (Err d) f y e = let bad : ⊥ = cc in absurd bad
@@ -146,7 +146,7 @@ numbers_whole : (form : Form) (bytes : List ℕ) (count : ℕ) → AreBytes byte
 numbers_whole Legacy bytes count small size = words_whole bytes count small size
 numbers_whole Wide bytes count small size = longs_whole bytes count small size
 
--- so many bytes
+-- taking some bytes
 bytes_take : (n : ℕ) (bytes : List ℕ) → AreBytes bytes → AreBytes (take n bytes)
 bytes_take zero bytes small = tt
 bytes_take (suc n) [] small = tt
@@ -253,7 +253,7 @@ strings_taken table (o ∷ offsets) small h =
     let first = bind_ok (offset_judged table o) (λ _. offsets_judged table offsets) tt h in
     (string_at table o (nat_le 65534 o) refl (first.1 ∙ ap (λ x. Ok x) (unit_same first.0)) small.0, strings_taken table offsets small.1 first.2)
 
--- the judgements of the sections
+-- the checks of the sections
 pub record AreJudged (parts : Parts) : Type 0 where
   pub names : ends_with_nul parts.names ≡ true
   pub flags : list_all is_flag parts.flags ≡ true
@@ -273,7 +273,7 @@ judged_taken parts h =
       strings = numbers.2;
     }
 
--- the sizes, as they stand in the header
+-- the sizes in the header
 pub record TakesSizes (bytes : List ℕ) (sizes : Sizes) (rest : List ℕ) : Type 0 where
   pub whole : bytes ≡ word sizes.names ++ (word sizes.flags ++ (word sizes.numbers ++ (word sizes.offsets ++ (word sizes.table ++ rest))))
   pub names : sizes.names < 32768
@@ -316,7 +316,7 @@ sizes_taken bytes x small h =
     } in
     subst (λ r. TakesSizes bytes x.0 r) behind (subst (λ s. TakesSizes bytes s table.0.1) same read)
 
--- the sections, as they stand after the header
+-- the sections after the header
 pub record TakesSections (form : Form) (sizes : Sizes) (bytes : List ℕ) (parts : Parts) (padding rest : List ℕ) : Type 0 where
   pub whole : bytes ≡ parts.names ++ (parts.flags ++ (padding ++ (parts.numbers ++ (parts.offsets ++ (parts.table ++ rest)))))
   pub form_is : parts.form ≡ form
@@ -371,7 +371,7 @@ form_tests number form false false l w h = let bad : ⊥ = cc in absurd bad
 form_taken : (number : ℕ) (form : Form) → form_of number ≡ Ok form → number ≡ magic form
 form_taken number form h = form_tests number form (nat_eq number 282) (nat_eq number 542) refl refl h
 
--- the held of what was read
+-- the sections of a file that was read
 pub held_of : Parts → List ℕ → Sections
 held_of parts padding = record {
   form = parts.form;
@@ -386,7 +386,7 @@ held_of parts padding = record {
   string_values = string_values parts;
 }
 
--- the steps of a reading that went well, and what they found
+-- the steps of a successful reading, and their results
 whole_joins : (file header behind : List ℕ) (number names flags numbers offsets table : ℕ) (form : Form)
     (names_bytes flags_bytes padding numbers_bytes offsets_bytes table_bytes rest : List ℕ) (values places : List ℕ)
     → file ≡ word number ++ header → number ≡ magic form

@@ -1,4 +1,4 @@
--- The numbers that bytes hold, one by one.
+-- The numbers in the bytes, one by one.
 use Rattle.std.proofs.Common.{◌≡◌, ℕ, ◌+◌, ◌*◌, ◌<◌, ◌≤◌, zero, suc, List, [], ◌∷◌, length, get_or, refl, arith, Some, None}
 use Rattle.std.specs.Prelude.{slice_get}
 use Rattle.ti_compiled.specs.Layout.{words, longs}

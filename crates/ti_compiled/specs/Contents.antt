@@ -1,4 +1,4 @@
--- The entry that the sections of a compiled terminfo file hold, term(5).
+-- The entry in the sections of a compiled terminfo file, term(5).
 use Rattle.std.specs.Prelude.{◌≡◌, ◌-◌, ℕ, Bool, false, List, [], ◌∷◌, ◌++◌, length, take, drop, map, replicate}
 use Rattle.std.specs.Prelude.{slice_get, Option, Some, None, Result, Ok, Err, IsOk, if◌then◌else◌, ◌==◌, nat_lt}
 use Rattle.std.specs.Prelude.{option_and_then}
@@ -20,23 +20,23 @@ abbrev pub before_nul : List ℕ → List ℕ
 before_nul [] = []
 before_nul (b ∷ rest) = if b == 0 then [] else b ∷ before_nul rest
 
--- the value that a flag's byte stands for
+-- the value of a flag's byte
 abbrev pub flag_value : ℕ → Option Value
 flag_value byte = if byte == 1 then Some Flag else None
 
--- the value that a number stands for, where the numbers from here on are negative
+-- the value of a number; `negatives` and the numbers above mean negative ones
 abbrev pub number_value : ℕ → ℕ → Option Value
 number_value negatives number = if nat_lt number negatives then Some (Number number) else None
 
--- the string that an offset stands for
+-- the string at an offset
 abbrev pub string_value : List ℕ → ℕ → Option Value
 string_value table offset = if nat_lt offset 32768 then Some (String (before_nul (drop offset table))) else None
 
--- this many rows: the values, and none after them
+-- this many rows: the values, followed by rows without a value
 abbrev pub filled : ℕ → List (Option Value) → List (Option Value)
 filled count values = take count (values ++ replicate count None)
 
--- the rows of all capabilities, by their places
+-- the rows of all capabilities, by place
 abbrev pub rows_of : List (Option Value) → List (Option Value) → List (Option Value) → List (Option Value)
 rows_of flags numbers strings = filled 44 flags ++ (filled 39 numbers ++ filled 414 strings)
 
@@ -49,7 +49,7 @@ number_values parts = map (number_value (half parts.form)) (numbers_in parts.for
 abbrev pub string_values : Parts → List (Option Value)
 string_values parts = map (string_value parts.table) (words parts.offsets)
 
--- the entry that the sections hold
+-- the entry in the sections
 unfoldable pub entry_of : Parts → Content
 entry_of parts =
     record {
@@ -57,7 +57,7 @@ entry_of parts =
       values = rows_of (flag_values parts) (number_values parts) (string_values parts);
     }
 
--- the value that the sections hold at a position among those of a kind
+-- the value in the sections at a position of a kind
 abbrev pub value_of : Parts → Kind → ℕ → Option Value
 value_of parts kinds.Flag position = option_and_then flag_value (slice_get parts.flags position)
 value_of parts kinds.Number position =
@@ -65,7 +65,7 @@ value_of parts kinds.Number position =
 value_of parts kinds.String position =
     option_and_then (string_value parts.table) (slice_get (words parts.offsets) position)
 
--- the entry that a file holds, or the first fault of the file
+-- the entry of a file, or the file's first fault
 unfoldable pub read_of : List ℕ → Result Content PackFault
 read_of file = parts_of file >>= λ parts. Ok (entry_of parts)
 
@@ -77,22 +77,22 @@ is_long (Some bytes) = nat_lt 4095 (length bytes)
 abbrev pub is_long_string : Option Value → Bool
 is_long_string value = is_long (string_in value)
 
--- An entry can hold what was read: its names can be those of a source text, and no string is too long.
+-- An entry can hold the contents: its names can be those of a source text, and no string is too long.
 unfoldable pub fit_of : Content → Result Content PackFault
 fit_of entry =
     if names_fit entry.names then (if list_any is_long_string (drop 83 entry.values) then Err TooLarge else Ok entry)
     else Err BadNames
 
--- the entry with this value at a place, or as it is where there is none
+-- the entry with this value at a place, or unchanged if there is no value
 unfoldable pub with_row : Content → ℕ → Option Value → Content
 with_row entry place None = entry
 with_row entry place (Some value) = with_value entry place (Some value)
 
--- the entry with the values of its first places alone
+-- the entry with the values of only its first places
 unfoldable pub partly : Content → ℕ → Content
 partly entry count = record { names = entry.names; values = take count entry.values ++ replicate (497 - count) None }
 
--- The fault that a call answered is the one that is defined. Memory is asked for only where nothing is wrong.
+-- The call's fault is the defined one. A call asks for memory only if there is no fault.
 abbrev pub FailsBy : {Y : Type 0} → PackFault → Result Y PackFault → Type 0
 FailsBy NoMemory defined = IsOk defined
 FailsBy Short defined = defined ≡ Err Short
@@ -105,7 +105,7 @@ FailsBy NoNul defined = defined ≡ Err NoNul
 FailsBy TooLarge defined = defined ≡ Err TooLarge
 FailsBy BadNames defined = defined ≡ Err BadNames
 
--- what a call answered, seen by view, is what is defined, unless memory ran out
+-- the call's result, seen through the view, is the defined one, unless memory ran out
 abbrev pub Gives : {X Y : Type 0} → (X → Y) → Result X PackFault → Result Y PackFault → Type 0
 Gives view (Ok x) defined = defined ≡ Ok (view x)
 Gives view (Err e) defined = FailsBy e defined

@@ -12,13 +12,13 @@ pub record Parts : Type 0 where
   pub offsets : List ℕ
   pub table : List ℕ
 
--- the numbers of 16 bits that the bytes hold, low byte first
+-- the numbers of 16 bits in the bytes, low byte first
 abbrev pub words : List ℕ → List ℕ
 words [] = []
 words (low ∷ []) = []
 words (low ∷ high ∷ rest) = (low + 256 * high) ∷ words rest
 
--- the numbers of 32 bits that the bytes hold, low byte first
+-- the numbers of 32 bits in the bytes, low byte first
 abbrev pub longs : List ℕ → List ℕ
 longs [] = []
 longs (a ∷ []) = []
@@ -26,26 +26,26 @@ longs (a ∷ b ∷ []) = []
 longs (a ∷ b ∷ c ∷ []) = []
 longs (a ∷ b ∷ c ∷ d ∷ rest) = (a + 256 * (b + 256 * (c + 256 * d))) ∷ longs rest
 
--- how many bytes a number of the numbers section has
+-- the size in bytes of a number in the numbers section
 abbrev pub width : Form → ℕ
 width Legacy = 2
 width Wide = 4
 
--- the numbers of the numbers section
+-- the numbers in the numbers section
 abbrev pub numbers_in : Form → List ℕ → List ℕ
 numbers_in Legacy bytes = words bytes
 numbers_in Wide bytes = longs bytes
 
--- from here on a number of the numbers section is negative
+-- the least number of the numbers section that means a negative one
 abbrev pub half : Form → ℕ
 half Legacy = 32768
 half Wide = 2147483648
 
--- a number is not negative, or it is -1 (absent) or -2 (cancelled)
+-- a number isn't negative, or it is -1 (absent) or -2 (cancelled)
 abbrev pub is_number : ℕ → ℕ → Bool
 is_number negatives number = nat_lt number negatives || nat_le (2 * negatives - 2) number
 
--- a flag is there (1), absent (0) or cancelled (-2)
+-- a flag is set (1), absent (0) or cancelled (-2)
 abbrev pub is_flag : ℕ → Bool
 is_flag byte = byte == 0 || (byte == 1 || byte == 254)
 

@@ -1,4 +1,4 @@
--- The legacy rules alone, term(5), "Legacy Storage Format": all numbers have 16 bits.
+-- The legacy rules, term(5), "Legacy Storage Format", by themselves: all numbers have 16 bits.
 use Rattle.std.specs.Prelude.{◌≡◌, ℕ, ◌+◌, ◌*◌, ◌%◌, ◌<◌, false, List, ◌∷◌, length, map, Result, Ok, Err, if◌then◌else◌}
 use Rattle.std.specs.Prelude.{◌==◌, nat_lt}
 use Rattle.std.specs.List.{list_all, AllByRecursion}
@@ -45,7 +45,7 @@ legacy_entry slices = record {
       (map (string_value slices.table) (words slices.offsets));
 }
 
--- what the legacy rules alone read of a file
+-- the entry of a file by the legacy rules alone
 unfoldable pub legacy_read : List ℕ → Result Content PackFault
 legacy_read file = do
   magic ← word_of file
@@ -55,16 +55,16 @@ legacy_read file = do
   judgement ← legacy_judged slices
   Ok (legacy_entry slices)
 
--- what the legacy rules alone write
+-- the file of an entry by the legacy rules alone
 unfoldable pub legacy_packing : Content → Result (List ℕ) PackFault
 legacy_packing entry =
     if nat_lt 4096 (length (written_in Legacy entry)) then Err TooLarge else Ok (written_in Legacy entry)
 
--- the file begins with the magic number of the form with numbers of 32 bits: the bytes 1e 02
+-- the file begins with the magic number of the form with 32-bit numbers: the bytes 1e 02
 abbrev pub BeginsWide : List ℕ → Type 0
 BeginsWide file = (rest : List ℕ) × (file ≡ 30 ∷ 2 ∷ rest)
 
--- the law that each file with another beginning is read by the legacy rules alone
+-- a file with another beginning is read by the legacy rules alone
 abbrev pub LegacyIsRead : Type 0
 LegacyIsRead =
     (file : List ℕ) → AllByRecursion (λ b. b < 256) file → (BeginsWide file → ⊥) → read_of file ≡ legacy_read file
@@ -73,6 +73,6 @@ LegacyIsRead =
 abbrev pub HasSmallNumbers : Content → Type 0
 HasSmallNumbers entry = AllByRecursion (λ number. is_wide number ≡ false) (numbers_of entry)
 
--- the law that each entry without a number above 32767 is written by the legacy rules alone
+-- an entry without a number above 32767 is written by the legacy rules alone
 abbrev pub LegacyIsWritten : Type 0
 LegacyIsWritten = (entry : Content) → HasSmallNumbers entry → packing_of entry ≡ legacy_packing entry

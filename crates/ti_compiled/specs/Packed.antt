@@ -19,17 +19,17 @@ word number = number % 256 ∷ number / 256 ∷ []
 unfoldable pub long : ℕ → List ℕ
 long number = number % 256 ∷ number / 256 % 256 ∷ number / 65536 % 256 ∷ number / 16777216 ∷ []
 
--- octal 432, or octal 1036 where numbers have 32 bits
+-- octal 432, or octal 1036 if numbers have 32 bits
 abbrev pub magic : Form → ℕ
 magic Legacy = 282
 magic Wide = 542
 
--- a number of the numbers section
+-- the bytes of a number in the numbers section
 abbrev pub number_bytes : Form → ℕ → List ℕ
 number_bytes Legacy number = word number
 number_bytes Wide number = long number
 
--- a file: six numbers of 16 bits, the sections, and what follows them
+-- a file: six numbers of 16 bits, the sections, and the bytes after them
 unfoldable pub layout : Form → (names flags padding numbers offsets table rest : List ℕ) → List ℕ
 layout form names flags padding numbers offsets table rest =
     word (magic form) ++ (word (length names)
@@ -40,29 +40,29 @@ layout form names flags padding numbers offsets table rest =
 abbrev pub HasNoNul : List ℕ → Type 0
 HasNoNul bytes = AllByRecursion (λ b. b ≢ 0) bytes
 
--- the bytes stand before a NUL
+-- the text begins with the bytes and a NUL, and none of the bytes is a NUL
 abbrev pub StandsFirst : List ℕ → List ℕ → Type 0
 StandsFirst bytes text = HasNoNul bytes × ((behind : List ℕ) × (text ≡ bytes ++ 0 ∷ behind))
 
--- the names section ends with a NUL, and its names are what stands before the first one
+-- the names section ends with a NUL, and its names are the bytes before the first NUL
 abbrev pub AreNames : List ℕ → List ℕ → Type 0
 AreNames section names = ((front : List ℕ) × (section ≡ front ++ 0 ∷ [])) × StandsFirst names section
 
--- the value that a flag's byte stands for
+-- the byte encodes this flag
 abbrev pub IsFlag : ℕ → Option Value → Type 0
 IsFlag byte (Some Flag) = byte ≡ 1
 IsFlag byte (Some (Number number)) = ⊥
 IsFlag byte (Some (String bytes)) = ⊥
 IsFlag byte None = (byte ≡ 0) ⊎ (byte ≡ 254)
 
--- the value that a number stands for: -1 is absent, -2 is cancelled
+-- the number encodes this value: -1 is absent, -2 is cancelled
 abbrev pub IsNumber : Form → ℕ → Option Value → Type 0
 IsNumber form number (Some (Number value)) = (number ≡ value) × (number < half form)
 IsNumber form number (Some Flag) = ⊥
 IsNumber form number (Some (String bytes)) = ⊥
 IsNumber form number None = (number + 1 ≡ 2 * half form) ⊎ (number + 2 ≡ 2 * half form)
 
--- The value that an offset stands for: the bytes from there in the table to a NUL. -1 is absent, -2 is cancelled.
+-- The offset encodes this value: the bytes from there in the table up to a NUL. -1 is absent, -2 is cancelled.
 abbrev pub IsString : List ℕ → ℕ → Option Value → Type 0
 IsString table offset (Some (String bytes)) = (offset < 32768)
     × ((front : List ℕ) × (text : List ℕ) × (table ≡ front ++ text) × (length front ≡ offset) × StandsFirst bytes text)
@@ -70,14 +70,14 @@ IsString table offset (Some Flag) = ⊥
 IsString table offset (Some (Number number)) = ⊥
 IsString table offset None = (offset + 1 ≡ 65536) ⊎ (offset + 2 ≡ 65536)
 
--- a list of what stands for values, one by one
+-- the numbers encode the values, one by one
 abbrev pub Each : (ℕ → Option Value → Type 0) → List ℕ → List (Option Value) → Type 0
 Each Is [] [] = Unit {0}
 Each Is [] (value ∷ values) = ⊥
 Each Is (number ∷ numbers) [] = ⊥
 Each Is (number ∷ numbers) (value ∷ values) = Is number value × Each Is numbers values
 
--- what the sections of a file hold
+-- the sections of a file, and the values that they encode
 pub record Sections : Type 0 where
   pub form : Form
   pub names : List ℕ
@@ -90,7 +90,7 @@ pub record Sections : Type 0 where
   pub number_values : List (Option Value)
   pub string_values : List (Option Value)
 
--- a file with these sections holds this entry, and the rest of it is not read
+-- a file with these sections has this entry, and the rest of the file is ignored
 pub record HasSections (held : Sections) (file : List ℕ) (entry : Content) (rest : List ℕ) : Type 0 where
   pub whole : file ≡ layout held.form held.names held.flags held.padding held.numbers held.offsets held.table rest
   pub names_size : length held.names < 32768
@@ -105,15 +105,15 @@ pub record HasSections (held : Sections) (file : List ℕ) (entry : Content) (re
   pub strings : Each (IsString held.table) held.offsets held.string_values
   pub values : entry.values ≡ rows_of held.flag_values held.number_values held.string_values
 
--- a file that holds this entry, and the rest of it that is not read
+-- a file with this entry, and the rest of the file, which is ignored
 abbrev pub IsPacked : List ℕ → Content → List ℕ → Type 0
 IsPacked file entry rest = (held : Sections) × HasSections held file entry rest
 
--- the law that a file in this layout is read as its entry
+-- a file in this layout is read as its entry
 abbrev pub PackedIsRead : Type 0
 PackedIsRead = (file : List ℕ) (entry : Content) (rest : List ℕ) → IsPacked file entry rest → read_of file ≡ Ok entry
 
--- the law that what is read lies in the file in this layout
+-- a file that is read has its entry in this layout
 abbrev pub ReadIsPacked : Type 0
 ReadIsPacked =
     (file : List ℕ) (entry : Content) → AllByRecursion (λ b. b < 256) file → read_of file ≡ Ok entry

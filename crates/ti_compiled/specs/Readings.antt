@@ -1,4 +1,4 @@
--- What a compiled terminfo file holds, or its first fault, term(5).
+-- The sections of a compiled terminfo file, or its first fault, term(5).
 use Rattle.std.specs.Prelude.{◌≡◌, ℕ, ◌+◌, ◌*◌, ◌%◌, Bool, ◌&&◌, ◌||◌, List, [], ◌∷◌, length, take, drop, Result, Ok}
 use Rattle.std.specs.Prelude.{Err, if◌then◌else◌, ◌==◌, nat_le, nat_lt}
 use Rattle.std.specs.List.{list_all, list_any}
@@ -16,25 +16,25 @@ abbrev pub ◌>>=◌ : {A B : Type 0} → Result A PackFault → (A → Result B
 (Ok x) >>= f = f x
 (Err e) >>= f = Err e
 
--- what a call returned, seen by view, is what reading gives
+-- the call's result, seen through the view, is that of reading
 abbrev pub Is : {X Y : Type 0} → (X → Y) → Result X PackFault → Result Y PackFault → Type 0
 Is view (Ok x) read = read ≡ Ok (view x)
 Is view (Err e) read = read ≡ Err e
 
--- what is judged is right, or has this fault
+-- a check passes, or has this fault
 abbrev pub Judged : Type 0
 Judged = Result (Unit {0}) PackFault
 
 abbrev pub judged : Bool → PackFault → Judged
 judged right fault = if right then Ok tt else Err fault
 
--- the number of 16 bits at the front
+-- the number of 16 bits that the bytes begin with, and the rest
 abbrev pub word_of : List ℕ → Result (ℕ × List ℕ) PackFault
 word_of [] = Err Short
 word_of (low ∷ []) = Err Short
 word_of (low ∷ high ∷ rest) = Ok (low + 256 * high, rest)
 
--- the form that a magic number stands for: octal 432, and octal 1036 for numbers of 32 bits
+-- the form with this magic number: octal 432, and octal 1036 for numbers of 32 bits
 abbrev pub form_of : ℕ → Result Form PackFault
 form_of magic = if magic == 282 then Ok Legacy else (if magic == 542 then Ok Wide else Err BadMagic)
 
@@ -55,11 +55,11 @@ sizes_of bytes = do
       record { names = names.0; flags = flags.0; numbers = numbers.0; offsets = offsets.0; table = table.0 } in
       (if sizes_fit sizes then Ok (sizes, table.1) else Err BadCount)
 
--- this many bytes, and what follows them
+-- this many bytes, and the rest
 abbrev pub cut_at : ℕ → List ℕ → Result (List ℕ × List ℕ) PackFault
 cut_at count bytes = if nat_lt (length bytes) count then Err Short else Ok (take count bytes, drop count bytes)
 
--- The sections in their order. A byte of padding follows the flags where names and flags are odd in number.
+-- The sections in their order. A byte of padding follows the flags if names and flags together have an odd size.
 unfoldable pub sections_of : Form → Sizes → List ℕ → Result Parts PackFault
 sections_of form sizes bytes = do
   names ← cut_at sizes.names bytes
@@ -77,7 +77,7 @@ sections_of form sizes bytes = do
     table = table.0;
   })
 
--- An offset of -1 or -2 has no string. Another stands in the table, with a NUL at it or after it.
+-- An offset of -1 or -2 has no string. Any other must be in the table, with a NUL at it or after it.
 abbrev pub offset_judged : List ℕ → ℕ → Judged
 offset_judged table offset =
     if nat_le 65534 offset then Ok tt
@@ -107,7 +107,7 @@ parts_of file = do
   judgement ← parts_judged parts
   Ok parts
 
--- the slices that the code holds
+-- the sections as the code's slices have them
 abbrev pub parts_view : Sections → Parts
 parts_view parts =
     record {

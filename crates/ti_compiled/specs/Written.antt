@@ -1,4 +1,4 @@
--- How an entry is written as a compiled terminfo file, term(5).
+-- The compiled terminfo file that is written for an entry, term(5).
 use Rattle.std.specs.Prelude.{◌≡◌, ℕ, ◌+◌, ◌-◌, ◌*◌, ◌%◌, ◌≤◌, Bool, false, List, [], ◌∷◌, ◌++◌, length, take, drop}
 use Rattle.std.specs.Prelude.{map, flat_map, replicate, Option, Some, None, is_some, Result, Ok, Err, if◌then◌else◌}
 use Rattle.std.specs.Prelude.{nat_lt}
@@ -14,7 +14,7 @@ use Rattle.ti_compiled.specs.Layout.{half}
 use Rattle.ti_compiled.specs.Contents.{read_of}
 use Rattle.ti_compiled.specs.Packed.{layout, IsPacked}
 
--- what an entry has in the order of the capabilities of each kind
+-- the flags, numbers and strings of an entry, each in the order of the capabilities of its kind
 unfoldable pub flags_of : Content → List Bool
 flags_of entry = map has_flag (take 44 entry.values)
 
@@ -24,12 +24,12 @@ numbers_of entry = map number_in (take 39 (drop 44 entry.values))
 unfoldable pub strings_of : Content → List (Option (List ℕ))
 strings_of entry = map string_in (drop 83 entry.values)
 
--- an item, unless it is not there and nothing follows it
+-- an item before others; dropped if it is absent and the last
 abbrev pub kept : {A : Type 0} → (A → Bool) → A → List A → List A
 kept there item [] = if there item then item ∷ [] else []
 kept there item (next ∷ items) = item ∷ (next ∷ items)
 
--- the items up to the last one that is there
+-- the items up to the last one that isn't absent
 abbrev pub trimmed : {A : Type 0} → (A → Bool) → List A → List A
 trimmed there [] = []
 trimmed there (item ∷ items) = kept there item (trimmed there items)
@@ -42,7 +42,7 @@ abbrev pub number_cell : Form → Option ℕ → ℕ
 number_cell form (Some number) = number
 number_cell form None = 2 * half form - 1
 
--- The strings stand in the table one after the other, each with a NUL after it. An absent one has the offset -1.
+-- The table has the strings one after the other, each followed by a NUL. An absent string has the offset -1.
 abbrev pub offsets_from : ℕ → List (Option (List ℕ)) → List ℕ
 offsets_from place [] = []
 offsets_from place (None ∷ strings) = 65535 ∷ offsets_from place strings
@@ -55,17 +55,17 @@ string_cell (Some bytes) = bytes ++ 0 ∷ []
 abbrev pub table_of : List (Option (List ℕ)) → List ℕ
 table_of strings = flat_map string_cell strings
 
--- a number needs more than 16 bits with a sign
+-- whether a number needs more than 16 bits with a sign
 abbrev pub is_wide : Option ℕ → Bool
 is_wide None = false
 is_wide (Some number) = nat_lt 32767 number
 
--- Numbers have 32 bits only where one of them needs that.
+-- Numbers have 32 bits only if one of them needs them.
 unfoldable pub form_for : Content → Form
 form_for entry = if list_any is_wide (numbers_of entry) then Wide else Legacy
 
--- What is known of an entry before it is written: its form, how many flags, numbers and strings stand in
--- the file, and the size of the table.
+-- The plan has the form of an entry's file, the numbers of flags, numbers and strings in it, and the size of the
+-- table.
 pub record IsPlan (entry : Content) (plan : Plan) : Type 0 where
   pub form : plan.form ≡ form_for entry
   pub flags : plan.flags ≡ length (trimmed itself (flags_of entry))
@@ -87,11 +87,11 @@ number_cells form entry = map (number_cell form) (trimmed is_some (numbers_of en
 abbrev pub offset_cells : Content → List ℕ
 offset_cells entry = offsets_from 0 (trimmed is_some (strings_of entry))
 
--- the byte that makes the size of names and flags even
+-- the byte that makes the size of names and flags even, if it is odd
 abbrev pub padding_for : List ℕ → List ℕ → List ℕ
 padding_for names flags = replicate ((length names + length flags) % 2) 0
 
--- an entry in this form
+-- the file of an entry in this form
 unfoldable pub written_in : Form → Content → List ℕ
 written_in form entry =
     layout form (entry.names ++ 0 ∷ []) (flag_cells entry) (padding_for (entry.names ++ 0 ∷ []) (flag_cells entry))
@@ -101,7 +101,7 @@ written_in form entry =
 unfoldable pub written : Content → List ℕ
 written entry = written_in (form_for entry) entry
 
--- how many bytes a file of each form can have
+-- the greatest size in bytes of a file of each form
 abbrev pub limit : Form → ℕ
 limit Legacy = 4096
 limit Wide = 32768
@@ -110,11 +110,11 @@ limit Wide = 32768
 unfoldable pub packing_of : Content → Result (List ℕ) PackFault
 packing_of entry = if nat_lt (limit (form_for entry)) (length (written entry)) then Err TooLarge else Ok (written entry)
 
--- the law that the file of an entry is in the layout, with nothing after it
+-- the file of an entry is in the layout, with nothing after it
 abbrev pub WrittenIsPacked : Type 0
 WrittenIsPacked =
     (entry : Content) (file : List ℕ) → IsEntry entry → packing_of entry ≡ Ok file → IsPacked file entry []
 
--- the law that the file of an entry is read as that entry
+-- the file of an entry is read as that entry
 abbrev pub WrittenIsRead : Type 0
 WrittenIsRead = (entry : Content) (file : List ℕ) → IsEntry entry → packing_of entry ≡ Ok file → read_of file ≡ Ok entry

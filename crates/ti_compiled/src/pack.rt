@@ -21,15 +21,15 @@ use crate::unpack::cap_at;
 use std::alloc::{AllocError, Global};
 use ti_caps::{Entry, FLAGS, Kind, NUMBERS, STRINGS};
 
-/// What is known of an entry before it is written.
+/// The form, counts and sizes of an entry's file, found before it is written.
 #[derive(Clone, Copy)]
 pub(crate) struct Plan {
     pub(crate) form: Form,
-    /// How many flags, numbers and strings stand in the file.
+    /// The numbers of flags, numbers and strings in the file.
     pub(crate) flags: usize,
     pub(crate) numbers: usize,
     pub(crate) strings: usize,
-    /// How many bytes the table has.
+    /// The size of the table in bytes.
     pub(crate) table: usize,
 }
 
@@ -56,7 +56,7 @@ fn string_there(entry: &Entry, position: usize) -> Option<&[u8]>
     entry.get_string(cap_at(Kind::String, position))
 }
 
-/// How many items there are up to this one, if it is there, or up to the last one before it.
+/// The number of items up to the one at `position` if it is `there`, otherwise `count`.
 fn counted(there: bool, position: usize, count: usize) -> usize
     requires { position < 500 }
     ensures { result ≡ (if there then position + 1 else count) }
@@ -130,7 +130,7 @@ fn form_for(entry: &Entry) -> Form
     Form::Legacy
 }
 
-/// How many bytes of the table the string at a position takes.
+/// The number of bytes that the string at `position` takes in the table.
 fn string_size(entry: &Entry, position: usize) -> usize
     requires entry { IsEntry entry.now }
     requires place { position < 414 }
@@ -171,7 +171,7 @@ fn plan_of(entry: &Entry) -> Plan
     }
 }
 
-/// How many bytes the file has.
+/// The size of the file in bytes.
 fn file_size(entry: &Entry, names: &[u8], plan: &Plan) -> usize
     requires plan { IsPlan entry.now plan.now }
     requires names { names.now ≡ entry.now.names }
@@ -228,7 +228,7 @@ fn put_flags(out: &mut Vec<u8>, entry: &Entry, count: usize) -> Result<(), Alloc
     Ok(())
 }
 
-/// Writes a number, or -1 where there is none.
+/// Writes a number, or -1 if there is none.
 fn put_number(out: &mut Vec<u8>, form: Form, number: Option<u32>) -> Result<(), AllocError>
     requires { number_cell form number < 2 * half form }
     ensures { OnOk result (out.new.items ≡ out.old.items ++ number_bytes form (number_cell form number)) }
@@ -254,7 +254,8 @@ fn put_numbers(out: &mut Vec<u8>, entry: &Entry, form: Form, count: usize) -> Re
     Ok(())
 }
 
-/// The offset of a string that has `size` bytes with its NUL, at this place of the table, or -1 where there is none.
+/// The offset of a string that takes `size` bytes with its NUL, at the place `place` of the table, or -1 if there is
+/// none.
 fn offset_at(place: usize, size: usize) -> usize
     ensures { result ≡ (if size == 0 then 65535 else place) }
 {
@@ -331,7 +332,7 @@ fn put_header(out: &mut Vec<u8>, names: usize, plan: &Plan) -> Result<(), AllocE
     Ok(())
 }
 
-/// Writes the byte of padding, where there is one.
+/// Writes the byte of padding, if there is one.
 fn put_padding(out: &mut Vec<u8>, count: usize) -> Result<(), AllocError>
     requires { count < 2 }
     ensures { OnOk result (out.new.items ≡ out.old.items ++ replicate count 0) }
@@ -369,11 +370,11 @@ fn write_file(
     Ok(out)
 }
 
-/// The compiled file of an entry. Its numbers have 32 bits only where one is above 32767.
+/// The compiled file of `entry`, in the layout of term(5). Its numbers have 32 bits only if one is above 32767.
+/// Trailing absent capabilities of each kind aren't written, and no strings share bytes.
 ///
-/// The faults, in this order: `TooLarge`, where the file would have more than 4096 bytes, or more than 32768
-/// with numbers of 32 bits; `NoMemory`. Trailing absent capabilities of each kind are not written, no strings
-/// share bytes, and the layout is that of term(5).
+/// Fails with `TooLarge` if the file would have more than 4096 bytes, or more than 32768 with numbers of 32 bits;
+/// with `NoMemory` when out of memory.
 pub fn encode(alloc: Global, entry: &Entry) -> Result<Vec<u8>, PackFault>
     ensures { Gives (λ file. file.items) result (packing_of entry.now) }
 {

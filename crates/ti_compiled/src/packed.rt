@@ -17,7 +17,7 @@ use std::alloc::Global;
 use std::marker::Model;
 use ti_caps::{Cap, Entry, Kind, kind, position};
 
-/// A compiled file. Contracts see the entry that it holds. Its names and strings are slices of the file.
+/// A compiled file. Contracts see the entry that it contains. Its names and strings are slices of the file.
 #[derive(Drop)]
 pub struct Packed<'a> {
     parts: Sections<'a>,
@@ -74,14 +74,14 @@ fn long_at(bytes: &[u8], position: usize) -> Option<u32>
     }
 }
 
-/// Whether the flag at a position is there.
+/// Whether the flag at `position` is set.
 pub(crate) fn flag_in(parts: &Sections<'_>, position: usize) -> bool
     ensures { result ≡ has_flag (value_of (parts_view parts.now) kinds.Flag position) }
 {
     position < parts.flags.len() && parts.flags[position] == 1
 }
 
-/// The number at a position, if it is there.
+/// The number at `position`, if there is one.
 pub(crate) fn number_in(parts: &Sections<'_>, position: usize) -> Option<u32>
     requires { position < 500 }
     ensures value { result ≡ number_in (value_of (parts_view parts.now) kinds.Number position) }
@@ -111,7 +111,7 @@ fn string_from(table: &[u8], offset: u16) -> &[u8]
     }
 }
 
-/// The string at a position, if it is there.
+/// The string at `position`, if there is one.
 pub(crate) fn string_in<'a>(parts: &Sections<'a>, position: usize) -> Option<&'a [u8]>
     requires { position < 500 }
     ensures { option_copied result ≡ string_in (value_of (parts_view parts.now) kinds.String position) }
@@ -122,16 +122,17 @@ pub(crate) fn string_in<'a>(parts: &Sections<'a>, position: usize) -> Option<&'a
     }
 }
 
-/// Reads a compiled file, of either form. What follows its sections is not read. Takes no memory.
+/// Reads a compiled file of either form, in the layout of term(5). Bytes after its sections are ignored. Allocates no
+/// memory.
 ///
-/// The fault is the first one: `Short` (under two bytes), `BadMagic`, `Short` (under twelve), `BadCount`,
-/// `Short` (the sections), `NoNul` (the names), and then in their order in the file `BadFlag`, `BadNumber`,
-/// and of each string `BadOffset` or `NoNul`. The layout is that of term(5).
+/// Fails with the first fault: `Short` (under two bytes), `BadMagic`, `Short` (under twelve), `BadCount`, `Short`
+/// (the sections), `NoNul` (the names), and then in the order of the file `BadFlag`, `BadNumber`, and for each string
+/// `BadOffset` or `NoNul`.
 pub fn decode(file: &[u8]) -> Result<Packed<'_>, PackFault>
     ensures exact { Is (λ packed. packed) result (read_of file.now) }
-    // What is read lies in the file in the layout.
+    // A file that is read has its entry in the layout.
     ensures packed { IfOk result (λ packed. (rest : List ℕ) × IsPacked file.now packed rest) }
-    // What lies in the file in the layout is read.
+    // An entry that the file has in the layout is read.
     ensures only { (entry : Content) → (rest : List ℕ) → IsPacked file.now entry rest →
         IsOkAnd result (λ packed. packed ≡ entry) }
 {
@@ -147,7 +148,7 @@ fn read_file(file: &[u8]) -> Result<Packed<'_>, PackFault>
 }
 
 impl<'a> Packed<'a> {
-    /// The names, as they stand in the file.
+    /// The names, as in the file.
     #[tactic(auto, unfolding(crate::specs::Contents::entry_of))]
     pub fn names(&self) -> &'a [u8]
         ensures { result.now ≡ self.now.names }
@@ -155,7 +156,7 @@ impl<'a> Packed<'a> {
         before_nul(self.parts.names)
     }
 
-    /// Whether the entry has this flag.
+    /// Whether the entry has the flag `cap`.
     pub fn get_flag(&self, cap: Cap) -> bool
         ensures { result ≡ flag_at self.now cap }
     {
@@ -165,7 +166,7 @@ impl<'a> Packed<'a> {
         }
     }
 
-    /// The number of this capability, if the entry has it.
+    /// The number of the capability `cap`, if the entry has it.
     pub fn get_number(&self, cap: Cap) -> Option<u32>
         ensures { result ≡ number_at self.now cap }
     {
@@ -175,7 +176,7 @@ impl<'a> Packed<'a> {
         }
     }
 
-    /// The string of this capability, if the entry has it: a slice of the file.
+    /// The string of the capability `cap`, if the entry has it: a slice of the file.
     pub fn get_string(&self, cap: Cap) -> Option<&'a [u8]>
         ensures { option_copied result ≡ string_at self.now cap }
     {
@@ -187,8 +188,8 @@ impl<'a> Packed<'a> {
 
     /// The entry, with copies of its names and strings.
     ///
-    /// The faults, in this order: `BadNames`, where the names cannot stand in a source text; `TooLarge`, where
-    /// a string has more than 4095 bytes; `NoMemory`.
+    /// Fails with `BadNames` if a source text can't have these names; with `TooLarge` if a string has more than 4095
+    /// bytes; with `NoMemory` when out of memory; in this order.
     pub fn to_entry(&self, alloc: Global) -> Result<Entry, PackFault>
         ensures { Gives (λ entry. entry) result (fit_of self.now) }
     {

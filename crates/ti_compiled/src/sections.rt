@@ -11,7 +11,7 @@ ghost use Rattle.ti_compiled.specs.Readings.{parts_view};
 use crate::types::{Form, PackFault};
 use ti_caps::{FLAGS, NUMBERS, STRINGS};
 
-/// The sizes that a header states: bytes of the names, flags, numbers, offsets, and bytes of the table.
+/// The sizes in a header: bytes of the names, numbers of flags, numbers and offsets, and bytes of the table.
 #[derive(Clone, Copy)]
 pub(crate) struct Sizes {
     pub(crate) names: u16,
@@ -32,7 +32,7 @@ pub(crate) struct Sections<'a> {
     pub(crate) table: &'a [u8],
 }
 
-/// The number of 16 bits at the front, and what follows it.
+/// The number of 16 bits that `bytes` begins with, and the rest.
 fn word_of(bytes: &[u8]) -> Result<(u16, &[u8]), PackFault>
     ensures { Is (λ x. (x.0, x.1.now)) result (word_of bytes.now) }
 {

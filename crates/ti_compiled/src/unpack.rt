@@ -1,4 +1,4 @@
-//! The entry of a compiled file, as one that owns its bytes.
+//! An entry that owns its bytes, from a compiled file.
 
 ghost use Rattle.std.specs.Prelude.{◌≡◌, ◌+◌, ◌<◌, ◌≤◌, ℕ, Bool, true, false, None, OnOk, slice_index_or, length};
 ghost use Rattle.std.specs.Prelude.{IsTrue, IfOk};
@@ -17,7 +17,7 @@ use crate::types::PackFault;
 use std::alloc::{AllocError, Global};
 use ti_caps::{Cap, Entry, FLAGS, Kind, LONGEST, NUMBERS, STRINGS, at, names_fit};
 
-/// The capability at a position.
+/// The capability of the kind `kind` at `position`, which must be one of that kind.
 #[tactic(auto, unfolding(ti_caps::specs::Table::place_from))]
 pub(crate) fn cap_at(kind: Kind, position: usize) -> Cap
     requires { position < count_of kind }
@@ -27,7 +27,7 @@ pub(crate) fn cap_at(kind: Kind, position: usize) -> Cap
     at(kind, position).unwrap()
 }
 
-/// Gives the entry the flag at a position, if it is there.
+/// Sets the flag at `position` in the entry, if the file has it.
 fn put_flag(parts: &Sections<'_>, position: usize, entry: &mut Entry)
     requires { position < 44 }
     ensures { entry.new ≡ with_row entry.old position (value_of (parts_view parts.now) kinds.Flag position) }
@@ -47,7 +47,7 @@ fn put_flags(parts: &Sections<'_>, entry: &mut Entry)
     }
 }
 
-/// Gives the entry the number at a position, if it is there.
+/// Sets the number at `position` in the entry, if the file has it.
 fn put_number(parts: &Sections<'_>, position: usize, entry: &mut Entry)
     requires { position < 39 }
     ensures { entry.new ≡ with_row entry.old (44 + position) (value_of (parts_view parts.now) kinds.Number position) }
@@ -67,7 +67,7 @@ fn put_numbers(parts: &Sections<'_>, entry: &mut Entry)
     }
 }
 
-/// Whether the string at a position is longer than an entry can hold.
+/// Whether the string at `position` is longer than an entry can hold.
 fn is_long_at(parts: &Sections<'_>, position: usize) -> bool
     requires { position < 414 }
     ensures { result ≡ is_long_string (value_of (parts_view parts.now) kinds.String position) }
@@ -89,7 +89,7 @@ fn has_long_string(parts: &Sections<'_>) -> bool
     false
 }
 
-/// Gives the entry a copy of the string at a position, if it is there.
+/// Sets the string at `position` in the entry, if the file has it.
 fn put_string(parts: &Sections<'_>, position: usize, entry: &mut Entry) -> Result<(), AllocError>
     requires place { position < 414 }
     requires short { is_long_string (value_of (parts_view parts.now) kinds.String position) ≡ false }
@@ -114,7 +114,7 @@ fn put_strings(parts: &Sections<'_>, entry: &mut Entry) -> Result<(), AllocError
     Ok(())
 }
 
-/// The entry that the sections hold, with names that fit and no string that is too long.
+/// The entry of these sections, whose names must fit and whose strings must not be too long.
 fn fitting_entry(alloc: Global, names: &[u8], parts: &Sections<'_>) -> Result<Entry, AllocError>
     requires fit { IsTrue (names_fit names.now) }
     requires names { names.now ≡ before_nul parts.now.names.now }
@@ -128,7 +128,7 @@ fn fitting_entry(alloc: Global, names: &[u8], parts: &Sections<'_>) -> Result<En
     Ok(entry)
 }
 
-/// The entry that the sections hold, or why there is none.
+/// The entry of these sections, or the fault if an entry can't hold it.
 #[tactic(auto, unfolding(crate::specs::Contents::fit_of))]
 pub(crate) fn entry_from(alloc: Global, parts: &Sections<'_>) -> Result<Entry, PackFault>
     ensures { Gives (λ entry. entry) result (fit_of (entry_of (parts_view parts.now))) }
