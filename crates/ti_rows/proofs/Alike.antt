@@ -1,4 +1,4 @@
--- The lines of `sgr` have one look at most for each attribute.
+-- The lines of `sgr` have at most one look for each attribute.
 use Rattle.std.proofs.Common.{◌≡◌, ℕ, ◌||◌, Bool, true, false, List, [], inl, inr, sym, ap, ◌∙◌}
 use Rattle.std.proofs.Math.Bool.{or-false}
 use Rattle.vt_term.specs.Look.{Rendition}

@@ -1,4 +1,4 @@
--- An attribute that is off has no say in what is shown.
+-- An attribute that is off doesn't affect what is shown.
 use Rattle.std.proofs.Common.{◌≡◌, ℕ, ◌<◌, ◌==◌, ◌&&◌, ◌||◌, Bool, true, false, if◌then◌else◌, refl, ap, ◌∙◌, arith}
 use Rattle.std.proofs.lemmas.Bool.{eqb-true}
 use Rattle.vt_effects.specs.declared.effects.Rendering.{Rendering}

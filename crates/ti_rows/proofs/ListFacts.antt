@@ -79,7 +79,7 @@ same_attributes : {s s' u u' r r' k k' d d' b b' i i' : Bool} → s ≡ s' → u
     → ◌≡◌ {A = Attributes} (record { standout = s; underline = u; reverse = r; blink = k; dim = d; bold = b; invisible = i }) (record { standout = s'; underline = u'; reverse = r'; blink = k'; dim = d'; bold = b'; invisible = i' })
 same_attributes a b c d e f g = cc
 
--- its digits, from the last on
+-- the digits of a set's number, from the last on
 record Digits (n : ℕ) (a : Attributes) : Type 0 where
   standout : n / 64 ≡ bit a.standout
   underline : n / 32 % 2 ≡ bit a.underline
@@ -122,7 +122,7 @@ bits_rise : (a : Attributes) → number_of a < 127 → slice_cmp nat_cmp (params
 unfolding is_rising
 bits_rise a lt = subst (λ (x : Attributes). slice_cmp nat_cmp (params (Sgr x)) (params (Sgr (attributes_of (number_of a + 1)))) ≡ Less) (attributes_back a) (less_from _ (each_at is_rising 127 (number_of a) each_is_rising lt))
 
--- colours
+-- colors
 next_color : (c : Color) → nat_lt (color_number c) 7 ≡ true → color_number (color (color_number c + 1)) ≡ color_number c + 1
 next_color Black h = refl
 next_color Red h = refl
@@ -133,7 +133,7 @@ next_color Magenta h = refl
 next_color Cyan h = refl
 next_color White h = absurd (omega (arith, ltb-true 7 7 h))
 
--- what follows
+-- the list that follows
 became : (rows cols : ℕ) (row other x : Row) → x ≡ other → Follows rows cols row x → Follows rows cols row other
 became rows cols row other x e f = subst (λ (o : Row). Follows rows cols row o) e f
 
@@ -295,7 +295,7 @@ each_reached rows cols row z g first zero lt = record { other = row; range = g; 
 each_reached rows cols row z g first (suc k) lt =
     subst (λ (x : ℕ). HasRank rows cols row x) (add-one k) (reach_next rows cols k row _ (each_reached rows cols row z g first k (omega (arith, lt))) z refl (omega (arith, lt)))
 
--- two lists of one place are one
+-- two lists at one place are equal
 same_line : (row col other col2 cols : ℕ) → col < cols → col2 < cols → row * cols + col ≡ other * cols + col2 → row ≡ other
 same_line row col other col2 cols a b h = elim (cases_order row other) [
   | inl e ↦ e
@@ -319,7 +319,7 @@ csrs_differ : (rows top bottom other bottom2 : ℕ) → top < bottom → bottom 
 csrs_differ rows top bottom other bottom2 a b c d h = let e : top ≡ other = same_top rows top bottom other bottom2 a b c d h in
     (e, omega (arith, h, ap (λ (n : ℕ). above rows n) e, e, a, c))
 
--- one of a pair of rows in which the places decide
+-- for pairs of rows whose places decide that they are equal
 same_rank : (rows cols : ℕ) {A : Type 0} (make : A → Row) (row other : Row) → IsInRange rows cols other → rank rows cols row ≡ rank rows cols other
     → ((x : A) → IsInRange rows cols (make x) → rank rows cols row ≡ rank rows cols (make x) → row ≡ make x) → Same make other → row ≡ other
 same_rank rows cols make row other g h decide s =

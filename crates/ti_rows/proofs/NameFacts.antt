@@ -14,7 +14,7 @@ use Rattle.ti_caps.specs.declared.types.Kind.TheVariants.{String}
 use Rattle.ti_rows.specs.Rows.{Row, Clear, Cup, Home, Cr, Hpa, Vpa, Cub1, Cuf1, Cuu1, Cud1, Cub, Cuf, Cuu, Cud, El, El1, Ed, Ech, Sgr, Sgr0, Setaf, Setab, Op, Smul, Rev, Blink, Dim, Bold, Invis, Smso, Enacs, Smacs, Rmacs, Csr, Ind, Ri, Civis, Cnorm, Cvvis, Smcup, Rmcup, Bel}
 use Rattle.ti_rows.specs.Names.{order, name_in_order, string_in_order, first_in_order, name_of, NamesRise, Named, HasFirst, FirstsInOrder, OrdersSmall, capabilities}
 
--- the test passes at each of the places
+-- the test passes at each place
 pub each_at : (test : ℕ → Bool) (n k : ℕ) → agree_below test (λ _. true) n ≡ true → k < n → test k ≡ true
 each_at test n k all less = agree_below_at test (λ _. true) n k all less
 
@@ -128,7 +128,7 @@ orders_small Smcup = omega arith
 orders_small Rmcup = omega arith
 orders_small Bel = omega arith
 
--- what is found at a position of a string is there
+-- the place found for a string's position is that position's
 pub placed : (position place : ℕ) → position < 414 → Some place ≡ place_from String position → place ≡ 83 + position
 unfolding place_from
 placed position place lt h = same_Some place (83 + position) (h ∙ ap (λ (b : Bool). if b then Some (83 + position) else None) (lt-ltb position 414 lt))

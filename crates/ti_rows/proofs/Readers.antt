@@ -117,7 +117,7 @@ bits_shape (s ∷ u ∷ r ∷ k ∷ d ∷ b ∷ i ∷ x ∷ []) a h = no_number 
 bits_shape (s ∷ u ∷ r ∷ k ∷ d ∷ b ∷ i ∷ x ∷ y ∷ []) a h = nine_shape s u r k d b i x y a h
 bits_shape (s ∷ u ∷ r ∷ k ∷ d ∷ b ∷ i ∷ x ∷ y ∷ z ∷ more) a h = no_number _ a h
 
--- what is found is the same capability with just these parameters
+-- the row found is of the same capability, with just these parameters
 found : (row other made : Row) (numbers : List ℕ) → made ≡ other → order made ≡ order row → params made ≡ numbers → HasParams row other numbers
 found row other made numbers e o p = subst (λ (x : Row). HasParams row x numbers) e (record { same_order = o; has = p })
 
@@ -165,7 +165,7 @@ finds_params Smcup other numbers h = let p = none_shape Smcup other numbers h in
 finds_params Rmcup other numbers h = let p = none_shape Rmcup other numbers h in found Rmcup other Rmcup numbers p.0 refl p.1
 finds_params Bel other numbers h = let p = none_shape Bel other numbers h in found Bel other Bel numbers p.0 refl p.1
 
--- the row of its own parameters
+-- a row is found again by its own parameters
 bits_back : (a : Attributes) → nine_bits (params (Sgr a)) ≡ Some a
 bits_back a = simp (bit_small, bit_back)
 
@@ -275,7 +275,7 @@ by_first Bel numbers = refl
 pub params_found : ParamsFound
 params_found row other same = by_first row (params other) ∙ ap (λ (n : ℕ). with_first n (params other)) same ∙ sym (by_first other (params other)) ∙ own_params other
 
--- all rows of a capability have as many parameters
+-- all rows of a capability have the same number of parameters
 abbrev first_count : Option Row → ℕ
 first_count None = 0
 first_count (Some row) = length (params row)
@@ -328,7 +328,7 @@ count_by_first Bel = refl
 pub same_count : SameCount
 same_count row other same = count_by_first row ∙ ap (λ (n : ℕ). first_count (first_in_order n)) same ∙ sym (count_by_first other)
 
--- what a row of the same capability looks like
+-- the forms of a row of the same capability
 pub same_plain : (row other : Row) → ((numbers : List ℕ) → with_params row numbers ≡ without_numbers row numbers) → order row ≡ order other → row ≡ other
 same_plain row other plain same = (none_shape row other (params other) (sym (plain (params other)) ∙ params_found row other same)).0
 

@@ -14,7 +14,7 @@ use Rattle.ti_rows.specs.Right.{sets_margins, sets_visible, RecordedIsRight, Act
 use Rattle.ti_rows.proofs.StartFacts.{never, starts_allowed}
 use Rattle.ti_rows.proofs.WantFacts.{asked_is_wanted}
 
--- what the table asks for sets margins and visibility in no other rows
+-- only rows that set margins or visibility are asked to change them
 record Keeps (l : Looks) (row : Row) (e : Effect) : Type 0 where
   margins : sets_margins row ≡ false → (asked l row e).margins ≡ None
   visible : sets_visible row ≡ false → (asked l row e).visible ≡ switches.Kept

@@ -1,5 +1,4 @@
--- What the table asks of a record. What it leaves free is taken from the record itself, so that the test is an
--- equality.
+-- The record that the table asks for. Its free fields are taken from the given record, so that the test is an equality.
 use Rattle.std.specs.Prelude.{ℕ, ◌-◌, ◌&&◌, Bool, true, false, Some, None}
 use Rattle.vt_effects.specs.declared.effects.Effect.{Effect}
 use Rattle.vt_effects.specs.declared.effects.Rendering.{Rendering}
@@ -72,12 +71,12 @@ is_default _ = false
 abbrev pub defaults_both_inks : Rendering → Bool
 defaults_both_inks r = is_default r.foreground && is_default r.background
 
--- the default colour, or the colour stays
+-- the default color, or the color stays
 abbrev pub ink_of : Bool → Ink
 ink_of true = inks.Default
 ink_of false = inks.Kept
 
--- just these marks are on, and both colours are so
+-- just these marks are on, and both colors are `ink`
 abbrev pub just : Marks → Ink → Rendering
 just m ink = record {
   bold = switch_of m.bold;
@@ -93,7 +92,7 @@ just m ink = record {
 abbrev pub no_marks : Marks
 no_marks = record { bold = false; faint = false; underline = false; blink = false; negative = false; concealed = false }
 
--- these marks go on, and the others stay
+-- these marks are turned on, and the others stay
 abbrev pub with_marks_on : Marks → Rendering
 with_marks_on m = record nothing_rendered {
   bold = on_or_kept m.bold;
@@ -114,7 +113,7 @@ at_col col = record unchanged { col = moves.To col; ends_pending = true }
 abbrev pub at : ℕ → ℕ → Effect
 at row col = record (at_col col) { row = moves.To row }
 
--- it goes home, and all cells are erased
+-- the cursor goes home, and all cells are erased
 abbrev pub clearing : Effect
 clearing = record (at 0 0) { erasure = erasures.Screen }
 
@@ -131,7 +130,7 @@ erasing x e = record unchanged { erasure = x; ends_pending = e.ends_pending }
 abbrev pub scrolling : Scroll → Effect → Effect
 scrolling x e = record unchanged { scroll = x; ends_pending = e.ends_pending }
 
--- the margins are these lines; the cursor may go anywhere
+-- the margins become these lines; the cursor may go anywhere
 abbrev pub bounding : ℕ → ℕ → Effect → Effect
 bounding top bottom e =
     record unchanged {
@@ -160,7 +159,7 @@ inking foreground background =
 abbrev pub entering : Effect → Effect
 entering e = record e { scroll = scrolls.Still; margins = None; visible = switches.Kept }
 
--- of the rows that are about the rendition
+-- the record asked for in the rows about the rendition
 abbrev pub asked_of_rendition : Looks → Row → Effect → Effect
 asked_of_rendition l (Sgr a) e = rendering (just (shown l a) (ink_of (defaults_both_inks e.rendition))) e
 asked_of_rendition l Sgr0 e = rendering all_off e

@@ -101,7 +101,7 @@ pub record IsFirst (rows cols : ℕ) (row : Row) : Type 0 where
 abbrev pub FirstsInRange : Type 0
 FirstsInRange = (rows cols n : ℕ) (row : Row) → IsSize rows cols → first_in_order n ≡ Some row → IsFirst rows cols row
 
--- what follows is a list of the same capability, in range, one place on, and above it in the order of lists of numbers
+-- `other` is of the same capability, in range, one place further, and greater in the order of lists of numbers
 pub record Follows (rows cols : ℕ) (row other : Row) : Type 0 where
   pub range : IsInRange rows cols other
   pub rank_next : rank rows cols other ≡ rank rows cols row + 1
@@ -120,12 +120,12 @@ LastIsLast =
     (rows cols : ℕ) (row : Row) → IsSize rows cols → IsInRange rows cols row → next rows cols row ≡ None
     → rank rows cols row + 1 ≡ count rows cols row
 
--- each list has one of the places
+-- each list has a place below the count
 abbrev pub RanksBelow : Type 0
 RanksBelow =
     (rows cols : ℕ) (row : Row) → IsSize rows cols → IsInRange rows cols row → rank rows cols row < count rows cols row
 
--- two lists of one place are one
+-- two lists of a capability at one place are equal
 abbrev pub OneOfRank : Type 0
 OneOfRank =
     (rows cols : ℕ) (row other : Row) → IsInRange rows cols row → IsInRange rows cols other → order row ≡ order other
@@ -139,7 +139,7 @@ pub record HasRank (rows cols : ℕ) (row : Row) (k : ℕ) : Type 0 where
   pub same_order : order other ≡ order row
   pub same_count : count rows cols other ≡ count rows cols row
 
--- each of the places is a list's
+-- each place is a list's
 abbrev pub EachReached : Type 0
 EachReached =
     (rows cols : ℕ) (row : Row) → IsSize rows cols → IsInRange rows cols row → rank rows cols row ≡ 0 → (k : ℕ)

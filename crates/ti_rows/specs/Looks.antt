@@ -1,4 +1,4 @@
--- How sets of attributes look, and what is learned of that from the lines of one attribute alone.
+-- How sets of attributes look, and how the lines of single attributes show it.
 use Rattle.std.specs.Prelude.{ℕ, ◌<◌, ◌≡◌, ◌==◌, ◌&&◌, ◌||◌, true, if◌then◌else◌}
 use Rattle.vt_effects.specs.declared.effects.Effect.{Effect}
 use Rattle.vt_effects.specs.declared.effects.Rendering.{Rendering}
@@ -28,7 +28,7 @@ marks_on r = record {
   concealed = is_on r.concealed;
 }
 
--- the look of an attribute alone, by the number of its list
+-- the look of the one attribute of a parameter list, which is given by its number
 abbrev pub learned_alone : ℕ → Rendering → Looks → Looks
 learned_alone n r l =
     if n == 64 then record l { standout = marks_on r }
@@ -51,7 +51,7 @@ learned Bold e l = record l { bold = true }
 learned Invis e l = record l { invisible = true }
 learned _ e l = l
 
--- what a parameter list of `sgr` adds has no say in those before it
+-- a parameter list of `sgr` leaves the looks of the lists before it as they are
 abbrev pub EarlierKept : Type 0
 EarlierKept =
     (l : Looks) (a b : Attributes) (e : Effect) → number_of b < number_of a → shown (learned (Sgr a) e l) b ≡ shown l b

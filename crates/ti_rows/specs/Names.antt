@@ -10,11 +10,11 @@ use Rattle.ti_rows.specs.Rows.{Attributes, Row, Clear, Cup, Home, Cr, Hpa, Vpa, 
 use Rattle.ti_rows.specs.Rows.{Cud, El, El1, Ed, Ech, Sgr, Sgr0, Setaf, Setab, Op, Smul, Rev, Blink, Dim, Bold, Invis}
 use Rattle.ti_rows.specs.Rows.{Smso, Enacs, Smacs, Rmacs, Csr, Ind, Ri, Civis, Cnorm, Cvvis, Smcup, Rmcup, Bel}
 
--- how many there are
+-- how many capabilities are checked
 abbrev pub capabilities : ℕ
 capabilities = 42
 
--- where a row's capability stands among them
+-- the place of a row's capability in this order
 abbrev pub order : Row → ℕ
 order Bel = 0
 order Blink = 1
@@ -68,7 +68,7 @@ names =
     codes "rmacs" ∷ codes "rmcup" ∷ codes "setab" ∷ codes "setaf" ∷ codes "sgr" ∷ codes "sgr0" ∷ codes "smacs" ∷
     codes "smcup" ∷ codes "smso" ∷ codes "smul" ∷ codes "vpa" ∷ []
 
--- the position of each among the strings of term(5)
+-- the position of each capability among the strings of term(5)
 abbrev pub strings : List ℕ
 strings =
     1 ∷ 26 ∷ 27 ∷ 13 ∷ 5 ∷ 16 ∷ 2 ∷ 3 ∷ 111 ∷ 14 ∷ 107 ∷ 11 ∷ 112 ∷ 17 ∷ 10 ∷ 114 ∷ 19 ∷ 20 ∷ 30 ∷ 37 ∷ 7 ∷
@@ -104,7 +104,8 @@ string_in_order n = slice_index_or strings n 0
 unfoldable pub first_in_order : ℕ → Option Row
 first_in_order n = slice_get firsts n
 
--- the name of a row's capability, and its place in the table of all capabilities, where 83 are no strings
+-- the name of a row's capability, and its place in the table of all capabilities, which begins with 83 that aren't
+-- strings
 abbrev pub name_of : Row → List ℕ
 name_of row = name_in_order (order row)
 
@@ -116,11 +117,11 @@ abbrev pub NamesRise : Type 0
 NamesRise = (low high : ℕ) → low < high → high < capabilities
     → slice_cmp nat_cmp (name_in_order low) (name_in_order high) ≡ Less
 
--- each is the name of the capability at its position
+-- each name is that of the capability at its position
 abbrev pub Named : Type 0
 Named = (n : ℕ) → n < capabilities → name_at (83 + string_in_order n) ≡ name_in_order n
 
--- each of them has a first row, in that order, and each row's capability is one of them
+-- each place has a first row, and each row's capability has one of the places
 pub record HasFirst (n : ℕ) : Type 0 where
   pub row : Row
   pub is_first : first_in_order n ≡ Some row

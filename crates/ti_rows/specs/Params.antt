@@ -7,7 +7,7 @@ use Rattle.ti_rows.specs.Bits.{bit}
 use Rattle.ti_rows.specs.Names.{order}
 use Rattle.ti_rows.specs.Rows.{Attributes, Row, Cup, Hpa, Vpa, Cub, Cuf, Cuu, Cud, Ech, Sgr, Setaf, Setab, Csr}
 
--- in the order of the capability's parameters; `sgr` has two more, which are 0
+-- a row's parameters, in the order of its capability's; `sgr` has two more, which are 0
 abbrev pub params : Row → List ℕ
 params (Cup row col) = row ∷ col ∷ []
 params (Hpa col) = col ∷ []
@@ -25,7 +25,8 @@ params (Setab c) = color_number c ∷ []
 params (Csr top bottom) = top ∷ bottom ∷ []
 params _ = []
 
--- the row of these numbers, if there are as many as it has, and each of an attribute is 0 or 1 and of a colour below 8
+-- the row with these numbers, if there are as many as it has, each of an attribute is 0 or 1, and each of a color is
+-- below 8
 abbrev pub without_numbers : Row → List ℕ → Option Row
 without_numbers row [] = Some row
 without_numbers row _ = None
@@ -80,7 +81,7 @@ with_params (Setab c) numbers = option_map (λ c. Setab c) (only_color numbers)
 with_params (Csr top bottom) numbers = option_map (λ p. Csr p.0 p.1) (two_numbers numbers)
 with_params row numbers = without_numbers row numbers
 
--- what is found is the same capability with just these parameters
+-- the row found is of the same capability, with just these parameters
 pub record HasParams (row other : Row) (numbers : List ℕ) : Type 0 where
   pub same_order : order other ≡ order row
   pub has : params other ≡ numbers
@@ -88,10 +89,10 @@ pub record HasParams (row other : Row) (numbers : List ℕ) : Type 0 where
 abbrev pub FindsParams : Type 0
 FindsParams = (row other : Row) (numbers : List ℕ) → with_params row numbers ≡ Some other → HasParams row other numbers
 
--- and where there is such a row, it is found
+-- a row with these parameters is found if there is one
 abbrev pub ParamsFound : Type 0
 ParamsFound = (row other : Row) → order row ≡ order other → with_params row (params other) ≡ Some other
 
--- all rows of a capability have as many parameters
+-- all rows of a capability have the same number of parameters
 abbrev pub SameCount : Type 0
 SameCount = (row other : Row) → order row ≡ order other → length (params row) ≡ length (params other)

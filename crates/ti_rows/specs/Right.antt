@@ -1,4 +1,4 @@
--- A line is right: from every start of its row the run isn't stuck and ends as is wanted.
+-- A line is right: from each start of its row the run isn't stuck and ends as wanted.
 use Rattle.std.specs.Prelude.{ℕ, ◌≡◌, Bool, true, false, List, [], Some}
 use Rattle.vt_term.specs.Text.{Splits}
 use Rattle.vt_term.specs.Screen.{State, Screen, Charset, is_graphic}
@@ -13,7 +13,7 @@ use Rattle.ti_rows.specs.Starts.{IsFree, Starts}
 use Rattle.ti_rows.specs.Wants.{Wants}
 use Rattle.ti_rows.specs.Asked.{start_of, asked}
 
--- a run that ends with nothing open, and as is wanted
+-- the run of these bytes ends as wanted, between two tokens
 pub record EndsWell (l : Looks) (row : Row) (s : State) (bytes : List ℕ) : Type 0 where
   pub after : State
   pub runs : Runs s bytes after
@@ -51,22 +51,23 @@ AskedIsWanted =
     (rows cols : ℕ) (l : Looks) (row : Row) (e : Effect) → e ≡ asked l row e → (s : Screen) → Starts rows cols row s
     → Wants l row s (applied e s)
 
--- so bytes with such a record are right
+-- bytes with such a record are right
 abbrev pub RecordedIsRight : Type 0
 RecordedIsRight =
     (rows cols : ℕ) (l : Looks) (row : Row) (bytes : List ℕ) (tokens : List (List ℕ)) (e : Effect)
     → Splits bytes tokens []
     → record_of rows cols (start_of rows cols row) tokens ≡ Some e → e ≡ asked l row e → IsRight rows cols l row bytes
 
--- the lines of `sgr` have one look at most for each attribute, so that "right with these looks" depends on no line
--- beside them
+-- the lines of `sgr` have at most one look for each attribute, so that "right with these looks" depends on these
+-- lines alone
 abbrev pub OneLooks : Type 0
 OneLooks =
     (rows cols : ℕ) (l m : Looks) (lines : Attributes → List ℕ) (s : State) → s.rest ≡ [] → IsFree rows cols s.screen
     → ((a : Attributes) → IsRight rows cols l (Sgr a) (lines a))
     → ((a : Attributes) → IsRight rows cols m (Sgr a) (lines a)) → l ≡ m
 
--- bytes whose record leads each of these sets to an active set of one kind do so from every start with one of them
+-- if a record leads from each of these sets to an active set of one kind, its bytes do so from each start with one of
+-- them
 abbrev pub ActivatesFrom : Type 0
 ActivatesFrom =
     (rows cols : ℕ) (row : Row) (bytes : List ℕ) (tokens : List (List ℕ)) (e : Effect) (settled : Charset → Bool)

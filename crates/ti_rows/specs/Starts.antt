@@ -11,13 +11,13 @@ pub record IsAny (rows cols : ℕ) (s : Screen) : Type 0 where
   pub cols_are : s.cols ≡ cols
   pub tame : IsTame s
 
--- the same, with the whole screen as margins
+-- any cursor, the whole screen as margins, autowrap on and insertion off
 pub record IsFree (rows cols : ℕ) (s : Screen) : Type 0 where
   pub any : IsAny rows cols s
   pub top : s.top ≡ 0
   pub bottom : s.bottom + 1 ≡ s.rows
 
--- the same, and the last column wasn't just printed
+-- as `IsFree`, and the last column wasn't just printed
 pub record IsCalm (rows cols : ℕ) (s : Screen) : Type 0 where
   pub free : IsFree rows cols s
   pub pending : s.pending ≡ false
@@ -27,7 +27,7 @@ pub record IsCalmAnywhere (rows cols : ℕ) (s : Screen) : Type 0 where
   pub any : IsAny rows cols s
   pub pending : s.pending ≡ false
 
--- the starts of a row; from those of a move it stays on the screen
+-- the starts of a row; a move stays on the screen from each of its starts
 abbrev pub Starts : ℕ → ℕ → Row → Screen → Type 0
 Starts rows cols (Cup row col) s = IsAny rows cols s
 Starts rows cols (Csr top bottom) s = IsAny rows cols s

@@ -1,4 +1,4 @@
--- What is wanted of the screen in the end, row by row, by the screen alone (terminfo(5); ECMA-48 8.3).
+-- The screen that is wanted in the end, row by row, stated about screens alone (terminfo(5); ECMA-48 8.3).
 use Rattle.std.specs.Prelude.{ℕ, ◌+◌, ◌-◌, ◌≡◌, ◌⊎◌, ◌==◌, ◌&&◌, ◌||◌, nat_le, nat_lt, Bool, true, false, Option, Some}
 use Rattle.std.specs.Prelude.{None, if◌then◌else◌}
 use Rattle.vt_term.specs.Color.{Color}
@@ -10,7 +10,7 @@ use Rattle.ti_rows.specs.Rows.{Marks, Looks, Row, Clear, Cup, Home, Cr, Hpa, Vpa
 use Rattle.ti_rows.specs.Rows.{Cud, El, El1, Ed, Ech, Sgr, Sgr0, Setaf, Setab, Op, Smul, Rev, Blink, Dim, Bold, Invis}
 use Rattle.ti_rows.specs.Rows.{Smso, Enacs, Smacs, Rmacs, Csr, Ind, Ri, Civis, Cnorm, Cvvis, Smcup, Rmcup, Bel}
 
--- a rendition of these marks and colours
+-- a rendition of these marks and colors
 abbrev pub marked : Marks → Option Color → Option Color → Rendition
 marked m foreground background = record {
   bold = m.bold;
@@ -23,7 +23,7 @@ marked m foreground background = record {
   background = background;
 }
 
--- these marks go on, and the others stay
+-- these marks are turned on, and the others stay
 abbrev pub adding : Marks → Rendition → Rendition
 adding m r = record r {
   bold = m.bold || r.bold;
@@ -34,16 +34,16 @@ adding m r = record r {
   concealed = m.concealed || r.concealed;
 }
 
--- the rendition becomes that one, the sets are free, and all else stays
+-- the rendition becomes `r`, the sets are free, and all else stays
 abbrev pub Renders : Rendition → Screen → Screen → Type 0
 Renders r s t = t ≡ record s { rendition = r; charset = t.charset }
 
--- just these marks are on; both colours stay, or both become default
+-- just these marks are on; both colors stay, or both become default
 abbrev pub HasJust : Marks → Screen → Screen → Type 0
 HasJust m s t = Renders (marked m s.rendition.foreground s.rendition.background) s t ⊎ Renders (marked m None None) s t
 
--- the cells around the cursor that an erasure chooses: to the line's end, from its start, to the screen's end, and so
--- many to the right (ECMA-48 8.3.41, 8.3.39, 8.3.38)
+-- the cells around the cursor that an erasure chooses: to the line's end, from its start, to the screen's end, and
+-- `n` to the right (ECMA-48 8.3.41, 8.3.39, 8.3.38)
 abbrev pub to_line_end : Screen → ℕ → ℕ → Bool
 to_line_end s i j = (i == s.row) && nat_le s.col j
 
@@ -60,11 +60,11 @@ next_cells n s i j = (i == s.row) && (nat_le s.col j && nat_lt j (s.col + n))
 abbrev pub with_blanks : (ℕ → ℕ → Bool) → Screen → Grid
 with_blanks chosen s = drawn (λ i j old. if chosen i j then blank s.rendition else old) s.grid
 
--- they do, and all else stays
+-- the chosen cells become blank, and all else stays
 abbrev pub Blanks : (ℕ → ℕ → Bool) → Screen → Screen → Type 0
 Blanks chosen s t = t ≡ record s { grid = with_blanks chosen s }
 
--- the cells after one erasure at most, around the cursor of the start
+-- the cells after at most one erasure, around the cursor of the start
 pub data ErasesOnce (s : Screen) (cells : Grid) : Type 0 where
   Nothing : cells ≡ s.grid → ErasesOnce s cells
   Everything : cells ≡ with_blanks (λ i j. true) s → ErasesOnce s cells
@@ -82,8 +82,8 @@ pub record Bounds (top bottom : ℕ) (s t : Screen) : Type 0 where
   pub others : t ≡ record s { top = top; bottom = bottom; row = t.row; col = t.col; pending = t.pending }
   pub pending : StaysOrEnds s.pending t.pending
 
--- a program's screen begins or ends: one erasure at most; the cursor may go anywhere, a pending wrap may end, rendition
--- and sets are free, and all else stays
+-- a program's screen begins or ends: at most one erasure; the cursor may go anywhere, a pending wrap may end,
+-- rendition and sets are free, and all else stays
 pub record Enters (s t : Screen) : Type 0 where
   pub others : t ≡ record s {
     grid = t.grid;
@@ -100,8 +100,8 @@ pub record Enters (s t : Screen) : Type 0 where
 abbrev pub Appears : Screen → Screen → Type 0
 Appears s t = (t ≡ record s { visible = true }) ⊎ (t ≡ s)
 
--- what a row's string makes of a start: each equation is on what it changes, and all else stays. The sets are free
--- where the end stands on the right as well
+-- the end `t` that a row wants of its start `s`: each equation names the parts that change, and all else stays. The
+-- sets are free where `t` occurs on the right as well
 abbrev pub Wants : Looks → Row → Screen → Screen → Type 0
 Wants l Clear s t =
     t ≡ record s { grid = drawn (λ i j old. blank s.rendition) s.grid; row = 0; col = 0; pending = false }

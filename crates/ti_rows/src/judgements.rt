@@ -10,7 +10,7 @@ use vt_effects::{Effect, effect_of};
 use vt_term::{Size, Token};
 
 impl Row {
-    /// Whether an effect is the one that the table asks of this row.
+    /// Whether `effect` is the one that the table asks of this row.
     pub fn asks_for(self, looks: Looks, effect: &Effect) -> bool
         ensures sound { IsTrue result → effect.now ≡ spec.asked looks self effect.now }
         ensures complete { effect.now ≡ spec.asked looks self effect.now → IsTrue result }
@@ -19,8 +19,8 @@ impl Row {
     }
 }
 
-/// Whether the effect of these tokens from the row's start is the one that the table asks for. If so,
-/// every text of these tokens does what is wanted of the row, from each of its starts.
+/// Whether the effect of `tokens` from the start of `row` is the one that the table asks for. If
+/// so, each text of these tokens does what is wanted of the row, from each of its starts.
 pub fn does_as_wanted(row: Row, looks: Looks, size: Size, tokens: &[Token]) -> bool
     ensures right { IsTrue result → (bytes : List ℕ) → Splits bytes tokens.now [] →
         IsRight size.rows size.cols looks row bytes }

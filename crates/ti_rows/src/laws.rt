@@ -5,7 +5,7 @@ ghost use Rattle.ti_rows.specs.Names.{NamesRise, Named, FirstsInOrder, OrdersSma
 ghost use Rattle.ti_rows.specs.Lists.{FirstsInRange, NextFollows, LastIsLast, RanksBelow, OneOfRank, EachReached};
 ghost use Rattle.ti_rows.specs.Params.{FindsParams, ParamsFound, SameCount};
 
-/// The states from which a row is wanted to do its work are among those that its start allows.
+/// The states from which a row is judged are among the states that its start allows.
 pub fn starts_allowed()
     ensures { StartsAllowed }
 {}
@@ -20,17 +20,17 @@ pub fn recorded_is_right()
     ensures { RecordedIsRight }
 {}
 
-/// What a parameter list of `sgr` adds to the looks has no say in the lists before it.
+/// A parameter list of `sgr` leaves the looks of the lists before it as they are.
 pub fn earlier_kept()
     ensures { EarlierKept }
 {}
 
-/// The lines of `sgr` have one look at most for each attribute.
+/// The lines of `sgr` have at most one look for each attribute.
 pub fn one_looks()
     ensures { OneLooks }
 {}
 
-/// What `smacs` and `rmacs` are for: a record shows which set is active in the end.
+/// The record of `smacs` or `rmacs` shows which set is active in the end.
 pub fn activates_from()
     ensures { ActivatesFrom }
 {}
@@ -40,7 +40,7 @@ pub fn names_rise()
     ensures { NamesRise }
 {}
 
-/// Each of their positions has its name in the table of terminfo(5).
+/// Each position of a checked capability has its name in the table of terminfo(5).
 pub fn named()
     ensures { Named }
 {}
@@ -51,8 +51,8 @@ pub fn places()
     ensures orders { OrdersSmall }
 {}
 
-/// What `with_params` finds is the same capability with just those parameters, it finds it wherever there is
-/// one, and all rows of a capability have as many parameters.
+/// `with_params` finds a row of the same capability with just those parameters, wherever there is
+/// one; and all rows of a capability have the same number of parameters.
 pub fn params_read_back()
     ensures finds { FindsParams }
     ensures found { ParamsFound }
@@ -64,7 +64,7 @@ pub fn firsts_in_range()
     ensures { FirstsInRange }
 {}
 
-/// What follows a list is of the same capability, in range, has the next place, and is above it.
+/// The list that follows another is of the same capability, in range, at the next place, and above it.
 pub fn next_follows()
     ensures { NextFollows }
 {}

@@ -1,4 +1,4 @@
-//! What the lines of single attributes say of the marks that each attribute shows.
+//! How the lines of single attributes show the marks of each attribute.
 ghost use Rattle.std.specs.Prelude.{◌≡◌};
 ghost use Rattle.ti_rows.specs.Looks as spec;
 
@@ -7,8 +7,8 @@ use crate::wants::is_on;
 use vt_effects::{Effect, Rendering};
 
 impl Looks {
-    /// The looks with what a row's effect adds to what is known of them: that of `sgr` with one
-    /// attribute alone, or of that attribute's own capability.
+    /// These looks with what the `effect` of `row` adds: that of `sgr` with a single attribute, or
+    /// that of an attribute's own capability.
     pub fn learned(self, row: Row, effect: &Effect) -> Looks
         ensures { result ≡ spec.learned row effect.now self }
     {
@@ -45,7 +45,7 @@ impl Looks {
     }
 }
 
-/// What a line of `sgr` shows of the looks, by the number of its parameter list.
+/// The looks with what a line of `sgr` shows of them; `number` is the number of its parameter list.
 fn learned_alone(number: usize, rendering: Rendering, looks: Looks) -> Looks
     ensures { result ≡ spec.learned_alone number rendering looks }
 {

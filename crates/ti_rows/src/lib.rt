@@ -1,5 +1,5 @@
 //! The table of checked capabilities: for each its parameters, the states from which its string is
-//! judged, the effect that is asked of it, and what is wanted of the screen in the end.
+//! judged, the effect asked of it, and what is wanted of the screen in the end.
 #![tactic(auto)]
 
 mod bits;

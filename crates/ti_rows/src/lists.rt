@@ -111,7 +111,7 @@ fn next_attributes(a: Attributes) -> Option<Row>
     }
 }
 
-/// The attributes of a number, its binary digits.
+/// The attributes whose binary digits are those of `number`.
 #[tactic(auto, unfolding(crate::specs::Lists::attributes_of))]
 fn attributes_of(number: usize) -> Attributes
     ensures { result ≡ spec.attributes_of number }
@@ -127,7 +127,7 @@ fn attributes_of(number: usize) -> Attributes
     }
 }
 
-/// How many lists of `csr` have a first line above this one.
+/// The number of lists of `csr` whose first line is above `top`.
 fn above(rows: usize, top: usize) -> usize
     requires within { top < rows }
     requires small { rows ≤ 200 }

@@ -7,7 +7,7 @@ use crate::rows::{NO_ATTRIBUTES, Row};
 use ti_caps::{Cap, Kind, at, name};
 use vt_term::Color;
 
-/// How many capabilities are checked.
+/// The number of checked capabilities.
 pub const CAPABILITIES: usize = 42;
 
 /// The positions of the checked capabilities among the strings of term(5), in the byte order of their names.
@@ -16,7 +16,7 @@ const STRINGS: [u16; CAPABILITIES] = [
     12, 8, 129, 32, 297, 34, 130, 38, 40, 360, 359, 131, 39, 25, 28, 35, 36, 127,
 ];
 
-/// The first parameter list of each, in the same order.
+/// The first parameter list of each checked capability, in the same order.
 const FIRSTS: [Row; CAPABILITIES] = [
     Row::Bel,
     Row::Blink,
@@ -63,8 +63,8 @@ const FIRSTS: [Row; CAPABILITIES] = [
 ];
 
 impl Row {
-    /// The first parameter list of the capability at the place `order` among the checked ones, which are in
-    /// the byte order of their names. There is one exactly below [`CAPABILITIES`].
+    /// The first parameter list of the capability at the place `order` among the checked ones,
+    /// which are in the byte order of their names; `None` unless `order` is below [`CAPABILITIES`].
     pub fn first(order: usize) -> Option<Row>
         ensures { result ≡ spec.first_in_order order }
     {
@@ -75,7 +75,7 @@ impl Row {
         }
     }
 
-    /// The first parameter list of the capability with this name, if it is a checked one.
+    /// The first parameter list of the capability named `text`, if it is a checked one.
     pub fn named(text: &[u8]) -> Option<Row>
         ensures name { IfSome result (λ row. spec.name_of row ≡ text.now) }
         ensures first { IfSome result (λ row. spec.first_in_order (spec.order row) ≡ Some row) }
@@ -89,7 +89,7 @@ impl Row {
         None
     }
 
-    /// The place of its capability among the checked ones, in the byte order of their names.
+    /// The place of this row's capability among the checked ones, in the byte order of their names.
     pub fn order(self) -> usize
         ensures value { result ≡ spec.order self }
         ensures small { result < spec.capabilities }
@@ -117,14 +117,14 @@ impl Row {
         }
     }
 
-    /// Its capability.
+    /// This row's capability.
     pub fn cap(self) -> Cap
         ensures { result ≡ spec.cap_of self }
     {
         cap_in_order(self.order())
     }
 
-    /// The name of its capability.
+    /// The name of this row's capability.
     pub fn name(self) -> &'static [u8]
         ensures { result.now ≡ spec.name_of self }
     {
@@ -132,7 +132,7 @@ impl Row {
     }
 }
 
-/// The place of a row's capability in the table, for the names from `dim` on.
+/// The place of a row's capability among the checked ones, for those from `dim` on.
 fn order_from_dim(row: Row) -> usize
     requires { 17 < spec.order row }
     ensures { result ≡ spec.order row }
@@ -184,7 +184,7 @@ fn cap_in_order(order: usize) -> Cap
     at(Kind::String, string_in_order(order)).unwrap()
 }
 
-/// Its position among the strings of term(5).
+/// The position of the capability at the place `order` among the strings of term(5).
 #[tactic(auto, unfolding(crate::specs::Names::string_in_order))]
 fn string_in_order(order: usize) -> usize
     requires { order < spec.capabilities }

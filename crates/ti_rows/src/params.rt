@@ -12,7 +12,7 @@ use vt_term::{Color, color_of};
 pub type Params = ArrayVec<u16, 9>;
 
 impl Row {
-    /// The parameters as numbers, in the order of the capability's. The last two of `sgr` are 0.
+    /// The row's parameters as numbers, in the order of its capability's. The last two of `sgr` are 0.
     pub fn params(self) -> Params
         ensures { result.items ≡ spec.params self }
     {
@@ -27,7 +27,7 @@ impl Row {
         }
     }
 
-    /// How many parameters its capability has.
+    /// The number of parameters of the row's capability.
     pub fn param_count(self) -> usize
         ensures { result ≡ length (spec.params self) }
     {
@@ -41,8 +41,9 @@ impl Row {
         }
     }
 
-    /// The capability of this row with the parameters `numbers`, if it takes as many and each can be what it is for:
-    /// 0 or 1 for an attribute, below 8 for a colour. Whether a size allows them is another question.
+    /// The row of this capability with the parameters `numbers`, if there are as many as it has and
+    /// each is one that it can have: 0 or 1 for an attribute, below 8 for a color. Whether a size
+    /// allows them isn't checked.
     pub fn with_params(self, numbers: &[u16]) -> Option<Row>
         ensures { result ≡ spec.with_params self numbers.now }
     {
@@ -152,7 +153,7 @@ fn are_bits(a: u16, b: u16, c: u16) -> bool
     a <= 1 && b <= 1 && c <= 1
 }
 
-/// Whether the last of seven is a bit, and the two after it are 0.
+/// Whether `a`, the last of the seven attributes, is 0 or 1, and `x` and `y` after it are 0.
 fn ends_bits(a: u16, x: u16, y: u16) -> bool
     ensures { result ≡ spec.ends_bits a x y }
 {

@@ -6,7 +6,7 @@ ghost use Rattle.ti_rows.specs.Looks as looks;
 use crate::rows::{Attributes, Looks, Marks, NO_MARKS, Row};
 use vt_effects::{Effect, Erasure, Ink, Move, Region, Rendering, Scroll, Switch};
 
-/// Each mark alone.
+/// Each mark by itself.
 const BOLD: Marks = Marks {
     bold: true,
     ..NO_MARKS
@@ -63,7 +63,7 @@ fn is_shown(own: bool, look: bool, standout: bool, mark: bool) -> bool
 }
 
 impl Row {
-    /// The effect that the table asks of this row. What it leaves free is taken from this effect.
+    /// The effect that the table asks of this row. Its free parts are taken from `effect`.
     pub fn asked(self, looks: Looks, effect: &Effect) -> Effect
         ensures { result ≡ spec.asked looks self effect.now }
     {
@@ -103,7 +103,7 @@ impl Row {
     }
 }
 
-/// The effect that is asked for, for the rows that are about the rendition.
+/// The effect asked for in the rows about the rendition.
 fn asked_of_rendition(row: Row, looks: Looks, effect: &Effect) -> Effect
     ensures { result ≡ spec.asked_of_rendition looks row effect.now }
 {
@@ -167,8 +167,8 @@ fn at_row(row: u16) -> Effect
     }
 }
 
-/// The cursor moves up or down, or left or right. Its start is calm, so that what ends a printed
-/// last column may be there or not; so it is with erasures and scrolls.
+/// The cursor moves up or down, or left or right. Each start of such a row has no pending wrap, so
+/// whether the effect would end one is free; so it is for erasures and scrolls.
 fn by_rows(way: Move, effect: &Effect) -> Effect
     ensures { result ≡ spec.by_rows way effect.now }
 {
@@ -253,7 +253,7 @@ fn showing(visible: Switch) -> Effect
     }
 }
 
-/// The rendition changes, and the sets as the effect does it.
+/// The rendition changes as given, and the character sets change as in `effect`.
 fn rendering(rendition: Rendering, effect: &Effect) -> Effect
     ensures { result ≡ spec.rendering rendition effect.now }
 {
@@ -277,7 +277,7 @@ fn inking(foreground: Ink, background: Ink) -> Effect
     }
 }
 
-/// These marks go on, and the others stay.
+/// These marks are turned on, and the others stay.
 fn turning_on(marks: Marks, effect: &Effect) -> Effect
     ensures { result ≡ spec.rendering (spec.with_marks_on marks) effect.now }
 {
@@ -293,7 +293,7 @@ fn turning_on(marks: Marks, effect: &Effect) -> Effect
     rendering(rendition, effect)
 }
 
-/// Just these marks are on. Both colours become default, or both stay.
+/// Just these marks are on. Both colors become default, or both stay.
 fn just(marks: Marks, plain: bool) -> Rendering
     ensures { result ≡ spec.just marks (spec.ink_of plain) }
 {
