@@ -1,4 +1,4 @@
--- The answer of the bytes that were given, as the answer of the text that a reader has left.
+-- The answer for the bytes that were given is one for the text that a reader has left.
 use Rattle.std.proofs.Common.{◌≡◌, ℕ, List, [], ◌++◌, Result, Ok, Err, sym, ap, subst, ◌∙◌, inl, inr}
 use Rattle.std.proofs.lemmas.List.{append-nil}
 use Rattle.ti_lines.specs.Reader.{Follows, AtEnd, Rose}
@@ -14,7 +14,7 @@ failed_is {X} {T} {F} rules Failed new answer e Is is kind f =
     let Q : Result X (LineFault F) → Type 0 = λ r. GivesOr rules Failed new r Is in
     subst Q (sym is) (inr (kind, f))
 
--- of every text that begins with what was given, and that ends there if the end was seen
+-- an answer for each text that begins with the bytes given, and that ends there if the end was seen
 of_text : {X T F : Type 0} (rules : Rules T F) (limit : ℕ) (old new : T) (Ended Failed : Type 0) (given rest : List ℕ) (answer : Result X (LineFault F)) → Outcome rules limit old new Ended Failed given answer → (Ended → rest ≡ [])
     → GivesOr rules Failed new answer (Judged rules limit old (given ++ rest))
 of_text rules limit old new Ended Failed given rest answer (Whole end h) ends =

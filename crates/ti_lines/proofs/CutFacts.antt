@@ -8,7 +8,7 @@ use Rattle.std.proofs.lemmas.Option.{some_pair_parts}
 use Rattle.ti_lines.specs.Cut.{cut_at}
 use Rattle.ti_lines.proofs.TextCuts.{lacks}
 
--- so many bytes before, and what is after one more
+-- the first `n` bytes, and those after one more
 abbrev pub around : List ℕ → Option ℕ → Option (List ℕ × List ℕ)
 around text o = option_map (λ n. (take n text, drop (n + 1) text)) o
 
@@ -53,7 +53,7 @@ pub cut_front : (c : ℕ) (front rest : List ℕ) → lacks c front ≡ true →
 cut_front c [] rest h = ap (λ t. if t then starts rest else option_map (λ p. (c ∷ p.0, p.1)) (cut_at c rest)) (itself c)
 cut_front c (b ∷ front) rest h = front_rest b front rest (front ++ c ∷ rest) (cut_at c (front ++ c ∷ rest)) (b == c) (lacks c front) h (cut_front c front rest)
 
--- what was cut
+-- a text cut in two at `c`
 pub record IsCut (c : ℕ) (text before behind : List ℕ) : Type 0 where
   pub parts : text ≡ before ++ c ∷ behind
   pub lacking : lacks c before ≡ true

@@ -60,7 +60,7 @@ positive_reads n some h =
     let t : nat_lt 0 n ≡ true = grind (arith, nat_tests) in
     ap positive (number_reads n h) ∙ cond-true (nat_lt 0 n) (Some n) None t
 
--- what is read is written so
+-- a text that is read as a number is how the number is written
 pub record IsNumber (ds : List ℕ) (n : ℕ) : Type 0 where
   pub text : ds ≡ decimal n
   pub small : n < 65536

@@ -13,7 +13,7 @@ pub choose : {X : Type 0} (P : X → Type 0) (t : Bool) (x y : X) → (t ≡ tru
 choose P true x y f g = f refl
 choose P false x y f g = g refl
 
--- a place among so many
+-- a place in a text of `len` bytes
 abbrev place : ℕ → ℕ → Option ℕ
 place n len = if nat_lt n len then Some n else None
 
@@ -27,7 +27,7 @@ moved n len false = refl
 place_moved : (n len : ℕ) → place (1 + n) (suc len) ≡ option_map suc (place n len)
 place_moved n len = let e : 1 + n ≡ suc n = omega arith in ap (λ m. place m (suc len)) e ∙ (ap (λ t. if t then Some (suc n) else None) (both_more n len) ∙ moved n len (nat_lt n len))
 
--- std's word counts what doesn't pass
+-- std counts the bytes that aren't LF
 after_other : (b : ℕ) (n len : ℕ) (o : Option ℕ) (t : Bool) → place n len ≡ o → place (cond (not t) (1 + n) 0) (suc len) ≡ (if t then Some 0 else option_map suc o)
 after_other b n len o true h = let e : nat_lt 0 (suc len) ≡ true = grind (arith, nat_tests) in ap (λ t. if t then Some 0 else None) e
 after_other b n len o false h = place_moved n len ∙ ap (option_map suc) h
@@ -53,7 +53,7 @@ step_end : (n : ℕ) (rest : Option ℕ) (front all : Option ℕ) (t : Bool) →
 step_end n rest front all true h deeper = cc
 step_end n rest front all false h deeper = ap (option_map suc) (deeper (none_moved front h)) ∙ further n rest
 
--- where no LF is among the first
+-- the first LF, if none is among the first `seen` bytes
 pub end_after : (seen : ℕ) (text : List ℕ) → line_end (take seen text) ≡ None → line_end text ≡ option_map (λ k. seen + k) (line_end (drop seen text))
 end_after zero text h = nowhere (line_end text)
 end_after (suc n) [] h = refl

@@ -48,17 +48,17 @@ IsPlainWord (Chooses s) = Unit {0}
 IsPlainWord (Rows r) = IsPlainRegion (Some r)
 IsPlainWord (Shows s) = Unit {0}
 
--- a text of this word, which says something
+-- a text of the word `x`, which isn't empty
 pub record IsWord (w : List ℕ) (x : Word) : Type 0 where
   pub text : w ≡ word_text x
   pub plain : IsPlainWord x
   pub some : 0 < length w
 
--- what is read is written so
+-- each word that is read is written so
 pub all_written : (whole word : List ℕ) → is_all whole word ≡ true → word ≡ whole
 all_written whole word h = (bytes_eq-Decides word whole).0 h
 
--- a word that is always the same
+-- a word without parts
 whole_word : (whole word : List ℕ) (x z : Word) → is_all whole word ≡ true → Some x ≡ Some z → IsWord whole x → IsWord word z
 whole_word whole word x z t e w = subst (λ (y : Word). IsWord word y) (same_Some x z e) (subst (λ (l : List ℕ). IsWord l x) (sym (all_written whole word t)) w)
 
@@ -175,7 +175,7 @@ unfolding word_at
 word_written w z h =
     either (IsWord w z) (fixed_at w) _ z (fixed_written w z) (λ h. either (IsWord w z) (numbered_at w) _ z (numbered_written w z) (lettered_written w z) h) h
 
--- what is written is read: a word that says something
+-- a text that is read as the word `x`, which isn't empty
 pub record IsRead (t : List ℕ) (x : Word) : Type 0 where
   pub read : word_at t ≡ Some x
   pub some : 0 < length t
@@ -190,7 +190,7 @@ back_read b k some h = ap (λ (o : Option ℕ). option_or (option_or (option_map
 forward_read : (b : Move → Word) (k : ℕ) → 0 < k → k < 65536 → option_or (option_or (option_map b (option_map (λ n. moves.Forward n) (positive (number_at (decimal k))))) None) None ≡ Some (b (moves.Forward k))
 forward_read b k some h = ap (λ (o : Option ℕ). option_or (option_or (option_map b (option_map (λ n. moves.Forward n) o)) None) None) (positive_reads k some h)
 
--- a word that is always the same
+-- a word without parts
 pub fixed_read : (t : List ℕ) (x : Word) → fixed_at t ≡ Some x → 0 < length t → IsRead t x
 unfolding word_at
 fixed_read t x h some = record { read = ap (λ (o : Option Word). option_or o (option_or (numbered_at t) (lettered_at t))) h; some = some }

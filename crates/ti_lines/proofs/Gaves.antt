@@ -1,4 +1,4 @@
--- What a reader gave, piece after piece.
+-- The bytes that a reader gave, piece after piece.
 use Rattle.std.proofs.Common.{◌≡◌, ℕ, ◌+◌, ◌<◌, ◌≤◌, ◌⊎◌, List, [], ◌++◌, None, length, refl, sym, ap, subst, ◌∙◌, inl, inr, arith, append_assoc}
 use Rattle.std.proofs.Math.Nat.{le_refl, le_trans}
 use Rattle.std.proofs.lemmas.List.{append-nil}
@@ -25,7 +25,7 @@ rose_at_last : (a b c : ℕ) → a ≤ b → b ≡ last_count → c ≡ last_cou
 rose_at_last a b c le e f (inl lt) = inl (omega arith)
 rose_at_last a b c le e f (inr ge) = let same : a ≡ b = omega arith in inr (same ∙ e, f)
 
--- a failure after more was given
+-- a new failure is one since any earlier count
 pub rose_later : (a b c : ℕ) → a ≤ b → Rose b c → Rose a c
 rose_later a b c le (inl lt) = inl (omega arith)
 rose_later a b c le (inr last) = rose_at_last a b c le last.0 last.1 (cases_lt a b)
@@ -34,11 +34,11 @@ pub halts_later : (a b c : ℕ) (h : Halt) → a ≤ b → HaltsBy b c h → Hal
 halts_later a b c ReadFailed le r = rose_later a b c le r
 halts_later a b c NoMemory le r = tt
 
--- what one call gave
+-- one call gives a piece
 pub filled : (unread piece : List ℕ) → length piece ≤ piece_limit → line_end unread ≡ None → Refills unread piece
 filled unread piece few unended = InPieces [] piece refl few (ap line_end (append-nil unread) ∙ unended)
 
--- more was taken after these
+-- a piece, and more pieces after it
 refills_more : (unread middle first second : List ℕ) → middle ≡ unread ++ first → Refills unread first → Refills middle second → Refills unread (first ++ second)
 refills_more unread middle first second e p (NotAtAll none) =
     subst (λ (l : List ℕ). Refills unread l) (sym (ap (λ (l : List ℕ). first ++ l) none ∙ append-nil first)) p
@@ -54,7 +54,7 @@ takes_nothing left failures r a h = record { bytes = []; gave = gave_nothing lef
 pub takes_same : {R : Type 0} (left : R → List ℕ → Type 0) (failures : R → ℕ) (r s : Reading) (a : R) → s ≡ r → length r.unread ≤ r.budget + 1 → Takes left failures r a s a
 takes_same left failures r s a e h = subst (λ (x : Reading). Takes left failures r a x a) (sym e) (takes_nothing left failures r a h)
 
--- what one call gave is added
+-- the piece of one call is added
 pub takes_piece : {R : Type 0} (left : R → List ℕ → Type 0) (failures : R → ℕ) (r s : Reading) (a b : R) (piece : List ℕ) → Gave left failures a b piece → s.unread ≡ r.unread ++ piece → s.budget ≡ r.budget
     → length s.unread ≤ s.budget + 1 → length piece ≤ piece_limit → line_end r.unread ≡ None → Takes left failures r a s b
 takes_piece left failures r s a b piece gave unread budget bound few none = record { bytes = piece; gave = gave; unread = unread; budget = budget; bound = bound; refills = filled r.unread piece few none }

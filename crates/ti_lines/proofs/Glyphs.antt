@@ -39,7 +39,7 @@ by_first : (front word : List ℕ) (t : Bool) → behind front word ≡ (if poin
 by_first front word true h = h
 by_first front word false h = refl
 
--- what std says of a front is what is after it
+-- std's `strip_prefix` is `behind`
 behind_is : (front word : List ℕ) → behind front word ≡ (if pointwise nat_eq (take (length front) word) front then Some (drop (length front) word) else None)
 behind_is [] word = refl
 behind_is (x ∷ xs) [] = refl
@@ -70,7 +70,7 @@ letters_written name word letters h =
         let s : l ≡ letters = same_Some l letters f in
         record { whole = behind_written name word l e ∙ ap (λ (x : List ℕ). name ++ x) s; some = ap (list_all is_dot) (sym s) ∙ d }
 
--- so it is that word
+-- a word with letters is its name and these letters
 pub is_lettered : (name word letters : List ℕ) → IsLettered name word letters → word ≡ lettered name letters
 is_lettered name word letters w = w.whole ∙ sym (cond-false (list_all is_dot letters) [] (name ++ letters) w.some)
 
@@ -117,7 +117,7 @@ mark_letters m = mark_letter m.bold ∷ mark_letter m.faint ∷ mark_letter m.un
 abbrev pub set_letters : Sets → List ℕ
 set_letters s = switch_letter 48 66 s.g0_graphic ∷ switch_letter 48 66 s.g1_graphic ∷ switch_letter 79 73 s.shifted_out ∷ []
 
--- six switches are there, or no marks
+-- the letters of marks are read as they are written
 pub marks_written : (letters : List ℕ) (m : Marks) → marks_of letters ≡ Some m → letters ≡ mark_letters m
 marks_written [] m h = absurd (cc)
 marks_written (a ∷ []) m h = absurd (cc)
@@ -181,7 +181,7 @@ ink_reads (inks.Color Magenta) = refl
 ink_reads (inks.Color Cyan) = refl
 ink_reads (inks.Color White) = refl
 
--- what goes on with a known value
+-- `option_and_then` of a known value
 goes_on : {A B : Type 0} (f : A → Option B) (o : Option A) (x : A) (r : Option B) → o ≡ Some x → f x ≡ r → option_and_then f o ≡ r
 goes_on f o x r e h = ap (option_and_then f) e ∙ h
 

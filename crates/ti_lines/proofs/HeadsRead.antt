@@ -64,7 +64,7 @@ size_read text rows cols h =
     ∙ ap (λ (o : Option ℕ). option_and_then (λ n. option_map (λ m. (n, m)) (number_at (decimal cols))) o) (number_reads rows h.rows_fit)
     ∙ ap (λ (o : Option ℕ). option_map (λ m. (rows, m)) o) (number_reads cols h.cols_fit)
 
--- what readers answer
+-- the answers of the readers
 pub size_found : (text : List ℕ) (o : Option (ℕ × ℕ)) → o ≡ size_in text → IfSome o (λ p. IsSizeText text p.0 p.1)
 size_found text None h = tt
 size_found text (Some p) h = size_written text p (sym h)

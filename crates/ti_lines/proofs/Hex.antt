@@ -23,7 +23,7 @@ each_is_own : agree_below is_own (λ _. true) 103 ≡ true
 unfolding is_own
 each_is_own = refl
 
--- what a digit's value says of it
+-- the digit of a value, and its bound
 record Own (c v : ℕ) : Type 0 where
   digit : slice_index lower_digits v ≡ c
   small : v < 16
@@ -51,7 +51,7 @@ own : (c v : ℕ) → hex_digit_value c ≡ Some v → not (is_upper c) ≡ true
 unfolding is_own
 own c v h n = own_from c v (hex_digit_value c) h (chosen_not (is_upper c) (is_own_digit c (hex_digit_value c)) (agree_below_at is_own (λ _. true) 103 c each_is_own (digit_small c v h)) n)
 
--- a value found by `?` in the logic of hexadecimal texts
+-- a value that `?` finds in the logic of hexadecimal texts
 value_found : (c i v : ℕ) (o : Option ℕ) → digit_or_error c i o ≡ Ok v → o ≡ Some v
 value_found c i v None h = cc
 value_found c i v (Some w) h = cc
@@ -106,7 +106,7 @@ encoded_again i (high ∷ l ∷ rest) bytes low e =
     ∙ ap (λ (n : ℕ). high ∷ n ∷ encode_lower p.1) y.digit
     ∙ ap (λ (t : List ℕ). high ∷ l ∷ t) (encoded_again (i + 2) rest p.1 b.1 p.3)
 
--- what is read is written so
+-- a text that is read as bytes is how they are written
 pub record IsHex (text bytes : List ℕ) : Type 0 where
   pub spelled : hex_text bytes ≡ text
   pub bytes_are : IsBytes bytes
@@ -148,7 +148,7 @@ hex_written text bytes h = if_dash (bytes_eq text (45 ∷ [])) text bytes _ (IsH
     digits_there [] bytes h e = cc
     digits_there (c ∷ text) bytes h e = omega (arith, e)
 
--- what is written is read so
+-- a text of bytes is read as those bytes
 pub encoded_each : (test : ℕ → Bool) → agree_below (λ v. test (slice_index lower_digits v)) (λ _. true) 16 ≡ true → (bytes : List ℕ) → IsBytes bytes → list_all test (encode_lower bytes) ≡ true
 unfolding encode_with
 encoded_each test each [] h = refl

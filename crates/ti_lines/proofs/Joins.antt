@@ -1,4 +1,4 @@
--- What is written word by word is the words joined.
+-- A text written word by word is its words joined.
 use Rattle.std.proofs.Common.{append_assoc, append-nil, ◌≡◌, ℕ, ◌<◌, List, [], ◌∷◌, ◌++◌, length, refl, sym, ap, ◌∙◌, arith}
 use Rattle.std.specs.List.{join_with_byte}
 use Rattle.vt_effects.specs.declared.effects.Effect.{Effect}

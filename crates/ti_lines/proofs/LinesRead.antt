@@ -194,7 +194,7 @@ line_written text name rest first line h named so =
       spelled = ap (λ (n : List ℕ). n ++ 32 ∷ rest_text line) (ap name_in_order r.same_order ∙ named) ∙ ap (λ (t : List ℕ). name ++ 32 ∷ t) r.text_is ∙ sym (cut_is 32 text name rest h).parts;
     }
 
--- what a reader answers of a line after its name
+-- the answer of a reader to a line's text after its name
 some_written : (text name rest : List ℕ) (first : Row) (found : Option RowLine) → cut_at 32 text ≡ Some (name, rest) → name_of first ≡ name → found ≡ line_of first rest → IfSome found (λ line. IsTextOf text line)
 some_written text name rest first None h named e = tt
 some_written text name rest first (Some line) h named e = line_written text name rest first line h named (sym e)

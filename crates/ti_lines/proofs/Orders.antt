@@ -1,4 +1,4 @@
--- Words in their order make the effect that they are the words of, and no other.
+-- Words in their order make the effect whose words they are, and no other.
 use Rattle.std.proofs.Common.{append_assoc, append-nil, add-one, ◌≡◌, ℕ, ◌+◌, ◌<◌, ◌≤◌, zero, suc, Bool, true, false, List, [], ◌∷◌, ◌++◌, length, Option, Some, None, refl, sym, ap, ◌∙◌, subst, arith}
 use Rattle.std.specs.Prelude.{nat_le}
 use Rattle.std.specs.Option.{option_and_then}
@@ -73,7 +73,7 @@ rank_small (Chooses s) = omega arith
 rank_small (Rows r) = omega arith
 rank_small (Shows s) = omega arith
 
--- from this place on no text is there
+-- each text from the place `k` on is empty
 abbrev pub Empties : ℕ → List (List ℕ) → Type 0
 Empties k [] = Unit {0}
 Empties zero (t ∷ ts) = (t ≡ []) × Empties zero ts
@@ -105,7 +105,7 @@ still_empty (suc k) zero t (u ∷ ts) le h = absurd (omega (arith, le))
 still_empty zero (suc i) t (u ∷ ts) le h = still_empty zero i t ts (omega arith) h.1
 still_empty (suc k) (suc i) t (u ∷ ts) le h = still_empty k i t ts (omega (arith, le)) h
 
--- what is found with these words more
+-- one more step of reading adds these words
 record Adds (before : Found) (ws : List (List ℕ)) (after : Found) : Type 0 where
   words : words after.effect ≡ words before.effect ++ ws
   plain : IsPlain after.effect
@@ -141,7 +141,7 @@ words_add (w ∷ ws) found f h p m =
     let r = words_add ws g f k a.plain a.empty in
     (r.0 ∙ ap (λ (l : List (List ℕ)). l ++ ws) a.words ∙ append_assoc (words found.effect) (w ∷ []) ws, r.1))
 
--- these words, from a place on, make an effect of another
+-- these words, from a place on, make `final` of `e`
 pub record Leads (place : ℕ) (e : Effect) (ws : List (List ℕ)) (final : Effect) : Type 0 where
   pub next : ℕ
   pub read : with_words (record { effect = e; next = place }) ws ≡ Some (record { effect = final; next = next })
@@ -166,7 +166,7 @@ lower place e (w ∷ ws) final l = record {
       (λ f h k. ap (option_and_then (λ f. with_words f ws)) (lower_word place e w f h) ∙ k);
 }
 
--- what a text says at its place of an effect: nothing, or one word
+-- the text `t` at its place changes `e` to `f`: it is empty, or one word
 data Says (place : ℕ) (t : List ℕ) (e f : Effect) : Type 0 where
   Silent : t ≡ [] → f ≡ e → Says place t e f
   Spoken : (x : Word) → IsRead t x → rank x ≡ place → put x e ≡ f → Says place t e f
@@ -222,7 +222,7 @@ scroll_says scrolls.Still e k = Silent refl (ap (λ (s : Scroll). record e { scr
 scroll_says scrolls.Up e k = Spoken (Scrolls scrolls.Up) (fixed_read _ _ refl (omega arith)) refl refl
 scroll_says scrolls.Down e k = Spoken (Scrolls scrolls.Down) (fixed_read _ _ refl (omega arith)) refl refl
 
--- the dot is for what is kept
+-- a dot is the letter of a switch that is kept, and of no other
 switch_kept : (on off : ℕ) (s : Switch) → is_dot on ≡ false → is_dot off ≡ false → is_dot (switch_letter on off s) ≡ true → s ≡ switches.Kept
 switch_kept on off switches.Kept h k d = refl
 switch_kept on off switches.On h k d = absurd (cc)

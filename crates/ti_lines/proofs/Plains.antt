@@ -1,4 +1,4 @@
--- Two effects in their one form make one in its one form.
+-- Two effects in their one form compose to one in its one form.
 use Rattle.std.proofs.Common.{◌≡◌, ℕ, ◌+◌, ◌-◌, ◌<◌, ◌≤◌, Bool, true, false, ◌&&◌, Option, Some, None, refl, subst, arith}
 use Rattle.std.specs.Prelude.{if◌then◌else◌, ◌==◌, nat_lt}
 use Rattle.std.specs.Option.{option_map}
@@ -52,7 +52,7 @@ moved_plain m (moves.To k) c p q h = subst IsPlainMove (same_Some (moves.To k) c
 moved_plain m (moves.Back n) c p q h = let x = cond_some (goes_back m n) (and_back m n) c h in subst IsPlainMove x.1 (back_plain m n p q.1 x.0)
 moved_plain m (moves.Forward n) c p q h = let x = cond_some (goes_forward m n) (and_forward m n) c h in subst IsPlainMove x.1 (forward_plain m n p q.1 x.0)
 
--- the erasure of what is made so
+-- the erasure of such a composition
 abbrev ErasesPlainly : Effect → Type 0
 ErasesPlainly e = IsPlainErasure e.erasure
 

@@ -1,4 +1,4 @@
--- Judging line after line: where it stands, and how it ends.
+-- Judging line after line: the state between two lines, and the end.
 use Rattle.std.proofs.Common.{◌≡◌, ℕ, suc, ◌+◌, ◌-◌, ◌<◌, ◌≤◌, inl, inr, List, [], ◌∷◌, ◌++◌, None, Some, Result, Ok, Err, IfErr, length, take, drop, refl, sym, ap, subst, ◌∙◌, arith, append_assoc, length-append, length-take}
 use Rattle.std.proofs.lemmas.List.{append-nil, length-drop}
 use Rattle.ti_lines.specs.Reader.{Gave}
@@ -26,7 +26,7 @@ progress_start rules limit t left failures r = record {
   rest = λ text answer h. h;
 }
 
--- what the last call gave, where more was taken
+-- the last call, where more was taken
 call_further : {R T F : Type 0} (rules : Rules T F) (limit : ℕ) (start : T) (left : R → List ℕ → Type 0) (failures : R → ℕ) (old a : R) (r : Reading) (number : ℕ) (t : T) (bytes : List ℕ)
     (p : Progress rules limit start left failures old a r number t) → Refills r.unread bytes → LastCall (p.passed ++ (r.unread ++ bytes)) number
 call_further rules limit start left failures old a r number t bytes p (NotAtAll none) =
@@ -65,7 +65,7 @@ progress_takes {R} rules limit start left failures old a b r s number t p q =
       rest = λ text answer h. p.rest text answer (subst (λ (n : ℕ). JudgedFrom rules n number t text answer) q.budget h);
     }
 
--- one line more
+-- one more line
 pub progress_line : {R T F : Type 0} (rules : Rules T F) (limit : ℕ) (start : T) (left : R → List ℕ → Type 0) (failures : R → ℕ) (old a : R) (r : Reading) (number : ℕ) (t u : T) (n : ℕ)
     → Progress rules limit start left failures old a r number t → line_end r.unread ≡ Some n → n < r.budget → rules.line t (take n r.unread) (Ok u)
     → Progress rules limit start left failures old a (record { unread = drop (n + 1) r.unread; budget = r.budget - (n + 1) }) (number + 1) u
@@ -99,7 +99,7 @@ progress_line {R} rules limit start left failures old a r number t u n p h lt is
           subst Q (sym (joined text)) (p.rest (take n r.unread ++ 10 ∷ text) answer (judge_step rules r.budget number t u (take n r.unread) text answer b.line small is (subst N (sym size) h)));
     }
 
--- a fault of what is read here is one of the whole
+-- a fault of the text left here is a fault of the whole text
 pub fault_passes : {T F : Type 0} (rules : Rules T F) (e : LineFault F) (Now All : Result T (LineFault F) → Type 0) → (Now (Err e) → All (Err e)) → FailsBy rules e Now → FailsBy rules e All
 fault_passes rules e Now All f (inl h) = inl (f h)
 fault_passes rules e Now All f (inr h) = inr h
@@ -111,14 +111,14 @@ gives_passes rules new (Err e) Now All f h = fault_passes rules e Now All (f (Er
 few_given : {R T F : Type 0} (rules : Rules T F) (limit : ℕ) (start : T) (left : R → List ℕ → Type 0) (failures : R → ℕ) (old a : R) (r : Reading) (number : ℕ) (t : T) (p : Progress rules limit start left failures old a r number t) → length (p.passed ++ r.unread) ≤ limit + 1
 few_given rules limit start left failures old a r number t p = omega (arith, length-append p.passed r.unread, p.budget, p.bound)
 
--- what follows is judged as a part of the whole
+-- the text left here is judged as a part of the whole
 whole_from : {R T F : Type 0} (rules : Rules T F) (limit : ℕ) (start : T) (left : R → List ℕ → Type 0) (failures : R → ℕ) (old a : R) (r : Reading) (number : ℕ) (t : T) (p : Progress rules limit start left failures old a r number t) (back : List ℕ) (answer : Result T (LineFault F))
     → JudgedFrom rules r.budget number t (r.unread ++ back) answer → Judged rules limit start ((p.passed ++ r.unread) ++ back) answer
 whole_from rules limit start left failures old a r number t p back answer h =
     let Q : List ℕ → Type 0 = λ l. Judged rules limit start l answer in
     subst Q (sym (append_assoc p.passed r.unread back)) (p.rest (r.unread ++ back) answer h)
 
--- no line could be had
+-- the next line wasn't found
 pub exit_halted : {R X T F : Type 0} (rules : Rules T F) (limit : ℕ) (start new : T) (left : R → List ℕ → Type 0) (failures : R → ℕ) (old b a : R) (r : Reading) (number : ℕ) (t : T) (h : Halt)
     → Progress rules limit start left failures old a r number t → failures old ≤ failures b → HaltsBy (failures b) (failures a) h → line_end r.unread ≡ None → Reports {X = X} rules limit start new left failures old a (Err (halted rules number h))
 exit_halted rules limit start new left failures old b a r number t NoMemory p le h none =

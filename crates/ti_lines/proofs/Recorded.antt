@@ -56,7 +56,7 @@ with_row_plain e m p q = record { row = q; col = p.col; erasure = p.erasure; mar
 with_col_plain : (e : Effect) (m : Move) → IsPlain e → IsPlainMove m → IsPlain (with_col e m)
 with_col_plain e m p q = record { row = p.row; col = q; erasure = p.erasure; margins = p.margins }
 
--- a move that there is
+-- a move that exists
 if_move : (f : Move → Effect) (o : Option Move) (e : Effect) → ((m : Move) → o ≡ Some m → IsPlain (f m)) → if_some f o ≡ Some e → IsPlain e
 if_move f None e k h = absurd (cc)
 if_move f (Some m) e k h = subst IsPlain (same_Some (f m) e h) (k m refl)
@@ -146,7 +146,7 @@ designating_plain : (set : CodeElement) (graphic : Bool) (e : Effect) → IsPlai
 designating_plain G0 graphic e p = record { row = p.row; col = p.col; erasure = p.erasure; margins = p.margins }
 designating_plain G1 graphic e p = record { row = p.row; col = p.col; erasure = p.erasure; margins = p.margins }
 
--- an erasure of cells erases one at least
+-- an erasure of cells erases at least one
 record IsCounted (t : Function) : Type 0 where
   cells : (n : ℕ) → t ≡ EraseCells n → 0 < n
 

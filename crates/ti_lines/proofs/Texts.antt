@@ -129,7 +129,7 @@ pub judge_long : {T F : Type 0} (rules : Rules T F) (budget number : ℕ) (t : T
 unfolding JudgedFrom
 judge_long rules budget number t text back h = long_bad rules budget number t (cut_of (text ++ back)).lines (cut_of (text ++ back)).last (long_cut budget text back h)
 
--- the same as a relation
+-- `cut_of` as a relation
 
 fed : (b : ℕ) (last : List ℕ) → is_feed b ≡ false → line_end last ≡ None → line_end (b ∷ last) ≡ None
 fed b last e h = ap (λ t. if t then Some 0 else option_map suc (line_end last)) e ∙ ap (option_map suc) h

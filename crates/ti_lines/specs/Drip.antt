@@ -2,15 +2,15 @@
 use Rattle.std.specs.Prelude.{ℕ, ◌-◌, List, Option, None, Some, min}
 
 pub record Dripping : Type 0 where
-  -- what is left
+  -- the bytes that are left
   pub bytes : List ℕ
-  -- the most bytes at a time
+  -- the most bytes that one call gives
   pub step : ℕ
-  -- after how many further bytes it fails, if it will
+  -- after how many more bytes it fails, if it will
   pub fail_in : Option ℕ
   pub failures : ℕ
 
--- how many bytes are given into room for this many
+-- how many bytes are given where there is room for `wanted`
 abbrev pub given_by : ℕ → ℕ → ℕ → Option ℕ → ℕ
 given_by wanted step rest None = min (min wanted step) rest
 given_by wanted step rest (Some n) = min (min (min wanted step) rest) n

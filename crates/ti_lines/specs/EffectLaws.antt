@@ -1,4 +1,4 @@
--- Laws of texts and of effects in their one form.
+-- Laws of effects in their one form and of their texts.
 use Rattle.std.specs.Prelude.{◌≡◌, ◌<◌, ℕ, List, Some}
 use Rattle.vt_term.specs.Size.{IsSize}
 use Rattle.vt_effects.specs.declared.effects.Effect.{Effect}
@@ -11,11 +11,11 @@ use Rattle.ti_lines.specs.EffectText.{spelled, IsPlain}
 abbrev pub OneText : Type 0
 OneText = (d e : Effect) → IsPlain d → IsPlain e → spelled d ≡ spelled e → d ≡ e
 
--- two plain effects, as one
+-- the composition of two plain effects is plain
 abbrev pub ComposedPlain : Type 0
 ComposedPlain = (a b c : Effect) → IsPlain a → IsPlain b → composed a b ≡ Some c → IsPlain c
 
--- what these tokens do from every state of a start whose rows and columns have 16 bits, as a record
+-- the record of tokens is plain, from every start whose rows and columns have 16 bits
 abbrev pub RecordedPlain : Type 0
 RecordedPlain =
     (rows cols : ℕ) (start : Start) (tokens : List (List ℕ)) (e : Effect) → IsSize rows cols → start.row_min < 65536

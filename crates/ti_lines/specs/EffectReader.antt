@@ -26,7 +26,7 @@ use Rattle.ti_lines.specs.EffectText.{is_dot, row_name, col_name, nopend, all_na
 use Rattle.ti_lines.specs.EffectText.{next_name, up_name, down_name, look_name, ink_name, set_name, rows_name}
 use Rattle.ti_lines.specs.EffectText.{show_name, hide_name}
 
--- what follows this front
+-- the rest of `word` after this prefix
 abbrev pub behind : List ℕ → List ℕ → Option (List ℕ)
 behind [] word = Some word
 behind (x ∷ xs) [] = None
@@ -35,7 +35,7 @@ behind (x ∷ xs) (b ∷ word) = if b == x then behind xs word else None
 abbrev pub is_digit : ℕ → Bool
 is_digit b = nat_le 48 b && nat_le b 57
 
--- a number with one digit more, of 16 bits
+-- a number with one more digit, if it has 16 bits
 abbrev pub with_digit : ℕ → ℕ → Option ℕ
 with_digit n b = if is_digit b && nat_le (10 * n + (b - 48)) 65535 then Some (10 * n + (b - 48)) else None
 
@@ -43,7 +43,7 @@ abbrev pub digits_from : ℕ → List ℕ → Option ℕ
 digits_from n [] = Some n
 digits_from n (b ∷ digits) = option_and_then (λ m. digits_from m digits) (with_digit n b)
 
--- nothing follows a leading zero
+-- a zero, if no digit follows it
 abbrev pub after_zero : List ℕ → Option ℕ
 after_zero [] = Some 0
 after_zero (b ∷ digits) = None
@@ -73,7 +73,7 @@ move_at name word = option_and_then all_signed (behind name word)
 abbrev pub next_at : List ℕ → Option ℕ
 next_at word = option_and_then (λ digits. positive (number_at digits)) (behind next_name word)
 
--- letters after a name, not each of them a dot
+-- the letters after a name, unless each of them is a dot
 abbrev pub letters_at : List ℕ → List ℕ → Option (List ℕ)
 letters_at name word =
     option_and_then (λ letters. if list_all is_dot letters then None else Some letters) (behind name word)
@@ -132,14 +132,14 @@ region_of (t ∷ b ∷ []) = do
   Some (record { top = top; bottom = bottom })
 region_of _ = None
 
--- cut at each such byte
+-- the parts between the bytes `c`
 unfoldable pub parts_of : ℕ → List ℕ → List (List ℕ)
 parts_of c text = slice_split (λ b. b == c) text
 
 abbrev pub region_at : List ℕ → Option Region
 region_at word = option_and_then (λ lines. region_of (parts_of 44 lines)) (behind rows_name word)
 
--- the words that are always the same
+-- the words without parts
 abbrev pub is_all : List ℕ → List ℕ → Bool
 is_all whole word = bytes_eq word whole
 
@@ -219,7 +219,7 @@ put (Chooses s) e = record e { charset = s }
 put (Rows r) e = record e { margins = Some r }
 put (Shows s) e = record e { visible = s }
 
--- a word more, of a kind after those before
+-- one more word, whose kind must come after those before
 abbrev pub put_next : Found → Word → Option Found
 put_next found word =
     if nat_le found.next (rank word) then Some (record { effect = put word found.effect; next = rank word + 1 })
@@ -235,7 +235,7 @@ with_words found (w ∷ ws) = option_and_then (λ f. with_words f ws) (with_word
 abbrev pub words_of : List ℕ → List (List ℕ)
 words_of text = parts_of 32 text
 
--- after what is found
+-- the effect found with all words of `text`
 unfoldable pub read_behind : Found → List ℕ → Option Found
 read_behind found text = with_words found (words_of text)
 

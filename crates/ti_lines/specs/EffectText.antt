@@ -1,4 +1,4 @@
--- The text of an effect: its words in one order, with a space between each two.
+-- The text of an effect: its words in a fixed order, with a space between each two.
 use Rattle.std.specs.Prelude.{ℕ, ◌+◌, ◌<◌, ◌==◌, Bool, if◌then◌else◌, List, [], ◌∷◌, ◌++◌, Option, None, Some}
 use Rattle.std.specs.Fmt.{decimal}
 use Rattle.std.specs.List.{list_all, join_with_byte}
@@ -26,7 +26,7 @@ row_name = 114 ∷ 111 ∷ 119 ∷ []
 abbrev pub col_name : List ℕ
 col_name = 99 ∷ 111 ∷ 108 ∷ []
 
--- =k, -k or +k after the name; what is kept has no text
+-- =k, -k or +k after the name; a coordinate that is kept has no text
 abbrev pub move_text : List ℕ → Move → List ℕ
 move_text name moves.Kept = []
 move_text name (moves.To k) = name ++ 61 ∷ decimal k
@@ -149,14 +149,14 @@ visible_text switches.Kept = []
 visible_text switches.On = show_name
 visible_text switches.Off = hide_name
 
--- each kind of word in its place, with no text if it says that something is kept
+-- each kind of word in its place, with an empty text for what is kept
 abbrev pub texts : Effect → List (List ℕ)
 texts e =
     move_text row_name e.row ∷ move_text col_name e.col ∷ pending_text e.ends_pending ∷ erasure_text e.erasure
     ∷ scroll_text e.scroll ∷ look_text e.rendition ∷ ink_text e.rendition ∷ set_text e.charset
     ∷ rows_text e.margins ∷ visible_text e.visible ∷ []
 
--- those that have a text
+-- the texts that aren't empty
 abbrev pub nonempty : List (List ℕ) → List (List ℕ)
 nonempty [] = []
 nonempty ([] ∷ ws) = nonempty ws
@@ -165,7 +165,7 @@ nonempty ((b ∷ bs) ∷ ws) = (b ∷ bs) ∷ nonempty ws
 abbrev pub words : Effect → List (List ℕ)
 words e = nonempty (texts e)
 
--- with a space between each two, and a dash for none
+-- joined by spaces, or a dash if there are none
 abbrev pub joined : List (List ℕ) → List ℕ
 joined [] = 45 ∷ []
 joined (w ∷ ws) = join_with_byte 32 (w ∷ ws)
@@ -173,7 +173,7 @@ joined (w ∷ ws) = join_with_byte 32 (w ∷ ws)
 unfoldable pub spelled : Effect → List ℕ
 spelled e = joined (words e)
 
--- a number of 16 bits; a move is by one at least
+-- a number of 16 bits; a relative move is at least by one
 abbrev pub IsPlainMove : Move → Type 0
 IsPlainMove moves.Kept = Unit {0}
 IsPlainMove (moves.To k) = k < 65536

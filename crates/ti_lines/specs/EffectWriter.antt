@@ -1,7 +1,7 @@
 -- (Serves the code alone.) How a text is written, word by word. Only the writer's own clauses cite this file.
 use Rattle.std.specs.Prelude.{ℕ, List, [], ◌∷◌, ◌++◌}
 
--- a space after the words before
+-- the words before, and a space after them
 abbrev pub begun : List ℕ → List ℕ
 begun [] = []
 begun (a ∷ front) = (a ∷ front) ++ 32 ∷ []

@@ -1,4 +1,4 @@
--- The other lines of a certificate: the first, with the version and the size; that of the alternate characters; the
+-- The other lines of a certificate: the first, with the version and the size; the line of alternate characters; the
 -- last.
 use Rattle.std.specs.Prelude.{ℕ, ◌<◌, ◌≡◌, bytes_eq, Bool, if◌then◌else◌, List, ◌∷◌, ◌++◌, Option, None, Some, codes}
 use Rattle.std.specs.Fmt.{decimal}
@@ -28,7 +28,7 @@ size_text rows cols = first_word ++ 32 ∷ (version ++ 32 ∷ (decimal rows ++ 3
 abbrev pub acsc_text : List ℕ → List ℕ
 acsc_text bytes = acsc_word ++ 32 ∷ hex_text bytes
 
--- what follows a word and a space
+-- the text after this word and a space
 abbrev pub behind_word : List ℕ → List ℕ → Option (List ℕ)
 behind_word word text = option_and_then (λ p. if bytes_eq p.0 word then Some p.1 else None) (cut_at 32 text)
 
@@ -45,7 +45,7 @@ size_in text =
     option_and_then (λ rest. option_and_then (λ numbers. two_numbers_in numbers) (behind_word version rest))
     (behind_word first_word text)
 
--- the text of a first line, and of one with alternate characters
+-- `text` is a first line with this size, or a line with these alternate characters
 pub record IsSizeText (text : List ℕ) (rows cols : ℕ) : Type 0 where
   pub rows_fit : rows < 65536
   pub cols_fit : cols < 65536

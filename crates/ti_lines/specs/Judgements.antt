@@ -11,11 +11,11 @@ use Rattle.ti_lines.specs.declared.judgements.LineFault.{LineFault}
 
 -- How texts of one kind are judged.
 pub record Rules (T F : Type 0) : Type 1 where
-  -- what one more line makes of what there is, or its fault
+  -- one more line leads to a new value, or to a fault
   pub line : T → List ℕ → Result T F → Type 0
-  -- what the end of the text makes, or its fault
+  -- the end of the text leads to a last value, or to a fault
   pub end : T → Result T F → Type 0
-  -- the fault where a line has no LF, or one past the limit
+  -- the fault of a line without LF, or with its LF past the limit
   pub no_line : F
   pub no_memory : F
   pub read_failed : F
@@ -23,17 +23,17 @@ pub record Rules (T F : Type 0) : Type 1 where
 abbrev pub fault_at : {F : Type 0} → ℕ → F → LineFault F
 fault_at number kind = record { line = number; kind = kind }
 
--- an answer to a line, or to the end, as the answer to the text
+-- an answer to a line, or to the end, as the answer for the text
 abbrev pub AtLine : {T F : Type 0} → ℕ → (Result T F → Type 0) → Result T (LineFault F) → Type 0
 AtLine number Is (Ok t) = Is (Ok t)
 AtLine number Is (Err e) = (e.line ≡ number) × Is (Err e.kind)
 
--- what stands after the last LF has to be empty
+-- no bytes may follow the last LF
 abbrev pub JudgedLast : {T F : Type 0} → Rules T F → ℕ → T → List ℕ → Result T (LineFault F) → Type 0
 JudgedLast rules number t [] answer = AtLine number (rules.end t) answer
 JudgedLast rules number t (b ∷ last) answer = answer ≡ Err (fault_at number rules.no_line)
 
--- A line has its LF within the budget and is followed by what is judged after it, or it has a fault; or its LF is too
+-- A line has its LF within the budget, and either it has a fault or the lines after it decide; or its LF comes too
 -- late.
 pub data JudgedLine {T F : Type 0} (rules : Rules T F) (budget number : ℕ) (t : T) (line : List ℕ) (Later : T → Type 0)
     (answer : Result T (LineFault F)) : Type 0 where
@@ -58,38 +58,38 @@ JudgedCut rules budget number t cut answer = JudgedLines rules budget number t c
 unfoldable pub JudgedFrom : {T F : Type 0} → Rules T F → ℕ → ℕ → T → List ℕ → Result T (LineFault F) → Type 0
 JudgedFrom rules budget number t text answer = JudgedCut rules budget number t (cut_of text) answer
 
--- a whole text, whose lines are counted from 1 and may have this many bytes with their LFs
+-- a whole text, whose lines are counted from 1 and may have `limit` bytes with their LFs
 unfoldable pub Judged : {T F : Type 0} → Rules T F → ℕ → T → List ℕ → Result T (LineFault F) → Type 0
 Judged rules limit t text answer = JudgedFrom rules limit 1 t text answer
 
--- what one judgement refuses with: its fault, unless memory ran out
+-- the fault of a refusal is the judgement's, unless memory ran out
 abbrev pub Refuses : {T F : Type 0} → Rules T F → F → (Result T F → Type 0) → Type 0
 Refuses rules kind Is = Is (Err kind) ⊎ (kind ≡ rules.no_memory)
 
--- the same of a whole text
+-- the fault of a refused text is the judgement's, unless memory ran out
 abbrev pub FailsBy : {T F : Type 0} → Rules T F → LineFault F → (Result T (LineFault F) → Type 0) → Type 0
 FailsBy rules fault Is = Is (Err fault) ⊎ (fault.kind ≡ rules.no_memory)
 
--- the answer, and what stands after it, are those of the text, unless memory ran out
+-- the answer, and the value `new` after it, are those of the text, unless memory ran out
 abbrev pub Gives : {X T F : Type 0} → Rules T F → T → Result X (LineFault F) → (Result T (LineFault F) → Type 0)
     → Type 0
 Gives rules new (Ok x) Is = Is (Ok new)
 Gives rules new (Err e) Is = FailsBy rules e Is
 
--- the answer where no line is left
+-- the answer where no whole line is next
 abbrev pub Closes : {X T F : Type 0} → Rules T F → Next → ℕ → T → T → Result X (LineFault F) → Type 0
 Closes rules (Line n) number old new answer = Unit {0}
 Closes rules End number old new answer = Gives rules new answer (AtLine number (rules.end old))
 Closes rules Unended number old new answer = answer ≡ Err (fault_at number rules.no_line)
 Closes rules Long number old new answer = answer ≡ Err (fault_at number rules.no_line)
 
--- why no line could be had
+-- the fault where the next line could not be read
 abbrev pub halted : {T F : Type 0} → Rules T F → ℕ → Halt → LineFault F
 halted rules number ReadFailed = fault_at number rules.read_failed
 halted rules number NoMemory = fault_at number rules.no_memory
 
--- The answer is that of the bytes that were given: of them alone where the end was seen, else of every text that begins
--- with them. Or the reader failed, in the line after those that were given whole.
+-- The answer is one for the bytes that were given: for them alone if the end was seen, else for every text that
+-- begins with them. Or the reader failed, in the line after those that were given whole.
 pub data Outcome {X T F : Type 0} (rules : Rules T F) (limit : ℕ) (old new : T) (Ended Failed : Type 0) (given : List ℕ)
     (answer : Result X (LineFault F)) : Type 0 where
   Whole : Ended → Gives rules new answer (Judged rules limit old given)
@@ -99,8 +99,7 @@ pub data Outcome {X T F : Type 0} (rules : Rules T F) (limit : ℕ) (old new : T
   Cuts : (fault : LineFault F) → answer ≡ Err fault → fault.kind ≡ rules.read_failed
       → fault.line ≡ length (cut_of given).lines + 1 → Failed → Outcome rules limit old new Ended Failed given answer
 
--- These bytes were given, a piece of them by the last call, and when it was made, the line of this number was not
--- whole.
+-- The last call gave the final piece of the bytes given, and before it line `number` wasn't whole.
 pub record LastCall (given : List ℕ) (number : ℕ) : Type 0 where
   pub before : List ℕ
   pub piece : List ℕ
@@ -108,8 +107,8 @@ pub record LastCall (given : List ℕ) (number : ℕ) : Type 0 where
   pub few : length piece ≤ piece_limit
   pub open_line : length (cut_of before).lines < number
 
--- What a reader gave in a call, at most one byte past the limit, and the answer of it. Once the line with the fault is
--- whole, the reader isn't called.
+-- The bytes that a reader gave in a call, at most one past the limit, and the answer. The reader isn't called again
+-- once the line with the fault is whole.
 pub record Reports {R X T F : Type 0} (rules : Rules T F) (limit : ℕ) (old new : T) (left : R → List ℕ → Type 0)
     (failures : R → ℕ) (reader after : R) (answer : Result X (LineFault F)) : Type 0 where
   pub given : List ℕ
@@ -124,7 +123,7 @@ abbrev pub GivesOr : {X T F : Type 0} → Rules T F → Type 0 → T → Result 
 GivesOr rules Failed new (Ok x) Is = Is (Ok new)
 GivesOr rules Failed new (Err e) Is = FailsBy rules e Is ⊎ ((e.kind ≡ rules.read_failed) × Failed)
 
--- Inside a call: these bytes are passed and judged, and more are taken.
+-- Inside a call: the bytes `passed` are judged, and those of `r.unread` were taken.
 pub record Progress {R T F : Type 0} (rules : Rules T F) (limit : ℕ) (start : T) (left : R → List ℕ → Type 0)
     (failures : R → ℕ) (old now : R) (r : Reading) (number : ℕ) (t : T) : Type 0 where
   pub passed : List ℕ

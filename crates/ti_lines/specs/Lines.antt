@@ -1,4 +1,4 @@
--- A reader of lines: what it has taken and not passed yet.
+-- A reader of lines: the bytes that it has taken and not passed yet.
 use Rattle.std.specs.Prelude.{ℕ, ◌+◌, ◌<◌, ◌≤◌, ◌≡◌, ◌==◌, nat_lt, if◌then◌else◌, true, List, [], ◌++◌, None, Some}
 use Rattle.std.specs.Prelude.{length}
 use Rattle.ti_lines.specs.Reader.{AtEnd, Gave, Rose, piece_limit}
@@ -11,10 +11,10 @@ use Rattle.ti_lines.specs.declared.lines.Halt.TheVariants.{ReadFailed, NoMemory}
 pub record Reading : Type 0 where
   -- taken, and not passed yet
   pub unread : List ℕ
-  -- how many bytes more may be passed
+  -- how many more bytes may be passed
   pub budget : ℕ
 
--- Nothing more was taken, or the last call gave a piece of it, and no line was whole when it was made.
+-- Nothing more was taken; or the last call gave a piece of it, before which no line was whole.
 pub data Refills (unread bytes : List ℕ) : Type 0 where
   NotAtAll : bytes ≡ [] → Refills unread bytes
   InPieces : (before piece : List ℕ) → bytes ≡ before ++ piece → length piece ≤ piece_limit
@@ -30,7 +30,7 @@ pub record Takes {R : Type 0} (left : R → List ℕ → Type 0) (failures : R �
   pub bound : length new.unread ≤ new.budget + 1
   pub refills : Refills old.unread bytes
 
--- what is so of what comes next
+-- each answer about what comes next is true
 abbrev pub IsNext : {R : Type 0} → (R → List ℕ → Type 0) → Reading → R → Next → Type 0
 IsNext left r reader (Line n) = (line_end r.unread ≡ Some n) × (n < r.budget)
 IsNext left r reader End = (r.unread ≡ []) × AtEnd left reader
@@ -41,10 +41,10 @@ abbrev pub HaltsBy : ℕ → ℕ → Halt → Type 0
 HaltsBy old new ReadFailed = Rose old new
 HaltsBy old new NoMemory = Unit {0}
 
--- a line that ends in this place is within the limit or not
+-- a line whose LF is at the place `at`, if that is within the budget; else it is too long
 abbrev pub next_line : ℕ → ℕ → Next
 next_line at budget = if nat_lt at budget then Line at else Long
 
--- after this many bytes that have no LF there are no more
+-- the text ends after `count` bytes without LF
 abbrev pub next_end : ℕ → Next
 next_end count = if count == 0 then End else Unended

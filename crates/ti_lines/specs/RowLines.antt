@@ -34,14 +34,14 @@ pub record IsTextOf (text : List ℕ) (line : RowLine) : Type 0 where
   pub line_is : IsLine line
   pub spelled : line_text line ≡ text
 
--- reading: this many numbers, and what follows the space after the last
+-- reading: `count` numbers, and the text after the space that follows the last
 abbrev pub numbers_before : ℕ → List ℕ → List ℕ → Option (List ℕ × List ℕ)
 numbers_before zero done text = Some (done, text)
 numbers_before (suc count) done text =
     option_and_then (λ p. option_and_then (λ n. numbers_before count (done ++ n ∷ []) p.1) (number_at p.0))
     (cut_at 32 text)
 
--- the row whose parameters come first, and what follows them
+-- the row whose parameters come first, and the text after them
 abbrev pub row_before : Row → List ℕ → Option (Row × List ℕ)
 row_before first text =
     option_and_then (λ p. option_map (λ row. (row, p.1)) (with_params first p.0))

@@ -4,8 +4,8 @@ ghost use Rattle.std.specs.Prelude.{◌≡◌, ◌==◌, ◌<◌, ◌+◌, ◌�
 ghost use Rattle.ti_lines.specs.Cut.{cut_at};
 ghost use Rattle.ti_lines.specs.EffectReader.{parts_of};
 
-/// The bytes before and after the first `byte` of `text`, if it has one. Then these are the first of the text's parts
-/// and the text of the others; otherwise the text is one part.
+/// The bytes before and after the first `byte` of `text`, if it has one. The first part of `text` is then
+/// the bytes before it, and the other parts are those of the bytes after it; otherwise `text` is one part.
 #[tactic(auto, using(std::proofs::lemmas::List::take_rest, crate::proofs::CutFacts::cut_found, crate::proofs::TextCuts::cut_found, crate::proofs::TextCuts::cut_none))]
 pub(crate) fn cut(byte: u8, text: &[u8]) -> Option<(&[u8], &[u8])>
     ensures value { option_map (λ x. (x.0.now, x.1.now)) result ≡ cut_at byte text.now }

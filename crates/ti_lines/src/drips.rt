@@ -7,7 +7,7 @@ ghost use Rattle.ti_lines.specs.Reader.{AtEnd, Gave, Rose, last_count};
 use crate::readers::{ReadFault, Reader};
 use std::marker::Model;
 
-/// A reader over memory that gives few bytes at a time and may fail once. It takes no memory.
+/// A reader over memory that gives few bytes at a time and may fail once. It allocates nothing.
 #[derive(Drop)]
 pub struct Drip<'a> {
     rest: &'a [u8],
@@ -28,8 +28,8 @@ impl<'a> Model for Drip<'a> {
 }
 
 impl<'a> Drip<'a> {
-    /// A reader of these bytes, at most `step` at a time (1 or more). With `fail_at` it fails once, in
-    /// the call after that many bytes were given.
+    /// A reader of `bytes`, at most `step` at a time; `step` must be at least 1. With `fail_at` it
+    /// fails once, in the call after that number of bytes was given.
     pub fn new(bytes: &'a [u8], step: usize, fail_at: Option<usize>) -> Drip<'a>
         requires { 0 < step }
         ensures { result ≡ record { bytes = bytes.now; step = step; fail_in = fail_at; failures = 0 } }
@@ -83,7 +83,7 @@ impl<'a> Reader for Drip<'a> {
     }
 }
 
-/// The failure, that many bytes closer.
+/// The number of bytes before the failure, once `count` more are given.
 fn lowered(fail_in: Option<usize>, count: usize) -> Option<usize>
     ensures { result ≡ nearer fail_in count }
 {
@@ -93,7 +93,7 @@ fn lowered(fail_in: Option<usize>, count: usize) -> Option<usize>
     }
 }
 
-/// How many bytes are given where this many are wanted.
+/// The number of bytes that are given where `wanted` are wanted and `rest` are left.
 fn count_of(wanted: usize, step: usize, rest: usize, fail_in: Option<usize>) -> usize
     ensures value { result ≡ given_by wanted step rest fail_in }
     ensures wanted { result ≤ wanted }

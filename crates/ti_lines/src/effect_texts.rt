@@ -10,16 +10,16 @@ use itoa::Buffer;
 use std::alloc::{AllocError, Global};
 use vt_effects::{Effect, Erasure, Move, Region, Rendering, Scroll, Sets, Switch};
 
-/// The text of an effect: its words in one order with a space between each two, without those that
-/// would say that something is kept; `-` if none is left.
+/// The text of an effect: its words in a fixed order with a space between each two, without words
+/// for what is kept; `-` if there are none.
 ///
-/// The words are `row=k`, `row+k` or `row-k`, and the same of `col`; `nopend`; `all`, `tail`, `head`,
-/// `rest` or `next=n`; `up` or `down`; `look:` and for bold, faint, underline, blink, negative and
-/// concealed `1`, `0` or `.`; `ink:` and for the foreground and the background `0` to `7`, `d` for
-/// the default, or `.`; `set:` and for G0 and G1 `B` for the plain set, `0` for the graphic one, or
-/// `.`, and for the shift `I`, `O` or `.`; `rows:t,b` for margins; `show` or `hide`.
+/// The words are `row=k`, `row+k` or `row-k`, and likewise for `col`; `nopend`; `all`, `tail`,
+/// `head`, `rest` or `next=n`; `up` or `down`; `look:` and for bold, faint, underline, blink,
+/// negative and concealed `1`, `0` or `.`; `ink:` and for the foreground and the background `0` to
+/// `7`, `d` for the default, or `.`; `set:` and for G0 and G1 `B` for the plain set, `0` for the
+/// graphic one, or `.`, and for the shift `I`, `O` or `.`; `rows:t,b` for margins; `show` or `hide`.
 ///
-/// An `AllocError` comes if there is no memory for it.
+/// Fails with `AllocError` if memory runs out.
 pub fn effect_text(alloc: Global, effect: &Effect) -> Result<Vec<u8>, AllocError>
     ensures { IfOk result (λ text. text.items ≡ spec.spelled effect.now) }
 {
@@ -28,7 +28,7 @@ pub fn effect_text(alloc: Global, effect: &Effect) -> Result<Vec<u8>, AllocError
     Ok(text)
 }
 
-/// Fills `text` with that of an effect, in place of what it was. The error is out of memory.
+/// Replaces the content of `text` by the text of `effect`. Fails if memory runs out.
 pub fn push_effect(effect: &Effect, text: &mut Vec<u8>) -> Result<(), AllocError>
     ensures { OnOk result (text.new.items ≡ spec.spelled effect.now) }
 {
@@ -55,7 +55,7 @@ fn push_words(effect: &Effect, text: &mut Vec<u8>) -> Result<(), AllocError>
     push_visible(effect.visible, text)
 }
 
-/// A word of two parts.
+/// Appends the word `name` followed by `rest`, with a space before it unless `text` is empty.
 #[tactic(auto, using(crate::proofs::Joins::word_begun))]
 fn push_word(name: &[u8], rest: &[u8], text: &mut Vec<u8>) -> Result<(), AllocError>
     requires { 0 < length name.now }
@@ -76,7 +76,7 @@ fn push_numbered(name: &[u8], number: u16, text: &mut Vec<u8>) -> Result<(), All
     push_word(name, digits.format(number).as_bytes(), text)
 }
 
-/// A name and letters, unless each of them is a dot.
+/// Appends the word `name` followed by `letters`, unless each of them is a dot.
 fn push_lettered(name: &[u8], letters: &[u8], text: &mut Vec<u8>) -> Result<(), AllocError>
     requires { 0 < length name.now }
     ensures { OnOk result (text.new.items ≡ with_text text.old.items (spec.lettered name.now letters.now)) }

@@ -10,10 +10,9 @@ use crate::numbers::{number_at, positive_at};
 use crate::words::{Found, Marks, Word};
 use vt_effects::{Effect, Erasure, Ink, Move, Region, Rendering, Scroll, Sets, Switch};
 
-/// The effect that has this text. `None` if no effect has it in its one form: for words that there
-/// are not, or out of order, or twice; for a move by zero or the erasure of zero cells; for leading
-/// zeros and numbers above 65535; for letters that all say "kept", and for spaces beside those
-/// between two words.
+/// The effect whose text this is. `None` if no effect has it in its one form: for unknown words, or words
+/// out of order or twice; for a move by zero or the erasure of zero cells; for leading zeros and numbers
+/// above 65535; for letters that all say "kept", and for spaces other than the one between two words.
 #[tactic(auto, using(crate::proofs::EffectTexts::reads_spelled, crate::proofs::EffectTexts::reads_plain, crate::proofs::EffectTexts::spelled_reads))]
 pub fn read_effect(text: &[u8]) -> Option<Effect>
     ensures value { result ≡ spec.effect_in text.now }
@@ -38,7 +37,7 @@ fn effect_in(text: &[u8]) -> Option<Effect>
     Some(read_behind(none_yet, text)?.effect)
 }
 
-/// What is found with all words of a text.
+/// The effect `found`, changed by all words of `text`, if they follow in order.
 #[tactic(auto, unfolding(crate::specs::EffectReader::read_behind))]
 fn read_behind(found: Found, text: &[u8]) -> Option<Found>
     ensures { result ≡ spec.read_behind found text.now }
@@ -52,7 +51,7 @@ fn read_behind(found: Found, text: &[u8]) -> Option<Found>
     with_word(found, rest)
 }
 
-/// What is found with one word more.
+/// The effect `found`, changed by one more word.
 #[tactic(auto, unfolding(crate::specs::EffectReader::with_word))]
 fn with_word(found: Found, word: &[u8]) -> Option<Found>
     ensures { result ≡ spec.with_word found word.now }
@@ -87,7 +86,7 @@ fn rank(word: Word) -> u8
     }
 }
 
-/// The effect with what a word says.
+/// The effect with the change that a word says.
 fn put(word: Word, effect: Effect) -> Effect
     ensures { result ≡ spec.put word effect }
 {
@@ -142,7 +141,7 @@ fn word_at(word: &[u8]) -> Option<Word>
     fixed_at(word).or(numbered_at(word)).or(lettered_at(word))
 }
 
-/// The words that are always the same.
+/// The words without parts.
 fn fixed_at(word: &[u8]) -> Option<Word>
     ensures { result ≡ spec.fixed_at word.now }
 {
@@ -169,7 +168,7 @@ fn fixed_at(word: &[u8]) -> Option<Word>
     }
 }
 
-/// The words with a number.
+/// The words with numbers.
 fn numbered_at(word: &[u8]) -> Option<Word>
     ensures { result ≡ spec.numbered_at word.now }
 {
@@ -186,7 +185,7 @@ fn numbered_at(word: &[u8]) -> Option<Word>
     }
 }
 
-/// The words with letters for what is on, off or coloured.
+/// The words with letters for marks, colors or character sets.
 fn lettered_at(word: &[u8]) -> Option<Word>
     ensures { result ≡ spec.lettered_at word.now }
 {
@@ -201,7 +200,7 @@ fn lettered_at(word: &[u8]) -> Option<Word>
     }
 }
 
-/// What follows this front.
+/// The rest of `word` after the prefix `front`.
 #[tactic(auto, using(crate::proofs::Glyphs::stripped))]
 fn behind<'a>(front: &[u8], word: &'a [u8]) -> Option<&'a [u8]>
     ensures { option_map (λ rest. rest.now) result ≡ spec.behind front.now word.now }
@@ -253,7 +252,7 @@ fn region_of(lines: &[u8]) -> Option<Region>
     }
 }
 
-/// The letters after a name, not each of them a dot.
+/// The letters after a name, unless each of them is a dot.
 fn letters_at<'a>(name: &[u8], word: &'a [u8]) -> Option<&'a [u8]>
     ensures { option_map (λ letters. letters.now) result ≡ spec.letters_at name.now word.now }
 {

@@ -33,7 +33,7 @@ fn two_numbers_in(text: &[u8]) -> Option<(u16, u16)>
 }
 
 /// The bytes of a certificate's line of alternate characters, `acsc HEX`, given without its LF.
-/// `None` for any other text. An `AllocError` comes if there is no memory for the bytes.
+/// `None` for any other text. Fails with `AllocError` if there is no memory for the bytes.
 pub fn read_acsc_line(alloc: Global, text: &[u8]) -> Result<Option<Vec<u8>>, AllocError>
     ensures found { IfOk result (λ found. IfSome found (λ bytes. spec.IsAcscText text.now bytes.items)) }
     ensures each { IfOk result (λ found. (bytes : List ℕ)
@@ -51,7 +51,7 @@ fn acsc_in(alloc: Global, text: &[u8]) -> Result<Option<Vec<u8>>, AllocError>
     }
 }
 
-/// What follows this word and a space.
+/// The rest of `text` after `word` and a space.
 fn behind_word<'a>(word: &[u8], text: &'a [u8]) -> Option<&'a [u8]>
     ensures { option_map (λ rest. rest.now) result ≡ spec.behind_word word.now text.now }
 {

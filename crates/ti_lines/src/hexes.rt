@@ -5,8 +5,8 @@ ghost use Rattle.ti_lines.specs.Hex as spec;
 
 use std::alloc::AllocError;
 
-/// The bytes of a word of lower case hexadecimal digits, or none for a dash. `None` for any other word.
-/// They are put into `room`, in place of what it held.
+/// The bytes of a word of lower case hexadecimal digits, or none for a dash. `None` for any other
+/// word. The bytes are put into `room`, in place of its content. Fails if memory runs out.
 pub(crate) fn hex_at(text: &[u8], room: Vec<u8>) -> Result<Option<Vec<u8>>, AllocError>
     ensures { IfOk result (λ found. option_map (λ bytes. bytes.items) found ≡ spec.hex_in text.now) }
 {
@@ -34,7 +34,8 @@ fn decoded(text: &[u8], room: Vec<u8>) -> Result<Option<Vec<u8>>, AllocError>
     }
 }
 
-/// Decodes a word into room for half as many bytes as it has digits, unless it has other letters.
+/// Decodes `text` into `bytes`, which must be half as long as `text`. Returns whether `text`
+/// consists of pairs of hexadecimal digits.
 fn decode_into(text: &[u8], bytes: &mut [u8]) -> bool
     requires { length bytes.old ≡ length text.now / 2 }
     ensures { (if result then Some bytes.new else None) ≡ spec.decoded (decode_of text.now) }

@@ -17,7 +17,7 @@ pub struct LineFault<F> {
     pub kind: F,
 }
 
-/// What judges a text line by line and keeps what the lines make.
+/// A judge of texts: it judges line by line and keeps the values that the lines lead to.
 pub trait Judge {
     /// The kinds of fault.
     type Fault;
@@ -28,7 +28,7 @@ pub trait Judge {
     /// Judges one more line, given without its LF.
     ///
     /// # Errors
-    /// The line's fault, or out of memory. Nothing is promised then of what the judge keeps.
+    /// The line's fault, or out of memory. The judge's content is then unspecified.
     fn judge(&mut self, alloc: Global, line: &[u8]) -> Result<(), Self::Fault>
         ensures ok { OnOk result (rules.line self.old line.now (Ok self.new)) }
         ensures err { IfErr result (λ e. Refuses rules e (rules.line self.old line.now)) };
@@ -36,12 +36,12 @@ pub trait Judge {
     /// Judges the end of the text.
     ///
     /// # Errors
-    /// The fault that the end has, or out of memory.
+    /// The fault of the end, or out of memory.
     fn finish(&mut self, alloc: Global) -> Result<(), Self::Fault>
         ensures ok { OnOk result (rules.end self.old (Ok self.new)) }
         ensures err { IfErr result (λ e. Refuses rules e (rules.end self.old)) };
 
-    /// The fault of a line without LF, and of one whose LF is past the limit.
+    /// The fault of a line without LF, or with its LF past the limit.
     fn no_line() -> Self::Fault
         ensures { result ≡ rules.no_line };
 
@@ -64,7 +64,7 @@ fn halted<J: Judge>(line: u64, halt: Halt) -> LineFault<J::Fault>
     LineFault { line, kind }
 }
 
-/// The first `count` bytes.
+/// The first `count` of `bytes`, which must have at least `count`.
 fn front(bytes: &[u8], count: usize) -> &[u8]
     requires { count ≤ length bytes.now }
     ensures { result.now ≡ take count bytes.now }
@@ -108,7 +108,7 @@ fn finished<J: Judge>(alloc: Global, judge: &mut J, line: u64) -> Result<(), Lin
     }
 }
 
-/// Judges the end, or what stands in the place of a line.
+/// Judges the end, or answers `no_line` where no whole line is next.
 fn close<J: Judge>(
     alloc: Global,
     judge: &mut J,
@@ -154,14 +154,15 @@ fn judge_all<R: Reader, J: Judge>(
 /// Judges the text that a reader has left, line by line as it arrives. A line is kept only while it
 /// is judged. All lines together may have `limit` bytes, LFs included.
 ///
-/// The answer is one that the text has by the rules, and `judge` then holds what its lines make; or
-/// the reader failed in this call. At most one byte past the limit is read, and the reader isn't called once the line
-/// with the fault is whole. Of a reader whose bytes aren't known the answer is that of some bytes that it gave.
+/// The answer is one that the text has by the rules, and `judge` then holds what its lines lead to;
+/// or the reader failed in this call. At most one byte past the limit is read, and the reader isn't
+/// called once the line with the fault is whole. If the reader's bytes are unspecified, the answer
+/// is the one for whatever it gave.
 ///
 /// # Errors
-/// The first fault of the text with its line, by the rules of `judge`: the fault of a line, that of
-/// the end, or `no_line` where a line has no LF or one past the limit. `no_memory` may come in any
-/// line. `read_failed` comes only where the reader failed, with the line being read.
+/// The first fault of the text with its line, by the rules of `judge`: the fault of a line, the
+/// fault of the end, or `no_line` for a line without LF or with its LF past the limit. `no_memory`
+/// may come in any line. `read_failed` comes only if the reader failed, with the line being read.
 #[tactic(auto, using(crate::proofs::Answers::of_left))]
 pub fn judge_lines<R: Reader, J: Judge>(
     alloc: Global,

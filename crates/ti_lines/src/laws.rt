@@ -5,26 +5,25 @@ ghost use Rattle.ti_lines.specs.Texts.{OneLine};
 ghost use Rattle.std.specs.Prelude.{ℕ, List, ◌≡◌};
 ghost use Rattle.ti_lines.specs.Text.{IsText, cut_of};
 
-/// No text is that of two lines about capabilities.
+/// No two lines about capabilities have one text.
 pub fn one_line()
     ensures { OneLine }
 {}
 
-/// The lines that are judged, each followed by LF, and the part after the last LF are the text, and
-/// there is no other way to cut it so.
+/// The lines that are judged, each followed by LF, and the part after the last LF make up the text,
+/// and it can't be cut in another way.
 pub fn text_is_cut()
     ensures is { (text : List ℕ) → IsText (cut_of text).lines (cut_of text).last text }
     ensures only { (text last : List ℕ) (lines : List (List ℕ))
         → IsText lines last text → cut_of text ≡ record { lines = lines; last = last } }
 {}
 
-/// No two effects in their one form have one text. So what `read` makes of the text of such an
-/// effect is that effect.
+/// No two effects in their one form have one text, so `read_effect` returns an effect from its text.
 pub fn one_text()
     ensures { OneText }
 {}
 
-/// Two effects in their one form make one in its one form, if they make one.
+/// Two effects in their one form compose to one in its one form, if they compose.
 pub fn composed_plain()
     ensures { ComposedPlain }
 {}

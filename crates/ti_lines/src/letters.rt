@@ -1,4 +1,4 @@
-//! The letters of what is on, off or coloured.
+//! The letters for switches and colors.
 
 ghost use Rattle.std.specs.Prelude.{◌≡◌};
 ghost use Rattle.std.specs.List.{list_all};
@@ -8,7 +8,7 @@ ghost use Rattle.ti_lines.specs.EffectReader as spec;
 use vt_effects::{Ink, Switch};
 use vt_term::color_of;
 
-/// The letter for on, that for off, or a dot.
+/// The letter `on`, the letter `off`, or a dot if the switch is kept.
 pub(crate) fn switch_letter(on: u8, off: u8, switch: Switch) -> u8
     ensures { result ≡ texts.switch_letter on off switch }
 {
@@ -29,7 +29,7 @@ pub(crate) fn ink_letter(ink: Ink) -> u8
     }
 }
 
-/// What the letter for on, that for off or a dot says.
+/// The switch that `letter` says: on for the letter `on`, off for `off`, kept for a dot.
 pub(crate) fn switch_at(on: u8, off: u8, letter: u8) -> Option<Switch>
     ensures { result ≡ spec.switch_at on off letter }
 {

@@ -12,12 +12,11 @@ use std::alloc::AllocError;
 use ti_caps::Bytes;
 use ti_rows::{Params, Row};
 
-/// The line about a checked capability that has this text, without its LF. `None` if there is none:
-/// for another name than that of a checked capability, another number of parameters than it has,
-/// numbers with leading zeros or above 65535, hexadecimal digits in upper case, and an effect that
-/// isn't in its one form. Whether a size allows the parameters is another question. The line's bytes
-/// are put into `room`, in place of what it held; an `AllocError` comes if there is no memory where it
-/// has to grow.
+/// The line about a checked capability whose text this is, without its LF. `None` if there is none:
+/// for a name that isn't a checked capability's, another number of parameters than it has, numbers
+/// with leading zeros or above 65535, hexadecimal digits in upper case, and an effect that isn't in
+/// its one form. Whether a size allows the parameters isn't checked. The line's bytes are put into
+/// `room`, in place of its content; `AllocError` if it has to grow and there is no memory.
 pub fn read_row_line(text: &[u8], room: Vec<u8>) -> Result<Option<RowLine>, AllocError>
     ensures found { IfOk result (λ found. IfSome found (λ line. spec.IsTextOf text.now line)) }
     ensures each { IfOk result (λ found. (line : declared.RowLine) → spec.IsTextOf text.now line → found ≡ Some line) }
@@ -31,7 +30,7 @@ pub fn read_row_line(text: &[u8], room: Vec<u8>) -> Result<Option<RowLine>, Allo
     }
 }
 
-/// The line of a capability whose parameters, bytes and effect are this text.
+/// The line of the capability of `first` with the parameters, bytes and effect of `text`.
 fn line_of(first: Row, text: &[u8], room: Vec<u8>) -> Result<Option<RowLine>, AllocError>
     ensures { IfOk result (λ found. found ≡ spec.line_of first text.now) }
 {
@@ -41,7 +40,7 @@ fn line_of(first: Row, text: &[u8], room: Vec<u8>) -> Result<Option<RowLine>, Al
     }
 }
 
-/// The row whose parameters come first, and what follows them.
+/// The row of the capability of `first` with the parameters at the start of `text`, and the rest.
 fn row_before(first: Row, text: &[u8]) -> Option<(Row, &[u8])>
     ensures { option_map (λ x. (x.0, x.1.now)) result ≡ spec.row_before first text.now }
 {
@@ -51,7 +50,8 @@ fn row_before(first: Row, text: &[u8]) -> Option<(Row, &[u8])>
     Some((row, rest))
 }
 
-/// Pushes the `count` numbers at the front of `text`, and returns what follows the space after the last.
+/// Pushes the `count` numbers at the start of `text`, and returns the rest after the space that
+/// follows the last. `numbers` must be empty.
 fn numbers_before<'a>(count: usize, text: &'a [u8], numbers: &mut Params) -> Option<&'a [u8]>
     requires empty { numbers.old.items ≡ [] }
     requires room { count ≤ 9 }
@@ -66,7 +66,7 @@ fn numbers_before<'a>(count: usize, text: &'a [u8], numbers: &mut Params) -> Opt
     Some(rest)
 }
 
-/// The bytes and the effect after a row.
+/// The line of `row` with the bytes and the effect of `text`.
 fn line_behind(row: Row, text: &[u8], room: Vec<u8>) -> Result<Option<RowLine>, AllocError>
     ensures { IfOk result (λ found. found ≡ spec.line_behind row text.now) }
 {

@@ -11,9 +11,9 @@ use std::alloc::AllocError;
 use ti_rows::Row;
 use vt_effects::Effect;
 
-/// Appends the text of a line about a checked capability, without its LF: with these parameters its
-/// string is these bytes, and their effect is this one. `words` hold the effect's text for the while.
-/// Memory is taken only where one of the two has to grow; the error is out of memory.
+/// Appends to `text` the line, without its LF, that says: the string of `row` is `bytes`, and their
+/// effect is `effect`. `words` is room for the effect's text. Memory is requested only where one of
+/// the two vectors has to grow; fails if it runs out.
 pub fn push_row_line(
     row: Row,
     bytes: &[u8],
@@ -33,7 +33,7 @@ pub fn push_row_line(
     text.extend_from_slice(words.as_slice())
 }
 
-/// Each number in decimal, and a space after it.
+/// Appends each number in decimal, with a space after it.
 fn push_numbers(numbers: &[u16], text: &mut Vec<u8>) -> Result<(), AllocError>
     ensures { OnOk result (text.new.items ≡ text.old.items ++ spec.numbers_text numbers.now) }
 {
@@ -51,7 +51,7 @@ fn push_spaced(number: u16, text: &mut Vec<u8>) -> Result<(), AllocError>
     Ok(())
 }
 
-/// Appends bytes in hexadecimal, a dash for none. The error is out of memory.
+/// Appends `bytes` in hexadecimal, or a dash for none. Fails if memory runs out.
 pub fn push_hex(bytes: &[u8], text: &mut Vec<u8>) -> Result<(), AllocError>
     ensures { OnOk result (text.new.items ≡ text.old.items ++ hex_text bytes.now) }
 {

@@ -11,7 +11,7 @@ use crate::readers::{ReadFault, Reader};
 use std::alloc::{AllocError, Global};
 use std::marker::Model;
 
-/// Why the next line could not be found.
+/// Why the next line could not be read.
 #[derive(Clone, Copy, Debug, PartialEq, Eq)]
 pub enum Halt {
     /// The reader failed in this call.
@@ -36,12 +36,12 @@ impl From<ReadFault> for Halt {
     }
 }
 
-/// What comes next in a text.
+/// The next part of a text.
 #[derive(Clone, Copy, Debug, PartialEq, Eq)]
 pub enum Next {
     /// A line of this many bytes, followed by LF.
     Line(usize),
-    /// Nothing: the text ends here.
+    /// The end of the text.
     End,
     /// Bytes without an LF, up to the end of the text.
     Unended,
@@ -49,11 +49,11 @@ pub enum Next {
     Long,
 }
 
-/// The lines of what a reader gives, up to a limit of bytes. At most one byte past the limit is read.
+/// The lines of a reader, up to a limit of bytes. At most one byte past the limit is read.
 #[derive(Drop)]
 pub struct Lines {
     buffer: Vec<u8>,
-    /// Where the bytes begin that have not been passed.
+    /// Where the bytes begin that haven't been passed.
     from: usize,
     /// How many more bytes may be passed.
     budget: u32,
@@ -93,7 +93,8 @@ fn tail(bytes: &[u8], at: usize) -> &[u8]
     &bytes[at..]
 }
 
-/// How many bytes to ask for where this many are taken and not passed.
+/// How many bytes to ask for while `unread` bytes are taken and not passed, of which there must be
+/// at most `budget`.
 fn wanted(unread: usize, budget: u32) -> usize
     requires { unread ≤ budget }
     ensures some { 0 < result }
@@ -103,7 +104,7 @@ fn wanted(unread: usize, budget: u32) -> usize
     4096.min(budget as usize - unread + 1)
 }
 
-/// Takes at most this many bytes.
+/// Takes at most `want` bytes.
 fn take_front<R: Reader>(reader: &mut R, into: &mut [u8], want: usize) -> Result<usize, ReadFault>
     requires some { 0 < want }
     requires room { want ≤ length into.old }
@@ -116,7 +117,7 @@ fn take_front<R: Reader>(reader: &mut R, into: &mut [u8], want: usize) -> Result
     reader.take(&mut into[..want])
 }
 
-/// The place of the first LF, where the first `seen` bytes have none.
+/// The place of the first LF of `bytes`, whose first `seen` bytes must have none.
 #[tactic(auto, using(crate::proofs::Ends::end_some, crate::proofs::Ends::end_none))]
 fn feed_after(bytes: &[u8], seen: usize) -> Option<usize>
     requires within { seen ≤ length bytes.now }
@@ -130,7 +131,7 @@ fn feed_after(bytes: &[u8], seen: usize) -> Option<usize>
     }
 }
 
-/// A line that ends at this place.
+/// The line whose LF is at the place `at`, or `Long` if that isn't within `budget`.
 fn line_to(at: usize, budget: u32) -> Next
     ensures { result ≡ next_line at budget }
 {
@@ -141,7 +142,7 @@ fn line_to(at: usize, budget: u32) -> Next
     }
 }
 
-/// What comes where the text ends after this many bytes.
+/// The answer where the text ends after `count` bytes without LF.
 fn end_after(count: usize) -> Next
     ensures { result ≡ next_end count }
 {
@@ -149,7 +150,7 @@ fn end_after(count: usize) -> Next
 }
 
 impl Lines {
-    /// No bytes taken, and a budget of this many bytes for all lines with their LFs.
+    /// Lines with no bytes taken, and a budget of `limit` bytes for all lines with their LFs.
     pub fn new(alloc: Global, limit: u32) -> Lines
         ensures { result ≡ record { unread = []; budget = limit } }
     {
@@ -168,21 +169,21 @@ impl Lines {
         &self.buffer[self.from..]
     }
 
-    /// Passes a line of this many bytes and its LF.
+    /// Passes a line of `count` bytes and its LF, which must have been taken and be within the budget.
     pub fn pass(&mut self, count: usize)
         requires taken { count < length self.old.unread }
         requires allowed { count < self.old.budget }
         ensures { self.new
             ≡ record { unread = drop (count + 1) self.old.unread; budget = self.old.budget - (count + 1) } }
     {
-        // a look at a field brings in the invariant: the buffer's bounds and the budget
+        // reading a field brings in the invariant: the buffer's bounds and the budget
         let _ = &self.budget;
         let passed = count as u32 + 1;
         self.budget -= passed;
         self.from += passed as usize;
     }
 
-    /// Moves the bytes that have not been passed to the front of the buffer.
+    /// Moves the bytes that haven't been passed to the start of the buffer.
     fn drop_passed(&mut self)
         ensures { self.new ≡ self.old }
     {
@@ -193,7 +194,7 @@ impl Lines {
         }
     }
 
-    /// Takes more bytes and returns how many, 0 at the end. The last is at most one past the budget.
+    /// Takes more bytes and returns how many, 0 at the end. The last one is at most one past the budget.
     #[tactic(auto, using(crate::proofs::Gaves::filled))]
     fn fill<R: Reader>(&mut self, reader: &mut R) -> Result<usize, Halt>
         requires allowed { length self.old.unread ≤ self.old.budget }
@@ -215,11 +216,11 @@ impl Lines {
         Ok(count)
     }
 
-    /// Finds what comes next, and takes the bytes that this needs. A line is not passed by it.
+    /// Finds what comes next, and takes the bytes needed for that. It doesn't pass a line.
     ///
     /// # Errors
-    /// `ReadFailed` where the reader failed in this call, and `NoMemory` where the buffer could not
-    /// grow. No byte that was taken is lost in either.
+    /// `ReadFailed` if the reader failed in this call, and `NoMemory` if the buffer could not grow.
+    /// No byte that was taken is lost in either case.
     pub fn next<R: Reader>(&mut self, reader: &mut R) -> Result<Next, Halt>
         requires { length self.old.unread ≤ self.old.budget + 1 }
         ensures takes { Takes R.left R.failures self.old reader.old self.new reader.new }

@@ -7,7 +7,7 @@ ghost use Rattle.ti_lines.specs.EffectReader as spec;
 use itoa::Buffer;
 use std::alloc::AllocError;
 
-/// The number with one digit more.
+/// The number with one more digit, if it has 16 bits.
 fn with_digit(number: u16, digit: u8) -> Option<u16>
     ensures { result ≡ spec.with_digit number digit }
 {
@@ -54,7 +54,7 @@ pub(crate) fn positive_at(digits: &[u8]) -> Option<u16>
     }
 }
 
-/// Appends the number in decimal. The error is out of memory.
+/// Appends the number in decimal. Fails if memory runs out.
 pub fn push_number(number: u16, text: &mut Vec<u8>) -> Result<(), AllocError>
     ensures { OnOk result (text.new.items ≡ text.old.items ++ decimal number) }
 {

@@ -1,4 +1,4 @@
-//! Readers: where bytes come from. A slice is one.
+//! Readers, from which bytes come. A slice is one.
 
 ghost use Rattle.std.specs.Prelude.{◌≡◌, ◌<◌, ◌≤◌, ℕ, List, [], length, take, IfOk, OnErr};
 ghost use Rattle.ti_lines.specs.Reader.{AtEnd, Gave, Rose};
@@ -18,14 +18,14 @@ pub trait Reader {
     /// These bytes are still to come.
     ghost left: { Self → List ℕ → Type 0 };
 
-    /// How often the reader has failed. The count stops at 2^128 - 1.
+    /// The number of failures so far. The count stops at 2^128 - 1.
     ghost failures: { Self → ℕ };
 
-    /// Writes the next bytes to the front of a buffer that isn't empty, and returns how many they
-    /// are: 0 only at the end.
+    /// Writes the next bytes to the start of a buffer that must not be empty, and returns how many
+    /// they are: 0 only at the end.
     ///
     /// # Errors
-    /// `ReadFault` where the reader failed. Its count of failures has risen then, and no byte was given.
+    /// `ReadFault` if the reader failed. Its count of failures has then risen, and no byte was given.
     fn take(&mut self, into: &mut [u8]) -> Result<usize, ReadFault>
         requires { 0 < length into.old }
         ensures within { IfOk result (λ n. n ≤ length into.old) }

@@ -3,8 +3,8 @@ use ti_caps::Bytes;
 use ti_rows::Row;
 use vt_effects::Effect;
 
-/// A line of a certificate about a checked capability: with these parameters its string is these
-/// bytes, and their effect is this one.
+/// A line of a certificate about a checked capability: the string of `row` is `bytes`, and their
+/// effect is `effect`.
 #[derive(Debug, Drop)]
 pub struct RowLine {
     pub row: Row,

@@ -1,7 +1,7 @@
 //! The words of an effect's text.
 use vt_effects::{Effect, Erasure, Ink, Move, Region, Scroll, Sets, Switch};
 
-/// What becomes of the marks of the rendition.
+/// Changes of the marks of a rendition.
 #[derive(Clone, Copy)]
 pub(crate) struct Marks {
     pub(crate) bold: Switch,

@@ -8,7 +8,7 @@ use Rattle.ti_lines.proofs.judgements.judge_all.Goals as goal
 pub loop-next-init : goal.loop-next-init
 loop-next-init g c = rw c.new-lines.ensures (progress_start g.J.Judge.rules c.args.limit c.args.judge.now g.R.Reader.left g.R.Reader.failures c.args.reader.now)
 
--- where it stands when the next line was looked for
+-- the progress when the next line was looked for
 pub returns-in-Err : goal.returns-in-Err
 returns-in-Err g c =
     let rules = g.J.Judge.rules in

@@ -2,7 +2,7 @@ use Rattle.std.proofs.Common.{◌≡◌, ◌-◌, length, []}
 use Rattle.ti_lines.specs.RowLines as spec
 use Rattle.ti_lines.proofs.line_reader.numbers_before.Given as goal
 
--- what is left to read, from now on, is the whole
+-- reading the rest from here gives the result of the whole
 abbrev pub invariant-loop : goal.invariant-loop
 invariant-loop l = record {
   pushed : length l.numbers.items ≡ l.counter;
