@@ -25,7 +25,7 @@ use Rattle.ti_conforms.proofs.Judgements.{over_steps, may_be_cut, line}
 use Rattle.ti_conforms.proofs.ResyncFacts.{resyncs}
 use Rattle.ti_conforms.proofs.Holds.{leads_resync, sets_hold}
 
--- from a lost state with nothing open: cut off anywhere, and as a whole
+-- from a lost state between two tokens, `bytes` as a whole and each prefix of them lead to a lost state
 record Passes (t : Table) (bytes : List ℕ) : Type 0 where
   fronts : (s : State) → s.rest ≡ [] → IsLost t s → (front back : List ℕ) → bytes ≡ front ++ back → Ends s front (IsLost t)
   whole : (s : State) → s.rest ≡ [] → IsLost t s → Ends s bytes (IsLostAndClosed t.rows t.cols (has t (widening t)) (has t Cnorm) t.reached)
@@ -91,7 +91,7 @@ resync_cut t j text more begins p s lost (x ∷ front) back parts =
       there = y.there;
     }
 
--- a text that begins with ESC leads from every state to the charset to which its tokens lead
+-- a text that begins with ESC leads from every state to the charset that its tokens give
 led_to : (s u : State) (text more : List ℕ) (tokens : List (List ℕ)) → text ≡ 27 ∷ more → Splits text tokens [] → IsOpen s.rest → Runs s text u → u.screen.charset ≡ charset_over tokens s.screen.charset
 led_to s u text more tokens begins whole begun runs =
     let empty : State = record s { rest = [] } in

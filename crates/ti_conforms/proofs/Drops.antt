@@ -1,4 +1,4 @@
--- ESC drops what is open of a sequence.
+-- ESC drops an open sequence.
 use Rattle.std.proofs.Common.{ℕ, List, [], ◌∷◌, refl, sym, ap, ◌∙◌, arith, inl, inr}
 use Rattle.vt_term.specs.Text.{IsOpen}
 use Rattle.vt_term.specs.Function.{Function}

@@ -1,4 +1,4 @@
--- A front of a line's bytes leaves a lost state.
+-- A prefix of a line's bytes leaves a lost state.
 use Rattle.std.proofs.Common.{◌≡◌, ◌+◌, ℕ, Bool, true, false, List, [], ◌∷◌, ◌++◌, refl, sym, ap, ◌∙◌, subst}
 use Rattle.std.specs.List.{AllByRecursion}
 use Rattle.vt_term.specs.Function.{function_of}

@@ -1,4 +1,4 @@
--- What a table says of charsets holds at least those that a terminal can have.
+-- A table's sets of charsets hold at least those that a terminal can have.
 use Rattle.std.proofs.Common.{◌≡◌, inl, inr, ℕ, Bool, true, List, [], ◌∷◌, ◌++◌, Option, Some, None, refl, sym, ap, subst, ◌∙◌}
 use Rattle.std.specs.List.{AllByRecursion}
 use Rattle.vt_term.specs.Text.{Splits}
@@ -31,11 +31,11 @@ switched_twice switches.Kept b = refl
 switched_twice switches.On b = refl
 switched_twice switches.Off b = refl
 
--- what is sent twice leaves what it leaves once
+-- a change of sets made twice is the change made once
 pub designated_twice : (e : Sets) (c : Charset) → designated e (designated e c) ≡ designated e c
 designated_twice e c = cc (switched_twice e.g0_graphic c.g0_graphic, switched_twice e.g1_graphic c.g1_graphic, switched_twice e.shifted_out c.shifted_out)
 
--- the tokens of a line do to the sets what its record says
+-- the tokens of a line change the sets as its record says
 line_sets : (t : Table) (row : Row) (bytes : List ℕ) (l : AskedLine t row bytes) (c : Charset) → charset_over l.tokens c ≡ designated l.effect.charset c
 line_sets t row bytes l c =
     let s : Screen = record (reset_screen t.rows t.cols) { charset = c } in
@@ -55,7 +55,7 @@ reached t j d (AfterToken c _ token p o e) =
     let among : IsAmong l.tokens token = subst (λ (ts : List (List ℕ)). IsAmong ts token) (sym same.0) o.among in
     ap (λ (x : Charset). t.reached x) e ∙ each_among (λ x. (b : Charset) → t.reached b ≡ true → t.reached (charset_after (function_of x) b) ≡ true) l.tokens token l.stays among c (reached t j c p)
 
--- a whole text leads charsets so
+-- a whole text changes charsets by `f`
 pub record Leads (bytes : List ℕ) (f : Charset → Charset) : Type 0 where
   pub tokens : List (List ℕ)
   pub whole : Splits bytes tokens []
@@ -101,7 +101,7 @@ leads_resync t j = leads_joined (resync_front t) (text_of t (widening t) ++ text
     (leads_joined (text_of t Sgr0) (text_of t Rmacs) (λ c. changed j.changes.sgr0 c) (λ c. changed j.changes.rmacs c) (leads_part t Sgr0 j.changes.sgr0 j.sgr0) (leads_part t Rmacs j.changes.rmacs j.rmacs)))
     (leads_joined (text_of t (widening t)) (text_of t Clear) (λ c. c) (λ c. c) (widen_keeps t j (t.line_of (widening t)) refl) (clear_keeps t j (t.line_of Clear) refl))
 
--- there is one splitting, so there is one such charset
+-- a text is split in one way, so it leads to one charset
 pub led : (bytes : List ℕ) (f : Charset → Charset) (c d : Charset) → Leads bytes f → LeadsBy bytes c d → d ≡ f c
 led bytes f c d p l =
     let same = one_splitting bytes l.tokens p.tokens [] [] l.whole p.whole in

@@ -1,4 +1,4 @@
--- A judged line ends as is wanted, and may be cut off.
+-- A judged line ends as wanted, and may be cut off.
 use Rattle.std.proofs.Common.{◌≡◌, ℕ, Bool, true, false, List, [], ◌∷◌, Option, Some, refl, sym, ap, subst, ◌∙◌}
 use Rattle.std.specs.Prelude.{is_some}
 use Rattle.std.proofs.lemmas.Bool.{false≢true}
@@ -64,7 +64,7 @@ sets_widening : (t : Table) (row : Row) → IsJudged t → has t row ≡ true �
 sets_widening t (Csr top bottom) j h e = j.widens top bottom h
 sets_widening t _ j h e = absurd (false≢true e)
 
--- margins stay where no line of `csr` is there
+-- margins stay if there is no line of `csr`
 kept_margins : (t : Table) (row : Row) (tokens : List (List ℕ)) (b : Bool) → sets_margins row ≡ b → (sets_margins row ≡ false → EachKeepsMargins t.rows tokens) → (sets_margins row ≡ true → has t (widening t) ≡ true) → has t (widening t) ≡ false → EachKeepsMargins t.rows tokens
 kept_margins t row tokens false e keeps widens none = keeps e
 kept_margins t row tokens true e keeps widens none = let no : false ≡ true = sym none ∙ widens e in absurd (false≢true no)

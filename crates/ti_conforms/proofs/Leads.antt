@@ -1,4 +1,4 @@
--- Lines after one another lead from a lost state to rest.
+-- Lines, one after another, lead from a lost state to rest.
 use Rattle.std.proofs.Common.{◌≡◌, ℕ, ◌+◌, ◌-◌, ◌<◌, Bool, true, false, if◌then◌else◌, List, [], ◌∷◌, ◌++◌, Option, refl, sym, ap, ◌∙◌, subst, arith}
 use Rattle.vt_term.specs.Look.{Rendition, plain, space, blank}
 use Rattle.vt_term.specs.Grid.{look_at}

@@ -1,4 +1,4 @@
--- Rows of one capability are checked or not alike.
+-- The rows of a capability are either all checked or all not.
 use Rattle.std.proofs.Common.{◌≡◌, ◌+◌, ◌==◌, ◌&&◌, ℕ, true, false, List, Option, None, Some, if◌then◌else◌, refl, sym, ap, subst, ◌∙◌}
 use Rattle.std.specs.Prelude.{is_some, Result, Ok, Err, OnOk, IfErr, option_copied}
 use Rattle.std.proofs.Common.{Bor}

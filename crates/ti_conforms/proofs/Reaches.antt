@@ -1,4 +1,4 @@
--- Charsets that tokens reach.
+-- The charsets that tokens reach.
 use Rattle.std.proofs.Math.Seq.{drop-cons}
 use Rattle.std.proofs.Common.{◌≡◌, ◌⊎◌, ◌&&◌, ◌<◌, ◌+◌, suc, drop, length, get_or, arith, inl, inr, ℕ, Bool, true, false, if◌then◌else◌, List, [], ◌∷◌, ◌++◌, refl, sym, ap, ◌∙◌}
 use Rattle.vt_term.specs.Function.{Function, function_of, G0, G1, ShiftOut, ShiftIn, Designate}
@@ -65,7 +65,7 @@ some_of mark token [] a h = absurd a
 some_of mark token (t ∷ ts) (inl e) h = some_on mark t ts (mark (function_of t)) (ap (λ (x : List ℕ). mark (function_of x)) (sym e) ∙ h)
 some_of mark token (t ∷ ts) (inr a) h = some_later (mark (function_of t)) (some_make mark ts) (some_of mark token ts a h)
 
--- what turns a mark on does just that
+-- a function that turns a mark on changes no other mark
 g0_made : (f : Function) (c : Charset) → makes_g0_graphic f ≡ true → charset_after f c ≡ record c { g0_graphic = true }
 g0_made (Designate G0 true) c h = refl
 g0_made _ c h = cc
@@ -98,7 +98,7 @@ out_before (Designate G0 g) c h = inl h
 out_before (Designate G1 g) c h = inl h
 out_before _ c h = inl h
 
--- each mark that is on can be on
+-- the tokens turn on each mark of the charset
 record Has (tokens : List (List ℕ)) (c : Charset) : Type 0 where
   g0 : c.g0_graphic ≡ true → some_make makes_g0_graphic tokens ≡ true
   g1 : c.g1_graphic ≡ true → some_make makes_g1_graphic tokens ≡ true

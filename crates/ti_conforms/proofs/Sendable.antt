@@ -1,4 +1,4 @@
--- What a painter relies on holds of what may be sent of lines that hold.
+-- A table whose lines hold gives a painter what it relies on.
 use Rattle.std.proofs.Common.{◌≡◌, ◌+◌, ◌<◌, ◌&&◌, ℕ, not, get_or, length, take, Bool, true, false, if◌then◌else◌, List, [], ◌∷◌, ◌++◌, append_assoc, append-nil, Option, Some, None, refl, sym, ap, subst, ◌∙◌}
 use Rattle.std.specs.Prelude.{is_some}
 use Rattle.std.specs.List.{AllByRecursion, concat}
@@ -15,7 +15,7 @@ use Rattle.ti_conforms.specs.Resync.{resync_rows, texts_of}
 use Rattle.ti_conforms.specs.Holds.{LineHolds, IsResynced, TableHolds}
 use Rattle.ti_conforms.specs.Certified.{IsBlank, IsPiece, Line, line_in, sendable}
 
--- `cnorm` itself is never held back
+-- `cnorm` itself is never withheld
 kept_by_itself : (o : Option (List ℕ)) → is_some (if true && not (is_some o) then None else o) ≡ is_some o
 kept_by_itself None = refl
 kept_by_itself (Some x) = refl
@@ -33,7 +33,7 @@ from_lost t s h = subst (λ (shown : Bool). lost.IsLost t.rows t.cols (has t (wi
 ends_lost : (t : Table) (s : State) (bytes : List ℕ) → Ends s bytes (IsLost t) → Ends s bytes (IsLost (sendable t))
 ends_lost t s bytes e = record { after = e.after; runs = e.runs; there = from_lost t e.after e.there }
 
--- what is kept back by a test was there, where the test lets it through
+-- a value that the test doesn't withhold is there, and the test is false
 pub let_through : (b : Bool) (o : Option (List ℕ)) (x : List ℕ) → (if b then None else o) ≡ Some x → (b ≡ false) × (o ≡ Some x)
 let_through true o x h = cc
 let_through false o x h = (refl, h)
@@ -42,7 +42,7 @@ let_through false o x h = (refl, h)
 pub line_there : (t : Table) (row : Row) (bytes : List ℕ) → line_in t row ≡ Some bytes → t.line_of row ≡ Some bytes
 line_there t row bytes h = (let_through (sets_visible row && not (has t Cnorm)) (t.line_of row) bytes h).1
 
--- a line that is sent has what shows the cursor again
+-- if a line for the cursor is sent, `cnorm` has a line
 shown_again : (b h : Bool) → (b && not h) ≡ false → b ≡ true → h ≡ true
 shown_again true true e f = refl
 shown_again true false e f = sym e
@@ -94,12 +94,12 @@ resyncs t k s l =
 pub resync_fronts : (t : Table) → TableHolds t → (s : State) → IsLost (sendable t) s → (front back : List ℕ) → resync t ≡ front ++ back → Ends s front (IsLost (sendable t))
 resync_fronts t k s l front back e = ends_lost t s front (k.resync_fronts s (as_lost t s l) front back e)
 
--- one piece more, where there is such a line
+-- one more piece, if there is such a line
 abbrev with_piece : Option (List ℕ) → List (List ℕ) → List (List ℕ)
 with_piece None pieces = pieces
 with_piece (Some x) pieces = x ∷ pieces
 
--- the lines of these rows, those that there are
+-- the lines of these rows, as far as there are any
 abbrev pub pieces_of : Table → List Row → List (List ℕ)
 pieces_of t [] = []
 pieces_of t (row ∷ rows) = with_piece (t.line_of row) (pieces_of t rows)
@@ -128,7 +128,7 @@ pub in_order : (t : Table) → resync t ≡ texts_of t.line_of (resync_rows t.ro
 unfolding resync_of
 in_order t = six (text_of t Smcup) (text_of t Enacs) (text_of t Sgr0) (text_of t Rmacs) (text_of t (widening t)) (text_of t Clear)
 
--- and made of lines
+-- a resynchronization is made of lines
 pub made : (t : Table) → resync t ≡ concat (pieces_of (sendable t) (resync_rows t.rows))
 made t = in_order t ∙ sym (all_joined (sendable t) (resync_rows t.rows))
 
@@ -137,7 +137,7 @@ texts-append line_of [] b = refl
 texts-append line_of (row ∷ a) b =
     ap (λ (x : List ℕ). or_nothing (line_of row) ++ x) (texts-append line_of a b) ∙ sym (append_assoc (or_nothing (line_of row)) (texts_of line_of a) (texts_of line_of b))
 
--- one line more
+-- one more line
 pub texts_more : (line_of : Row → Option (List ℕ)) (old now new : List ℕ) (rows : List Row) (i : ℕ) (d row : Row) → i < length rows → row ≡ get_or rows i d → new ≡ now ++ or_nothing (line_of row)
     → now ≡ old ++ texts_of line_of (take i rows) → new ≡ old ++ texts_of line_of (take (i + 1) rows)
 texts_more line_of old now new rows i d row lt is e h =

@@ -1,4 +1,4 @@
--- Sets of charsets that changes don't lead out of.
+-- Sets of charsets that no change leads out of.
 use Rattle.std.proofs.Common.{Option, None, Some, not, ◌≤◌, below_more, ◌≡◌, ◌⊎◌, inl, inr, ℕ, ◌+◌, ◌<◌, Bool, true, false, List, [], ◌∷◌, drop, length, get_or, suc, refl, sym, ap, ◌∙◌, subst, arith}
 use Rattle.std.specs.Prelude.{IfNone, is_some}
 use Rattle.std.proofs.Math.Seq.{drop-cons}
@@ -28,13 +28,13 @@ among_cons s x xs c d change h f (inr a) l = f d (record { change = change; amon
 pub stays_cons : (s : Charsets) (x : Sets) (xs : List Sets) (c : Charset) → has s (designated x c) ≡ true → StaysFrom s xs c → StaysFrom s (x ∷ xs) c
 stays_cons s x xs c h f d l = among_cons s x xs c d l.change h f l.among l.leads
 
--- Between the first and the rest of what a set is closed under.
+-- A set that has all of `old` and that no change leads out of has the whole closure of `old`.
 pub settled_stays : (s old : Charsets) (changes : List Sets) → ((c : Charset) → has old c ≡ true → has s c ≡ true) → ((c : Charset) → has s c ≡ true → StaysFrom s changes c)
     → (c : Charset) → Settled (λ d. has old d ≡ true) (SomeLeads changes) c → has s c ≡ true
 settled_stays s old changes more stays c (First _ h) = more c h
 settled_stays s old changes more stays d (After c _ h l) = stays c (settled_stays s old changes more stays c h) d l
 
--- the next change doesn't lead out
+-- none of the changes before the place `i` leads out of the set
 pub record Staying (s : Charsets) (changes : List Sets) (c : Charset) (i : ℕ) : Type 0 where
   pub stays : StaysFrom s (drop i changes) c → StaysFrom s changes c
   pub among : (x : Sets) → IsAmong (drop i changes) x → IsAmong changes x
@@ -51,7 +51,7 @@ staying_more s changes c i x k h f g = f (subst (λ (l : List Sets). StaysFrom s
 pub among_more : (changes : List Sets) (i : ℕ) (x : Sets) → Cut changes i x → ((y : Sets) → IsAmong (drop i changes) y → IsAmong changes y) → (y : Sets) → IsAmong (drop (i + 1) changes) y → IsAmong changes y
 among_more changes i x k f y a = f y (subst (λ (l : List Sets). IsAmong l y) (sym k.cut) (inr a))
 
--- a member more
+-- one more member
 pub settled_more : (old s new : Charsets) (changes : List Sets) (added : Charset) → ((c : Charset) → has s c ≡ true → Settled (λ d. has old d ≡ true) (SomeLeads changes) c) → LeadsOut s changes added
     → ((c : Charset) → has new c ≡ true → (has s c ≡ true) ⊎ (c ≡ added)) → (c : Charset) → has new c ≡ true → Settled (λ d. has old d ≡ true) (SomeLeads changes) c
 settled_more old s new changes added sound out only c h = which (only c h)
@@ -78,7 +78,7 @@ not_other true false e = cc
 not_other false true e = cc
 not_other false false e = refl
 
--- one charset more that strings leave
+-- one more charset that strings leave
 pub left_sound : (reach : Reach) (changes : List Sets) (old new : Charsets) (added c : Charset) → can_have reach c ≡ true → added ≡ designated_all changes c → ((d : Charset) → has old d ≡ true → Leaves reach changes d)
     → ((d : Charset) → has new d ≡ true → (has old d ≡ true) ⊎ (d ≡ added)) → (d : Charset) → has new d ≡ true → Leaves reach changes d
 left_sound reach changes old new added c can is sound only d h = which (only d h)

@@ -15,7 +15,7 @@ or_three false b c = refl
 joined_three : (p q r : Reach) → joined (joined p q) r ≡ joined p (joined q r)
 joined_three p q r = same_reach (or_three p.g0_graphic q.g0_graphic r.g0_graphic) (or_three p.g1_graphic q.g1_graphic r.g1_graphic) (or_three p.shifted_out q.shifted_out r.shifted_out)
 
--- what was read of the text is tokens, and their marks were added
+-- the part read so far consists of tokens, and their marks were added
 pub record IsLearned (before : Reach) (text : List ℕ) (at : ℕ) (now : Reach) : Type 0 where
   pub within : at ≤ length text
   pub tokens : List (List ℕ)

@@ -1,4 +1,4 @@
--- Lines that are just what an entry sends, beside each other.
+-- Which lines exist together if they are just those that an entry sends.
 use Rattle.std.proofs.Common.{◌≡◌, ◌&&◌, ℕ, not, Bool, true, false, List, Option, refl, sym, ap, ◌∙◌}
 use Rattle.std.proofs.Math.Bool.{and-false}
 use Rattle.std.specs.Prelude.{is_some}
@@ -17,7 +17,7 @@ agreed_there : (entry : Content) (line : Option (List ℕ)) (row : Row) (b : Boo
 agreed_there entry line row true e a = ap (λ (o : Option (List ℕ)). is_some o) (a.checked e).sends.line_has
 agreed_there entry line row false e a = ap (λ (o : Option (List ℕ)). is_some o) (a.unchecked e)
 
--- a row has a line just where it is checked
+-- a row has a line exactly if it is checked
 there : (entry : Content) (t : Table) → EntryAgrees t.rows t.cols entry t.line_of → (row : Row) → IsInRange t.rows t.cols row → has t row ≡ is_checked entry row
 there entry t agrees row range = agreed_there entry (t.line_of row) row (is_checked entry row) refl (agrees row range)
 

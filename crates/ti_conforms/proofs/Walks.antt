@@ -41,11 +41,11 @@ counted rows cols (Setab c) = refl
 counted rows cols (Csr top bottom) = refl
 counted rows cols _ = refl
 
--- rows of one capability have as many lists
+-- rows of one capability have the same number of lists
 pub same_count : (rows cols : ℕ) (row other : Row) → order row ≡ order other → count rows cols row ≡ count rows cols other
 same_count rows cols row other e = counted rows cols row ∙ (ap (count_at rows cols) e ∙ sym (counted rows cols other))
 
--- one list more
+-- one more list
 pub one_more : (rows cols : ℕ) (string : List ℕ) (line_of : Row → Option (List ℕ)) (n : ℕ) (row : Row) → IsInRange rows cols row → order row ≡ n → LineSends string (line_of row) row
     → ((k : ℕ) → k < rank rows cols row → SendsAt rows cols string line_of n k) → (k : ℕ) → k < rank rows cols row + 1 → SendsAt rows cols string line_of n k
 one_more rows cols string line_of n row range same sends before = below_more (SendsAt rows cols string line_of n) (rank rows cols row) before
@@ -61,7 +61,7 @@ all_send rows cols string line_of n row size range same last all other o r =
     let lt : rank rows cols other < rank rows cols row + 1 = omega (arith, most, alike, below) in
     all (rank rows cols other) lt other o r refl
 
--- the lists that are left are fewer after each
+-- after each list, fewer are left
 pub nearer : (rows cols : ℕ) (row other : Row) → IsSize rows cols → Follows rows cols row other → IsInRange rows cols other → count rows cols other - rank rows cols other < count rows cols row - rank rows cols row
 nearer rows cols row other size f range =
     let below : rank rows cols other < count rows cols other = ranks_below rows cols other size range in

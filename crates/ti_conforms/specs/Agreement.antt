@@ -1,4 +1,4 @@
--- Whether lines are what an entry's string sends.
+-- Whether lines have the bytes that an entry's string sends.
 use Rattle.std.specs.Prelude.{ℕ, ◌≡◌, List, Option, Some}
 use Rattle.ti_rows.specs.declared.rows.Row.{Row}
 use Rattle.ti_rows.specs.Names.{order}
@@ -13,17 +13,17 @@ pub record LineSends (string : List ℕ) (line : Option (List ℕ)) (row : Row) 
   pub sends : Sends string row bytes
   pub line_has : line ≡ Some bytes
 
--- each parameter list of the capability that the size allows
+-- a line as sent for each parameter list of the capability that the size allows
 abbrev pub AllSend : ℕ → ℕ → List ℕ → (Row → Option (List ℕ)) → ℕ → Type 0
 AllSend rows cols string line_of n =
     (row : Row) → order row ≡ n → IsInRange rows cols row → LineSends string (line_of row) row
 
--- those that have this place among the lists of the capability
+-- a line as sent for the list at the place `k` of the capability
 abbrev pub SendsAt : ℕ → ℕ → List ℕ → (Row → Option (List ℕ)) → ℕ → ℕ → Type 0
 SendsAt rows cols string line_of n k =
     (row : Row) → order row ≡ n → IsInRange rows cols row → rank rows cols row ≡ k → LineSends string (line_of row) row
 
--- a parameter list whose line is another, or isn't there
+-- a parameter list without a line, or with other bytes in it
 abbrev pub IsDisagreement : ℕ → ℕ → List ℕ → (Row → Option (List ℕ)) → ℕ → Disagreement → Type 0
 IsDisagreement rows cols string line_of n (Disagree row) =
     (order row ≡ n) × IsInRange rows cols row × (LineSends string (line_of row) row → ⊥)

@@ -1,4 +1,4 @@
--- Alternate characters (terminfo(5), "Line Graphics"): the pairs of `acsc`, and what stands for a letter without one.
+-- Alternate characters (terminfo(5), "Line Graphics"): the pairs of `acsc`, and the substitute of a letter without one.
 use Rattle.std.specs.Prelude.{ℕ, ◌==◌, ◌&&◌, nat_le, Bool, false, if◌then◌else◌, List, [], ◌∷◌, Option, Some, None}
 use Rattle.std.specs.Prelude.{is_some, not}
 
@@ -20,7 +20,7 @@ printed_only (Some p) = if is_printed p then Some p else None
 abbrev pub partner_of : List ℕ → ℕ → Option ℕ
 partner_of acsc letter = printed_only (listed acsc letter)
 
--- a letter, and the plain character that stands for it
+-- a letter, and the plain character shown in its place
 pub record Plain : Type 0 where
   pub letter : ℕ
   pub byte : ℕ
@@ -66,8 +66,9 @@ abbrev pub or_letter : Option ℕ → ℕ → ℕ
 or_letter None letter = letter
 or_letter (Some b) letter = b
 
--- What a cell of the alternate set shows for its letter: its partner in the graphic set, or else its plain character,
--- or else itself. Where `acsc`, `smacs` or `rmacs` isn't there, no letter has a partner.
+-- The character that a cell of the alternate set shows for its letter: the partner in the graphic set; or, without a
+-- partner, the plain character in its place, if it has one; or else the letter itself. No letter has a partner if the
+-- entry lacks `acsc`, `smacs` or `rmacs`.
 abbrev pub shown : Option ℕ → ℕ → Character
 shown None letter = in_plain_set (or_letter (fallback_of letter) letter)
 shown (Some p) letter = in_graphic_set p

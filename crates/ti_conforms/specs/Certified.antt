@@ -1,4 +1,4 @@
--- What a painter may know of a verified certificate: its lines, what each does, and what resynchronizes.
+-- The facts about a verified certificate that a painter may use: its lines, their effects, and the resynchronization.
 use Rattle.std.specs.Prelude.{ℕ, ◌+◌, ◌^◌, ◌<◌, ◌≤◌, ◌≡◌, ◌&&◌, not, if◌then◌else◌, Bool, true, false, List, [], ◌∷◌}
 use Rattle.std.specs.Prelude.{◌++◌, length, sum_by, Option, Some, None}
 use Rattle.std.specs.List.{AllByRecursion, concat}
@@ -22,15 +22,15 @@ use Rattle.ti_rows.specs.Starts.{Starts}
 use Rattle.ti_rows.specs.Right.{sets_visible}
 use Rattle.vt_effects.specs.Settings.{IsTame}
 
--- What may be sent for a row. Without `cnorm` nothing makes the cursor normal again, and so `civis` and `cvvis` are not
--- sent (terminfo(5), "Highlighting, Underlining, and Visible Bells").
+-- The line that may be sent for a row. Without `cnorm` nothing makes the cursor normal again, so `civis` and `cvvis`
+-- are not sent (terminfo(5), "Highlighting, Underlining, and Visible Bells").
 abbrev pub line_in : Table → Row → Option (List ℕ)
 line_in t row = if sets_visible row && not (has t Cnorm) then None else t.line_of row
 
 abbrev pub sendable : Table → Table
 sendable t = record t { line_of = λ row. line_in t row }
 
--- nothing is open, the margins are the whole screen, and the sets are settled
+-- no sequence is open, the margins are the whole screen, and the charset is settled
 pub record IsReady (t : Table) (s : State) : Type 0 where
   pub sized : IsOfSize t.rows t.cols s
   pub rest : s.rest ≡ []
@@ -61,7 +61,7 @@ limit_of t Cvvis = t.longest.cvvis
 limit_of t Clear = length t.resync
 limit_of t row = length (text_of t row)
 
--- one cell's worth of bytes, with its move and whatever changes how it looks
+-- the most bytes that a cell takes, with its move and all changes of its look
 abbrev pub cell_limit : Table → ℕ
 cell_limit t =
     t.longest.cup + t.longest.sgr + t.longest.setaf + t.longest.setab + t.longest.op + t.longest.sets
@@ -79,7 +79,7 @@ pub record IsBlank (t : Table) (seen : Bool) (s : State) : Type 0 where
   pub open cleared use *
   pub set : is_graphic s.screen.charset ≡ false
 
--- what a painter sends: lines, and characters
+-- a piece of what a painter sends: a line, or a character
 pub data IsPiece (t : Table) (piece : List ℕ) : Type 0 where
   Line : (row : Row) → t.line_of row ≡ Some piece → IsPiece t piece
   Character : (b : ℕ) → IsPrinted b → piece ≡ b ∷ [] → IsPiece t piece
@@ -91,20 +91,20 @@ singles = Smul ∷ Rev ∷ Blink ∷ Dim ∷ Bold ∷ Invis ∷ Smso ∷ []
 abbrev pub lengths : Table → List Row → ℕ
 lengths t rows = sum_by (λ row. length (text_of t row)) rows
 
--- Where there is no `sgr`, an attribute is seen exactly if there is a line for it, and a set of attributes takes
--- `sgr0` and the lines of single attributes (terminfo(5), "Highlighting, Underlining, and Visible Bells").
+-- Without `sgr`, an attribute is seen exactly if there is a line for it, and a set of attributes takes `sgr0` and the
+-- lines of single attributes (terminfo(5), "Highlighting, Underlining, and Visible Bells").
 pub record HasSingles (t : Table) : Type 0 where
   pub looks : SingleLooks (λ row. has t row) t.looks
   pub open looks use *
   pub short : length (text_of t Sgr0) + lengths t singles ≤ t.longest.sgr
 
--- how few bytes a line has, a cell takes and a resynchronization has
+-- bounds for the bytes of a line, of a cell and of a resynchronization
 pub record IsSmall (t : Table) : Type 0 where
   pub lines : (row : Row) → length (text_of t row) < 2 ^ 26
   pub cell : cell_limit t < 2 ^ 31
   pub resync : length t.resync < 2 ^ 29
 
--- the colours have lines together, and so have the graphic set's
+-- the colors have lines together, and so have the strings of the graphic set
 pub record IsChecked (t : Table) : Type 0 where
   pub size : IsSize t.rows t.cols
   pub small : IsSmall t
@@ -119,7 +119,7 @@ pub record IsChecked (t : Table) : Type 0 where
   pub backgrounds : has t Op ≡ true → (c : Color) → has t (Setab c) ≡ true
   pub sets : has t Smacs ≡ false → has t Rmacs ≡ false
   pub plain_sets : has t Rmacs ≡ false → (c : Charset) → t.settled c ≡ true → is_graphic c ≡ false
-  -- a terminal in its reset state has sets that may be met
+  -- the charset of a terminal in its reset state is reached
   pub starts : t.reached reset_charset ≡ true
   pub settled_reached : (c : Charset) → t.settled c ≡ true → t.reached c ≡ true
   pub resync_pieces : List (List ℕ)

@@ -19,14 +19,14 @@ abbrev pub IsAmong : {A : Type 0} → List A → A → Type 0
 IsAmong [] x = ⊥
 IsAmong (y ∷ ys) x = (x ≡ y) ⊎ IsAmong ys x
 
--- The least set of charsets that has the reset one and that no token among these leads out of: what a terminal can
--- have where strings made of these tokens are cut off anywhere.
+-- The least set of charsets that has the reset one and that none of these tokens leads out of: those that a terminal
+-- can have after strings of these tokens, cut off anywhere.
 pub data Reached (tokens : List (List ℕ)) : Charset → Type 0 where
   AtReset : (c : Charset) → c ≡ reset_charset → Reached tokens c
   AfterToken : (c d : Charset) (token : List ℕ) → Reached tokens c → IsAmong tokens token
       → d ≡ charset_after (function_of token) c → Reached tokens d
 
--- what turns a mark of the sets on
+-- the functions that turn a mark of the sets on
 abbrev pub makes_g0_graphic : Function → Bool
 makes_g0_graphic (Designate G0 true) = true
 makes_g0_graphic _ = false
@@ -52,12 +52,12 @@ reach_of tokens = record {
   shifted_out = some_make shifts_out tokens;
 }
 
--- on only where the other is
+-- the first is on only if the second is
 abbrev pub within : Bool → Bool → Bool
 within true b = b
 within false b = true
 
--- each mark of the charset that is on can be on
+-- each mark of the charset that is on can be turned on
 abbrev pub can_have : Reach → Charset → Bool
 can_have r c =
     within c.g0_graphic r.g0_graphic && (within c.g1_graphic r.g1_graphic && within c.shifted_out r.shifted_out)

@@ -1,4 +1,4 @@
--- The least set of charsets that has these and that no string of these leads out of.
+-- The least set of charsets that has the given ones and that none of the given strings leads out of.
 use Rattle.std.specs.Prelude.{ℕ, ◌+◌, ◌*◌, ◌≡◌, Bool, true, false, List, [], ◌∷◌, not, Option, Some, None}
 use Rattle.std.specs.Prelude.{slice_index_or, sum_by}
 use Rattle.vt_term.specs.Screen.{Charset}
@@ -9,12 +9,12 @@ use Rattle.ti_conforms.specs.Charsets.{IsAmong, can_have}
 use Rattle.ti_conforms.specs.declared.reach.Reach.{Reach}
 use Rattle.ti_conforms.specs.declared.closures.Charsets.{Charsets}
 
--- The least set that has the first ones and goes with each string from a charset to what the string leaves.
+-- The least set that has each `IsFirst` charset, and with each charset all to which it leads.
 pub data Settled (IsFirst : Charset → Type 0) (Leads : Charset → Charset → Type 0) : Charset → Type 0 where
   First : (c : Charset) → IsFirst c → Settled IsFirst Leads c
   After : (c d : Charset) → Settled IsFirst Leads c → Leads c d → Settled IsFirst Leads d
 
--- one of these changes leads from the one to the other
+-- one of these changes leads from `c` to `d`
 pub record SomeLeads (changes : List Sets) (c d : Charset) : Type 0 where
   pub change : Sets
   pub among : IsAmong changes change
@@ -43,18 +43,18 @@ abbrev pub or_kept : Option Sets → Sets
 or_kept None = kept
 or_kept (Some sets) = sets
 
--- the sets after several strings
+-- the charset after several strings
 abbrev pub designated_all : List Sets → Charset → Charset
 designated_all [] c = c
 designated_all (change ∷ changes) c = designated_all changes (designated change c)
 
--- from a charset that can be had, these strings leave this one
+-- these strings leave `d` of a charset that a terminal can have
 pub record Leaves (r : Reach) (changes : List Sets) (d : Charset) : Type 0 where
   pub before : Charset
   pub there : can_have r before ≡ true
   pub leads : d ≡ designated_all changes before
 
--- a member of the set and a change lead to this one
+-- one of the changes leads from a member of the set to `d`
 pub record LeadsOut (s : Charsets) (changes : List Sets) (d : Charset) : Type 0 where
   pub before : Charset
   pub there : has s before ≡ true

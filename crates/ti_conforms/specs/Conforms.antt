@@ -1,4 +1,5 @@
--- What it means that an entry drives a terminal of a size rightly: by what its strings send and how they run.
+-- The meaning of "an entry drives a terminal of a size correctly", by the bytes that its strings send and by their
+-- runs.
 use Rattle.std.specs.Prelude.{ℕ, ◌≡◌, ◌<◌, true, false, List, [], ◌∷◌, None, Some}
 use Rattle.vt_term.specs.Screen.{State, IsOfSize, Charset, is_graphic}
 use Rattle.vt_effects.specs.Settings.{IsTame}
@@ -28,8 +29,8 @@ os = 15
 abbrev pub xmc : ℕ
 xmc = 48
 
--- What the entry has to have, and what it may not have: attributes that take room on the screen, paper, a generic
--- type, and cells that keep what was printed before.
+-- The capabilities that an entry must have, and those that it must not have: attributes that take room on the screen,
+-- paper, a generic type, and cells that keep what was printed before.
 pub record IsFit (entry : Content) : Type 0 where
   pub clear : has_string entry Clear ≡ true
   pub cup : has_string entry (Cup 0 0) ≡ true
@@ -41,16 +42,16 @@ pub record IsFit (entry : Content) : Type 0 where
   pub partners : (pairs : List ℕ) → string_at entry acsc ≡ Some pairs → (letter : ℕ) → letter < 256
       → is_misfit pairs letter ≡ false
 
--- Of `smacs` and `rmacs` (terminfo(5), "Line Graphics"): from every start whose charset can be settled the run ends
--- with the graphic set active, and with the plain one.
+-- After `smacs` the graphic set is active, and after `rmacs` the plain one, from every start with a charset that can
+-- be settled (terminfo(5), "Line Graphics").
 abbrev pub Switches : Table → Type 0
 Switches t =
     (row : Row) (bytes : List ℕ) → t.line_of row ≡ Some bytes → (s : State) → s.rest ≡ []
     → Starts t.rows t.cols row s.screen → CanSettle t s.screen.charset
     → Ends s bytes (λ u. Activates row u.screen.charset)
 
--- A resynchronization begins with ESC. From every state with a charset that can be had, and with margins that are
--- whole where no line sets any, it leads to a blank screen at rest: whatever is open, wherever the cursor is.
+-- A resynchronization begins with ESC. From every state with a charset that a terminal can have, it leads to a blank
+-- screen at rest, whatever sequence is open and wherever the cursor is. The margins must be whole if no line sets any.
 pub record Resyncs (t : Table) : Type 0 where
   pub rest : List ℕ
   pub escapes : resync t ≡ 27 ∷ rest
@@ -60,15 +61,15 @@ pub record Resyncs (t : Table) : Type 0 where
 
 pub record Conforms (entry : Content) (rows cols : ℕ) : Type 0 where
   pub fit : IsFit entry
-  -- what is sent: the bytes of each checked capability for each parameter list in range, and nothing for others
+  -- the bytes sent: for each checked capability and each parameter list in range, and none for others
   pub table : Table
   pub rows_are : table.rows ≡ rows
   pub cols_are : table.cols ≡ cols
   pub sends : EntryAgrees rows cols entry table.line_of
-  -- each is whole, and its run from every start ends as is wanted
+  -- the bytes of each line are whole tokens, and end as wanted from every start
   pub right : (row : Row) (bytes : List ℕ) → table.line_of row ≡ Some bytes → IsRight rows cols table.looks row bytes
   pub switches : Switches table
-  -- without all of `acsc`, `smacs` and `rmacs` every settled charset is plain
+  -- every settled charset is plain unless `acsc`, `smacs` and `rmacs` are all there
   pub plain : is_checked entry Smacs ≡ false → (c : Charset) → CanSettle table c → is_graphic c ≡ false
   pub resyncs : Resyncs table
 

@@ -1,4 +1,4 @@
--- Which capabilities of an entry are checked, and when lines are just what it sends for them.
+-- Which capabilities of an entry are checked, and when lines are just those that it sends.
 use Rattle.std.specs.Prelude.{ℕ, ◌≡◌, ◌&&◌, Bool, true, false, not, List, Option, None, Some, is_some}
 use Rattle.vt_term.specs.Color.{Black}
 use Rattle.ti_caps.specs.Entry.{Content, string_at}
@@ -13,7 +13,7 @@ use Rattle.ti_conforms.specs.declared.agreement.Disagreement.TheVariants.{Disagr
 use Rattle.ti_conforms.specs.declared.entries.Group.{Group}
 use Rattle.ti_conforms.specs.declared.entries.Group.TheVariants.{Colors, Single, Sets, Alone}
 
--- what a capability is checked beside
+-- the group of capabilities with which a capability is checked
 abbrev pub group_of : Row → Group
 group_of (Setaf c) = Colors
 group_of (Setab c) = Colors
@@ -29,7 +29,7 @@ group_of Smacs = Sets
 group_of Rmacs = Sets
 group_of _ = Alone
 
--- the string of a row, and whether the entry has it
+-- the string that the entry has for a row
 abbrev pub string_of : Content → Row → Option (List ℕ)
 string_of entry row = string_at entry (cap_of row)
 
@@ -40,8 +40,8 @@ has_string entry row = is_some (string_of entry row)
 abbrev pub acsc : ℕ
 acsc = 229
 
--- Colours are checked where the entry can set both and take them back, single attributes where there is no `sgr` for
--- all of them, and the strings of the alternate set where `acsc` lists its characters.
+-- Colors are checked if the entry can set both and take them back, single attributes if it has no `sgr`, and the
+-- strings of the alternate set if `acsc` lists its characters.
 abbrev pub meets : Content → Group → Bool
 meets entry Colors = has_string entry (Setaf Black) && (has_string entry (Setab Black) && has_string entry Op)
 meets entry Single = not (has_string entry (Sgr no_attributes))
@@ -58,21 +58,21 @@ pub record EntrySends (entry : Content) (line : Option (List ℕ)) (row : Row) :
   pub there : string_of entry row ≡ Some string
   pub sends : LineSends string line row
 
--- a checked row's line is just what the entry sends, and any other row has no line
+-- the line of a checked row is just what the entry sends, and any other row has none
 pub record LineAgrees (entry : Content) (line : Option (List ℕ)) (row : Row) : Type 0 where
   pub checked : is_checked entry row ≡ true → EntrySends entry line row
   pub unchecked : is_checked entry row ≡ false → line ≡ None
 
--- so for each parameter list of the capability at a place
+-- the lines agree for each parameter list of the capability at the place `n`
 abbrev pub CapAgrees : ℕ → ℕ → Content → (Row → Option (List ℕ)) → ℕ → Type 0
 CapAgrees rows cols entry line_of n =
     (row : Row) → order row ≡ n → IsInRange rows cols row → LineAgrees entry (line_of row) row
 
--- and for every row
+-- the lines agree for every row
 abbrev pub EntryAgrees : ℕ → ℕ → Content → (Row → Option (List ℕ)) → Type 0
 EntryAgrees rows cols entry line_of = (row : Row) → IsInRange rows cols row → LineAgrees entry (line_of row) row
 
--- why lines aren't those of an entry, for a row of the table
+-- a row for which the lines don't agree, or memory ran out
 abbrev pub IsNotAgreed : ℕ → ℕ → Content → (Row → Option (List ℕ)) → Disagreement → Type 0
 IsNotAgreed rows cols entry line_of (Disagree row) =
     IsInRange rows cols row × (is_checked entry row ≡ true) × (EntrySends entry (line_of row) row → ⊥)

@@ -1,4 +1,4 @@
--- What may be relied on of strings that were judged, by runs of a terminal alone.
+-- The facts about judged strings that others may use, stated by runs of a terminal alone.
 use Rattle.std.specs.Prelude.{ℕ, ◌≡◌, Bool, true, List, [], ◌++◌, Some}
 use Rattle.vt_term.specs.Screen.{State}
 use Rattle.vt_term.specs.Ends.{Closed, Ends}
@@ -13,12 +13,12 @@ use Rattle.ti_conforms.specs.Sets.{SetsHold}
 use Rattle.ti_conforms.specs.Judged.{IsJudged}
 
 pub record LineHolds (t : Table) (row : Row) (bytes : List ℕ) : Type 0 where
-  -- the bytes are whole tokens, of which each is tame
+  -- the bytes are whole tokens, each of them tame
   pub right : IsRight t.rows t.cols t.looks row bytes
-  -- from every start the run isn't stuck, and ends so, with nothing open
+  -- from every start the run isn't stuck, and ends as `Ended` says, between two tokens
   pub ends : (s : State) → s.rest ≡ [] → Starts t.rows t.cols row s.screen
       → Ends s bytes (Closed (Ended t row s.screen))
-  -- where the bytes are cut off, the state is a lost one; `civis` and `cvvis` are not to be sent without `cnorm`
+  -- if the bytes are cut off, the state is a lost one; `civis` and `cvvis` must not be sent without `cnorm`
   pub fronts : (sets_visible row ≡ true → has t Cnorm ≡ true) → (s : State) → s.rest ≡ [] → IsLost t s
       → (front back : List ℕ) → bytes ≡ front ++ back → Ends s front (IsLost t)
 
@@ -29,8 +29,8 @@ pub record IsResynced (t : Table) (visible : Bool) (u : State) : Type 0 where
 
 pub record TableHolds (t : Table) : Type 0 where
   pub lines : (row : Row) (bytes : List ℕ) → t.line_of row ≡ Some bytes → LineHolds t row bytes
-  -- from every lost state, whatever is open and whether the cursor is visible or not, to a blank screen at rest; and
-  -- where it is cut off, to a lost state
+  -- From every lost state, whatever sequence is open and whether the cursor is visible or not, a resynchronization
+  -- leads to a blank screen at rest; each prefix of it leads to a lost state.
   pub resyncs : (shows : Bool) (s : State) → lost.IsLost t.rows t.cols (has t (widening t)) shows t.reached s
       → Ends s (resync t) (IsResynced t s.screen.visible)
   pub resync_fronts : (s : State) → IsLost t s → (front back : List ℕ) → resync t ≡ front ++ back

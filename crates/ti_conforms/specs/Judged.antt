@@ -1,4 +1,4 @@
--- What is known of lines once each was judged by its record.
+-- The facts about lines once each was judged by its record.
 use Rattle.std.specs.Prelude.{ℕ, ◌≡◌, true, false, List, [], ◌∷◌, Option, Some, None}
 use Rattle.vt_term.specs.Text.{Splits}
 use Rattle.vt_term.specs.Screen.{Charset, is_graphic}
@@ -25,7 +25,7 @@ pub record AskedLine (t : Table) (row : Row) (bytes : List ℕ) : Type 0 where
   pub settles : settles row ≡ true → (c : Charset) → t.settled c ≡ true → t.settled (designated effect.charset c) ≡ true
   pub active : (c : Charset) → t.settled c ≡ true → Activates row (designated effect.charset c)
 
--- what a line does to the sets, nothing where there is no line
+-- the change that a line makes to the sets; none if there is no line
 pub data ChangesSets (t : Table) (row : Row) (change : Option Sets) : Type 0 where
   NoLine : t.line_of row ≡ None → change ≡ None → ChangesSets t row change
   ByLine : (bytes : List ℕ) → t.line_of row ≡ Some bytes → (line : AskedLine t row bytes)
@@ -35,7 +35,7 @@ abbrev pub changed : Option Sets → Charset → Charset
 changed None c = c
 changed (Some sets) c = designated sets c
 
--- what the lines of a resynchronization do to the sets
+-- the changes that the lines of a resynchronization make to the sets
 pub record Changes : Type 0 where
   pub smcup : Option Sets
   pub enacs : Option Sets
@@ -51,7 +51,7 @@ pub record IsJudged (t : Table) : Type 0 where
   pub clears : t.line_of Clear ≡ Some clear_bytes
   pub sgr0_bytes : List ℕ
   pub makes_plain : t.line_of Sgr0 ≡ Some sgr0_bytes
-  -- where one line of `csr` is there, so is that of the whole screen
+  -- if any parameters of `csr` have a line, those of the whole screen have one
   pub widens : (top bottom : ℕ) → has t (Csr top bottom) ≡ true → has t (widening t) ≡ true
   pub changes : Changes
   pub smcup : ChangesSets t Smcup changes.smcup
@@ -62,7 +62,7 @@ pub record IsJudged (t : Table) : Type 0 where
   pub rest : List ℕ
   pub escapes : resync t ≡ 27 ∷ rest
   pub quiet : (c : Charset) → t.reached c ≡ true → is_graphic (left_of changes c) ≡ false
-  -- the sets: what is reached, what is settled, and that the latter is plain where lines can't switch sets
+  -- the charsets reached, those settled, and that settled ones are plain if lines can't switch sets
   pub starts : t.reached reset_charset ≡ true
   pub first_settled : (c : Charset) → t.reached c ≡ true → t.settled (left_of changes c) ≡ true
   pub settled_reached : (c : Charset) → t.settled c ≡ true → t.reached c ≡ true

@@ -1,4 +1,4 @@
--- Lines by their records, and what the lines of a resynchronization are to be.
+-- Lines by their records, and the requirements on the lines of a resynchronization.
 use Rattle.std.specs.Prelude.{ℕ, ◌-◌, ◌≡◌, Bool, true, false, List, [], Some, None}
 use Rattle.std.specs.List.{AllByRecursion}
 use Rattle.vt_term.specs.Text.{Splits}
@@ -27,12 +27,12 @@ abbrev pub free_start : ℕ → ℕ → Start
 free_start rows cols =
     record { row_min = 0; row_max = rows - 1; col_min = 0; col_max = cols - 1; pending = true; margins = margins.Whole }
 
--- `smcup`, `enacs`, `sgr0`, `rmacs`
+-- the record of `smcup`, `enacs`, `sgr0` or `rmacs`
 pub record IsQuiet (e : Effect) : Type 0 where
   pub margins : e.margins ≡ None
   pub visible : e.visible ≡ switches.Kept
 
--- `csr` of the whole screen
+-- the record of `csr` for the whole screen
 pub record SetsMargins (rows : ℕ) (e : Effect) : Type 0 where
   pub margins : e.margins ≡ Some (record { top = 0; bottom = rows - 1 })
   pub rendition : e.rendition ≡ nothing_rendered
@@ -40,7 +40,7 @@ pub record SetsMargins (rows : ℕ) (e : Effect) : Type 0 where
       ≡ record { g0_graphic = switches.Kept; g1_graphic = switches.Kept; shifted_out = switches.Kept }
   pub visible : e.visible ≡ switches.Kept
 
--- `clear`
+-- the record of `clear`
 pub record Clears (e : Effect) : Type 0 where
   pub row : e.row ≡ moves.To 0
   pub col : e.col ≡ moves.To 0
@@ -53,19 +53,19 @@ pub record Clears (e : Effect) : Type 0 where
   pub margins : e.margins ≡ None
   pub visible : e.visible ≡ switches.Kept
 
--- there is such a line of `csr`, or there is none at all
+-- `csr` is such a line, or there is none at all
 pub data MayWiden (rows cols : ℕ) (csr : List ℕ) : Bool → Type 0 where
   Absent : csr ≡ [] → MayWiden rows cols csr false
   Present : (start : Start) (e : Effect) → HasLine rows cols start csr e → SetsMargins rows e
       → MayWiden rows cols csr true
 
--- no token of these leads out of this set of charsets
+-- none of these tokens leads out of the set `reached`
 abbrev pub StaysIn : (Charset → Bool) → List (List ℕ) → Type 0
 StaysIn reached tokens =
     AllByRecursion (λ t. (c : Charset) → reached c ≡ true → reached (charset_after (function_of t) c) ≡ true) tokens
 
--- Whole tokens that may be cut off: each leaves autowrap on and insertion off and leads out of no charset that can be
--- had, and none changes margins or visibility where lines don't do that.
+-- Whole tokens that may be cut off: each leaves autowrap on and insertion off and leads out of no reached charset,
+-- and none changes margins or visibility unless lines do.
 pub record MayBeCut (rows : ℕ) (sets_margins shows : Bool) (reached : Charset → Bool) (bytes : List ℕ) : Type 0 where
   pub tokens : List (List ℕ)
   pub whole : Splits bytes tokens []

@@ -1,4 +1,4 @@
--- How attributes look that lines of their own turn on (terminfo(5), "Highlighting, Underlining, and Visible Bells").
+-- The looks of attributes that have strings of their own (terminfo(5), "Highlighting, Underlining, and Visible Bells").
 use Rattle.std.specs.Prelude.{ℕ, ◌≡◌, ◌==◌, ◌||◌, Bool, true, false}
 use Rattle.vt_effects.specs.declared.effects.Effect.{Effect}
 use Rattle.ti_rows.specs.declared.rows.Looks.{Looks}
@@ -10,8 +10,8 @@ use Rattle.ti_rows.specs.Looks.{learned}
 use Rattle.ti_rows.specs.Names.{no_attributes}
 use Rattle.ti_conforms.specs.Table.{Table, has}
 
--- an attribute that has a string looks as the rendition of its name, and one that has none can't be seen; what standout
--- looks like, its string says
+-- an attribute with a string of its own looks as its name says, and one without can't be seen; standout looks as its
+-- string says
 pub record SingleLooks (has : Row → Bool) (l : Looks) : Type 0 where
   pub underline : l.underline ≡ has Smul
   pub reverse : l.reverse ≡ has Rev
@@ -21,7 +21,7 @@ pub record SingleLooks (has : Row → Bool) (l : Looks) : Type 0 where
   pub invisible : l.invisible ≡ has Invis
   pub standout : has Smso ≡ false → l.standout ≡ no_marks
 
--- so where no `sgr` sets all of them
+-- attributes look so if no `sgr` sets all of them
 abbrev pub LooksAlone : (Row → Bool) → Looks → Type 0
 LooksAlone has l = has (Sgr no_attributes) ≡ false → SingleLooks has l
 
@@ -41,7 +41,7 @@ no_looks =
       invisible = false;
     }
 
--- one attribute other than standout, by the number of a set of attributes
+-- `n` is the number of a set of one attribute other than standout
 abbrev pub is_single : ℕ → Bool
 is_single n = n == 1 || (n == 2 || (n == 4 || (n == 8 || (n == 16 || n == 32))))
 
@@ -52,6 +52,6 @@ is_alone _ = false
 abbrev pub standout : Row
 standout = Sgr (record no_attributes { standout = true })
 
--- the effect is of the form that `sgr` has for one attribute that may look like anything
+-- the effect is of the form of `sgr` with one attribute that may look like anything
 abbrev pub IsSomeLook : Effect → Type 0
 IsSomeLook effect = effect ≡ asked (learned standout effect no_looks) standout effect

@@ -10,8 +10,8 @@ pub record IsWhole (s : Screen) : Type 0 where
   pub top : s.top ≡ 0
   pub bottom : s.bottom + 1 ≡ s.rows
 
--- Any open rest, cells, cursor, pending and rendition, and a charset that can be had. Margins are whole where nothing
--- sets any, and the cursor is visible where nothing shows it again.
+-- Any open sequence, cells, cursor, pending wrap and rendition, and a charset among those given. Margins are whole if
+-- nothing sets any, and the cursor is visible if nothing shows it again.
 pub record IsLost (rows cols : ℕ) (sets_margins shows : Bool) (among : Charset → Bool) (s : State) : Type 0 where
   pub sized : IsOfSize rows cols s
   pub tame : IsTame s.screen
@@ -19,7 +19,7 @@ pub record IsLost (rows cols : ℕ) (sets_margins shows : Bool) (among : Charset
   pub margins : sets_margins ≡ false → IsWhole s.screen
   pub visible : shows ≡ false → s.screen.visible ≡ true
 
--- at rest, with blank cells in default rendition, the cursor in the first place, and this visibility
+-- at rest, with blank cells in the default rendition, the cursor at the first cell, and this visibility
 pub record IsCleared (rows cols : ℕ) (seen : Bool) (t : State) : Type 0 where
   pub sized : IsOfSize rows cols t
   pub rest : IsAtRest t

@@ -1,4 +1,4 @@
--- Laws of strings that lead a terminal out of a state that isn't known, and of strings that are cut off.
+-- Laws of strings that lead a terminal out of an unknown state, and of strings that are cut off.
 use Rattle.std.specs.Prelude.{ℕ, ◌-◌, ◌≡◌, Bool, true, false, List, [], ◌∷◌, ◌++◌, Option}
 use Rattle.vt_term.specs.Look.{Rendition, plain}
 use Rattle.vt_term.specs.Screen.{State, IsOfSize, Charset, is_graphic}
@@ -13,7 +13,7 @@ use Rattle.ti_conforms.specs.Lost.{IsLost, IsCleared}
 use Rattle.vt_term.specs.Ends.{Ends}
 use Rattle.ti_conforms.specs.Lines.{HasLine, free_start, IsQuiet, Clears, MayWiden, MayBeCut}
 
--- nothing open, this rendition, these sets, and all other settings as they were
+-- between two tokens, with this rendition, this charset, and all other settings as before
 pub record Settled (rows cols : ℕ) (r : Rendition) (c : Charset) (s t : State) : Type 0 where
   pub rest : t.rest ≡ []
   pub size : IsOfSize rows cols t
@@ -23,7 +23,7 @@ pub record Settled (rows cols : ℕ) (r : Rendition) (c : Charset) (s t : State)
   pub visible : t.screen.visible ≡ s.screen.visible
   pub margins : SameMargins s.screen t.screen
 
--- from every state with nothing open, whatever its cells, cursor and margins
+-- `bytes` change rendition and charset by `R` and `C`, from every state between two tokens, and keep the other settings
 abbrev pub Settles : ℕ → ℕ → List ℕ → (Rendition → Rendition) → (Charset → Charset) → Type 0
 Settles rows cols bytes R C = (s : State) → s.rest ≡ [] → IsOfSize rows cols s → IsTame s.screen
     → Ends s bytes (Settled rows cols (R s.screen.rendition) (C s.screen.charset) s)
@@ -41,7 +41,7 @@ SettlingJoins =
     (rows cols : ℕ) (a b : List ℕ) (Q R : Rendition → Rendition) (B C : Charset → Charset) → Settles rows cols a Q B
     → Settles rows cols b R C → Settles rows cols (a ++ b) (λ r. R (Q r)) (λ c. C (B c))
 
--- Where the lines are so, ESC in front and the sets are all that is left to look at.
+-- If its lines have these properties, a resynchronization leads from every lost state to a blank screen.
 abbrev pub ResyncLeads : Type 0
 ResyncLeads =
     (rows cols : ℕ) (sets_margins shows : Bool) (front csr clear more : List ℕ) (R : Rendition → Rendition)
@@ -52,8 +52,8 @@ ResyncLeads =
     → (s : State) → IsLost rows cols sets_margins shows reached s
     → Ends s (front ++ (csr ++ clear)) (IsCleared rows cols s.screen.visible)
 
--- A line that is cut off anywhere leads from a lost state with nothing open to a lost state; the whole line leaves
--- nothing open.
+-- A line that is cut off anywhere leads from a lost state between two tokens to a lost state; after the whole line no
+-- sequence is open.
 abbrev pub FrontsStay : Type 0
 FrontsStay =
     (rows cols : ℕ) (sets_margins shows : Bool) (reached : Charset → Bool) (bytes : List ℕ)
@@ -73,8 +73,8 @@ WholesStay =
     → (s : State) → s.rest ≡ [] → IsLost rows cols sets_margins shows reached s
     → Ends s bytes (IsLostAndClosed rows cols sets_margins shows reached)
 
--- The strings of a resynchronization, in the order in which they are sent, those that there are (terminfo(5),
--- "Initialization" and "Line Graphics").
+-- The rows of a resynchronization, in the order in which those with a line are sent (terminfo(5), "Initialization"
+-- and "Line Graphics").
 abbrev pub resync_rows : ℕ → List Row
 resync_rows rows = Smcup ∷ Enacs ∷ Sgr0 ∷ Rmacs ∷ Csr 0 (rows - 1) ∷ Clear ∷ []
 

@@ -1,5 +1,5 @@
--- What a string sends for a row of the table of checked capabilities (terminfo(5), "Parameterized Strings" and "Delays
--- and Padding"): with the row's parameters, from static variables that are all 0, and without its delays.
+-- The bytes that a string sends for a row of the table of checked capabilities (terminfo(5), "Parameterized Strings"
+-- and "Delays and Padding"): with the row's parameters, from static variables that are all 0, and without its delays.
 use Rattle.std.specs.Prelude.{ℕ, ◌≡◌, pos, map, List, Ok, Err}
 use Rattle.ti_parm.specs.Meaning.{State, meaning, sent, ReadsUnset}
 use Rattle.ti_parm.specs.Value.{Value, Number, zeros}
@@ -14,18 +14,18 @@ numbers ns = map (λ n. Number (pos n)) ns
 abbrev pub values : Row → List Value
 values row = numbers (params row)
 
--- the string has no fault, reads no static variable that it didn't set before, and sends these bytes
+-- the string has no fault, reads no static variable before it sets it, and sends these bytes
 pub record Sends (string : List ℕ) (row : Row) (bytes : List ℕ) : Type 0 where
   pub sends : sent string (values row) ≡ Ok bytes
   pub sets_first : (end : State) → meaning string (values row) zeros ≡ Ok end → ReadsUnset end → ⊥
 
--- the run reads a static variable before the string set it
+-- the string reads a static variable before it sets it
 pub record ReadsStatic (string : List ℕ) (row : Row) : Type 0 where
   pub end : State
   pub runs : meaning string (values row) zeros ≡ Ok end
   pub reads : ReadsUnset end
 
--- why nothing is sent
+-- the reason why nothing is sent
 abbrev pub IsUnsent : List ℕ → Row → SendFault → Type 0
 IsUnsent string row (Fault fault) = meaning string (values row) zeros ≡ Err fault
 IsUnsent string row StaticRead = ReadsStatic string row

@@ -23,24 +23,24 @@ pub data CanHave (t : Table) : Charset → Type 0 where
   AfterToken : (c d : Charset) (token : List ℕ) → CanHave t c → Occurs t token → d ≡ charset_after (function_of token) c
       → CanHave t d
 
--- a whole text leads from the one charset to the other
+-- a whole text leads from `c` to `d`
 pub record LeadsBy (bytes : List ℕ) (c d : Charset) : Type 0 where
   pub tokens : List (List ℕ)
   pub whole : Splits bytes tokens []
   pub is : d ≡ charset_over tokens c
 
--- Settled: the least set that has what a resynchronization leaves of each reached charset, and that no line but those
--- that begin and end a program's screen leads out of as a whole.
+-- Settled: the least set that has the charsets that a resynchronization leaves of reached ones, and that no whole
+-- line leads out of, except for lines that begin or end a program's screen.
 pub data CanSettle (t : Table) : Charset → Type 0 where
   AfterResync : (c d : Charset) → CanHave t c → LeadsBy (resync t) c d → CanSettle t d
   AfterLine : (c d : Charset) (row : Row) (bytes : List ℕ) → CanSettle t c → t.line_of row ≡ Some bytes
       → settles row ≡ true → LeadsBy bytes c d → CanSettle t d
 
--- the strings that switch to the graphic set and back are both there
+-- the strings that switch to the graphic set and back both have lines
 abbrev pub has_sets : Table → Bool
 has_sets t = has t Smacs && has t Rmacs
 
--- the table's sets hold at least these, and every settled one is plain where lines can't switch sets
+-- the table's sets hold at least these, and every settled charset is plain if lines can't switch sets
 pub record SetsHold (t : Table) : Type 0 where
   pub reached : (c : Charset) → CanHave t c → t.reached c ≡ true
   pub settled : (c : Charset) → CanSettle t c → t.settled c ≡ true

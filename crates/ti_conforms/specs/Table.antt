@@ -1,4 +1,4 @@
--- The strings of an entry for a size, as what drives a terminal sees them.
+-- The strings of an entry for a size, as code that drives a terminal uses them.
 use Rattle.std.specs.Prelude.{ℕ, ◌-◌, ◌≡◌, Bool, true, false, List, [], ◌++◌, Option, Some, None, is_some}
 use Rattle.vt_term.specs.Screen.{State, Screen, Charset, is_graphic}
 use Rattle.ti_rows.specs.declared.rows.Looks.{Looks}
@@ -7,7 +7,7 @@ use Rattle.ti_rows.specs.declared.rows.Row.TheVariants.{Clear, Csr, Smcup, Rmcup
 use Rattle.ti_rows.specs.Wants.{Wants}
 use Rattle.ti_conforms.specs.Lost as lost
 
--- for each group of capabilities the length of its longest line, 0 where it has none
+-- the length of the longest line of each group of capabilities, 0 if it has none
 pub record Longest : Type 0 where
   pub cup : ℕ
   pub sgr : ℕ
@@ -40,14 +40,15 @@ no_lengths =
 pub record Table : Type 0 where
   pub rows : ℕ
   pub cols : ℕ
-  -- the bytes of the line with a row's parameters, where the entry has its string
+  -- the bytes of the line for a row, if the entry has its string
   pub line_of : Row → Option (List ℕ)
-  -- how each attribute looks alone
+  -- how each attribute looks by itself
   pub looks : Looks
-  -- the charsets that a string which is cut off may leave, and those that whole strings leave after a resynchronization
+  -- the charsets that strings may leave when they are cut off, and those that whole strings leave after a
+  -- resynchronization
   pub reached : Charset → Bool
   pub settled : Charset → Bool
-  -- what brings a terminal of any state to rest, as it is sent, and how long lines are at most
+  -- the bytes that bring a terminal from any state to rest, and the longest lines
   pub resync : List ℕ
   pub longest : Longest
 
@@ -58,7 +59,7 @@ abbrev pub or_nothing : Option (List ℕ) → List ℕ
 or_nothing None = []
 or_nothing (Some bytes) = bytes
 
--- the bytes of a row's line, or nothing where there is none
+-- the bytes of a row's line, or nothing if it has none
 abbrev pub text_of : Table → Row → List ℕ
 text_of t row = or_nothing (t.line_of row)
 
@@ -66,8 +67,8 @@ text_of t row = or_nothing (t.line_of row)
 abbrev pub widening : Table → Row
 widening t = Csr 0 (t.rows - 1)
 
--- What leads a terminal out of a state that isn't known: `smcup`, `enacs`, `sgr0`, `rmacs`, `csr` of the whole screen
--- and `clear`, those that there are (terminfo(5), "Initialization" and "Line Graphics").
+-- The lines of `smcup`, `enacs`, `sgr0` and `rmacs`, as far as there are any. With those of `csr` for the whole screen
+-- and `clear` they lead a terminal out of an unknown state (terminfo(5), "Initialization" and "Line Graphics").
 abbrev pub front_of : (Row → Option (List ℕ)) → List ℕ
 front_of line_of =
     (or_nothing (line_of Smcup) ++ or_nothing (line_of Enacs))
@@ -82,11 +83,11 @@ resync_front t = front_of t.line_of
 abbrev pub resync : Table → List ℕ
 resync t = resync_of t.rows t.line_of
 
--- A state after output was cut off: margins are free where `csr` can set them, and visibility where `cnorm` can.
+-- A state after output was cut off: margins are free if `csr` can set them, and visibility is if `cnorm` can.
 abbrev pub IsLost : Table → State → Type 0
 IsLost t s = lost.IsLost t.rows t.cols (has t (widening t)) (has t Cnorm) t.reached s
 
--- all but what begins and ends a program's screen leave settled charsets settled
+-- strings of all rows but those that begin or end a program's screen leave settled charsets settled
 abbrev pub settles : Row → Bool
 settles Smcup = false
 settles Rmcup = false
@@ -98,7 +99,7 @@ Activates Smacs c = is_graphic c ≡ true
 Activates Rmacs c = is_graphic c ≡ false
 Activates _ c = Unit {0}
 
--- the end of a row's line: as is wanted; settled charsets lead to settled ones, and reached to reached ones
+-- the end of a row's line: as wanted; settled charsets lead to settled ones, and reached to reached ones
 pub record Ended (t : Table) (row : Row) (s u : Screen) : Type 0 where
   pub wants : Wants t.looks row s u
   pub settled : settles row ≡ true → t.settled s.charset ≡ true → t.settled u.charset ≡ true

@@ -1,4 +1,4 @@
--- Which lines stand beside each other where lines are just what an entry sends.
+-- Which lines exist together if they are just those that an entry sends.
 use Rattle.std.specs.Prelude.{ℕ, ◌<◌, ◌≡◌, true, false}
 use Rattle.vt_term.specs.Color.{Color}
 use Rattle.ti_caps.specs.Entry.{Content}
@@ -11,7 +11,7 @@ use Rattle.ti_conforms.specs.Entries.{EntryAgrees}
 use Rattle.ti_conforms.specs.Table.{Table, has}
 use Rattle.ti_conforms.specs.Conforms.{IsFit}
 
--- `sgr` sets all attributes, or strings of single attributes do
+-- no string of a single attribute has a line
 pub record HasNoSingles (t : Table) : Type 0 where
   pub smul : has t Smul ≡ false
   pub rev : has t Rev ≡ false
@@ -28,10 +28,10 @@ pub record StandTogether (t : Table) : Type 0 where
   pub clears : has t Clear ≡ true
   pub moves : (row col : ℕ) → row < t.rows → col < t.cols → has t (Cup row col) ≡ true
   pub makes_plain : has t Sgr0 ≡ true
-  -- colours can be set and taken back, or neither
+  -- colors can be set and taken back, or neither
   pub foregrounds : (c : Color) → has t (Setaf c) ≡ has t Op
   pub backgrounds : (c : Color) → has t (Setab c) ≡ has t Op
-  -- so with the graphic set
+  -- the graphic set can be chosen and left, or neither
   pub sets : has t Smacs ≡ has t Rmacs
   pub singles : has t (Sgr no_attributes) ≡ true → HasNoSingles t
 

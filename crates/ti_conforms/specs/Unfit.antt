@@ -1,5 +1,5 @@
--- Why no certificate is for an entry, whatever its strings send (terminfo(5), "Predefined Capabilities"): it hasn't
--- what it needs, or has what it may not have.
+-- Why an entry can have no certificate, whatever its strings send (terminfo(5), "Predefined Capabilities"): a
+-- required capability is missing, or a forbidden one is there.
 use Rattle.std.specs.Prelude.{ℕ, ◌≡◌, ◌==◌, ◌&&◌, ◌||◌, not, if◌then◌else◌, Bool, true, false, List, Option, Some, None}
 use Rattle.std.specs.Prelude.{is_some}
 use Rattle.ti_caps.specs.Entry.{Content, flag_at, number_at, string_at}
@@ -25,7 +25,7 @@ IsRequired (Cup row col) = Unit {0}
 IsRequired Sgr0 = Unit {0}
 IsRequired _ = ⊥
 
--- a required string that the entry hasn't
+-- a required string that the entry lacks
 pub record IsLacking (entry : Content) (row : Row) : Type 0 where
   pub required : IsRequired row
   pub absent : has_string entry row ≡ false
@@ -75,19 +75,19 @@ pub record HasRequired (entry : Content) : Type 0 where
   pub cup : has_string entry (Cup 0 0) ≡ true
   pub sgr0 : has_string entry Sgr0 ≡ true
 
--- a required string is the first that the entry hasn't, and no flag rules it out
+-- the row's string is the first required one that the entry lacks, and no flag rules the entry out
 pub record LacksFirst (entry : Content) (row : Row) : Type 0 where
   pub lacking : IsLacking entry row
   pub first : first_absent entry ≡ Some row
   pub flags : HasNoFlagOut entry
 
--- it is the first reason
+-- the first reason
 abbrev pub IsUnfit : Content → Unfit → Type 0
 IsUnfit entry (FlagOut cap) = (first_flag_out entry ≡ Some cap) × (is_flag_out entry cap ≡ true)
 IsUnfit entry (Absent row) = LacksFirst entry row
 IsUnfit entry AcsByte = HasRequired entry × HasMisfit entry
 
--- the capability that it is about
+-- the capability that a reason is about
 abbrev pub cap_of_unfit : Unfit → ℕ
 cap_of_unfit (FlagOut cap) = cap
 cap_of_unfit (Absent row) = cap_of row

@@ -1,4 +1,4 @@
-//! Whether lines are what an entry's strings send.
+//! Whether lines have the bytes that an entry's strings send.
 
 ghost use Rattle.std.specs.Prelude.{◌≡◌, None, true, false, IfErr, List, OnOk, Option, ℕ, option_copied};
 ghost use Rattle.ti_rows.specs.Lists.{IsFirst, IsInRange};
@@ -11,16 +11,16 @@ use std::alloc::Global;
 use ti_rows::Row;
 use vt_term::Size;
 
-/// Lines by the row that they are for.
+/// A set of lines, found by the row that each is for.
 pub trait LinesByRow {
-    /// The bytes of the row's line, where there is one.
+    /// The bytes of the row's line, if there is one.
     ghost line_of: { Self → Row → Option (List ℕ) };
 
-    /// The bytes of the row's line, where there is one.
+    /// The bytes of the row's line, if there is one.
     fn line(&self, row: Row) -> Option<&[u8]>
         ensures { option_copied result ≡ line_of self.now row };
 
-    /// Whether the row's capability has a line, for whatever parameters.
+    /// Whether the row's capability has a line, with whatever parameters.
     fn has_any(&self, row: Row) -> bool
         ensures some { result ≡ true → spec.SomeLine (line_of self.now) (order row) }
         ensures none { result ≡ false → (other : Row) → order other ≡ order row → line_of self.now other ≡ None };
@@ -37,7 +37,7 @@ pub enum Disagreement {
     NoMemory,
 }
 
-/// Whether the row's line has just the bytes that the string sends, which go into `bytes`.
+/// Whether the row's line has just the bytes that `string` sends, which are written to `bytes`.
 fn row_agrees<L: LinesByRow>(
     alloc: Global,
     size: Size,
@@ -62,11 +62,11 @@ fn row_agrees<L: LinesByRow>(
     }
 }
 
-/// Whether each line of a capability has just the bytes that its string sends, for every parameter
-/// list that the size allows. `first` is the first of these lists.
+/// Checks that each line of a capability has just the bytes that `string` sends, for every
+/// parameter list that `size` allows. `first` must be the first of these lists.
 ///
 /// # Errors
-/// `Disagree` with a row for which it hasn't, and `NoMemory`.
+/// `Disagree` with a row whose line hasn't, or `NoMemory`.
 pub fn all_agree<L: LinesByRow>(
     alloc: Global,
     size: Size,

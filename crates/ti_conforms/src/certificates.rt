@@ -1,24 +1,24 @@
-//! What a painter asks of a verified certificate.
+//! The interface of a painter to a verified certificate.
 ghost use Rattle.std.specs.Prelude.{◌≡◌, IfSome, Some, None};
 ghost use Rattle.ti_conforms.specs.Certified.{Table, IsChecked};
 
 use ti_rows::Row;
 
-/// A verified certificate: the strings of an entry for a size, of which all is known that a painter needs.
+/// A verified certificate: the strings of an entry for a size, with all facts that a painter needs.
 pub trait Certificate {
     ghost use Rattle.std.specs.Prelude.{ℕ, Option};
 
     ghost table: { Self → Table };
 
-    /// The partner of each letter in the graphic set (terminfo(5), "Line Graphics"), where there is one.
+    /// The partner of each letter in the graphic set (terminfo(5), "Line Graphics"), if it has one.
     ghost partners: { Self → ℕ → Option ℕ };
 
-    /// How many lines the screen has, and that all was verified.
+    /// The number of lines of the screen. Its contract also says that the whole table was verified.
     fn rows(&self) -> usize
         ensures value { result ≡ (table self.now).rows }
         ensures checked { IsChecked (table self.now) };
 
-    /// How many columns the screen has.
+    /// The number of columns of the screen.
     fn cols(&self) -> usize
         ensures value { result ≡ (table self.now).cols };
 
@@ -27,7 +27,7 @@ pub trait Certificate {
         ensures value { IfSome result (λ b. (table self.now).line_of row ≡ Some b.now) }
         ensures none { result ≡ None → (table self.now).line_of row ≡ None };
 
-    /// What leads from any state to a blank screen at rest.
+    /// The bytes that lead from any state to a blank screen at rest.
     fn resync(&self) -> &[u8]
         ensures value { result.now ≡ (table self.now).resync };
 
@@ -37,7 +37,7 @@ pub trait Certificate {
         ensures value { result ≡ partners self.now letter };
 }
 
-/// A certificate that is lent.
+/// A borrowed certificate.
 impl<'a, C: Certificate> Certificate for &'a C {
     ghost table = { λ c. C.table c.now };
 

@@ -1,4 +1,4 @@
-//! Sets of charsets, and what strings lead them to.
+//! Sets of charsets, and the charsets to which strings lead.
 
 ghost use Rattle.std.specs.Prelude.{◌≡◌, ◌⊎◌, ◌<◌, ◌+◌, IfSome, IfNone, ℕ, List, true, false, not};
 ghost use Rattle.ti_conforms.specs.Closures.{Settled, SomeLeads, LeadsOut, Leaves, StaysFrom, absent, designated_all};
@@ -45,22 +45,22 @@ pub const KEPT: Sets = Sets {
     shifted_out: Switch::Kept,
 };
 
-/// What a string does to the charsets, nothing where there is none.
+/// The change that a string makes to the charset; [`KEPT`] if there is no string.
 pub fn or_kept(change: Option<Sets>) -> Sets
     ensures { result ≡ or_kept change }
 {
     change.unwrap_or(KEPT)
 }
 
-/// Whether strings of `row` leave charsets as whole strings do: all but what begins and ends a program's
-/// screen.
+/// Whether strings of `row` lead from settled charsets to settled ones: all rows but those that
+/// begin or end a program's screen.
 pub fn settles(row: Row) -> bool
     ensures { result ≡ settles row }
 {
     !matches!(row, Row::Smcup | Row::Rmcup)
 }
 
-/// Whether what was `on` is on after the switch.
+/// Whether a mark that is `on` or not is on after the switch.
 pub fn switched(switch: Switch, on: bool) -> bool
     ensures { result ≡ switched switch on }
 {
@@ -71,7 +71,7 @@ pub fn switched(switch: Switch, on: bool) -> bool
     }
 }
 
-/// The charset that a string which does `change` leaves of `charset`.
+/// The charset that `change` makes of `charset`.
 pub fn designated(change: Sets, charset: Charset) -> Charset
     ensures { result ≡ designated change charset }
 {
@@ -82,7 +82,7 @@ pub fn designated(change: Sets, charset: Charset) -> Charset
     }
 }
 
-/// The charset that several strings leave, one after another.
+/// The charset that `changes`, one after another, make of `charset`.
 fn designated_all(changes: &[Sets], charset: Charset) -> Charset
     ensures { result ≡ designated_all changes.now charset }
 {
@@ -119,7 +119,7 @@ impl Charsets {
         self.members[number_of(charset)] = true;
     }
 
-    /// What these strings, sent one after another, leave of each charset that can be had.
+    /// The charsets that these strings, sent one after another, leave of the charsets within `reach`.
     pub fn left_by(changes: &[Sets], reach: Reach) -> Charsets
         ensures sound { (d : Charset) → has result d ≡ true → Leaves reach changes.now d }
         ensures complete { (d : Charset) → Leaves reach changes.now d → has result d ≡ true }
@@ -134,7 +134,7 @@ impl Charsets {
         left
     }
 
-    /// A charset outside the set to which one of the changes leads from this one.
+    /// A charset outside this set to which one of the changes leads from `charset`.
     fn outside_from(&self, changes: &[Sets], charset: Charset) -> Option<Charset>
         ensures some { IfSome result (λ d. (has self.now d ≡ false) × SomeLeads changes.now charset d) }
         ensures none { IfNone result (StaysFrom self.now changes.now charset) }
@@ -148,7 +148,7 @@ impl Charsets {
         None
     }
 
-    /// A charset outside the set to which one of the changes leads from a member.
+    /// A charset outside this set to which one of the changes leads from a member.
     fn outside(&self, changes: &[Sets]) -> Option<Charset>
         ensures some { IfSome result (λ d. (has self.now d ≡ false) × LeadsOut self.now changes.now d) }
         ensures none { IfNone result ((c : Charset) → has self.now c ≡ true → StaysFrom self.now changes.now c) }
@@ -177,7 +177,8 @@ impl Charsets {
         }
     }
 
-    /// A member from which the change leads to a charset whose active set isn't of this kind.
+    /// A member from which `change` leads to a charset whose active set is plain if `graphic`, and
+    /// graphic if not.
     pub fn misled(&self, change: Sets, graphic: bool) -> Option<Charset>
         ensures some { IfSome result (λ c. (has self.now c ≡ true) × (is_graphic (designated change c) ≡ not graphic)) }
         ensures none { IfNone result ((c : Charset) → has self.now c ≡ true

@@ -1,4 +1,4 @@
-//! Which capabilities of an entry are checked, and whether lines are just what it sends for them.
+//! Which capabilities of an entry are checked, and whether lines are just those that it sends.
 
 ghost use Rattle.std.specs.Prelude.{◌≡◌, ◌<◌, IfErr, OnOk, Some, false, is_some, true};
 ghost use Rattle.ti_caps.specs.Entry.{string_at};
@@ -12,16 +12,16 @@ use ti_caps::{Cap, Entry, Kind, at};
 use ti_rows::{CAPABILITIES, NO_ATTRIBUTES, Row};
 use vt_term::{Color, Size};
 
-/// What a capability is checked beside.
+/// The group of capabilities with which a capability is checked.
 #[derive(Clone, Copy, Debug, PartialEq, Eq)]
 pub enum Group {
-    /// `setaf`, `setab`, `op`: with each other.
+    /// `setaf`, `setab` and `op`: checked if the entry has all of them.
     Colors,
-    /// One attribute alone: where there is no `sgr`.
+    /// A single attribute: checked if the entry has no `sgr`.
     Single,
-    /// `smacs`, `rmacs`: with each other and `acsc`.
+    /// `smacs` and `rmacs`: checked if the entry has both and `acsc`.
     Sets,
-    /// All others.
+    /// All others: checked by themselves.
     Alone,
 }
 
@@ -69,16 +69,16 @@ fn meets(entry: &Entry, group: Group) -> bool
     }
 }
 
-/// Whether the entry has the row's capability and it is checked: colours where the entry can set both
-/// and take them back, single attributes where there is no `sgr`, `smacs` and `rmacs` with each other
-/// and `acsc`.
+/// Whether the entry has the capability of `row` and it is checked: colors if the entry can set both and
+/// take them back, single attributes if it has no `sgr`, `smacs` and `rmacs` if it has both and `acsc`.
 pub fn is_checked(entry: &Entry, row: Row) -> bool
     ensures { result ≡ spec.is_checked entry.now row }
 {
     has_string(entry, row) && meets(entry, group_of(row))
 }
 
-/// Whether the lines of one capability are just what the entry sends, and none where it isn't checked.
+/// Checks that the lines of one capability are just those that the entry sends, and that there are
+/// none if it isn't checked.
 fn cap_agrees<L: LinesByRow>(
     alloc: Global,
     size: Size,
@@ -103,11 +103,11 @@ fn cap_agrees<L: LinesByRow>(
     }
 }
 
-/// Whether lines are just what an entry sends: for each checked capability of the entry and each
-/// parameter list that the size allows a line with the bytes that its string sends, and no other line.
+/// Checks that lines are just those that an entry sends: for each checked capability of the entry and each
+/// parameter list that `size` allows, a line with the bytes that its string sends, and no other line.
 ///
 /// # Errors
-/// `Disagree` and `Unwanted` with a row for which it isn't so, and `NoMemory`.
+/// `Disagree` or `Unwanted` with a row for which this isn't true, or `NoMemory`.
 pub fn entry_agrees<L: LinesByRow>(
     alloc: Global,
     size: Size,

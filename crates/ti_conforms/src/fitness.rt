@@ -1,4 +1,4 @@
-//! What an entry has to have, and what it may not have.
+//! The capabilities that an entry must have, and those that it must not have.
 
 ghost use Rattle.std.specs.Prelude.{◌≡◌, ◌<◌, ℕ, List, IfNone, IfSome, true, false, Some, None};
 ghost use Rattle.ti_caps.specs.Entry.{flag_at, number_at, string_at};
@@ -12,7 +12,7 @@ use crate::partners::misfit;
 use ti_caps::{Cap, Entry, Kind, at};
 use ti_rows::Row;
 
-/// Why no certificate can be for an entry, whatever its strings send.
+/// Why an entry can have no certificate, whatever its strings send.
 #[derive(Clone, Copy, Debug, PartialEq, Eq)]
 pub enum Unfit {
     /// It has this flag or number: attributes that take room on the screen (`xmc`), paper (`hc`), a generic
@@ -25,7 +25,7 @@ pub enum Unfit {
 }
 
 impl Unfit {
-    /// The capability that is the reason.
+    /// The capability that the reason is about.
     pub fn cap(self) -> Cap
         ensures { result ≡ spec.cap_of_unfit self }
     {
@@ -37,7 +37,7 @@ impl Unfit {
     }
 }
 
-/// The first of the flags and numbers that rule every certificate out.
+/// The first flag or number that rules out every certificate.
 #[tactic(auto, unfolding(ti_caps::specs::Table::kind_of, ti_caps::specs::Table::position_of, ti_caps::specs::Table::place_from))]
 fn flag_out(entry: &Entry) -> Option<Cap>
     ensures first { result ≡ spec.first_flag_out entry.now }
@@ -86,7 +86,7 @@ fn absent(entry: &Entry) -> Option<Row>
     None
 }
 
-/// The capability of alternate characters.
+/// The capability `acsc`.
 #[tactic(auto, unfolding(ti_caps::specs::Table::kind_of, ti_caps::specs::Table::position_of, ti_caps::specs::Table::place_from))]
 pub fn acsc() -> Cap
     ensures { result ≡ entries.acsc }
@@ -94,7 +94,7 @@ pub fn acsc() -> Cap
     at(Kind::String, 146).unwrap()
 }
 
-/// Whether `acsc` lists a letter of line graphics with a partner that can't be printed.
+/// Whether the entry's `acsc` lists a letter of line graphics with a partner that can't be printed.
 fn has_misfit(entry: &Entry) -> bool
     ensures some { result ≡ true → spec.HasMisfit entry.now }
     ensures none { result ≡ false → (pairs : List ℕ) → string_at entry.now entries.acsc ≡ Some pairs → (letter : ℕ)
@@ -106,8 +106,8 @@ fn has_misfit(entry: &Entry) -> bool
     }
 }
 
-/// The first reason why no certificate can be for the entry, in the order `xmc`, `hc`, `gn`, `os`, then
-/// `clear`, `cup`, `sgr0`, then `acsc`; `None` for an entry that is fit.
+/// The first reason why the entry can have no certificate, in the order `xmc`, `hc`, `gn`, `os`,
+/// then `clear`, `cup`, `sgr0`, then `acsc`; `None` for a fit entry.
 pub fn first_unfit(entry: &Entry) -> Option<Unfit>
     ensures some { IfSome result (λ why. spec.IsUnfit entry.now why) }
     ensures named { IfSome result (λ why. spec.IsUnfitBy entry.now (spec.cap_of_unfit why)) }

@@ -13,7 +13,7 @@ ghost use Rattle.ti_conforms.specs.Entries.{acsc};
 
 /// A terminal that begins in its reset state and takes some of these tokens, in any order and any
 /// number of times, can have a charset exactly if each of its marks is turned on by one of them.
-/// The marks of two lists of tokens are those of both.
+/// The marks of two lists of tokens together are those of either list.
 pub fn reach_is_exact()
     ensures sound { (tokens : List (List ℕ)) (c : Charset) → can_have (reach_of tokens) c ≡ true → Reached tokens c }
     ensures complete { (tokens : List (List ℕ)) (c : Charset) → Reached tokens c → can_have (reach_of tokens) c ≡ true }
@@ -21,9 +21,9 @@ pub fn reach_is_exact()
         ≡ joined (reach_of first) (reach_of second) }
 {}
 
-/// A line that sets no margins and doesn't show or hide the cursor settles rendition and sets from
-/// every state with nothing open, whatever its margins, and keeps the margins and the visibility.
-/// So does no line at all, and one such text after another.
+/// A line that sets no margins and doesn't show or hide the cursor leads from every state between two
+/// tokens to the rendition and charset of its record, whatever the margins, and keeps the margins and
+/// the visibility. An empty text changes nothing, and two such texts in a row do as both records say.
 pub fn quiet_lines_settle()
     ensures line { QuietSettles }
     ensures nothing { NothingSettles }
@@ -31,34 +31,35 @@ pub fn quiet_lines_settle()
 {}
 
 /// From every lost state, whatever sequence is open, the lines of a resynchronization lead to a
-/// blank screen at rest: where they begin with ESC, end in default rendition with the plain set
-/// active from each charset that can be had, and widen the margins where lines set any.
+/// blank screen at rest. They must begin with ESC, end in the default rendition with the plain set
+/// active from each charset that a terminal can have, and widen the margins if lines set any.
 pub fn resync_leads()
     ensures { ResyncLeads }
 {}
 
-/// The bytes of a line, cut off anywhere, lead from a lost state with nothing open to a lost state;
-/// the whole line leaves nothing open.
+/// The bytes of a line, cut off anywhere, lead from a lost state between two tokens to a lost
+/// state; after the whole line no sequence is open.
 pub fn fronts_stay()
     ensures front { FrontsStay }
     ensures whole { WholesStay }
 {}
 
-/// Where each line has the record that the table asks for, a resynchronization begins with ESC and
-/// the sets are as asked, every line ends as is wanted from each start of its row; cut off anywhere
-/// it leaves a lost state; and from every lost state, whatever is open, the resynchronization leads
-/// to a blank screen at rest.
+/// If each line has the record that the table asks for, a resynchronization begins with ESC and the
+/// sets are as required, then every line ends as wanted from each start of its row, and leaves a
+/// lost state if it is cut off anywhere. The resynchronization leads from every lost state,
+/// whatever sequence is open, to a blank screen at rest.
 pub fn judged_holds()
     ensures { JudgedHolds }
 {}
 
-/// Where lines were judged and are just what the entry sends, the entry conforms.
+/// If lines were judged and are just those that a fit entry sends, the entry conforms.
 pub fn agreed_conforms()
     ensures { AgreedConforms }
 {}
 
-/// Lines that are just what a fit entry sends have all parameter lists of a capability or none, and
-/// the lines that are for use with each other.
+/// Lines that are just those that a fit entry sends: a capability has all of its parameter lists or
+/// none; `clear`, `cup` and `sgr0` have lines; `setaf` and `setab` have lines exactly if `op` has,
+/// and `smacs` exactly if `rmacs` has; single attributes have lines only without `sgr`.
 pub fn agreed_stand_together()
     ensures { AgreedStandTogether }
 {}

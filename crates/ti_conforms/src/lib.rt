@@ -1,6 +1,6 @@
-//! What it means that an entry conforms to the terminal, and what may be relied on then: what its strings
-//! send, which character sets they leave, how a terminal in an unknown state is led to a blank screen, and
-//! that judged lines which agree with the entry show all that.
+//! When an entry conforms to the terminal: the bytes that its strings send, the character sets that
+//! they leave, and how a terminal in an unknown state is led to a blank screen. Judged lines that
+//! agree with the entry show all that.
 #![tactic(auto)]
 
 mod agreement;

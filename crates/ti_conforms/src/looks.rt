@@ -1,4 +1,4 @@
-//! How attributes look that are set alone.
+//! How attributes look that are set one at a time.
 
 ghost use Rattle.std.specs.Prelude.{◌≡◌, IsTrue};
 ghost use Rattle.ti_conforms.specs.Looks as spec;
@@ -17,13 +17,13 @@ pub const NO_LOOKS: Looks = Looks {
     invisible: false,
 };
 
-/// Standout alone, which any marks may show.
+/// Standout by itself, which any marks may show.
 const STANDOUT: Attributes = Attributes {
     standout: true,
     ..NO_ATTRIBUTES
 };
 
-/// Whether a `number` of `sgr` is that of one attribute other than standout.
+/// Whether `number` is that of a set of one attribute other than standout.
 fn is_single(number: usize) -> bool
     ensures { result ≡ spec.is_single number }
 {
@@ -40,7 +40,7 @@ pub fn is_alone(row: Row) -> bool
     }
 }
 
-/// Whether `effect` is of the form that `sgr` has for one attribute that may look like anything.
+/// Whether `effect` is of the form of `sgr` with one attribute that may look like anything.
 pub fn is_some_look(effect: &Effect) -> bool
     ensures yes { IsTrue result → spec.IsSomeLook effect.now }
     ensures no { spec.IsSomeLook effect.now → IsTrue result }

@@ -1,5 +1,5 @@
-//! Alternate characters (terminfo(5), "Line Graphics"): partners of letters in `acsc`, and the plain
-//! characters that stand for letters without one.
+//! Alternate characters (terminfo(5), "Line Graphics"): partners of letters in `acsc`, and the
+//! plain characters in their place.
 #![tactic(auto)]
 
 ghost use Rattle.std.specs.Prelude.{◌≡◌, ◌<◌, IsTrue, IfNone, IfSome, List, ℕ, true, false};
@@ -13,7 +13,7 @@ pub struct Character {
     pub graphic: bool,
 }
 
-/// What follows the letter in its first pair. An odd last byte of `acsc` is no pair.
+/// The byte after `letter` in its first pair of `acsc`. An odd last byte of `acsc` is no pair.
 fn listed(acsc: &[u8], letter: u8) -> Option<u8>
     ensures { result ≡ spec.listed acsc.now letter }
 {
@@ -27,7 +27,7 @@ fn listed(acsc: &[u8], letter: u8) -> Option<u8>
     None
 }
 
-/// The partner of a letter in `acsc`, where it has one that can be printed (32 to 126).
+/// The partner of `letter` in `acsc`, if it has one that can be printed (32 to 126).
 pub fn partner(acsc: &[u8], letter: u8) -> Option<u8>
     ensures { result ≡ spec.partner_of acsc.now letter }
 {
@@ -37,7 +37,7 @@ pub fn partner(acsc: &[u8], letter: u8) -> Option<u8>
     }
 }
 
-/// The plain character that stands for a letter; `None` for bytes that are no letter of line graphics.
+/// The plain character shown in the place of `letter`; `None` for bytes that are no letters of line graphics.
 pub fn fallback(letter: u8) -> Option<u8>
     ensures { result ≡ spec.fallback_of letter }
 {
@@ -58,7 +58,7 @@ pub fn fallback(letter: u8) -> Option<u8>
     }
 }
 
-/// Whether a letter of line graphics is listed with a partner that can't be printed.
+/// Whether `acsc` lists `letter`, one of line graphics, with a partner that can't be printed.
 fn is_misfit(acsc: &[u8], letter: u8) -> bool
     ensures { result ≡ spec.is_misfit acsc.now letter }
 {
@@ -82,9 +82,9 @@ pub fn misfit(acsc: &[u8]) -> Option<u8>
     None
 }
 
-/// What a cell of the alternate set shows for its letter: the partner in the graphic set, or else the
-/// plain character that stands for it, or else the letter itself. The partner is `None` where `acsc`,
-/// `smacs` or `rmacs` isn't there or doesn't list the letter.
+/// The character that a cell of the alternate set shows for `letter`: its partner in the graphic set;
+/// or, without one, the plain character in its place, if it has one; or else the letter itself.
+/// `partner` must be `None` if the entry lacks `acsc`, `smacs` or `rmacs`, or doesn't list the letter.
 pub fn shown(partner: Option<u8>, letter: u8) -> Character
     ensures byte { result.byte ≡ (spec.shown partner letter).byte }
     ensures graphic { result.graphic ≡ (spec.shown partner letter).graphic }

@@ -1,4 +1,4 @@
-//! The charsets that a terminal can have where strings are cut off anywhere.
+//! The charsets that a terminal can have if strings are cut off anywhere.
 
 ghost use Rattle.std.specs.Prelude.{◌≡◌, if◌then◌else◌, true, false, ◌++◌, [], ◌∷◌, ℕ, List, IfErr, OnOk};
 ghost use Rattle.vt_term.specs.Scanned.{HasFault};
@@ -8,8 +8,8 @@ ghost use Rattle.ti_conforms.specs.Charsets.{shifts_out};
 
 use vt_term::{Charset, CodeElement, Function, Scanner, TextFault, Token};
 
-/// Which marks of the character sets tokens can turn on. A charset is reached by tokens exactly if
-/// they turn on each of its marks that is on, since every mark is off in the reset state.
+/// The marks of the character sets that tokens can turn on. A charset is reached by tokens exactly
+/// if they turn on each of its marks, since every mark is off in the reset state.
 #[derive(Clone, Copy, Debug, PartialEq, Eq)]
 pub struct Reach {
     pub g0_graphic: bool,
@@ -42,7 +42,7 @@ fn either(first: bool, second: bool) -> bool
 }
 
 impl Reach {
-    /// The marks that no token turns on.
+    /// No mark, as for an empty list of tokens.
     pub fn none() -> Reach
         ensures { result ≡ reach_of [] }
     {
@@ -88,7 +88,7 @@ impl Reach {
         self.shifted_out = either(self.shifted_out, shifts_out(scanner.function()));
     }
 
-    /// Adds the marks that the tokens of a text turn on, which the scanner reads in place.
+    /// Adds the marks that the tokens of `text` turn on, which `scanner` reads in place.
     ///
     /// # Errors
     /// The first fault of the text; the marks of the tokens before it are added.

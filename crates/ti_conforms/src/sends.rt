@@ -1,4 +1,4 @@
-//! What a string sends for one row.
+//! The bytes that a string sends for a row.
 
 ghost use Rattle.std.specs.Prelude.{◌≡◌, IfErr, IfOk, OnOk};
 ghost use Rattle.ti_parm.specs.Value.{values_of};
@@ -12,9 +12,9 @@ use ti_rows::Row;
 /// Why a string sends nothing for a row.
 #[derive(Clone, Copy, Debug, PartialEq, Eq)]
 pub enum SendFault {
-    /// It can't be expanded for these parameters.
+    /// The string can't be expanded with these parameters.
     Fault(ParmFault),
-    /// It reads a static variable that it has not set before.
+    /// The string reads a static variable before it sets it.
     StaticRead,
     /// Out of memory.
     NoMemory,
@@ -32,15 +32,13 @@ fn values(row: Row) -> ArrayVec<Param<'static>, 9>
     values
 }
 
-/// Fills `bytes` with what the string sends for a row, in place of what they were: the string expanded
-/// with the row's parameters, all static variables being 0, and without its delays (terminfo(5),
-/// "Parameterized Strings" and "Delays and Padding"). Memory is taken where `bytes` have to grow, and
-/// for a deep stack.
+/// Replaces the content of `bytes` by the bytes that `string` sends for `row`: the string expanded with the
+/// row's parameters, from static variables that are all 0, without its delays (terminfo(5), "Parameterized
+/// Strings" and "Delays and Padding"). Memory is requested if `bytes` have to grow, and for a deep stack.
 ///
 /// # Errors
-/// `Fault` where it can't be expanded, `StaticRead` where it reads a static variable that it has not
-/// set before, so that what it sends would depend on what was sent earlier, and `NoMemory`. Nothing is
-/// promised then of `bytes`.
+/// `Fault` if the string can't be expanded; `StaticRead` if it reads a static variable before it sets it, so
+/// that its bytes would depend on earlier strings; or `NoMemory`. The content of `bytes` is then unspecified.
 pub fn send_into(
     alloc: Global,
     string: &[u8],
@@ -63,10 +61,10 @@ pub fn send_into(
     Ok(())
 }
 
-/// What the string sends for a row, in bytes of its own.
+/// The bytes that `string` sends for `row`, in a new vector.
 ///
 /// # Errors
-/// Those of `send_into`.
+/// As for [`send_into`].
 pub fn send(alloc: Global, string: &[u8], row: Row) -> Result<Vec<u8>, SendFault>
     ensures sends { IfOk result (λ bytes. spec.Sends string.now row bytes.items) }
     ensures unsent { IfErr result (λ why. spec.IsUnsent string.now row why) }

@@ -1,4 +1,4 @@
--- What was read of the text is tokens, and their marks were added.
+-- The part of the text read so far consists of tokens, and their marks were added.
 use Rattle.std.proofs.Common.{◌-◌, length}
 use Rattle.ti_conforms.proofs.Texts.{IsLearned}
 use Rattle.ti_conforms.proofs.reach.Reach.learn_text.Given as goal
