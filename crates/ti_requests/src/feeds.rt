@@ -1,6 +1,6 @@
 //! The words of `feed` with options.
 
-/// What `feed` prints.
+/// The form in which `feed` prints.
 #[derive(Clone, Copy, Debug, PartialEq, Eq)]
 pub enum FeedForm {
     /// The screen.
@@ -16,9 +16,10 @@ pub enum FeedForm {
 /// The words of `feed` with an option.
 #[derive(Clone, Copy, Debug)]
 pub struct FeedWords<'a> {
-    /// What is printed.
+    /// The form of the output.
     pub form: FeedForm,
-    /// `--plain-text`: the file is a recording, whose strings and characters above 127 T isn't shown.
+    /// `--plain-text`: the file is a recording, from which strings are dropped and in which
+    /// characters above 127 are replaced.
     pub plain_text: bool,
     /// The terminal's rows, a decimal number.
     pub rows: &'a str,

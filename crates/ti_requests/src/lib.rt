@@ -1,4 +1,5 @@
-//! What a command line can ask for, as values: the parser of the line makes them, and each command takes its own.
+//! The requests of a command line, as values: the parser of the line makes them, and each command
+//! takes its own.
 #![tactic(auto)]
 
 mod feeds;

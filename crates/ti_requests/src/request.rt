@@ -1,4 +1,4 @@
-//! What a command line can ask for: one variant for each command, with its words.
+//! The requests of a command line: one variant for each command, with its words.
 
 use crate::feeds::FeedWords;
 
@@ -82,7 +82,7 @@ pub struct SurveyWords<'a> {
     pub paths: Vec<&'a str>,
 }
 
-/// A command and its words. What a word means (a number, a path, an entry) is the command's own matter.
+/// A command and its words. Each command decides what a word means (a number, a path, an entry).
 #[derive(Debug, Drop)]
 pub enum Request<'a> {
     /// `expand [--cup] STRING ROWS COLS [PARAM..]`: expand a parameter string.
@@ -131,14 +131,14 @@ pub enum Request<'a> {
         /// The entry.
         entry: &'a str,
     },
-    /// `infocmp -c ENTRY ENTRY`: list what both entries have with equal values.
+    /// `infocmp -c ENTRY ENTRY`: list the capabilities that both entries have with equal values.
     Common {
         /// The first entry.
         first: &'a str,
         /// The second entry.
         second: &'a str,
     },
-    /// `infocmp -n ENTRY ENTRY`: list what neither entry has.
+    /// `infocmp -n ENTRY ENTRY`: list the capabilities that neither entry has.
     Neither {
         /// The first entry.
         first: &'a str,
