@@ -1,4 +1,4 @@
--- What is shown of a string, and why it isn't.
+-- The lines that `expand` shows of a string, and why it shows none.
 use Rattle.std.proofs.Common.{◌≡◌, ◌≢◌, ◌<◌, List, [], ℕ, Result, Ok, Err, IfErr, IfOk, OnOk, true, false, subst, sym, ap, ◌∙◌, codes}
 use Rattle.ti_parm.specs.Meaning.{sent}
 use Rattle.ti_parm.specs.Value.{Value, values_of}
@@ -63,11 +63,11 @@ cursor_shown view rows cols bytes before after fed row col (Ok t) b whole ok stu
     record { after = after; runs = subst (λ (s : State). Runs s bytes after) b (whole_runs before bytes fed after (ap (λ (s : State). s.rest) b) whole ok stuck); spelled = e ∙ ap (λ (n : ℕ). cursor_line n col) p ∙ ap (λ (n : ℕ). cursor_line after.screen.row n) q }
 cursor_shown view rows cols bytes before after fed row col (Err x) b whole ok stuck p q e = tt
 
--- parameters of a list are those of an equal one
+-- the parameters of two equal lists are the same
 pub given_as : (slice items : List (Bor (List ℕ))) (values : List Value) → slice ≡ items → GiveParams (texts_of slice) values → GiveParams (texts_of items) values
 given_as slice items values e g = subst (λ (l : List (Bor (List ℕ))). GiveParams (texts_of l) values) e g
 
--- what the steps of `expand_string` lead to
+-- the results of the steps of `expand_string`
 pub size_told : (words : ExpandWords) (asked : Asked words) (e : Failure) → (IsSize asked.rows asked.cols → false ≡ true) → e ≡ Refused refusals.Size → FailsToExpand words e
 size_told words asked e h q = subst (λ (f : Failure). FailsToExpand words f) (sym q) (asked, λ s. (let k : false ≡ true = h s in cc))
 

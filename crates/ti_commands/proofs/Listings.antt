@@ -13,7 +13,7 @@ one_line : (f : ℕ → List ℕ) (b : Bool) (x : ℕ) → flat_map f (cond b (x
 one_line f true x = append-nil (f x)
 one_line f false x = refl
 
--- the lines of those that pass
+-- the lines of the capabilities that pass
 lines_more : (f : ℕ → List ℕ) (p : ℕ → Bool) (count : ℕ) → flat_map f (filter p (caps_by_name (count + 1))) ≡ flat_map f (filter p (caps_by_name count)) ++ (if p (place_of_rank count) then f (place_of_rank count) else [])
 unfolding caps_by_name
 lines_more f p count =

@@ -12,7 +12,7 @@ give_more [] (v ∷ values) word value g h = absurd g
 give_more (w ∷ words) [] word value g h = absurd g
 give_more (w ∷ words) (v ∷ values) word value g h = (g.0, give_more words values word value g.1 h)
 
--- the words before one, it, and those after it
+-- the words before one, the word, and those after it
 pub texts_around : (words : List (Bor (List ℕ))) (i : ℕ) (d : Bor (List ℕ)) → i < length words → texts_of words ≡ texts_of (take i words) ++ (get_or words i d).now ∷ texts_of (drop (suc i) words)
 texts_around words i d lt =
     ap texts_of (sym (take-append-drop i words))

@@ -1,4 +1,4 @@
--- What `expand` answers.
+-- The replies of `expand`.
 use Rattle.std.specs.Prelude.{◌≡◌, ◌≢◌, ◌⊎◌, ◌<◌, ℕ, Bool, true, false, List, [], ◌∷◌, ◌++◌, Option, Some, None, Ok}
 use Rattle.std.specs.Prelude.{Err, codes}
 use Rattle.std.specs.Fmt.{decimal}
@@ -26,7 +26,7 @@ use Rattle.ti_commands.specs.declared.failure.CommandRefusal.{CommandRefusal}
 use Rattle.ti_commands.specs.declared.failure.CommandRefusal.TheVariants.{Size, Escape, Parm, Token}
 use Rattle.ti_commands.specs.declared.failure.Reply.{Reply}
 
--- the words of the line can be read: they give numbers for the size, and values for the parameters
+-- the words can be read: they give numbers for the size, and values for the parameters
 pub record Asked (words : ExpandWords) : Type 0 where
   pub rows : ℕ
   pub cols : ℕ
@@ -39,7 +39,7 @@ pub record Asked (words : ExpandWords) : Type 0 where
 abbrev pub hex_line : List ℕ → List ℕ
 hex_line bytes = encode_lower bytes ++ 10 ∷ []
 
--- where the cursor is, and a place at which a string wasn't seen to lead it
+-- the line with the cursor's place, and the line with a place to which a string wasn't shown to lead
 abbrev pub cursor_line : ℕ → ℕ → List ℕ
 cursor_line row col = codes "cursor " ++ (decimal row ++ (codes " " ++ (decimal col ++ 10 ∷ [])))
 
@@ -52,14 +52,14 @@ pub record ShowsCursor (rows cols : ℕ) (bytes line : List ℕ) : Type 0 where
   pub runs : Runs (reset rows cols) bytes after
   pub spelled : line ≡ cursor_line after.screen.row after.screen.col
 
--- the line that says whether a string serves as `cup`, and else the first place at which it isn't seen to
+-- the line that says that a string serves as `cup`, or the first place for which that isn't shown
 pub data JudgesCup (string : List ℕ) (rows cols : ℕ) : List ℕ → Type 0 where
   serves : ServesAsCup string rows cols → JudgesCup string rows cols (codes "cup yes\n")
   misses : (row col : ℕ) (kind : MissKind) → row < rows → col < cols → kind ≢ miss_kinds.NoMemory
       → ReachesBefore string rows cols row col → TellsWhy string rows cols row col kind
       → JudgesCup string rows cols (no_line row col)
 
--- no line where it isn't asked for
+-- a line if one is asked for
 abbrev pub JudgesIf : Bool → List ℕ → ℕ → ℕ → List ℕ → Type 0
 JudgesIf true string rows cols line = JudgesCup string rows cols line
 JudgesIf false string rows cols line = line ≡ []
@@ -73,24 +73,24 @@ pub record ShowsAll (judges : Bool) (rows cols : ℕ) (string bytes text : List 
   pub judged : JudgesIf judges string rows cols cup
   pub spelled : text ≡ hex_line bytes ++ (cursor ++ cup)
 
--- the reply to bytes that are none
+-- the reply to bytes that aren't a whole text
 pub record ShowsHex (bytes text : List ℕ) (fault : TokenFault) : Type 0 where
   pub spelled : text ≡ hex_line bytes
   pub told : TellsFault bytes fault
   pub known : fault.kind ≢ token_faults.NoMemory
 
--- a reply that failed is one to bytes that are none
+-- the reply has no failure if the bytes are a whole text, and their fault if not
 abbrev pub ShowsUpTo : Bool → ℕ → ℕ → List ℕ → List ℕ → List ℕ → Option Failure → Type 0
 ShowsUpTo judges rows cols string bytes text None = ShowsAll judges rows cols string bytes text
 ShowsUpTo judges rows cols string bytes text (Some (Refused (Token fault))) = ShowsHex bytes text fault
 ShowsUpTo judges rows cols string bytes text (Some _) = ⊥
 
--- what is said of the bytes that a string sent to a terminal of this size
+-- the reply about the bytes that a string sent to a terminal of this size
 pub record Shows (judges : Bool) (rows cols : ℕ) (string bytes : List ℕ) (reply : Reply) : Type 0 where
   pub notes : reply.notes.items ≡ []
   pub shows : ShowsUpTo judges rows cols string bytes reply.text.items reply.failure
 
--- the words are read, the size is one, the string's escapes and its expansion have no fault
+-- the words are read, the size is allowed, and neither the string's escapes nor its expansion has a fault
 pub record IsExpanded (words : ExpandWords) (reply : Reply) : Type 0 where
   pub asked : Asked words
   pub size : IsSize asked.rows asked.cols
@@ -100,25 +100,25 @@ pub record IsExpanded (words : ExpandWords) (reply : Reply) : Type 0 where
   pub sends : sent string asked.values ≡ Ok bytes
   pub shows : Shows words.judges_cup asked.rows asked.cols string bytes reply
 
--- the escapes' fault
+-- the failure for a fault of the escapes
 abbrev pub escape_failure : EscapeFault → Failure
 escape_failure escape_faults.NoMemory = NoMemory
 escape_failure escape_faults.BadEscape = Refused (Escape escape_faults.BadEscape)
 escape_failure escape_faults.TooLong = Refused (Escape escape_faults.TooLong)
 
--- the expansion's fault
+-- the failure for a fault of the expansion
 abbrev pub IsParmFailure : List ℕ → List Value → Failure → Type 0
 IsParmFailure string values (Refused (Parm fault)) = sent string values ≡ Err fault
 IsParmFailure string values NoMemory = Unit {0}
 IsParmFailure string values _ = ⊥
 
--- a word is wrong: first the rows, then the columns, then the parameters
+-- the first wrong word: the rows come first, then the columns, then the parameters
 abbrev pub WrongWords : ExpandWords → Failure → Type 0
 WrongWords words failure =
     WrongSize words.rows.now words.cols.now failure
     ⊎ (IsNumberWord words.rows.now × IsNumberWord words.cols.now × WrongParam (texts_of words.params.items) failure)
 
--- what is refused, in this order
+-- the refusals, in this order
 abbrev pub RefusesExpansion : ExpandWords → CommandRefusal → Type 0
 RefusesExpansion words Size = (asked : Asked words) × (IsSize asked.rows asked.cols → ⊥)
 RefusesExpansion words (Escape fault) =
@@ -128,7 +128,7 @@ RefusesExpansion words (Parm fault) =
     × ((string : List ℕ) × (unescaped words.string.now ≡ Ok string) × (sent string asked.values ≡ Err fault))
 RefusesExpansion words _ = ⊥
 
--- the words come first, then what is refused
+-- wrong words come first, then refusals
 abbrev pub FailsToExpand : ExpandWords → Failure → Type 0
 FailsToExpand words (Usage told) = WrongWords words (Usage told)
 FailsToExpand words (Refused refusal) = RefusesExpansion words refusal

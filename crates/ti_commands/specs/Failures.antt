@@ -1,4 +1,4 @@
--- What is said of a word that is wrong, and of a file. Running out of memory can come at any time and says nothing.
+-- The failures of a wrong word and of a file. Memory can run out at any time, and says nothing.
 use Rattle.std.specs.Prelude.{◌≡◌, ◌⊎◌, ℕ, List, ◌∷◌, ◌++◌, codes}
 use Rattle.std.specs.String.{string_bytes}
 use Rattle.ti_parm.specs.Value.{Value}
@@ -6,19 +6,19 @@ use Rattle.ti_commands.specs.Words.{GiveParams, GivesParam, IsNumberWord}
 use Rattle.ti_commands.specs.declared.failure.Failure.{Failure}
 use Rattle.ti_commands.specs.declared.failure.Failure.TheVariants.{Usage, File, NoMemory}
 
--- the line is wrong, and this text says why
+-- the line is wrong, and `text` is the message
 abbrev pub IsUsageError : List ℕ → Failure → Type 0
 IsUsageError text (Usage told) = string_bytes told ≡ text
 IsUsageError text NoMemory = Unit {0}
 IsUsageError text _ = ⊥
 
--- the file at this path can't be had
+-- the file at this path can't be read or written
 abbrev pub IsFileFailure : List ℕ → Failure → Type 0
 IsFileFailure path (File told) = string_bytes told ≡ path
 IsFileFailure path NoMemory = Unit {0}
 IsFileFailure path _ = ⊥
 
--- what is said of a word that stands where a number belongs, or a parameter
+-- the message about a word in the place of a number, and about one in the place of a parameter
 abbrev pub number_usage : List ℕ → List ℕ → List ℕ
 number_usage name word =
     codes "error: invalid value '" ++ (word ++ (codes "' for "
@@ -28,11 +28,11 @@ abbrev pub param_usage : List ℕ → List ℕ
 param_usage word =
     codes "error: invalid value '" ++ (word ++ codes "' for PARAM: a decimal number up to 2147483647, or s: and a text, is wanted\n\nFor more information, try '--help'.\n")
 
--- the word of this name is no number
+-- the word for `name` is no number
 abbrev pub WrongNumber : List ℕ → List ℕ → Failure → Type 0
 WrongNumber name word failure = (IsNumberWord word → ⊥) × IsUsageError (number_usage name word) failure
 
--- a word of the size is none: the rows come first
+-- a word of the size is no number: the rows come first
 abbrev pub WrongSize : List ℕ → List ℕ → Failure → Type 0
 WrongSize rows cols failure =
     WrongNumber (codes "ROWS") rows failure ⊎ (IsNumberWord rows × WrongNumber (codes "COLS") cols failure)

@@ -1,4 +1,4 @@
--- What `feed` answers, by what its file holds.
+-- The replies of `feed`, by the contents of its file.
 use Rattle.std.specs.Prelude.{◌≡◌, ℕ, List, [], None}
 use Rattle.std.specs.String.{string_bytes}
 use Rattle.vt_term.specs.Printed.{screen_text}
@@ -17,7 +17,7 @@ pub record ShowsAfter (rows cols : ℕ) (bytes text : List ℕ) : Type 0 where
   pub runs : Runs (reset rows cols) bytes after
   pub spelled : text ≡ screen_text after.screen
 
--- the bytes stick at this place
+-- the run of the bytes gets stuck at this place
 pub record SticksIn (rows cols : ℕ) (bytes : List ℕ) (at : ℕ) : Type 0 where
   pub after : State
   pub sticks : Sticks (reset rows cols) bytes at after
@@ -36,14 +36,14 @@ pub record ShowsScreen (held : Held) (rows cols path : List ℕ) (reply : Reply)
   pub notes : reply.notes.items ≡ []
   pub done : reply.failure ≡ None
 
--- the bytes of the file at a path stick at this place
+-- the run of the bytes of the file at a path gets stuck at this place
 pub record SticksAt (held : Held) (rows cols path : List ℕ) (at : ℕ) : Type 0 where
   pub height : ℕ
   pub width : ℕ
   pub given : SizeGiven rows cols height width
   pub sticks : HasBytes (held path) longest_file (λ bytes. SticksIn height width bytes at)
 
--- the words come first, then the size, then the file, then its bytes
+-- wrong words come first, then the size, then the file, then its bytes
 abbrev pub FailsToFeed : Held → List ℕ → List ℕ → List ℕ → Failure → Type 0
 FailsToFeed held rows cols path (Refused (Stuck stuck)) = SticksAt held rows cols path stuck.at
 FailsToFeed held rows cols path (File told) = HasSize rows cols × (string_bytes told ≡ path)

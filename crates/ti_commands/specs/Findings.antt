@@ -1,4 +1,4 @@
--- What an ENTRY word gives, by what its file holds.
+-- The entry that an ENTRY word gives, by the contents of its file.
 use Rattle.std.specs.Prelude.{◌≡◌, ◌≢◌, ◌<◌, ◌≤◌, ◌⊎◌, ℕ, List, [], ◌∷◌, ◌++◌, Result, Ok, Err, codes, length}
 use Rattle.std.specs.Prelude.{slice_index}
 use Rattle.std.specs.Fmt.{decimal}
@@ -42,13 +42,13 @@ pub record IsPathAndName (word path name : List ℕ) : Type 0 where
   pub spelled : word ≡ path ++ 58 ∷ name
   pub last : IsPath name
 
--- the entry of this name, or why it can't be had
+-- the entry of this name, or the reason why there is none
 abbrev pub ResolvesTo : List RawEntry → List ℕ → Result Content CommandRefusal → Type 0
 ResolvesTo raws name (Ok entry) = IsResolved raws name entry
 ResolvesTo raws name (Err (Resolve fault)) = (walk_of raws name ≡ Err fault) × (fault ≢ resolve_faults.NoMemory)
 ResolvesTo raws name (Err _) = ⊥
 
--- the entry at this place, or why it can't be had
+-- the entry at this place, or the reason why it has none
 abbrev pub ResolvesAt : List RawEntry → ℕ → Result Content CommandRefusal → Type 0
 ResolvesAt raws place (Ok entry) = IsResolvedAt raws place entry
 ResolvesAt raws place (Err (Resolve fault)) = (walk_at raws place ≡ Err fault) × (fault ≢ resolve_faults.NoMemory)
@@ -66,7 +66,7 @@ pub record IsOfSource (bytes name notes : List ℕ) (entry : Result Content Comm
   pub tells : notes ≡ notes_text raws
   pub gives : ResolvesTo raws name entry
 
--- a source text in a path's file, its entries, and the one of this name
+-- a source text in the file at a path, its entries, and the one of this name
 pub record IsOfText (held : Held) (path name text : List ℕ) (raws : List RawEntry)
     (entry : Result Content CommandRefusal) : Type 0 where
   pub whole : AreBytesOf (held path) text
@@ -81,7 +81,7 @@ pub record IsOfFile (bytes notes : List ℕ) (entry : Result Content CommandRefu
   pub tells : notes ≡ []
   pub gives : FitsTo packed entry
 
--- the word's notes, and its entry or the entry's refusal
+-- the word's notes, and its entry or the refusal of it
 abbrev pub Finds : Held → List ℕ → List ℕ → Result Content CommandRefusal → Type 0
 Finds held word notes entry =
     ((path : List ℕ) × (name : List ℕ) × IsPathAndName word path name
@@ -101,7 +101,7 @@ IsPackFailure bytes (Refused (Pack fault)) = read_of bytes ≡ Err fault
 IsPackFailure bytes NoMemory = Unit {0}
 IsPackFailure bytes _ = ⊥
 
--- the file at a path can't be had, or can't be read
+-- the file at a path can't be read, or its content has a fault
 abbrev pub FailsInSource : Held → List ℕ → Failure → Type 0
 FailsInSource held path failure =
     IsFileFailure path failure ⊎ HasBytes (held path) longest_file (λ bytes. IsSourceFailure bytes failure)
@@ -115,7 +115,7 @@ FailsToFind held word failure =
     ((path : List ℕ) × (name : List ℕ) × IsPathAndName word path name × FailsInSource held path failure)
     ⊎ (IsPath word × FailsInFile held word failure)
 
--- the word has no entry, as this failure says
+-- the word gives no entry, for this reason
 abbrev pub LacksEntry : Held → List ℕ → Failure → Type 0
 LacksEntry held word failure =
     FailsToFind held word failure ⊎ ((refusal : CommandRefusal) × (notes : List ℕ) × (failure ≡ Refused refusal)

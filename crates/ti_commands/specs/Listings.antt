@@ -1,5 +1,5 @@
--- Which capabilities of two entries are listed, as infocmp(1M) has it: those that both have with equal
--- values (-c), or those that neither has (-n).
+-- Which capabilities of two entries are listed, as infocmp(1M) says: those that both have with equal values (-c), or
+-- those that neither has (-n).
 use Rattle.std.specs.Prelude.{ℕ, Bool, true, false, ◌&&◌, ◌==◌, List, [], ◌∷◌, ◌++◌, Option, Some, None, filter, map}
 use Rattle.std.specs.List.{flat_map, range_with_len}
 use Rattle.std.specs.Str.{bytes_eq}
@@ -22,13 +22,13 @@ same_value (Number m) (Number n) = m == n
 same_value (String one) (String other) = bytes_eq one other
 same_value _ _ = false
 
--- whether a capability is listed that the two entries have with these values
+-- whether a capability is listed, if the two entries have these values for it
 abbrev pub is_listed : Comparison → Option Value → Option Value → Bool
 is_listed Common (Some one) (Some other) = same_value one other
 is_listed Neither None None = true
 is_listed _ _ _ = false
 
--- whether the capability at a place is of a kind and listed
+-- whether the capability at a place is of this kind and listed
 abbrev pub is_listed_at : Comparison → Content → Content → Kind → ℕ → Bool
 is_listed_at comparison first second kind cap =
     is_kind (kind_of cap) kind && is_listed comparison (value_at first cap) (value_at second cap)

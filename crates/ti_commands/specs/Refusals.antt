@@ -1,4 +1,4 @@
--- The words of a refusal: its kind, and what the kind has behind it.
+-- The words of a refusal: its kind, and the place or name that some kinds have after it.
 use Rattle.std.specs.Prelude.{ℕ, List, ◌++◌, codes}
 use Rattle.std.specs.Fmt.{decimal}
 use Rattle.ti_commands.specs.declared.failure.CommandRefusal.{CommandRefusal}
@@ -30,7 +30,7 @@ parm_name parms.BadChar = codes "BadChar"
 parm_name parms.WrongKind = codes "WrongKind"
 parm_name parms.NoMemory = codes "NoMemory"
 
--- with the place
+-- the kind and the place
 abbrev pub token_text : TokenFaultKind → ℕ → List ℕ
 token_text tokens.Unfinished at = codes "Unfinished " ++ decimal at
 token_text tokens.Stuck at = codes "Stuck " ++ decimal at
@@ -46,7 +46,7 @@ source_name sources.BadEscape = codes "BadEscape"
 source_name sources.TooLong = codes "TooLong"
 source_name sources.NoMemory = codes "NoMemory"
 
--- with the name that can't be resolved
+-- the kind and the name that can't be resolved
 abbrev pub resolve_text : ResolveFault → List ℕ
 resolve_text (resolves.NoSuchEntry name) = codes "NoSuchEntry " ++ name
 resolve_text (resolves.Cycle name) = codes "Cycle " ++ name
@@ -65,7 +65,7 @@ pack_name packs.TooLarge = codes "TooLarge"
 pack_name packs.NoMemory = codes "NoMemory"
 pack_name packs.BadNames = codes "BadNames"
 
--- what follows `refused: `
+-- the words after `refused: `
 abbrev pub refusal_text_of : CommandRefusal → List ℕ
 refusal_text_of refusals.Size = codes "BadSize"
 refusal_text_of (refusals.Escape fault) = escape_name fault

@@ -1,4 +1,4 @@
--- What the commands that take entries reply.
+-- The replies of the commands that take entries.
 use Rattle.std.specs.Prelude.{◌≡◌, ℕ, List, [], Option, Some, None, Result, Ok, Err}
 use Rattle.std.specs.String.{string_bytes}
 use Rattle.ti_caps.specs.Entry.{Content}
@@ -25,13 +25,13 @@ pub record IsText (text : List ℕ) (reply : Reply) : Type 0 where
   pub says : reply.text.items ≡ text
   pub done : reply.failure ≡ None
 
--- the entry's text
+-- the text of the word's entry
 pub record IsPrinted (held : Held) (word : List ℕ) (reply : Reply) : Type 0 where
   pub entry : Content
   pub gives : GivesEntry held word entry
   pub prints : IsText (text_of entry) reply
 
--- the list of what is common to two entries, or in neither
+-- the list of the capabilities that two entries have in common, or that neither has
 pub record IsCompared (held : Held) (first second : List ℕ) (comparison : Comparison) (reply : Reply) : Type 0 where
   pub one : Content
   pub other : Content
@@ -39,7 +39,7 @@ pub record IsCompared (held : Held) (first second : List ℕ) (comparison : Comp
   pub gives_other : GivesEntry held second other
   pub lists : IsText (comparison_text comparison one other) reply
 
--- what is lacking for a comparison: the first word comes first
+-- the first of two words gives an entry, and the second gives none, for this reason
 pub record LacksSecond (held : Held) (first second : List ℕ) (failure : Failure) : Type 0 where
   pub one : Content
   pub gives_one : GivesEntry held first one
@@ -57,7 +57,7 @@ pub record IsUnstored (entry : Content) (path told : List ℕ) : Type 0 where
   pub packs : packing_of entry ≡ Ok file
   pub named : told ≡ path
 
--- how the storing of an entry's compiled file ends: where it fails, all files are as before
+-- the end of storing an entry's compiled file: if it fails, all files are as before
 abbrev pub Stores : Content → List ℕ → Held → Held → Option Failure → Type 0
 Stores entry path before after None = IsStored entry path before after
 Stores entry path before after (Some (File told)) = IsUnstored entry path (string_bytes told) × (after ≡ before)
@@ -65,13 +65,13 @@ Stores entry path before after (Some (Refused (Pack fault))) = (packing_of entry
 Stores entry path before after (Some NoMemory) = after ≡ before
 Stores entry path before after (Some _) = ⊥
 
--- how a command ends that was to compile an entry: it may not have one, or not want its file
+-- the end of a command that compiles an entry: there may be no entry, or no path to store it at
 abbrev pub Outcome : Result Content CommandRefusal → Option (Bor (List ℕ)) → Held → Held → Option Failure → Type 0
 Outcome (Err refusal) out before after failure = (failure ≡ Some (Refused refusal)) × (after ≡ before)
 Outcome (Ok entry) None before after failure = (failure ≡ None) × (after ≡ before)
 Outcome (Ok entry) (Some path) before after failure = Stores entry path.now before after failure
 
--- the notes of what the word gives, and its outcome
+-- the notes of the word's source, and the end of the command
 pub record IsCompiled (word : List ℕ) (out : Option (Bor (List ℕ))) (before after : Held) (reply : Reply) : Type 0 where
   pub entry : Result Content CommandRefusal
   pub finds : Finds before word reply.notes.items entry

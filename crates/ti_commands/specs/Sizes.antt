@@ -7,28 +7,28 @@ use Rattle.ti_commands.specs.declared.failure.Failure.{Failure}
 use Rattle.ti_commands.specs.declared.failure.Failure.TheVariants.{Refused, Usage, NoMemory}
 use Rattle.ti_commands.specs.declared.failure.CommandRefusal.TheVariants.{Size}
 
--- the words of the size are these numbers
+-- the two words are these numbers
 pub record SizeAsked (rows cols : List ℕ) (height width : ℕ) : Type 0 where
   pub gives_height : GivesNumber rows height
   pub gives_width : GivesNumber cols width
 
--- and a terminal can have this size
+-- the two words are these numbers, and a terminal can have this size
 pub record SizeGiven (rows cols : List ℕ) (height width : ℕ) : Type 0 where
   pub asked : SizeAsked rows cols height width
   pub size : IsSize height width
 
--- the words are numbers, and no terminal has that size
+-- the two words are numbers, but no terminal has this size
 pub record SizeRefused (rows cols : List ℕ) : Type 0 where
   pub height : ℕ
   pub width : ℕ
   pub asked : SizeAsked rows cols height width
   pub refused : IsSize height width → ⊥
 
--- some size is given
+-- the two words give some size
 abbrev pub HasSize : List ℕ → List ℕ → Type 0
 HasSize rows cols = (height : ℕ) × (width : ℕ) × SizeGiven rows cols height width
 
--- no size is given, as this failure says: the words come first
+-- the two words give no size, for this reason: wrong words come first
 abbrev pub LacksSize : List ℕ → List ℕ → Failure → Type 0
 LacksSize rows cols (Usage told) = WrongSize rows cols (Usage told)
 LacksSize rows cols (Refused Size) = SizeRefused rows cols

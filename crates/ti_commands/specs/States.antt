@@ -1,4 +1,4 @@
--- What `feed` answers with options, by what its file holds.
+-- The replies of `feed` with options, by the contents of its file.
 use Rattle.std.specs.Prelude.{◌≡◌, ◌==◌, ◌&&◌, ℕ, Bool, List, [], ◌∷◌, ◌++◌, codes, if◌then◌else◌, None}
 use Rattle.std.specs.Fmt.{decimal}
 use Rattle.std.specs.String.{string_bytes}
@@ -20,18 +20,18 @@ use Rattle.ti_commands.specs.declared.failure.Failure.TheVariants.{Refused, File
 use Rattle.ti_commands.specs.declared.failure.CommandRefusal.TheVariants.{Stuck, Verdict}
 use Rattle.ti_commands.specs.declared.failure.Reply.{Reply}
 
--- a state in a form
+-- a state in the form that was asked for
 abbrev pub form_text : FeedForm → terminal.State → List ℕ
 form_text Screen s = screen_text s.screen
 form_text State s = state_text s
 form_text Json s = object [] s ++ 10 ∷ []
 form_text Cases s = []
 
--- what the terminal is fed with of a file
+-- the bytes that the terminal gets from a file
 abbrev pub fed_of : Bool → List ℕ → List ℕ
 fed_of plain bytes = if plain then plain_text bytes else bytes
 
--- what is said of a recording: nothing where nothing was dropped or replaced
+-- the note about a recording: empty if nothing was dropped or replaced
 abbrev pub note_of : ℕ → ℕ → List ℕ
 note_of gone marks =
     if (gone == 0) && (marks == 0) then []
@@ -41,7 +41,7 @@ abbrev pub notes_of : Bool → List ℕ → List ℕ
 notes_of plain bytes =
     if plain then note_of (total dropped (all_parts bytes)) (total replaced (all_parts bytes)) else []
 
--- the text is the state in this form that these bytes leave
+-- `text` is the state, in this form, that the bytes leave
 pub record ShowsForm (form : FeedForm) (rows cols : ℕ) (bytes text : List ℕ) : Type 0 where
   pub after : terminal.State
   pub runs : Runs (terminal.reset rows cols) bytes after
@@ -69,33 +69,33 @@ pub record ShowsStates (held : Held) (words : FeedWords) (reply : Reply) : Type 
 abbrev pub line_text : ℕ → List ℕ
 line_text line = codes "line " ++ (decimal line ++ codes ": BadLine")
 
--- this line of a file of cases is none
+-- the failure of a line in a file of cases that isn't a case
 abbrev pub IsBadLineFailure : ℕ → Failure → Type 0
 IsBadLineFailure line (Refused (Verdict told)) = told.items ≡ line_text line
 IsBadLineFailure line NoMemory = Unit {0}
 IsBadLineFailure line _ = ⊥
 
--- some line of these is none
+-- some line of these bytes isn't a case
 abbrev pub HasBadLine : List ℕ → Failure → Type 0
 HasBadLine bytes (Refused (Verdict told)) = (line : ℕ) × (told.items ≡ line_text line) × IsBadLine bytes line
 HasBadLine bytes NoMemory = Unit {0}
 HasBadLine bytes _ = ⊥
 
--- why these bytes have no reply
+-- why there is no reply to these bytes
 abbrev pub FailsWith : FeedForm → ℕ → ℕ → List ℕ → Failure → Type 0
 FailsWith Cases rows cols bytes failure = HasBadLine bytes failure
 FailsWith Screen rows cols bytes failure = IsStuckFailure rows cols bytes failure
 FailsWith State rows cols bytes failure = IsStuckFailure rows cols bytes failure
 FailsWith Json rows cols bytes failure = IsStuckFailure rows cols bytes failure
 
--- the file's bytes have none
+-- there is no reply to the bytes of the file
 pub record FileFails (held : Held) (words : FeedWords) (failure : Failure) : Type 0 where
   pub height : ℕ
   pub width : ℕ
   pub given : SizeGiven words.rows.now words.cols.now height width
   pub fails : HasBytes (held words.file.now) longest_file (λ bytes. FailsWith words.form height width (fed_of words.plain_text bytes) failure)
 
--- the words come first, then the size, then the file, then its bytes
+-- wrong words come first, then the size, then the file, then its bytes
 abbrev pub FailsToShow : Held → FeedWords → Failure → Type 0
 FailsToShow held words (Refused (Stuck stuck)) = FileFails held words (Refused (Stuck stuck))
 FailsToShow held words (Refused (Verdict told)) = FileFails held words (Refused (Verdict told))

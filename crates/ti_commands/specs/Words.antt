@@ -4,7 +4,7 @@ use Rattle.std.specs.Str.Parse.{IsNumeral, digits_value}
 use Rattle.ti_parm.specs.Value.{Value, Number, Text}
 use denote.Ref.{Bor}
 
--- one decimal digit or more, with a value of at most 2147483647
+-- one or more decimal digits, with a value of at most 2147483647
 abbrev pub IsNumberWord : List ℕ → Type 0
 IsNumberWord word = IsNumeral 10 word × (digits_value 10 word < 2 ^ 31)
 
@@ -18,12 +18,12 @@ abbrev pub GivesParam : List ℕ → Value → Type 0
 GivesParam word (Number n) = IsNumberWord word × (n ≡ pos (digits_value 10 word))
 GivesParam word (Text text) = word ≡ codes "s:" ++ text
 
--- the words give these values, each one
+-- each word gives the value at its place
 abbrev pub GiveParams : List (List ℕ) → List Value → Type 0
 GiveParams [] [] = Unit {0}
 GiveParams (word ∷ words) (value ∷ values) = GivesParam word value × GiveParams words values
 GiveParams _ _ = ⊥
 
--- the texts of words that are lent
+-- the texts of borrowed words
 abbrev pub texts_of : List (Bor (List ℕ)) → List (List ℕ)
 texts_of words = map (λ word. word.now) words

@@ -10,11 +10,11 @@ use std::alloc::Global;
 use std::io::Read;
 use ti_words::{Remarks, explain_length};
 
-/// The most bytes of a source file, of a file that is fed, and of one in a survey.
+/// The most bytes of a source file, of a file for `feed`, and of a file in a survey.
 pub const LONGEST_FILE: u32 = 16_777_216;
 
-/// The bytes of the file at `path`, at most `limit` of them: of a longer file one byte more is read,
-/// and then it is refused as one that can't be read.
+/// The bytes of the file at `path`. A file of more than `limit` bytes is refused as one that can't
+/// be read; of such a file only one byte past the limit is read.
 pub fn read_whole<F: Files>(
     alloc: Global,
     files: &mut F,
@@ -37,7 +37,7 @@ pub fn read_whole<F: Files>(
     }
 }
 
-/// At most `count` of the bytes of the file at `path`, from its front.
+/// The first `count` bytes of the file at `path`, or all of them if there are fewer.
 fn read_up_to<F: Files>(
     alloc: Global,
     files: &mut F,
@@ -57,8 +57,8 @@ fn read_up_to<F: Files>(
     }
 }
 
-/// How much room is made at first for at most `count` bytes, where they are likely to be `length`: one byte more, so
-/// that the end is found without growing.
+/// How much room to make at first for at most `count` bytes, of which `length` are expected: one
+/// byte more, so that the end is found without growing.
 fn room_for(length: u64, count: u64) -> usize {
     match length {
         0 => 0,
@@ -66,7 +66,7 @@ fn room_for(length: u64, count: u64) -> usize {
     }
 }
 
-/// The failure of the file at `path`, which `fault` is about.
+/// The failure for the `fault` of the file at `path`.
 pub fn file_fault(alloc: Global, path: &str, fault: FileFault, remarks: &mut Remarks) -> Failure
     ensures { IsFileFailure path.now result }
 {

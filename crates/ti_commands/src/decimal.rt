@@ -1,4 +1,4 @@
-//! Numbers as they stand in the words of a command line.
+//! Numbers in the words of a command line.
 
 ghost use Rattle.std.specs.Prelude.{◌≡◌, ◌↔◌, ◌<◌, ◌^◌, IsSome, IfSome};
 ghost use Rattle.std.specs.Str.Parse.{digits_value};
@@ -7,8 +7,8 @@ ghost use Rattle.ti_commands.specs.Words.{IsNumberWord};
 /// The greatest number that a word can give.
 const GREATEST: u32 = 2_147_483_647;
 
-/// The value of `word` where it has decimal digits alone, leading zeros allowed, up to 2147483647; `None` for any other
-/// word, also one with a sign.
+/// The value of `word` if it has decimal digits alone, leading zeros included, and is at most
+/// 2147483647; `None` for any other word, including one with a sign.
 pub fn decimal_number(word: &str) -> Option<u32>
     ensures found { IsSome result ↔ IsNumberWord word.now }
     ensures value { IfSome result (λ n. n ≡ digits_value 10 word.now) }

@@ -107,12 +107,12 @@ pub fn print_entry<F: Files>(
     Ok(Reply::of_text(alloc, text))
 }
 
-/// Which capabilities of two entries are listed.
+/// The capabilities of two entries that are listed.
 #[derive(Clone, Copy, Debug, PartialEq, Eq)]
 pub enum Comparison {
-    /// Those that both have, with equal values.
+    /// The capabilities that both have, with equal values.
     Common,
-    /// Those that neither has.
+    /// The capabilities that neither has.
     Neither,
 }
 

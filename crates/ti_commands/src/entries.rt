@@ -23,14 +23,14 @@ use ti_words::Remarks;
 /// The most bytes of a compiled file.
 const COMPILED_LIMIT: u32 = 131_072;
 
-/// What an ENTRY word gives.
+/// The file and the entry that an ENTRY word gives.
 #[derive(Drop)]
 pub struct Found {
-    /// The text of the source file; empty where the file is a compiled one.
+    /// The text of the source file; empty for a compiled file.
     pub text: Vec<u8>,
     /// All entries of that text, as they were read.
     pub raws: Vec<RawEntry>,
-    /// The entry, or why it can't be had.
+    /// The entry, or the reason why there is none.
     pub entry: Result<Entry, CommandRefusal>,
 }
 
@@ -92,7 +92,7 @@ pub(crate) fn find_in_source<F: Files>(
     }
 }
 
-/// The entries of the source text `text`, and the one of the name `name` or why it can't be had.
+/// The entries of the source text `text`, and the one named `name`, or the reason why there is none.
 fn find_in_text(
     alloc: Global,
     text: &[u8],
@@ -115,7 +115,7 @@ fn find_in_text(
     }
 }
 
-/// The entry `name` of those in `raws`, or why it can't be had.
+/// The entry named `name` in `raws`, or the reason why there is none.
 fn resolved_entry(
     alloc: Global,
     raws: &[RawEntry],
@@ -131,8 +131,8 @@ fn resolved_entry(
     }
 }
 
-/// The entry at `place` in `raws`, or why it can't be had. It is the one at that place even where an entry before it
-/// has the same names.
+/// The entry at `place` in `raws`, or the reason why it can't be resolved. An earlier entry with
+/// the same names doesn't matter.
 pub fn entry_at(
     alloc: Global,
     raws: &[RawEntry],
@@ -179,7 +179,7 @@ fn push_note(alloc: Global, note: Note, lines: &mut Vec<u8>) -> Result<(), Alloc
     lines.extend_from_slice(line.as_bytes())
 }
 
-/// The kind's name, as it shows itself.
+/// The kind's name as notes print it.
 fn note_name(kind: NoteKind) -> &'static str
     ensures { result.now ≡ note_name kind }
 {
@@ -214,7 +214,7 @@ fn unpack<F: Files>(
     })
 }
 
-/// The fault of a compiled file for which there is this answer `entry`, if it has one.
+/// The fault of a compiled file that is in the answer `entry`, if there is one.
 fn pack_fault(entry: &Result<Result<Entry, CommandRefusal>, Failure>) -> Option<PackFault> {
     match entry {
         Err(Failure::Refused(CommandRefusal::Pack(fault))) | Ok(Err(CommandRefusal::Pack(fault))) =>
@@ -223,7 +223,7 @@ fn pack_fault(entry: &Result<Result<Entry, CommandRefusal>, Failure>) -> Option<
     }
 }
 
-/// The entry of the compiled file `file`, or why it can't be had.
+/// The entry of the compiled file `file`, or the reason why there is none.
 fn unpack_file(alloc: Global, file: &[u8]) -> Result<Result<Entry, CommandRefusal>, Failure>
     ensures found { IfOk result (λ entry. IsOfFile file.now [] entry) }
     ensures failure { IfErr result (λ e. IsPackFailure file.now e) }
@@ -234,7 +234,7 @@ fn unpack_file(alloc: Global, file: &[u8]) -> Result<Result<Entry, CommandRefusa
     }
 }
 
-/// The entry of `packed`, or why it can't be had.
+/// The entry of `packed`, or the reason why there is none.
 pub fn unpacked_entry(
     alloc: Global,
     packed: &Packed<'_>,

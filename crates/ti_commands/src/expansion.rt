@@ -22,7 +22,7 @@ use ti_source::{EscapeFault, unescape};
 use ti_words::{Remarks, explain_escape, explain_parm, explain_token};
 use vt_term::{Size, Terminal, TokenFaultKind, tokens};
 
-/// The parameters of one string: nine and fewer take no memory.
+/// The parameters of one string: up to nine take no memory.
 type Params<'a> = SmallVec<Param<'a>, 9>;
 
 /// Expands the string of the `words` and shows where it leaves the cursor of a blank terminal. Further lines go to
@@ -85,7 +85,8 @@ fn show(
     }
 }
 
-/// The lines about the bytes `sent` by `string`, which are a whole text; the last one is there where `judges_cup`.
+/// The lines about the bytes `sent` by `string`, which must be a whole text; the line about `cup`
+/// comes last, if `judges_cup`.
 fn whole_text(
     alloc: Global,
     size: Size,
@@ -115,7 +116,7 @@ fn hex_line(alloc: Global, sent: &[u8]) -> Result<Vec<u8>, AllocError>
     Ok(text.into_bytes())
 }
 
-/// What `string` sends: its expansion with `params`, without delays.
+/// The bytes that `string` sends: its expansion with `params`, without delays.
 fn send(
     alloc: Global,
     string: &[u8],

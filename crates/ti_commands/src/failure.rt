@@ -1,4 +1,4 @@
-//! What a command answers, why it may stop, and the status that says so.
+//! A command's reply, why it may stop, and the exit status for that.
 
 ghost use Rattle.std.specs.Prelude.{◌≡◌, [], None};
 ghost use Rattle.ti_commands.specs.Status.{status_of};
@@ -16,19 +16,19 @@ use ti_source::{EscapeFault, SourceFault};
 use ti_words::{Remarks, write_shown};
 use vt_term::{Stuck, TokenFault};
 
-/// What a command has to say, and why it stopped if it did.
+/// A command's reply, and why it stopped if it did.
 #[derive(Debug, Drop)]
 pub struct Reply {
-    /// What standard error gets first.
+    /// The lines for standard error, which are written first.
     pub notes: Vec<u8>,
-    /// What standard output gets.
+    /// The text for standard output.
     pub text: Vec<u8>,
-    /// Why there is no more.
+    /// Why the reply ends here.
     pub failure: Option<Failure>,
 }
 
 impl Reply {
-    /// A reply with `text`, all of it for standard output.
+    /// A reply of `text` alone, for standard output.
     pub fn of_text(alloc: Global, text: Vec<u8>) -> Reply
         ensures notes { result.notes.items ≡ [] }
         ensures text { result.text ≡ text }
@@ -42,7 +42,7 @@ impl Reply {
     }
 }
 
-/// What was asked for is understood and can't be done.
+/// A request that was understood but can't be met.
 #[derive(Debug, Drop, Error)]
 pub enum CommandRefusal {
     /// Rows are 2 to 200, columns 2 to 500.
@@ -54,16 +54,16 @@ pub enum CommandRefusal {
     /// The string can't be expanded with these parameters.
     #[error("{0}")]
     Parm(ParmFault),
-    /// The expanded bytes are no whole text of the terminal.
+    /// The expanded bytes aren't a whole text of the terminal.
     #[error("{0}")]
     Token(TokenFault),
-    /// A byte of a stream fits nothing.
+    /// The run of a stream gets stuck at a byte.
     #[error("{0}")]
     Stuck(Stuck),
     /// The source text has a fault.
     #[error("{0}")]
     Source(SourceFault),
-    /// The entry can't be had from its source; the name follows the kind.
+    /// The entry can't be resolved from its source; the name follows the kind.
     #[error("{0}")]
     Resolve(ResolveFault),
     /// The compiled file has a fault, or the entry can't be compiled.
@@ -74,14 +74,14 @@ pub enum CommandRefusal {
     Verdict(Vec<u8>),
 }
 
-/// Why a command ends with another status than 0.
+/// Why a command ends with a status other than 0.
 #[derive(Debug, Drop)]
 pub enum Failure {
     /// The command's own answer is no.
     Refused(CommandRefusal),
-    /// The answer is no, and what stands beside it could not be written.
+    /// The answer is no, and the text of the reply could not be written.
     RefusedUnwritten(CommandRefusal),
-    /// A usage error; the text says which.
+    /// A usage error with its message.
     Usage(String),
     /// The file of this path can't be read or written, or is too long.
     File(String),
@@ -131,7 +131,7 @@ pub fn file_failure(alloc: Global, path: &str) -> Failure
     }
 }
 
-/// The failure of a line that can't be understood, as `text` says.
+/// The failure of a line that can't be understood, with the message `text`.
 pub fn usage_error(alloc: Global, text: &str) -> Failure
     ensures { IsUsageError text.now result }
 {
@@ -141,8 +141,8 @@ pub fn usage_error(alloc: Global, text: &str) -> Failure
     }
 }
 
-/// Writes the line of `failure` and the lines of `remarks` to `err`, and answers the exit status. That `err` takes
-/// nothing changes nothing.
+/// Writes the line of `failure` and the lines of `remarks` to `err`, and returns the exit status,
+/// also if `err` fails.
 pub fn report<E: Write>(failure: &Failure, remarks: &Remarks, err: &mut E) -> u8
     ensures { result ≡ status_of failure.now }
 {
@@ -169,12 +169,12 @@ fn write_failure<E: Write>(failure: &Failure, remarks: &Remarks, err: &mut E) ->
     remarks.write(err)
 }
 
-/// The fixed line, and in plain words what happened.
+/// The fixed line, and a line in plain words.
 const OUTPUT: &[u8] =
     b"output\nstandard output is closed or full: the answer was not written, or only in part\n";
 
-/// Writes the line of `refusal` to `err`. A name stands in it as the source has it, but for bytes that could begin a
-/// sequence.
+/// Writes the line of `refusal` to `err`. A name is written as in the source, except for bytes that
+/// could begin a sequence.
 fn write_refusal<E: Write>(refusal: &CommandRefusal, err: &mut E) -> io::Result<()> {
     write!(err, "refused: {refusal}")?;
     match refusal {

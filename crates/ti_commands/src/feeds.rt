@@ -11,8 +11,8 @@ use std::alloc::Global;
 use ti_words::{Remarks, explain_stuck};
 use vt_term::{Size, Terminal};
 
-/// Feeds the file at `path` to a terminal in its reset state, and shows its screen. `rows` and `cols` are words of the
-/// line.
+/// Feeds the file at `path` to a terminal in its reset state, and shows its screen. `rows` and
+/// `cols` are the words ROWS and COLS of the line.
 pub fn feed_file<F: Files>(
     alloc: Global,
     rows: &str,

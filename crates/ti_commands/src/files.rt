@@ -24,7 +24,7 @@ pub enum FileCause {
 }
 
 impl FileCause {
-    /// What is said of a path that the system refused for this cause.
+    /// The words about a path that the system refused for this cause.
     pub fn words(self) -> &'static [u8] {
         match self {
             FileCause::Missing => b": there is no such file or folder",
@@ -53,7 +53,7 @@ impl From<io::Error> for FileFault {
 }
 
 impl FileFault {
-    /// The fault that an error of this `kind` is.
+    /// The fault for an error of this `kind`.
     fn of_kind(kind: ErrorKind) -> FileFault {
         match kind {
             ErrorKind::OutOfMemory => FileFault::NoMemory,
@@ -68,27 +68,27 @@ impl FileFault {
     }
 }
 
-/// Where a command finds its files: the system's, or a test's own in memory.
+/// The files of a command: the system's, or a test's own in memory.
 pub trait Files {
-    /// The bytes of the file at a path, where they are known.
+    /// The bytes of the file at a path, if they are known.
     ghost holds: { Self → List ℕ → Option (List ℕ) } = { λ _ _. None };
 
-    /// An opened file, read from its front.
+    /// An opened file, read from its start.
     type File: Read + Drop;
 
-    /// Opens the file at `path` for reading: what is left to read is what the path holds.
+    /// Opens the file at `path` for reading: the reader has all of its bytes left.
     fn reader(&mut self, path: &str) -> Result<Self::File, FileFault>
         ensures bytes { IfOk result (λ file. IsLeft (holds self.old path.now) (Self.File.remaining file)) }
         ensures kept { holds self.new ≡ holds self.old };
 
-    /// How many bytes the file that was opened last is likely to have, so that room for them is made at once; 0 where
-    /// that isn't known. What is read doesn't depend on it.
+    /// The expected length in bytes of the file that was opened last, so that room is made at once;
+    /// 0 if it isn't known. The bytes that are read don't depend on it.
     fn length_hint(&self) -> u64 {
         0
     }
 
-    /// Makes the file at `path` hold just `bytes`, and no other path anything else. After an error each file is as
-    /// before.
+    /// Makes the file at `path` hold just `bytes`, and changes no other file. After an error each
+    /// file is as before.
     fn store(&mut self, path: &str, bytes: &[u8]) -> Result<(), FileFault>
         ensures stored { OnOk result (AreBytesOf (holds self.new path.now) bytes.now) }
         ensures others { OnOk result ((other : List ℕ) → other ≢ path.now

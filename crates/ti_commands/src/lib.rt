@@ -1,5 +1,5 @@
-//! What the program's commands do once the line is parsed: the reply to each, and how a reply ends in
-//! what was written and in the exit status.
+//! The program's commands, once the line is parsed: the reply to each, and how the text and the
+//! exit status of a reply are given.
 #![tactic(auto)]
 
 mod contents;

@@ -1,17 +1,17 @@
-//! Where a command's answer goes.
+//! The output of a command.
 
 ghost use Rattle.std.specs.Prelude.{◌≡◌, ℕ, Bool, List, Option, None, OnErr, OnOk, false, true};
 ghost use Rattle.std.specs.Io.KnownBytes.{Appends};
 
 use std::io::Write;
 
-/// An output has not taken all the bytes.
+/// An output didn't take all the bytes.
 #[derive(Clone, Copy, Debug, PartialEq, Eq)]
 pub struct Unwritten;
 
-/// What takes a command's answer, and remembers whether it has failed.
+/// An output for a command's text, which remembers whether it has failed.
 pub trait Output {
-    /// The bytes that it has taken, where they are known.
+    /// The bytes that it has taken, if they are known.
     ghost contents: { Self → Option (List ℕ) } = { λ _. None };
 
     /// Whether a call has failed.
@@ -32,7 +32,7 @@ pub struct Written<W> {
 }
 
 impl<W: Write> Written<W> {
-    /// The output that `writer` is.
+    /// `writer` as an output that hasn't failed.
     pub fn new(writer: W) -> Written<W>
         ensures { result.has_failed ≡ false }
     {

@@ -12,8 +12,8 @@ use ti_resolve::ResolveFault;
 use ti_source::{EscapeFault, FaultKind, SourceFault};
 use vt_term::{TokenFault, TokenFaultKind};
 
-/// The words of `refusal`, as they follow `refused: `: its kind, and the place or the name that it is about. A name has
-/// the bytes that it has in its source.
+/// The words of `refusal` after `refused: `: its kind, and the place or the name that it is about.
+/// A name has the bytes that it has in its source.
 pub fn refusal_words(alloc: Global, refusal: &CommandRefusal) -> Result<Vec<u8>, AllocError>
     ensures { IfOk result (λ words. words.items ≡ spec.refusal_text_of refusal.now) }
 {
@@ -74,7 +74,7 @@ fn resolve_words(alloc: Global, fault: &ResolveFault) -> Result<Vec<u8>, AllocEr
     }
 }
 
-/// The `kind`, and the `name` behind it.
+/// The `kind`, and the `name` after it.
 fn named(alloc: Global, kind: &[u8], name: &[u8]) -> Result<Vec<u8>, AllocError>
     ensures { IfOk result (λ words. words.items ≡ kind.now ++ name.now) }
 {

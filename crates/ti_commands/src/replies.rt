@@ -1,4 +1,4 @@
-//! How a reply is given.
+//! How a reply is written.
 
 ghost use Rattle.std.specs.Prelude.{◌≡◌, None, IfErr, OnErr, OnOk, true};
 ghost use Rattle.std.specs.Io.KnownBytes.{Appends};
@@ -7,8 +7,8 @@ ghost use Rattle.ti_commands.specs.Status.{EndsAs, IsUnwritten};
 use crate::failure::{Failure, Reply};
 use crate::output::Output;
 
-/// Writes what `reply` has for standard output to `out`, also where the reply failed: then its failure comes before
-/// that of the output.
+/// Writes the text of `reply` to `out`, even if the reply has a failure. The reply's own failure comes before
+/// a failure of the output.
 pub fn write_reply<O: Output>(out: &mut O, reply: Reply) -> Result<(), Failure>
     ensures done { OnOk result (reply.failure ≡ None) }
     ensures written { OnOk result (Appends (O.contents out.old) (O.contents out.new) reply.text.items) }
@@ -27,7 +27,7 @@ pub fn write_reply<O: Output>(out: &mut O, reply: Reply) -> Result<(), Failure>
     }
 }
 
-/// The failure `failure`, with the word that the output failed too where `is_unwritten`.
+/// `failure`; a refusal also says that the output failed, if `is_unwritten`.
 fn unwritten(failure: Failure, is_unwritten: bool) -> Failure
     ensures { IsUnwritten failure is_unwritten result }
 {
@@ -37,7 +37,7 @@ fn unwritten(failure: Failure, is_unwritten: bool) -> Failure
     }
 }
 
-/// Writes all of `bytes` to `out`, or answers that the output failed.
+/// Writes all of `bytes` to `out`; fails if the output does.
 pub fn write_text<O: Output>(out: &mut O, bytes: &[u8]) -> Result<(), Failure>
     ensures written { OnOk result (Appends (O.contents out.old) (O.contents out.new) bytes.now) }
     ensures failure { IfErr result (λ failure. failure ≡ Failure.Output) }

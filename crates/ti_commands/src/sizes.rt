@@ -1,4 +1,4 @@
-//! The words that several commands have: numbers, and the terminal's size.
+//! Words that several commands take: numbers, and the terminal's size.
 
 ghost use Rattle.std.specs.Prelude.{◌≡◌, ◌↔◌, IfErr, IfOk, IsOk};
 ghost use Rattle.vt_term.specs.Size.{IsSize};
@@ -12,7 +12,7 @@ use std::alloc::Global;
 use ti_words::{Remarks, explain_size};
 use vt_term::Size;
 
-/// The number that `word` gives, or why it is none; `name` is what the word stands for.
+/// The number that `word` gives. Fails if it gives none; `name` is the argument's name for the message.
 pub fn number_word(alloc: Global, name: &str, word: &str) -> Result<u32, Failure>
     ensures number { IfOk result (λ n. GivesNumber word.now n) }
     ensures failure { IfErr result (λ e. WrongNumber name.now word.now e) }
@@ -23,7 +23,7 @@ pub fn number_word(alloc: Global, name: &str, word: &str) -> Result<u32, Failure
     }
 }
 
-/// The size of a terminal with `rows` and `cols`, or its refusal.
+/// The size of a terminal with `rows` and `cols`; refused if no terminal has it.
 pub fn size_of(alloc: Global, rows: u32, cols: u32, remarks: &mut Remarks) -> Result<Size, Failure>
     ensures size { IfOk result (λ size. (size.rows ≡ rows) × (size.cols ≡ cols)) }
     ensures within { IsOk result ↔ IsSize rows cols }
@@ -38,7 +38,7 @@ pub fn size_of(alloc: Global, rows: u32, cols: u32, remarks: &mut Remarks) -> Re
     }
 }
 
-/// The terminal's size that `rows` and `cols` give, the words ROWS and COLS of a line.
+/// The terminal's size that `rows` and `cols` give, which are the words ROWS and COLS of the line.
 pub fn size_words(
     alloc: Global,
     rows: &str,
@@ -53,7 +53,7 @@ pub fn size_words(
     size_of(alloc, height, width, remarks)
 }
 
-/// The failure of `word`, which stands where the number `name` belongs.
+/// The failure of `word`, which was given for the number `name`.
 fn not_a_number(alloc: Global, name: &str, word: &str) -> Failure
     ensures { IsUsageError (number_usage name.now word.now) result }
 {

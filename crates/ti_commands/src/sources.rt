@@ -1,4 +1,4 @@
-//! An entry together with the source text in which it stands.
+//! An entry together with its source text.
 
 ghost use Rattle.std.specs.Prelude.{◌≡◌, IfErr, IfOk};
 ghost use Rattle.ti_commands.specs.Findings.{LacksEntry};
@@ -28,17 +28,17 @@ pub struct SourceText<'a> {
     pub raws: Vec<RawEntry>,
 }
 
-/// An entry, and where it stands.
+/// An entry, and its source.
 #[derive(Debug, Drop)]
 pub struct Sourced<'a> {
     /// The entry.
     pub entry: Entry,
-    /// Its source; none where it is that of a compiled file.
+    /// The source; `None` for an entry of a compiled file.
     pub source: Option<SourceText<'a>>,
 }
 
-/// The entry that `word` gives, with its source. Hints about its fields, and those of the entries that it uses, go to
-/// `remarks`.
+/// The entry that `word` gives, with its source. Hints about its fields, and about those of the
+/// entries that it uses, go to `remarks`.
 pub fn sourced_entry<'a, F: Files>(
     alloc: Global,
     files: &mut F,

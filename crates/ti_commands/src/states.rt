@@ -18,9 +18,9 @@ use ti_words::{Remarks, explain_stuck};
 use vt_states::{CaseFault, Snapshot, case_answers, plain_recording};
 use vt_term::{Size, Stuck};
 
-/// Feeds the file of the `words` to a terminal in its reset state, and shows what they ask for of the state that it
-/// leaves; or the states of all cases of the file. Of a recording strings are dropped and characters above 127 replaced
-/// first, and the notes say how much.
+/// Feeds the file of the `words` to a terminal in its reset state, and shows the state that it
+/// leaves in the form that they ask for; or the states of all cases of the file. In a recording
+/// strings are dropped and characters above 127 are replaced first, and the notes say how many.
 pub fn feed_state<F: Files>(
     alloc: Global,
     words: &FeedWords<'_>,
@@ -42,7 +42,7 @@ pub fn feed_state<F: Files>(
     })
 }
 
-/// What the terminal is fed with of a file, and what is said of that.
+/// The bytes of a file that the terminal gets, and the notes about them.
 fn fed_bytes(
     alloc: Global,
     plain_text: bool,
@@ -60,7 +60,7 @@ fn fed_bytes(
     }
 }
 
-/// What is said of a recording, if something was dropped or replaced.
+/// The note about a recording; empty if nothing was dropped or replaced.
 fn note(alloc: Global, dropped: usize, replaced: usize) -> Result<Vec<u8>, AllocError>
     ensures { IfOk result (λ text. text.items ≡ note_of dropped replaced) }
 {
@@ -73,7 +73,7 @@ fn note(alloc: Global, dropped: usize, replaced: usize) -> Result<Vec<u8>, Alloc
     Vec::from_slice(alloc, text.as_bytes())
 }
 
-/// What the words ask for of the bytes, which are those of their file.
+/// The output that `words` ask for, from the `bytes` of their file.
 fn shown(
     alloc: Global,
     words: &FeedWords<'_>,
@@ -109,7 +109,7 @@ fn lines_after(
     }
 }
 
-/// The whole state after the bytes, as an object, and a LF.
+/// The whole state after the bytes, as an object, and an LF.
 fn object_after(
     alloc: Global,
     size: Size,
@@ -131,7 +131,7 @@ fn object_after(
     }
 }
 
-/// The failure of the file at `path`, whose bytes are stuck.
+/// The failure of the file at `path`, whose bytes got stuck.
 fn stuck_failure(
     alloc: Global,
     path: &str,
@@ -166,11 +166,11 @@ fn answers_to(
     }
 }
 
-/// What a line of a file of cases is.
+/// The form of a line in a file of cases.
 const CASE_WORDS: &[u8] =
     b": a line of it is a name, a space, and bytes in hexadecimal, or a dash for none";
 
-/// The failure of a file of cases with a line that is none.
+/// The failure of a file of cases with a line that isn't a case.
 fn bad_line(alloc: Global, line: usize) -> Failure
     ensures { IsBadLineFailure line result }
 {
