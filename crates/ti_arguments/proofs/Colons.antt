@@ -26,7 +26,7 @@ split_word word path name h =
     let none : HasNone name = subst HasNone (sym h.4) (λ i lt. NoCharPasses-char 58 (drop h.1 word) i h.2.0 (lit< tt) lt) in
     ap before_colon joined ∙ last_colon path name none
 
--- what is found of a word that is split at its last colon
+-- the search in a word that is split at its last colon
 pub split_at_colon : (word : List ℕ) (found : Option (Bor (List ℕ) × Bor (List ℕ))) → MatchOption found (RFindsChar 58 word None) (λ x. SplitsAroundMatch (RFindsChar 58) word x.0.now x.1.now) → option_map (λ x. x.0.now) found ≡ before_colon word
 split_at_colon word (Some x) h = sym (split_word word x.0.now x.1.now h)
 split_at_colon word None h = sym (no_colon word (λ i lt. NoCharPasses-char 58 word i h (lit< tt) lt))

@@ -24,11 +24,11 @@ line_has_matches : is_simple line ≡ true
 unfolding clap_on_literals
 line_has_matches = refl
 
--- what is found for the command that the words choose
+-- the arguments found for the command that the words choose
 pub asked : {X : Type 0} (a : App) (words : List Text) (rows : Option (Text × List Row)) (request : Request) → a ≡ line → (is_simple a ≡ true → X × (rows ≡ subcommand_of a words)) → Asks rows request → Asks (subcommand_of line words) request
 asked a words rows request q h asks = subst (λ (r : Option (Text × List Row)). Asks r request) ((h (ap is_simple q ∙ line_has_matches)).1 ∙ ap (λ (b : App). subcommand_of b words) q) asks
 
--- the error has a kind of the first step that fails
+-- the error is of a kind that the first failing step has
 pub failed : (a : App) (words : List Text) (e : Error) → a ≡ line → (is_simple_and_free a ≡ true → HasKind (fault_of a words) e) → HasKind (fault_of line words) e
 failed a words e q h = subst (λ (b : App). HasKind (fault_of b words) e) q (h (ap is_simple_and_free q ∙ line_is_simple))
 
@@ -40,7 +40,7 @@ no_memory : {A : Type 0} (k : ErrorKind) → k ≡ kind.OutOfMemory → (k ≡ k
 no_memory k e (inl h) = cc
 no_memory k e (inr h) = cc
 
--- so there is an answer for it
+-- the answer to the parser's error
 pub answered : (words : List Text) (e : Error) (r : Result ParsedLine UsageFault) → HasKind (fault_of line words) e → IfOk r (λ a. IsTold (kind_of e) a) → IfOk r (λ a. IsAnswer words a)
 answered words e (Err fault) h t = tt
 answered words e (Ok (answers.Request request)) h t = absurd t

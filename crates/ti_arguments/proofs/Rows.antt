@@ -1,4 +1,4 @@
--- What clap's getters give, over the rows of what was found.
+-- The results of clap's getters, over the rows of the arguments found.
 use Rattle.std.proofs.Common.{◌≡◌, ◌≤◌, ◌<◌, ◌∷◌, [], List, arith, get_or, length, map, option_map, refl}
 use denote.Ref.{Bor}
 use Rattle.clap.proofs.WalkLemmas.{first_value-rows, raw_values-rows}

@@ -1,4 +1,4 @@
--- A command with one switch more.
+-- A command with one more switch.
 use Rattle.std.proofs.Common.{◌≡◌, ◌∙◌, ap, false, Result, Ok, Err}
 use Rattle.std.specs.Prelude.{IfOk}
 use Rattle.clap.specs.Simple.{with_rule}

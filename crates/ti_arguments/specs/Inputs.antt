@@ -1,4 +1,4 @@
--- Standard input, which is a file by the path `-`: what a request reads and writes of it.
+-- Standard input, whose path is `-`: whether a request reads or writes it.
 use Rattle.std.specs.Prelude.{◌≡◌, ◌≤◌, ◌==◌, ℕ, Bool, false, List, [], ◌∷◌, Option, None, Some, codes, if◌then◌else◌}
 use Rattle.std.specs.Prelude.{map, unwrap_or}
 use Rattle.std.specs.List.{count_by}
@@ -19,12 +19,12 @@ is_input path = bytes_eq path (codes "-")
 abbrev pub input_count : List (List ℕ) → ℕ
 input_count paths = count_by is_input paths
 
--- what stands before the last colon of a word with this first byte, by that of the rest
+-- the part of a word before its last colon, from its first byte and that part of the rest
 abbrev pub front_with : ℕ → Option (List ℕ) → Option (List ℕ)
 front_with b (Some front) = Some (b ∷ front)
 front_with b None = if b == 58 then Some [] else None
 
--- what stands before the last colon, if there is one
+-- the part before the last colon, if there is one
 abbrev pub before_colon : List ℕ → Option (List ℕ)
 before_colon [] = None
 before_colon (b ∷ rest) = front_with b (before_colon rest)
@@ -58,18 +58,18 @@ abbrev pub is_input_path : Option (Bor (List ℕ)) → Bool
 is_input_path None = false
 is_input_path (Some path) = is_input path.now
 
--- the file that a request writes has the path of standard input
+-- the file that a request writes has the path `-`
 abbrev pub writes_input : Request → Bool
 writes_input (Tic entry out) = is_input_path out
 writes_input (Check words) = is_input_path words.out
 writes_input _ = false
 
--- at most one of the files that are read is standard input, and the one that is written isn't
+-- at most one of the files read is standard input, and the file written isn't
 pub record TakesInput (request : Request) : Type 0 where
   pub once : input_count (paths_read request) ≤ 1
   pub unwritten : writes_input request ≡ false
 
--- the request of an answer, if it is one
+-- for an answer that is a request: it takes standard input as allowed
 abbrev pub AnswersWithInput : ParsedLine → Type 0
 AnswersWithInput (answers.Request request) = TakesInput request
 AnswersWithInput (answers.Text text) = Unit {0}

@@ -5,7 +5,7 @@ use Rattle.clap.specs.Simple.{App, new_app, new_rule, on_top, with_rule, with_su
 use Rattle.clap.specs.Walk.{Rule, Text}
 use Rattle.clap.specs.declared.builder.action.ArgAction.TheVariants.{Append, Set, SetTrue}
 
--- a word that has to be there
+-- a required word
 abbrev pub positional_rule : Text → Rule
 positional_rule id = record (new_rule id) { required = true }
 
@@ -28,7 +28,7 @@ params_rule = record (new_rule (codes "PARAM")) {
   range = Some (record { start_inclusive = 0; end_inclusive = usize_max });
 }
 
--- one word or more
+-- one or more words
 abbrev pub several_rule : Text → Rule
 several_rule id =
     record (new_rule id) {
@@ -99,7 +99,7 @@ show_rules = with_script_rules (new_app (codes "show"))
 abbrev pub survey_rules : App
 survey_rules = with_rule (with_size_rules (with_report_rules (new_app (codes "survey")))) (several_rule (codes "FILE"))
 
--- the program by itself: its own name is not among the words, and a command has to follow
+-- the program alone: its own name is not among the words, and a command must follow
 abbrev pub program : App
 program =
     on_top (λ s. record s {

@@ -1,4 +1,4 @@
--- What a line of words asks for, by what clap's parser finds in it for the commands of `Line`.
+-- The request of a line of words, from the arguments that clap's parser finds in it for the commands of `Line`.
 use Rattle.std.specs.Prelude.{◌≡◌, ◌⊎◌, Bool, true, false, List, [], ◌∷◌, Option, Some, None, codes, map, option_map}
 use Rattle.std.specs.Prelude.{unwrap_or}
 use Rattle.std.specs.Str.{bytes_eq}
@@ -20,11 +20,11 @@ use Rattle.ti_requests.specs.declared.request.Request.TheVariants.{Expand, Feed,
 use Rattle.ti_requests.specs.declared.request.Request.TheVariants.{CheckJson, Verify, Play, Show, Survey, SurveyJson}
 use Rattle.ti_requests.specs.declared.request.Request.TheVariants.{Print, Common, Neither}
 
--- the word that stands for an argument, if it has one
+-- the word for an argument, if it has one
 abbrev pub word_of : Text → List Row → Text
 word_of id rows = unwrap_or (first_of id rows) []
 
--- all of them
+-- all words for an argument
 abbrev pub words_of : Text → List Row → List Text
 words_of id rows = unwrap_or (all_of id rows) []
 
@@ -57,7 +57,7 @@ abbrev pub Forms : List Row → Bool → Bool → Bool → Type 0
 Forms rows state json cases =
     (is_on (codes "state") rows ≡ state) × (is_on (codes "json") rows ≡ json) × (is_on (codes "cases") rows ≡ cases)
 
--- what `feed` is asked to print
+-- the form in which `feed` prints
 abbrev pub HasForm : List Row → FeedForm → Type 0
 HasForm rows Screen = Forms rows false false false
 HasForm rows State = Forms rows true false false
@@ -111,13 +111,13 @@ abbrev pub Asks : Option (Text × List Row) → Request → Type 0
 Asks None request = ⊥
 Asks (Some chosen) request = AsksFor chosen.0 chosen.1 request
 
--- the words ask for this
+-- the request or the text that the words ask for
 abbrev pub IsAnswer : List Text → ParsedLine → Type 0
 IsAnswer words (answers.Request request) = Asks (subcommand_of line words) request
 IsAnswer words (answers.Text text) =
     IsAmong kind.DisplayHelp (fault_of line words) ⊎ IsAmong kind.DisplayVersion (fault_of line words)
 
--- the answer that the parser's error is
+-- the text in answer to the parser's error, if it is help or the version
 abbrev pub IsTold : ErrorKind → ParsedLine → Type 0
 IsTold told (answers.Request request) = ⊥
 IsTold told (answers.Text text) = (told ≡ kind.DisplayHelp) ⊎ (told ≡ kind.DisplayVersion)

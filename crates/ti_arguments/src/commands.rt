@@ -13,7 +13,7 @@ use crate::help;
 use clap::{Arg, ArgAction, Command};
 use std::alloc::{AllocError, Global};
 
-/// The program's own word, its commands and their arguments.
+/// The program, its commands and their arguments.
 pub fn command_line<'a>(alloc: Global) -> Result<Command<'a>, AllocError>
     ensures { IfOk result (λ c. app_of c ≡ line) }
 {
@@ -23,7 +23,7 @@ pub fn command_line<'a>(alloc: Global) -> Result<Command<'a>, AllocError>
     with_script_commands(alloc, command)
 }
 
-/// `command` with those that show what a terminal does.
+/// `command` with the commands that show what a terminal does.
 fn with_screen_commands<'a>(alloc: Global, command: Command<'a>) -> Result<Command<'a>, AllocError>
     ensures { IfOk result (λ c. app_of c
         ≡ with_subcommand (with_subcommand (app_of command.entry) expand_rules.top) feed_rules.top) }
@@ -33,7 +33,7 @@ fn with_screen_commands<'a>(alloc: Global, command: Command<'a>) -> Result<Comma
     command.subcommand(expand)?.subcommand(feed)
 }
 
-/// `command` with those that judge entries.
+/// `command` with the commands that judge entries.
 fn with_verdict_commands<'a>(alloc: Global, command: Command<'a>) -> Result<Command<'a>, AllocError>
     ensures { IfOk result (λ c. app_of c ≡ with_verdicts (app_of command.entry)) }
 {
@@ -46,7 +46,7 @@ fn with_verdict_commands<'a>(alloc: Global, command: Command<'a>) -> Result<Comm
         .subcommand(survey)
 }
 
-/// `command` with those that play scripts.
+/// `command` with the commands that play scripts.
 fn with_script_commands<'a>(alloc: Global, command: Command<'a>) -> Result<Command<'a>, AllocError>
     ensures { IfOk result (λ c. app_of c ≡ with_plays (app_of command.entry)) }
 {
@@ -55,7 +55,7 @@ fn with_script_commands<'a>(alloc: Global, command: Command<'a>) -> Result<Comma
     command.subcommand(play)?.subcommand(show)
 }
 
-/// `command` with those whose words are entries.
+/// `command` with the commands whose words are entries.
 fn with_entry_commands<'a>(alloc: Global, command: Command<'a>) -> Result<Command<'a>, AllocError>
     ensures { IfOk result (λ c. app_of c
         ≡ with_subcommand (with_subcommand (app_of command.entry) tic_rules.top) infocmp_rules.top) }
@@ -113,7 +113,7 @@ fn with_size<'a>(alloc: Global, command: Command<'a>) -> Result<Command<'a>, All
         .arg(positional(alloc, "COLS", "The terminal's columns, 2 to 500"))
 }
 
-/// The word of a switch of two dashes, and its help.
+/// The name of a switch of two dashes, and its help.
 #[derive(Clone, Copy)]
 struct SwitchWords<'a> {
     name: &'a str,
@@ -137,7 +137,7 @@ fn with_switches<'a>(
         .arg(long_switch(alloc, second.name, second.help))
 }
 
-/// `command` with the switches for all faults and for JSON, and their help.
+/// `command` with the switches for all faults and for JSON, whose help is `all` and `json`.
 fn with_reports<'a>(
     alloc: Global,
     command: Command<'a>,

@@ -3,11 +3,11 @@
 /// The version of the program, the libraries and the packages; the scripts of `tools/` read it here.
 pub const VERSION: &str = "1.0.0";
 
-/// What the program does.
+/// The program in one line.
 pub const ABOUT: &str =
     "Checks terminal descriptions: what their strings do to a terminal, what their source says, and how they compile";
 
-/// What all commands have in common.
+/// The help that all commands have in common.
 pub const MORE: &str = "\
 An ENTRY is FILE:NAME, a terminfo source file and the name of an entry in it (split at the last colon),
 or FILE, a compiled terminfo file. A word that begins with `-` and is not an option is written after `--`.
@@ -99,7 +99,7 @@ Example:
 /// `tic` in one line.
 pub const TIC: &str = "Reads an entry, reports what is odd in its source, and compiles it";
 
-/// What a source and a compiled file are refused for.
+/// `tic` in full, with the causes for which a source or a compiled file is refused.
 pub const TIC_MORE: &str = "\
 Standard error gets a line `note line N: KIND` for each odd place of the whole source file: UnknownName (the
 field is left out), Duplicate (the first value counts), OddEscape (`\\x` stands for `x`). Without --out nothing

@@ -10,7 +10,7 @@ use ti_requests::{CheckWords, Request};
 /// The path that is standard input.
 const INPUT: &str = "-";
 
-/// Refuses a `request` that would read standard input twice, or write a file of the name `-`.
+/// Refuses a `request` that would read standard input twice, or write a file named `-`.
 pub fn judge_input(alloc: Global, request: &Request<'_>) -> Result<(), UsageFault>
     ensures { OnOk result (TakesInput request.now) }
 {
@@ -71,7 +71,7 @@ fn file_of<'a>(word: &'a str) -> &'a str
     }
 }
 
-/// Whether `request` writes a file of the name of standard input.
+/// Whether `request` writes to the path `-`.
 fn writes(request: &Request<'_>) -> bool
     ensures { result ≡ writes_input request.now }
 {

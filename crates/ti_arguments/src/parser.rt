@@ -1,4 +1,4 @@
-//! From words to a request.
+//! The parser: from words to a request.
 
 ghost use Rattle.std.specs.Prelude.{◌≡◌, IfOk, codes, map, option_map};
 ghost use Rattle.std.specs.String.{string_bytes};
@@ -18,7 +18,7 @@ use ti_requests::{
     VerifyWords,
 };
 
-/// What a line that can be understood asks for.
+/// The answer to a line that can be understood.
 #[derive(Debug, Drop)]
 pub enum ParsedLine<'a> {
     /// A command with its words.
@@ -27,10 +27,10 @@ pub enum ParsedLine<'a> {
     Text(String),
 }
 
-/// Why a line has no answer.
+/// Why a line can't be answered.
 #[derive(Debug, Drop)]
 pub enum UsageFault {
-    /// A usage error; the text says which and ends with a newline.
+    /// A usage error with its message, which ends with a newline.
     Usage(String),
     /// Out of memory.
     NoMemory,
@@ -42,8 +42,11 @@ impl From<AllocError> for UsageFault {
     }
 }
 
-/// What the `words` after the program's own name ask for. A request reads standard input (the path `-`) once at most,
-/// and doesn't write to it.
+/// The answer to the `words` after the program's own name. A request reads standard input (the path
+/// `-`) at most once, and doesn't write to it.
+///
+/// # Errors
+/// `Usage` with a message, or `NoMemory`.
 pub fn parse_line<'a>(alloc: Global, words: &'a [String]) -> Result<ParsedLine<'a>, UsageFault>
     ensures answer { IfOk result (λ answer. IsAnswer (map (λ w. string_bytes w) words.entry.now) answer) }
     ensures input { IfOk result (λ answer. AnswersWithInput answer) }
@@ -59,7 +62,8 @@ pub fn parse_line<'a>(alloc: Global, words: &'a [String]) -> Result<ParsedLine<'
     }
 }
 
-/// The answer that `error` is: help and version are answers, and any other error of the parser is a usage error.
+/// The answer to `error`: the text of help or of the version, or a usage error for any other error
+/// of the parser.
 fn explain<'a>(alloc: Global, error: &Error) -> Result<ParsedLine<'a>, UsageFault>
     ensures told { IfOk result (λ answer. IsTold (kind_of error.now) answer) }
     ensures text { IfOk result (λ answer. AnswersWithInput answer) }
@@ -73,7 +77,7 @@ fn explain<'a>(alloc: Global, error: &Error) -> Result<ParsedLine<'a>, UsageFaul
     }
 }
 
-/// The request of a line with a command, whose words are `matches`.
+/// The request of a line with a command, whose arguments are `matches`.
 fn request_of<'a>(alloc: Global, matches: &ArgMatches<'a>) -> Result<Request<'a>, UsageFault>
     ensures { IfOk result (λ request. Asks (subcommand_rows_of matches.now) request) }
 {
@@ -105,7 +109,8 @@ fn expand_request<'a>(alloc: Global, words: &ArgMatches<'a>) -> Result<Request<'
     }))
 }
 
-/// Without an option the screen is shown; the options for other forms exclude each other, and a case is no recording.
+/// The request of `feed`: the screen is shown if no option is given; the options for other forms
+/// exclude each other, and a file of cases can't be a recording.
 fn feed_request<'a>(alloc: Global, words: &ArgMatches<'a>) -> Result<Request<'a>, UsageFault>
     ensures { IfOk result (λ request. AsksFor (codes "feed") (rows_of (found_of words.now)) request) }
 {
@@ -133,7 +138,7 @@ const ONE_FORM: &str =
     "error: feed shows one of --state, --json and --cases; --plain-text is not for --cases\n\n\
                         For more information, try '--help'.\n";
 
-/// The request of `feed` with an option, which asks for this form.
+/// The request of `feed` with an option, which prints in `form`.
 fn feed_as<'a>(words: &ArgMatches<'a>, form: FeedForm, plain_text: bool) -> Request<'a>
     requires form { HasForm (rows_of (found_of words.now)) form }
     requires plain { plain_text ≡ is_on (codes "plain-text") (rows_of (found_of words.now)) }
@@ -157,7 +162,7 @@ fn tic_request<'a>(words: &ArgMatches<'a>) -> Request<'a>
     }
 }
 
-/// With `--all` or `--json` no certificate is written.
+/// The request of `check`: with `--all` or `--json` no certificate is written.
 fn check_request<'a>(alloc: Global, words: &ArgMatches<'a>) -> Result<Request<'a>, UsageFault>
     ensures { IfOk result (λ request. AsksFor (codes "check") (rows_of (found_of words.now)) request) }
 {
@@ -210,7 +215,7 @@ fn verify_request<'a>(words: &ArgMatches<'a>) -> Request<'a>
     })
 }
 
-/// The `words` of `play` or `show`.
+/// The arguments of `play` or `show`.
 fn scripted<'a>(words: &ArgMatches<'a>) -> ScriptWords<'a>
     ensures { Plays (rows_of (found_of words.now)) result }
 {
@@ -242,7 +247,7 @@ fn survey_request<'a>(alloc: Global, words: &ArgMatches<'a>) -> Result<Request<'
     }
 }
 
-/// One entry is printed, two are compared.
+/// The request of `infocmp`: one entry is printed, two are compared.
 #[tactic(auto, using(crate::proofs::Rows::all_in_rows))]
 fn infocmp_request<'a>(alloc: Global, words: &ArgMatches<'a>) -> Result<Request<'a>, UsageFault>
     ensures { IfOk result (λ request. AsksFor (codes "infocmp") (rows_of (found_of words.now)) request) }
@@ -262,7 +267,7 @@ fn infocmp_request<'a>(alloc: Global, words: &ArgMatches<'a>) -> Result<Request<
     }
 }
 
-/// The one of the `words` for the argument `id`, if there is one.
+/// The first word for the argument `id`, if there is one.
 #[tactic(auto, using(crate::proofs::Rows::first_in_rows))]
 fn first_word<'a>(words: &ArgMatches<'a>, id: &str) -> Option<&'a str>
     ensures { option_map (λ w. w.now) result ≡ first_of id.now (rows_of (found_of words.now)) }
@@ -270,7 +275,7 @@ fn first_word<'a>(words: &ArgMatches<'a>, id: &str) -> Option<&'a str>
     words.get_str(id)
 }
 
-/// The one of the `words` for the argument `id`, which the line has.
+/// The word for the argument `id`, or an empty one if there is none.
 fn word<'a>(words: &ArgMatches<'a>, id: &str) -> &'a str
     ensures { result.now ≡ word_of id.now (rows_of (found_of words.now)) }
 {
