@@ -1,10 +1,10 @@
-//! How many lines a command stored.
+//! The number of lines that a command stored.
 
 ghost use Rattle.std.specs.Prelude.{◌≡◌};
 
 use ti_commands::{FileFault, Files};
 
-/// The files of a command, and how many lines the last one has that it stored.
+/// The files of a command, with the number of lines of the file that it stored last.
 #[derive(Drop)]
 pub struct Counted<'a, F> {
     files: &'a mut F,
@@ -13,7 +13,7 @@ pub struct Counted<'a, F> {
 }
 
 impl<'a, F> Counted<'a, F> {
-    /// These `files`, to which nothing was stored yet.
+    /// The given `files`, to which nothing has been stored yet.
     pub fn new(files: &'a mut F) -> Counted<'a, F> {
         Counted { files, lines: None }
     }

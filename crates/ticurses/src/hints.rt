@@ -1,4 +1,4 @@
-//! What to write instead, where a path of the line is no file.
+//! Words to write instead of a path of the line that can't be read.
 
 use std::alloc::{AllocError, Global};
 use std::io::Read;
@@ -12,8 +12,8 @@ const USUAL_TREE: &str = "/usr/share/terminfo";
 /// The trees of compiled files, in the order in which ncurses looks in them.
 const TREES: [&str; 3] = ["/etc/terminfo", "/lib/terminfo", USUAL_TREE];
 
-/// Adds to `remarks` what to write in place of `path`, which can't be read: for the name of an entry its compiled file,
-/// and for a folder in a survey the files in its folders. The `request` is that of the line.
+/// Adds to `remarks` what to write in place of `path`, which can't be read: the compiled file for the name
+/// of an entry, and the files in its folders for a folder in a survey. `request` is that of the line.
 pub fn hint_path<F: Files>(
     alloc: Global,
     request: &Request<'_>,
@@ -51,7 +51,7 @@ fn is_entry(request: &Request<'_>, path: &str) -> bool {
     named && path != "-" && !path.contains('/')
 }
 
-/// Adds a line with the compiled file of the entry `name`, or else with where it usually is.
+/// Adds a line with the compiled file of the entry `name`, or with its usual path if there is none.
 fn hint_entry<F: Files>(alloc: Global, name: &str, files: &mut F, remarks: &mut Remarks) {
     let words = match compiled_file(alloc, name, files) {
         Ok(Some(path)) => {
@@ -80,13 +80,13 @@ fn compiled_file<F: Files>(
     Ok(None)
 }
 
-/// Where the tree of compiled files `tree` has that of the entry `name`.
+/// The path of the entry `name` in `tree`, a tree of compiled files.
 fn path_in(alloc: Global, tree: &str, name: &str) -> Result<String, AllocError> {
     let letter = name.chars().next().unwrap_or('/');
     format!(in alloc; "{tree}/{letter}/{name}")
 }
 
-/// What an ENTRY is, with the usual path of the compiled file of the entry `name`.
+/// The words that explain an ENTRY, with the usual path of the compiled file of the entry `name`.
 fn usual_words(alloc: Global, name: &str) -> Result<String, AllocError> {
     let path = path_in(alloc, USUAL_TREE, name)?;
     format!(in alloc;

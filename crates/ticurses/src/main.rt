@@ -15,7 +15,8 @@ use stored::Stored;
 use ti_commands::{Failure, report, usage_error};
 use ti_words::Remarks;
 
-/// `command` over the words of the line, the system's files with standard input, standard output and standard error.
+/// Runs `command` on the words of the line, the system's files with standard input, standard output
+/// and standard error.
 fn main(rt: HostRuntime) -> ExitCode {
     ExitCode::from(match words_of(&rt) {
         Ok(words) => run::command(

@@ -1,4 +1,4 @@
-//! The line that shows how far a survey has come.
+//! The line that shows how far a survey has got.
 
 use std::alloc::{AllocError, Global};
 use std::io::{IsTerminal, Write};
@@ -7,18 +7,18 @@ use ti_surveys::Watcher;
 /// The most bytes of the line, so that it is one row of all but the narrowest terminals.
 const WIDTH: usize = 60;
 
-/// A line on standard error that is written over and over, where that is a terminal.
+/// A line on standard error that is overwritten again and again, if that is a terminal.
 #[derive(Drop)]
 pub struct ProgressLine<'a, E> {
     alloc: Global,
     err: &'a mut E,
     is_seen: bool,
-    /// The number of its bytes that stand there.
+    /// The number of bytes that the line has now.
     len: usize,
 }
 
 impl<'a, E: Write + IsTerminal> ProgressLine<'a, E> {
-    /// A line on `err` of which nothing is written yet.
+    /// A line on `err`, to which nothing has been written yet.
     pub fn new(alloc: Global, err: &'a mut E) -> ProgressLine<'a, E> {
         let is_seen = err.is_terminal();
         ProgressLine {
@@ -31,7 +31,7 @@ impl<'a, E: Write + IsTerminal> ProgressLine<'a, E> {
 }
 
 impl<E: Write> ProgressLine<'_, E> {
-    /// Writes `text` over the line, as far as there is memory, and blanks what it leaves of the line.
+    /// Writes `text` over the line, unless memory runs out, and blanks the rest of the line.
     fn show(&mut self, text: &[u8]) -> Result<(), AllocError> {
         let mut row = Vec::from_slice(self.alloc, b"\r")?;
         row.extend_from_slice(text)?;
@@ -61,8 +61,8 @@ impl<E: Write> Watcher for ProgressLine<'_, E> {
     }
 }
 
-/// The numbers `done` and `all` and the `name`, cut where the line ends. A byte that a terminal might take for a
-/// sequence is a question mark.
+/// The numbers `done` and `all` and the `name`, cut at the width of the line. A byte that a
+/// terminal might take for a part of a sequence becomes a question mark.
 fn text_of(alloc: Global, done: usize, all: usize, name: &[u8]) -> Result<Vec<u8>, AllocError> {
     let mut text = format!(in alloc; "{done} of {all}: ")?.into_bytes();
     for byte in name {

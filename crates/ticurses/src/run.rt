@@ -19,9 +19,9 @@ use ti_surveys::survey_files;
 use ti_verdicts::{Checker, check_all, check_entry, verify_certificate};
 use ti_words::Remarks;
 
-/// Does what the `words` after the program's own name ask for: the answer goes to `out`, notes and a
-/// failure's lines to `err`, and the result is the exit status: 0 done, 1 refused, 2 a usage error,
-/// 3 a file or the output failed, 4 out of memory. Files are reached through `files` alone.
+/// Carries out the `words` after the program's own name. The answer goes to `out`, notes and the
+/// lines of a failure to `err`. Returns the exit status: 0 done, 1 refused, 2 a usage error, 3 a
+/// file or the output failed, 4 out of memory. Files are reached through `files` alone.
 pub fn command<F: Files, O: Write, E: Write + IsTerminal>(
     alloc: Global,
     words: &[String],
@@ -48,7 +48,7 @@ pub fn command<F: Files, O: Write, E: Write + IsTerminal>(
     }
 }
 
-/// Does what the `words` ask for, with the further lines in `remarks`.
+/// Carries out the `words`, and adds the further lines to `remarks`.
 fn perform<F: Files, O: Output, E: Write + IsTerminal>(
     alloc: Global,
     words: &[String],
@@ -73,7 +73,7 @@ fn perform<F: Files, O: Output, E: Write + IsTerminal>(
     }
 }
 
-/// The path of the file that `reply` failed for, if it did.
+/// The path of the file for which `reply` failed, if it did.
 fn failed_path(reply: &Result<Reply, Failure>) -> Option<&str> {
     match reply {
         Err(Failure::File(path))
@@ -87,8 +87,8 @@ fn failed_path(reply: &Result<Reply, Failure>) -> Option<&str> {
     }
 }
 
-/// What `check` answers for its `words`. Where `err` is a terminal, and the certificate goes to a file, a last line in
-/// `remarks` says how many lines it has.
+/// The reply of `check` to its `words`. If `err` is a terminal, and the certificate goes to a file,
+/// a last line in `remarks` says how many lines it has.
 fn check_counted<F: Files, E: IsTerminal>(
     alloc: Global,
     words: &CheckWords<'_>,
@@ -108,8 +108,8 @@ fn check_counted<F: Files, E: IsTerminal>(
     Ok(reply)
 }
 
-/// What the command answers that the `request` names. What `play` sends goes to `out` as it comes, and its reply has
-/// nothing more.
+/// The reply of the command that `request` names. The bytes that `play` sends go to `out` as they
+/// come, and its reply has no more.
 fn reply_to<F: Files, O: Output, E: Write + IsTerminal>(
     alloc: Global,
     request: &Request<'_>,

@@ -16,8 +16,8 @@ const INPUT: &str = "-";
 /// Where the system has standard input as a file.
 const INPUT_FILE: &str = "/dev/stdin";
 
-/// The system's files, as a command reads and writes them. The path `-` is standard input; a file of that name is
-/// `./-`.
+/// The system's files for a command to read and write. The path `-` is standard input; a file of
+/// that name is `./-`.
 #[derive(Drop)]
 pub struct Stored<'a, R, I> {
     alloc: Global,
@@ -26,7 +26,7 @@ pub struct Stored<'a, R, I> {
     input: Option<I>,
     /// The file that was opened last, by its device and its number there.
     last_read: Option<(u64, u64)>,
-    /// The length of the file that was opened last, where it has one.
+    /// The length of the file that was opened last, if it has one.
     last_length: u64,
 }
 
@@ -42,7 +42,7 @@ impl<'a, R: rt::Files, I> Stored<'a, R, I> {
         }
     }
 
-    /// Standard input, where it wasn't opened before.
+    /// Standard input, unless it was opened before.
     fn open_input(&mut self) -> Result<I, FileFault> {
         let metadata = fs::metadata(self.rt, INPUT_FILE);
         self.last_read = metadata.ok().map(|metadata| identity(&metadata));
@@ -96,7 +96,7 @@ impl<'a, R: rt::Files, I> Stored<'a, R, I> {
     }
 }
 
-/// Writes `bytes` to the empty file `file`, until the device has them.
+/// Writes `bytes` to the empty file `file`, and waits until the device has them.
 fn write_synced<F: Write + OpenFile + Drop>(
     mut file: F,
     permissions: Option<Permissions>,
@@ -113,7 +113,7 @@ fn identity(metadata: &Metadata) -> (u64, u64) {
     (metadata.dev(), metadata.ino())
 }
 
-/// What is read: a file, or standard input.
+/// An opened file, or standard input.
 #[derive(Drop)]
 pub enum Opened<F, I> {
     /// A file.
@@ -149,7 +149,8 @@ impl<R: rt::Files, I: Read + Drop> Files for Stored<'_, R, I> {
         self.last_length
     }
 
-    /// A file is replaced as a whole, through links too; what is no file, as a terminal or a pipe, is written.
+    /// A file is replaced as a whole, even through links; anything else, such as a terminal or a
+    /// pipe, is written to.
     fn store(&mut self, path: &str, bytes: &[u8]) -> Result<(), FileFault> {
         match fs::metadata(self.rt, path) {
             Ok(metadata) if self.last_read == Some(identity(&metadata)) => {
