@@ -1,4 +1,4 @@
--- What the calls leave is the greeting.
+-- The desk after the calls has the greeting.
 use Rattle.std.proofs.Common.{◌≡◌, ℕ, ◌+◌, ◌-◌, ◌<◌, ◌≤◌, nat_lt, nat_le, [], List, Bool, true, false, Option, Some, None, Result, Ok, Err, pos, length, zero, suc, get_or, refl, sym, ap, ◌∙◌, subst, arith, if◌then◌else◌}
 use Rattle.std.specs.Prelude.{replicate, slice_set}
 use Rattle.std.proofs.lemmas.List.{get_or-replicate}

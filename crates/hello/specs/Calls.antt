@@ -5,7 +5,7 @@ use Rattle.curses.specs.Windows.Options.{move_to}
 use Rattle.curses.specs.Windows.Desks.{State, DeskStep, on_cursor, on_grid, on_window}
 use Rattle.curses.specs.Windows.Creations.{newwin}
 
--- what follows is done only if nothing was refused
+-- the next step is done only if the call before it wasn't refused
 abbrev pub and_then : DeskStep → (State → DeskStep) → DeskStep
 and_then (d, Ok u) next = next d
 and_then (d, Err e) next = (d, Err e)

@@ -6,7 +6,7 @@ use Rattle.std.proofs.Math.Nat.{le_refl, le_trans}
 use Rattle.std.proofs.lemmas.List.{append-nil}
 use Rattle.curses.specs.Painters.Wire.{IsWire}
 
--- the writer's bytes, where they are known, grew by these, and no failure was taken back
+-- the writer's bytes, if they are known, grew by these, and the count of failures didn't fall
 pub record Wrote (old new : Option (List ℕ)) (failed failures : ℕ) (bytes : List ℕ) : Type 0 where
   pub grows : Appends old new bytes
   pub risen : failed ≤ failures
@@ -21,7 +21,7 @@ joins (Some xs) None c x y h k = absurd h
 joins (Some xs) (Some ys) None x y h k = absurd k
 joins (Some xs) (Some ys) (Some zs) x y h k = k ∙ ap (λ (l : List ℕ). l ++ y) h ∙ append_assoc xs x y
 
--- A writer is a wire. The proof stands here since an impl's law can name nothing of proofs/.
+-- A writer is a wire. The proof is here since an impl's law can name nothing of proofs/.
 pub wrote_lawful : {W C : Type 0} (contents : W → Option (List ℕ)) (writer : C → W) (failures : C → ℕ)
     → IsWire (λ a b x. Wrote (contents (writer a)) (contents (writer b)) (failures a) (failures b) x) failures
 wrote_lawful contents writer failures = record {

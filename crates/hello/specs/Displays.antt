@@ -10,8 +10,8 @@ use Rattle.curses.specs.Painters.Inks.{ink_at}
 use Rattle.curses.specs.Painters.Painters.{wanted_of}
 use Rattle.hello.specs.Greeting.{IsGreeting}
 
--- What went out makes every terminal that a session may begin with show the greeting: its cells, and a visible cursor
--- in its place.
+-- The bytes sent make every terminal with which a session may begin show the greeting: its cells, and a visible
+-- cursor in its place.
 pub record Greets {W : Type 0} (went : W → W → List ℕ → Type 0) (old new : W) (t : Table)
     (partners : ℕ → Option ℕ) : Type 0 where
   pub screen : Screen

@@ -6,14 +6,14 @@ use Rattle.curses.specs.Windows.Cells.{Content, pair_count, space}
 use Rattle.curses.specs.Windows.Grids.{Grid, cell_at, is_in}
 use Rattle.curses.specs.Windows.VirtualScreen.{Screen, default_colors}
 
--- characters, and characters of the alternate set, in which there are lines
+-- characters, and characters of the alternate set, which has lines
 abbrev pub letters : List ℕ → List Content
 letters bytes = map (λ byte. record { byte = byte; attrs = 0; pair = 0 }) bytes
 
 abbrev pub drawings : List ℕ → List Content
 drawings bytes = map (λ byte. record { byte = byte; attrs = 128; pair = 0 }) bytes
 
--- the greeting's window: a text with a border round it
+-- the greeting's window: a text with a border around it
 abbrev pub picture : Grid
 picture =
     drawings (codes "lqqqqqqqqqqqqqqqk")
@@ -21,7 +21,7 @@ picture =
     ∷ drawings (codes "mqqqqqqqqqqqqqqqj")
     ∷ []
 
--- where it lies on the screen
+-- the place of the window on the screen
 abbrev pub frame : Area
 frame = record { top = 1; left = 4; rows = 3; cols = 17 }
 

@@ -1,4 +1,4 @@
--- The definitions of the greeting, and of the wire that it goes out on.
+-- The definitions of the greeting, and of the wire on which it is sent.
 pub mod Console
 pub mod Calls
 pub mod Greeting

@@ -7,7 +7,7 @@ use curses::{Wire, WireFault};
 use std::io;
 use std::io::Write;
 
-/// A writer that bytes are sent to.
+/// A writer to which bytes are sent.
 #[derive(Drop)]
 pub struct Console<W> {
     writer: W,
@@ -15,7 +15,7 @@ pub struct Console<W> {
 }
 
 impl<W: Write> Console<W> {
-    /// The wire that this writer is.
+    /// `writer` as a wire that hasn't failed.
     pub fn new(writer: W) -> Console<W> {
         Console {
             writer,
@@ -23,7 +23,7 @@ impl<W: Write> Console<W> {
         }
     }
 
-    /// Passes on what the writer holds back.
+    /// Writes the bytes that the writer has buffered.
     pub fn flush(&mut self) -> io::Result<()> {
         self.writer.flush()
     }
@@ -36,7 +36,7 @@ impl<W: Write> Wire for Console<W> {
 
     ghost failures = { λ a. a.failures };
 
-    /// Writes what the writer takes of a piece, and fails where that is nothing.
+    /// Writes as much of `piece` as the writer takes, and fails if that is nothing.
     fn send(&mut self, piece: &[u8]) -> Result<usize, WireFault> {
         match self.writer.write(piece) {
             Ok(taken) if taken > 0 => Ok(taken),

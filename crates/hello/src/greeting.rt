@@ -11,7 +11,8 @@ use std::alloc::Global;
 /// The number of the greeting's window.
 const GREETING: usize = 1;
 
-/// Shows the greeting on a terminal to which nothing was sent, and hands out the painter that knows what it shows.
+/// Shows the greeting on a terminal to which nothing has been sent, and returns the painter that
+/// knows what the terminal shows.
 pub fn greet<C: Certificate + Drop, W: Wire>(
     alloc: Global,
     checked: C,
@@ -37,7 +38,7 @@ fn greeting_screen(alloc: Global, size: Size) -> Result<Virtual>
     Ok(screen)
 }
 
-/// Draws the greeting in a window of its own. The desk's rows and columns are what `noutrefresh` asks about.
+/// Draws the greeting in a window of its own. The desk keeps its rows and columns, as `noutrefresh` requires.
 fn draw(desk: &mut Desk) -> Result<(), Refusal>
     ensures drawn { OnOk result ((desk.new, Ok tt) ≡ greeting desk.old) }
     ensures rows { OnOk result ((desk.new).rows ≡ (desk.old).rows) }
