@@ -1,4 +1,4 @@
--- The painter, and the wire that its bytes go out on.
+-- The painter, and the wire on which its bytes are sent.
 pub use Rattle.cur_steps.specs.declared.beliefs.Belief.{Belief}
 pub use Rattle.cur_steps.specs.declared.beliefs.Mode.{Mode}
 pub use Rattle.cur_steps.specs.declared.beliefs.Mode.TheVariants as modes

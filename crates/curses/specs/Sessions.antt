@@ -1,4 +1,4 @@
--- Sessions: what a call does, and what a run of calls sends.
+-- Sessions: the effect of a call, and the bytes that a run of calls sends.
 pub use Rattle.cur_play.specs.Log
 pub use Rattle.cur_play.specs.Scenes
 pub use Rattle.cur_play.specs.Steps

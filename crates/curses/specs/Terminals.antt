@@ -1,4 +1,4 @@
--- The terminal, and what a certificate shows of an entry.
+-- The terminal, and the facts about an entry that a certificate shows.
 pub use Rattle.vt_term.specs.Ends
 pub use Rattle.vt_term.specs.Screen
 pub use Rattle.vt_term.specs.Size

@@ -1,4 +1,4 @@
--- Windows, what is drawn in them, and the virtual screen.
+-- Windows, their content, and the virtual screen.
 pub use Rattle.grids.specs.declared.areas.Area.{Area}
 pub use Rattle.grids.specs.declared.areas.Place.{Place}
 pub use Rattle.cur_drawing.specs.declared.refusals.Refusal.{Refusal}

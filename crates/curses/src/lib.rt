@@ -1,8 +1,8 @@
-//! The library for programs that draw: windows, pads and the virtual screen; a terminal's entry and its verified
-//! certificate; the painter and the wire that its bytes go out on; sessions, and calls as values.
+//! The library for programs that draw: windows, pads and the virtual screen; a terminal's entry and its
+//! verified certificate; the painter and the wire on which its bytes are sent; sessions, and calls as values.
 #![tactic(auto)]
 
-// A terminal: its size, its entry from a source text, and what a certificate shows of the entry.
+// A terminal: its size, its entry from a source text, and the facts that a certificate shows of the entry.
 pub use ti_caps::Entry;
 pub use ti_cert::{AgreeFault, CertFault, CertFaultKind, Checked, VerifyFault, verify};
 pub use ti_conforms::Certificate;
@@ -11,13 +11,13 @@ pub use ti_resolve::{ResolveFault, resolve};
 pub use ti_source::{RawEntry, SourceFault, read};
 pub use vt_term::Size;
 
-// Windows and pads, what is drawn in them, and the virtual screen.
+// Windows and pads, their content, and the virtual screen.
 pub use cur_drawing::{Attrs, Border, Cell, Put, Refusal, Window};
 pub use cur_pads::{newpad, pnoutrefresh, subpad};
 pub use cur_windows::{Desk, Part, RowMut, View, Virtual, WINDOWS};
 pub use grids::{Area, Place};
 
-// The painter, and where its bytes go.
+// The painter, and the wires that take its bytes.
 pub use cur_update::{Painter, Unsent};
 pub use cur_wires::{Fuse, Tape, Wire, WireFault};
 
