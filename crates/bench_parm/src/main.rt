@@ -1,5 +1,5 @@
-//! Expands a parameter string many times, for bench/parm.sh: `bench_parm COUNT STRING PARAM..` prints how
-//! many bytes all the expansions have.
+//! Expands a parameter string many times, for bench/parm.sh: `bench_parm COUNT STRING PARAM..`
+//! prints the number of bytes of all expansions.
 #![tactic(auto)]
 
 use std::alloc::{AllocError, Global};
@@ -8,7 +8,7 @@ use std::process::ExitCode;
 use std::rt::Env;
 use ti_parm::{Param, ParmFault, Statics, expand};
 
-/// How many bytes `count` expansions of the string have, each into the same room.
+/// The number of bytes of `count` expansions of `string` with `params`, each into the same room.
 fn repeated(
     alloc: Global,
     string: &[u8],
@@ -26,7 +26,7 @@ fn repeated(
     Ok(total)
 }
 
-/// The parameters that words of decimal digits give; another word gives 0.
+/// The parameters that words of decimal digits give; any other word gives 0.
 fn params_of<'a>(alloc: Global, words: &[String]) -> Result<Vec<Param<'a>>, AllocError> {
     let mut params = Vec::new(alloc);
     for word in words {
@@ -35,7 +35,7 @@ fn params_of<'a>(alloc: Global, words: &[String]) -> Result<Vec<Param<'a>>, Allo
     Ok(params)
 }
 
-/// Does what the words say.
+/// Carries out the words of the line.
 fn perform(alloc: Global, words: &[String]) -> Result<u64, ParmFault> {
     match words {
         [count, string, rest @ ..] => {
