@@ -1,4 +1,4 @@
--- What the calls that shift cells or lines, or copy a rectangle, leave, place by place.
+-- The cells, place by place, after the calls that shift cells or lines, or copy a rectangle.
 use Rattle.std.proofs.Common.{◌≡◌, ◌≢◌, ℕ, ◌+◌, ◌-◌, ◌<◌, ◌≤◌, ◌==◌, ◌&&◌, nat_lt, nat_le, Bool, true, false, Result, Ok, Err, length, refl, ap, ◌∙◌, inl, inr, arith, if◌then◌else◌}
 use Rattle.std.proofs.lemmas.Bool.{cases_lt, cases_eq}
 use Rattle.std.proofs.lemmas.Bool.Decides.{nat_tests}
@@ -164,7 +164,7 @@ change_background p g w y x is lt lt2 ok =
 
 -- ---- copies between grids
 
--- the cell that is read lies in its grid
+-- the cell that is read is in its grid
 pub read_there : (b : Bool) (g : Grid) (row col : ℕ) (old : Content) → (b ≡ true → col < length (line_at g row)) → (if b then base.cell_at old g row col else old) ≡ (if b then cell_at g row col else old)
 read_there true g row col old there = get_or_default (line_at g row) col old space (there refl)
 read_there false g row col old there = refl

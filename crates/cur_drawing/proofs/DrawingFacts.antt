@@ -1,4 +1,4 @@
--- Drawn grids by their places, where there are spaces past the end.
+-- Drawn grids by their places, with spaces past the end.
 use Rattle.std.proofs.Common.{◌≡◌, ℕ, ◌<◌, true, false, length}
 use Rattle.grids.specs.declared.areas.Area.{Area}
 use Rattle.grids.proofs.Drawings as base

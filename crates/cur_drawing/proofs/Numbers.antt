@@ -1,4 +1,5 @@
--- Cells by their numbers: equal cells have equal numbers, and where the mask of the lanes that differ is 0, all lanes are equal.
+-- Cells by their numbers: equal cells have equal numbers, and if the mask of the lanes that differ is 0, all lanes
+-- are equal.
 use Rattle.std.proofs.Common.{◌≡◌, ℕ, ◌%◌, ◌/◌, ◌^◌, ◌<◌, List, Bool, true, false, not, eqb, cond, length, get_or, sym, ap, ◌∙◌, refl, arith}
 use Rattle.std.proofs.Math.Nat.{zero-div}
 use Rattle.cur_drawing.specs.Cells.{Content, content_of}

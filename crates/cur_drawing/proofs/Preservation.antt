@@ -19,7 +19,7 @@ kept_same g h w e is = record { canvas = canvas_same g h w e is; shape = e; area
 pub kept_both : (g h k : Grid) (u v w : Window) → IsKept g u h v → IsKept h v k w → IsKept g u k w
 kept_both g h k u v w one two = record { canvas = two.canvas; shape = two.shape ∙ one.shape; area = two.area ∙ one.area }
 
--- a window that stays where it is, with another cursor or region
+-- a window that keeps its place, with another cursor or region
 pub kept_by : (g h : Grid) (w v : Window) → shape_of h ≡ shape_of g → w.area ≡ v.area → IsWindow v → IsCanvas g w → IsKept g w h v
 kept_by g h w v e same is old = record {
   canvas = record { window = is; fits = subst (λ (a : Area). Fits a h) same (fits_same w.area g h e old.fits) };
@@ -27,11 +27,11 @@ kept_by g h w v e same is old = record {
   area = sym same;
 }
 
--- the first of the times that are left
+-- the first of the remaining times
 pub written_times-more : (n k : ℕ) (p : Put) (s : Canvas) → k < n → written_times (n - k) p s ≡ and_then (written p s) (λ t. written_times (n - (k + 1)) p t)
 written_times-more n k p s lt = let e : n - k ≡ suc (n - (k + 1)) = omega arith in ap (λ (m : ℕ). written_times m p s) e
 
--- the first of the bytes that are left
+-- the first of the remaining bytes
 pub added_all-more : (text : List ℕ) (k : ℕ) (s : Canvas) → k < length text → added_all (drop k text) s ≡ and_then (added (plain (get_or text k 0)) s) (λ t. added_all (drop (k + 1) text) t)
 added_all-more text k s lt = let e : drop k text ≡ get_or text k 0 ∷ drop (k + 1) text = rw (add-one) (drop-cons text k 0 lt) in ap (λ (bs : List ℕ). added_all bs s) e
 

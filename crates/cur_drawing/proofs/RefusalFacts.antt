@@ -1,4 +1,4 @@
--- Where a call on one window is refused, nothing has changed, but for NoScroll.
+-- A call on one window that is refused changes nothing, except with NoScroll.
 use Rattle.std.proofs.Common.{◌≡◌, ◌≢◌, ℕ, ◌+◌, ◌&&◌, ◌||◌, ◌==◌, nat_lt, bit_xor, zero, suc, Bool, true, false, Result, Ok, Err, ℤ, refl, if◌then◌else◌}
 use Rattle.cur_drawing.specs.declared.puts.Put.{Put}
 use Rattle.cur_drawing.specs.declared.puts.Border.{Border}
@@ -39,7 +39,7 @@ change_background p s e h = good_back s _ (checked_cell p) e h
 pub scroll_by : (n : ℤ) → ChangesNothingIfRefused (calls.scroll_by n)
 scroll_by n s e h = choice_back s _ s.window.scrolls NoScroll e h
 
--- ---- what a character is refused for once it was judged
+-- ---- the refusals of a character once it was judged
 abbrev Only : CanvasStep → Type 0
 Only x = (e : Refusal) → x.1 ≡ Err e → e ≡ NoScroll
 

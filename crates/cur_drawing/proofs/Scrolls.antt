@@ -1,4 +1,4 @@
--- What a scroll leaves, place by place.
+-- The cells after a scroll, place by place.
 use Rattle.std.proofs.Common.{◌≡◌, ℕ, ◌+◌, ◌-◌, ◌<◌, ◌≤◌, nat_le, min, Bool, true, false, length, refl, ap, ◌∙◌, inl, inr, arith, if◌then◌else◌}
 use Rattle.std.proofs.lemmas.Bool.{cases_lt}
 use Rattle.std.proofs.lemmas.Bool.Decides.{nat_tests}
@@ -14,7 +14,7 @@ use Rattle.cur_drawing.specs.Calls.{IsCanvas, place, lines_up, lines_down, regio
 use Rattle.cur_drawing.specs.Laws.{cell_of, in_region, went_up, went_down}
 use Rattle.cur_drawing.proofs.DrawingFacts.{shape_of-drawn, shape_of-line, cell_at-drawn_in, cell_at-drawn_in_off}
 
--- a place of a window and n of its lines
+-- a place in a window, and `n` of its lines
 lines_on : (w : Window) (from n y x : ℕ) → from ≤ y → y < from + n → x < w.area.cols → is_in (lines_of w from n) (w.area.top + y) (w.area.left + x) ≡ true
 lines_on w from n y x ge lt near = grind (arith, nat_tests)
 

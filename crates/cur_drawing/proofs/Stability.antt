@@ -88,11 +88,11 @@ lines_went_down s from height n is le =
     let one : Stays s t = lines_copied s (from + min n height) from (height - min n height) is (omega arith) in
     stays_both s t _ one (lines_filled t from (min n height) s.window.background one.canvas (omega arith))
 
--- the cursor goes to another place of the window
+-- the cursor moves to another place of the window
 cursor_moved : (w : Window) (y x : ℕ) → IsWindow w → y < w.area.rows → x < w.area.cols → IsWindow (record w { row = y; col = x })
 cursor_moved w y x is lt lt2 = record { row = lt; col = lt2; region = is.region; bottom = is.bottom; pair = is.pair; height = is.height; width = is.width }
 
--- a choice, one step after another, and what is done only after a good judgement
+-- a choice, one step after another, and a step that needs a good judgement
 stays_if : (s : Canvas) (b : Bool) (x y : CanvasStep) → (b ≡ true → Stays s x.0) → (b ≡ false → Stays s y.0) → Stays s (if b then x else y).0
 stays_if s true x y p q = p refl
 stays_if s false x y p q = q refl

@@ -11,7 +11,7 @@ use Rattle.cur_drawing.specs.Grids.{Grid, filled, line_at, shape_of}
 use Rattle.cur_drawing.specs.Windows.{cells_of, content}
 use Rattle.cur_drawing.specs.Calls.{Canvas, CanvasStep, added, added_all, and_then, canvas, done, plain}
 
--- what a window writes for a byte
+-- the cell that a window writes for a byte
 abbrev pub inked : Window → ℕ → Content
 inked w b = lettered (content w (plain 32)) (content w (plain 120)) b
 
@@ -102,7 +102,7 @@ added_all-append (b ∷ bs) ys s =
     same_then (t, Ok u) f h e = e t
     same_then (t, Err x) f h e = refl
 
--- what is left of a string whose front was added
+-- the rest of a string whose first part was added
 pub front_added : (text : List ℕ) (n : ℕ) (s t : Canvas) → (t, Ok tt) ≡ added_all (take n text) s → added_all (drop n text) t ≡ added_all text s
 front_added text n s t e =
     ap (λ (x : CanvasStep). and_then x (λ u. added_all (drop n text) u)) e

@@ -1,5 +1,5 @@
--- What a call does to one window and the grid under it (X/Open Curses Issue 7, the reference pages of the calls
--- named). A step is the canvas after it and the answer; where it is a refusal, what was done before it stays.
+-- The effect of a call on one window and the grid under it (X/Open Curses Issue 7, the reference pages of the calls
+-- named). A step is the canvas after it and the answer; after a refusal the changes made before it remain.
 use Rattle.std.specs.Prelude.{◌≡◌, ℕ, ◌+◌, ◌-◌, ◌%◌, ◌==◌, ◌&&◌, ◌||◌, zero, suc, min, nat_lt, List, [], ◌∷◌, true}
 use Rattle.std.specs.Prelude.{Result, Ok, Err, if◌then◌else◌, bit_xor, ℤ, pos, negsuc}
 use Rattle.grids.specs.declared.areas.Place.{Place}
@@ -25,7 +25,7 @@ pub record IsCanvas (g : Grid) (w : Window) : Type 0 where
   pub window : IsWindow w
   pub fits : Fits w.area g
 
--- after a step the window stands where it stood, and the grid has its shape
+-- after a step the window is at the same place, and the grid has the same shape
 pub record IsKept (g : Grid) (w : Window) (h : Grid) (v : Window) : Type 0 where
   pub canvas : IsCanvas h v
   pub shape : shape_of h ≡ shape_of g
@@ -40,7 +40,7 @@ step g w r = (canvas g w, r)
 abbrev pub done : Grid → Window → CanvasStep
 done g w = (canvas g w, Ok tt)
 
--- what follows is done only if nothing was refused, and what was done stands
+-- the next step is done only if nothing was refused, and the changes so far remain
 abbrev pub and_then : CanvasStep → (Canvas → CanvasStep) → CanvasStep
 and_then (s, Ok u) next = next s
 and_then (s, Err e) next = (s, Err e)
@@ -59,13 +59,13 @@ alone act s = (canvas s.grid (act s.window).0, (act s.window).1)
 abbrev pub place : ℕ → ℕ → Place
 place row col = record { row = row; col = col }
 
--- of `height` lines from `from` on, the upper n go, the others go up, and the background comes in below
+-- of `height` lines from `from` on, the upper `n` are dropped, the others move up, and the background fills those below
 abbrev pub lines_up : Window → ℕ → ℕ → ℕ → Grid → Grid
 lines_up w from height n g =
     filled (lines_of w (from + (height - min n height)) (min n height)) w.background
     (shifted (lines_of w from (height - min n height)) (place (w.area.top + (from + min n height)) w.area.left) g)
 
--- the lower n go, the others go down, and the background comes in above
+-- the lower `n` are dropped, the others move down, and the background fills those above
 abbrev pub lines_down : Window → ℕ → ℕ → ℕ → Grid → Grid
 lines_down w from height n g =
     filled (lines_of w from (min n height)) w.background
@@ -74,19 +74,19 @@ lines_down w from height n g =
 abbrev pub region_height : Window → ℕ
 region_height w = w.region_bottom + 1 - w.region_top
 
--- the scrolling region up by n, down if negative
+-- the scrolling region moves up by n lines, or down if negative
 abbrev pub scrolled : ℤ → Window → Grid → Grid
 scrolled (pos n) w g = lines_up w w.region_top (region_height w) n g
 scrolled (negsuc n) w g = lines_down w w.region_top (region_height w) (n + 1) g
 
--- the cell comes in at the cursor, and the line's rest goes right
+-- the cell is inserted at the cursor, and the rest of the line moves right
 abbrev pub inserted : Content → Window → Grid → Grid
 inserted c w g =
     filled (cells_of w w.row w.col 1) c
     (shifted (cells_of w w.row (w.col + 1) (w.area.cols - (w.col + 1)))
     (place (w.area.top + w.row) (w.area.left + w.col)) g)
 
--- the cursor's cell goes, the line's rest goes left, and the background comes in at the line's end
+-- the cursor's cell is deleted, the rest of the line moves left, and the background fills the line's last place
 abbrev pub deleted : Window → Grid → Grid
 deleted w g =
     filled (cells_of w w.row (w.area.cols - 1) 1) w.background
@@ -95,11 +95,11 @@ deleted w g =
 
 -- ---- erasing
 
--- from the cursor to the line's end
+-- the cells from the cursor to the line's end become background
 abbrev pub line_cleared : Window → Grid → Grid
 line_cleared w g = filled (cells_of w w.row w.col (w.area.cols - w.col)) w.background g
 
--- and all lines below
+-- and so do all lines below
 abbrev pub bottom_cleared : Window → Grid → Grid
 bottom_cleared w g = filled (lines_of w (w.row + 1) (w.area.rows - (w.row + 1))) w.background (line_cleared w g)
 
@@ -127,16 +127,16 @@ written p s =
     if nat_lt (s.window.col + 1) s.window.area.cols then done g (record s.window { col = s.window.col + 1 })
     else advanced (canvas g s.window)
 
--- n times the same character
+-- one character, n times
 abbrev pub written_times : ℕ → Put → Canvas → CanvasStep
 written_times zero p s = (s, Ok tt)
 written_times (suc n) p s = and_then (written p s) (λ t. written_times n p t)
 
--- the spaces of a tab: to the next multiple of 8, or the line's end
+-- the width of a tab in spaces: to the next multiple of 8, or to the line's end
 abbrev pub tab_width : Window → ℕ
 tab_width w = min (8 - w.col % 8) (w.area.cols - w.col)
 
--- one byte below 128: newline, tab, backspace, return, the other controls as ^X, and the rest as they are
+-- one byte below 128: newline, tab, backspace, return, the other controls as ^X, and all others as they are
 abbrev pub character : Put → Canvas → CanvasStep
 character p s =
     if p.byte == 10 then advanced (canvas (line_cleared s.window s.grid) s.window)
@@ -164,7 +164,7 @@ added_all (b ∷ bs) s = and_then (added (plain b) s) (λ t. added_all bs t)
 abbrev pub checked_cell : Put → Result (Unit {0}) Refusal
 checked_cell p = checked (is_printed p.byte) (is_pair p.pair)
 
--- a cell's content, handed to a call, and what a cell holds that was made of it
+-- a cell's content as the argument of a call, and the cell made from such an argument
 abbrev pub of_cell : Content → Put
 of_cell c = record { byte = c.byte; attrs = record { 0 = c.attrs }; pair = c.pair }
 
@@ -179,13 +179,13 @@ to_cell p = made_if (checked_cell p) (as_is p)
 abbrev pub insert_char : Put → Canvas → CanvasStep
 insert_char p s = if_accepted (checked_cell p) s (done (inserted (content s.window p) s.window s.grid) s.window)
 
--- hline, to the line's end at most
+-- hline, at most to the line's end
 abbrev pub horizontal : Put → ℤ → Canvas → CanvasStep
 horizontal p n s = if_accepted (checked_cell p) s
     (done (filled (cells_of s.window s.window.row s.window.col (count_to n (s.window.area.cols - s.window.col)))
     (content s.window p) s.grid) s.window)
 
--- vline, to the window's bottom at most
+-- vline, at most to the window's bottom
 abbrev pub vertical : Put → ℤ → Canvas → CanvasStep
 vertical p n s = if_accepted (checked_cell p) s
     (done (filled (column_of s.window s.window.row s.window.col (count_to n (s.window.area.rows - s.window.row)))
@@ -204,12 +204,12 @@ checked_border b = checked
 abbrev pub scroll_by : ℤ → Canvas → CanvasStep
 scroll_by n s = if s.window.scrolls then done (scrolled n s.window s.grid) s.window else (s, Err NoScroll)
 
--- bkgd: the cells' old background goes, the new one comes
+-- bkgd: in the cells, the old background becomes the new one
 abbrev pub change_background : Put → Canvas → CanvasStep
 change_background p s = if_accepted (checked_cell p) s
     (done (recolored s.window.area s.window.background (as_is p) s.grid) (record s.window { background = as_is p }))
 
--- insertln, deleteln: to the window's bottom
+-- insertln and deleteln, on the lines down to the window's bottom
 abbrev pub insert_line : Canvas → CanvasStep
 insert_line s = done (lines_down s.window s.window.row (s.window.area.rows - s.window.row) 1 s.grid) s.window
 
@@ -227,7 +227,7 @@ clear_line s = done (line_cleared s.window s.grid) s.window
 abbrev pub clear_bottom : Canvas → CanvasStep
 clear_bottom s = done (bottom_cleared s.window s.grid) s.window
 
--- each part of the border is what a cell may hold
+-- a cell can hold each part of the border
 pub record IsBorder (b : Border) : Type 0 where
   pub left : IsPut b.left
   pub right : IsPut b.right
@@ -238,7 +238,7 @@ pub record IsBorder (b : Border) : Type 0 where
   pub bottom_left : IsPut b.bottom_left
   pub bottom_right : IsPut b.bottom_right
 
--- its four sides, top and bottom first
+-- the four sides, top and bottom first
 abbrev pub sides : Border → Window → Grid → Grid
 sides b w g =
     filled (column_of w 0 (w.area.cols - 1) w.area.rows) (content w b.right)
@@ -253,7 +253,7 @@ corners b w g =
     (filled (cells_of w 0 (w.area.cols - 1) 1) (content w b.top_right)
     (filled (cells_of w 0 0 1) (content w b.top_left) g)))
 
--- border: top, bottom, left and right side, and then the corners
+-- border: the top, bottom, left and right sides, and then the corners
 abbrev pub bordered : Border → Canvas → CanvasStep
 bordered b s = if_accepted (checked_border b) s (done (corners b s.window (sides b s.window s.grid)) s.window)
 

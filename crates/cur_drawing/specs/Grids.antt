@@ -1,4 +1,4 @@
--- Grids of cells: a window's or the virtual screen's. Where there is no cell, a space is read.
+-- Grids of cells: a window's or the virtual screen's. A place without a cell reads as a space.
 use Rattle.std.specs.Prelude.{ℕ, Bool, List, if◌then◌else◌}
 use Rattle.grids.specs.declared.areas.Area.{Area}
 use Rattle.grids.specs.declared.areas.Place.{Place}
@@ -22,7 +22,7 @@ blank rows cols = base.uniform rows cols space
 abbrev pub recolored : Area → Content → Content → Grid → Grid
 recolored a was new g = redrawn a (restyled was new) g
 
--- the rectangle gets the cells of the source from a place on, without its spaces if these are skipped; the source
--- may be the grid itself, and is then read as it was
+-- the rectangle gets the cells of the source from a place on, except for spaces if these are skipped; the source may
+-- be the grid itself, and is read as it was before
 abbrev pub overlaid : Area → Place → Bool → Grid → Grid → Grid
 overlaid a from skip source g = if skip then merged a from unless_space source g else copied a from source g

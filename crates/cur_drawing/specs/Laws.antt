@@ -1,4 +1,4 @@
--- What holds of the calls on one window, whatever each of them does.
+-- Laws of the calls on one window, whatever each of them does.
 use Rattle.std.specs.Prelude.{◌≡◌, ◌≢◌, ℕ, ◌+◌, ◌-◌, ◌<◌, ◌==◌, ◌&&◌, nat_le, nat_lt, Bool, false, Ok, Err}
 use Rattle.std.specs.Prelude.{if◌then◌else◌}
 use Rattle.cur_drawing.specs.declared.refusals.Refusal.{Refusal}
@@ -8,7 +8,7 @@ use Rattle.cur_drawing.specs.Cells.{Content}
 use Rattle.cur_drawing.specs.Grids.{Grid, is_in, cell_at}
 use Rattle.cur_drawing.specs.Calls.{Canvas, CanvasStep, IsCanvas, canvas}
 
--- it changes no cell outside its window's rectangle, and the window stays where it is
+-- a call changes no cell outside its window's rectangle, and the window stays at its place
 pub record Stays (s t : Canvas) : Type 0 where
   pub canvas : IsCanvas t.grid t.window
   pub area : t.window.area ≡ s.window.area
@@ -17,7 +17,7 @@ pub record Stays (s t : Canvas) : Type 0 where
 abbrev pub IsLocal : (Canvas → CanvasStep) → Type 0
 IsLocal act = (s : Canvas) → IsCanvas s.grid s.window → Stays s (act s).0
 
--- where it is refused, nothing has changed
+-- a call that is refused changes nothing
 abbrev pub ChangesNothingIfRefused : (Canvas → CanvasStep) → Type 0
 ChangesNothingIfRefused act = (s : Canvas) (e : Refusal) → (act s).1 ≡ Err e → (act s).0 ≡ s
 
@@ -31,25 +31,26 @@ cell_of w g y x = cell_at g (w.area.top + y) (w.area.left + x)
 abbrev pub in_region : Window → ℕ → Bool
 in_region w y = nat_le w.region_top y && nat_le y w.region_bottom
 
--- what stands at a place after the region went up by n: the cell n lines below, or the background
+-- the cell at a place after the region moved up by n lines: the cell n lines below, or the background
 abbrev pub went_up : Window → ℕ → Grid → ℕ → ℕ → Content
 went_up w n g y x =
     if in_region w y then (if nat_le (y + n) w.region_bottom then cell_of w g (y + n) x else w.background)
     else cell_of w g y x
 
--- and after it went down by n
+-- the cell at a place after the region moved down by n lines
 abbrev pub went_down : Window → ℕ → Grid → ℕ → ℕ → Content
 went_down w n g y x =
     if in_region w y then (if nat_le (w.region_top + n) y then cell_of w g (y - n) x else w.background)
     else cell_of w g y x
 
--- what stands at a place after insch at the cursor: the rest of the cursor's line is one place to the right
+-- the cell at a place after insch at the cursor: the rest of the cursor's line is one place to the right
 abbrev pub cell_inserted : Window → Content → Grid → ℕ → ℕ → Content
 cell_inserted w c g y x =
     if y == w.row then (if nat_lt x w.col then cell_of w g y x else if x == w.col then c else cell_of w g y (x - 1))
     else cell_of w g y x
 
--- after delch: it is one place to the left, and the background fills the last place
+-- the cell at a place after delch: the rest of the cursor's line is one place to the left, and the background fills
+-- its last place
 abbrev pub cell_deleted : Window → Grid → ℕ → ℕ → Content
 cell_deleted w g y x =
     if y == w.row
@@ -57,12 +58,12 @@ cell_deleted w g y x =
     else if nat_lt (x + 1) w.area.cols then cell_of w g y (x + 1) else w.background)
     else cell_of w g y x
 
--- after insertln: the cursor's line is background, and the lines from there on are one line lower
+-- the cell at a place after insertln: the cursor's line is background, and the lines from there on are one line lower
 abbrev pub line_inserted : Window → Grid → ℕ → ℕ → Content
 line_inserted w g y x =
     if nat_lt y w.row then cell_of w g y x else if y == w.row then w.background else cell_of w g (y - 1) x
 
--- after deleteln: the lines below the cursor's are one line higher, and the last line is background
+-- the cell at a place after deleteln: the lines below the cursor's are one line higher, and the last line is background
 abbrev pub line_deleted : Window → Grid → ℕ → ℕ → Content
 line_deleted w g y x =
     if nat_lt y w.row then cell_of w g y x

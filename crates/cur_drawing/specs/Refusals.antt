@@ -1,4 +1,4 @@
--- The order of refusals: where several hold, the one of the lowest rank is reported.
+-- The order of refusals: if several apply, the one of the lowest rank is reported.
 use Rattle.std.specs.Prelude.{◌≡◌, ℕ, ◌+◌, ◌&&◌, nat_le, List, [], ◌∷◌, Bool, true, Result, Ok, Err, if◌then◌else◌}
 use Rattle.cur_drawing.specs.declared.refusals.Refusal.{Refusal}
 use Rattle.cur_drawing.specs.declared.refusals.Refusal.TheVariants.{NoWindow, OutOfWindow, OutOfScreen, HasChildren}
@@ -6,8 +6,8 @@ use Rattle.cur_drawing.specs.declared.refusals.Refusal.TheVariants.{IsSub, PadKi
 use Rattle.cur_drawing.specs.declared.refusals.Refusal.TheVariants.{BadCell, Full, NoMemory, IsScreen, NoCap, IsLost}
 use Rattle.cur_drawing.specs.declared.refusals.Refusal.TheVariants.{BadPair}
 
--- numbers first, then the kind of window, then what is to be written, then places and sizes, and what the terminal or
--- the memory lacks last
+-- numbers first, then the kind of window, then the characters to write, then places and sizes, and finally a lack of
+-- the terminal or of memory
 abbrev pub rank : Refusal → ℕ
 rank Full = 0
 rank NumberUsed = 1
@@ -26,7 +26,7 @@ rank NoCap = 13
 rank IsLost = 14
 rank NoMemory = 15
 
--- a refusal, and whether there is cause for it
+-- a refusal, and whether it applies
 abbrev pub Condition : Type 0
 Condition = Refusal × Bool
 
@@ -38,7 +38,7 @@ abbrev pub ranks_rise_from : ℕ → List (Refusal × Bool) → Bool
 ranks_rise_from n [] = true
 ranks_rise_from n ((e, b) ∷ cs) = nat_le n (rank e) && ranks_rise_from (rank e + 1) cs
 
--- the answer is the refusal of the lowest rank that there is cause for, or Ok where there is cause for none
+-- the answer is the refusal of the lowest rank that applies, or Ok if none applies
 pub record IsFirstOf (conditions : List (Refusal × Bool)) (answer : Result (Unit {0}) Refusal) : Type 0 where
   pub order : ranks_rise_from 0 conditions ≡ true
   pub first : answer ≡ first_refusal conditions

@@ -10,11 +10,11 @@ use Rattle.cur_drawing.specs.declared.refusals.Refusal.TheVariants.{OutOfWindow,
 use Rattle.cur_drawing.specs.declared.windows.Window.{Window}
 use Rattle.cur_drawing.specs.Cells.{Content, pair_count, space}
 
--- the most lines, or columns, of a grid of windows or of a pad
+-- the most lines or columns of a grid of windows or of a pad
 abbrev pub most_lines : ℕ
 most_lines = 1000
 
--- the cursor and the scrolling region lie in the window
+-- the cursor and the scrolling region are in the window
 pub record IsWindow (w : Window) : Type 0 where
   pub row : w.row < w.area.rows
   pub col : w.col < w.area.cols
@@ -24,7 +24,7 @@ pub record IsWindow (w : Window) : Type 0 where
   pub height : w.area.top + w.area.rows ≤ most_lines
   pub width : w.area.left + w.area.cols ≤ most_lines
 
--- a window that was just made: the cursor at its corner, spaces as background, all options off
+-- a new window: the cursor at its corner, spaces as background, all options off
 abbrev pub fresh : Area → Window
 fresh a = record {
   area = a;
@@ -54,8 +54,8 @@ cells_of w row from n = record { top = w.area.top + row; left = w.area.left + fr
 abbrev pub column_of : Window → ℕ → ℕ → ℕ → Area
 column_of w from col n = record { top = w.area.top + from; left = w.area.left + col; rows = n; cols = 1 }
 
--- where a window's cursor stands on the screen if this part of it is shown from a place on: none where the window
--- leaves it, or where it doesn't lie in the part
+-- the place of a window's cursor on the screen if this part of it is shown from a place on: none if the window leaves
+-- its cursor anywhere, or if the cursor isn't in the part
 abbrev pub part_cursor : Window → Area → Place → Option Place
 part_cursor w part to =
     if w.leaves then None
@@ -63,9 +63,9 @@ part_cursor w part to =
     then Some (record { row = to.row + (w.row - part.top); col = to.col + (w.col - part.left) })
     else None
 
--- ---- what is handed to a call
+-- ---- arguments of calls
 
--- a byte that a cell may hold
+-- a byte that a cell can hold
 abbrev pub is_printed : ℕ → Bool
 is_printed byte = nat_le 32 byte && nat_le byte 126
 
@@ -76,12 +76,12 @@ is_pair pair = nat_lt pair pair_count
 abbrev pub checked : Bool → Bool → Result (Unit {0}) Refusal
 checked byte pair = if byte then (if pair then Ok tt else Err BadPair) else Err BadCell
 
--- a number that is a place below the limit
+-- a number, if it is a place below the limit
 abbrev pub place_below : ℤ → ℕ → Option ℕ
 place_below (pos n) limit = if nat_lt n limit then Some n else None
 place_below (negsuc n) limit = None
 
--- as many as the number says, none if it is negative, and no more than the limit
+-- a count that is at most the limit, and 0 for a negative number
 abbrev pub count_to : ℤ → ℕ → ℕ
 count_to (pos n) limit = if nat_lt n limit then n else limit
 count_to (negsuc n) limit = 0
@@ -89,7 +89,7 @@ count_to (negsuc n) limit = 0
 abbrev pub first_pair : ℕ → ℕ → ℕ → ℕ
 first_pair own windows backgrounds = if own == 0 then (if windows == 0 then backgrounds else windows) else own
 
--- what a character becomes that is written in a window
+-- the cell for a character that is written in a window
 abbrev pub content : Window → Put → Content
 content w p = record {
   byte = if p.byte == 32 then w.background.byte else p.byte;
@@ -128,7 +128,7 @@ paired None w = (w, Err BadPair)
 abbrev pub set_pair : ℤ → Window → WindowStep
 set_pair p w = paired (place_below p pair_count) w
 
--- the cell that is handed to bkgdset and bkgd, as it is
+-- the argument of bkgdset and bkgd as a cell, without changes
 abbrev pub as_is : Put → Content
 as_is p = record { byte = p.byte; attrs = p.attrs.0; pair = p.pair }
 
@@ -140,7 +140,7 @@ if_ok (Err e) was new = (was, Err e)
 abbrev pub set_background : Put → Window → WindowStep
 set_background p w = if_ok (checked (is_printed p.byte) (is_pair p.pair)) w (record w { background = as_is p })
 
--- what a cell may hold
+-- the characters that a cell can hold
 pub record IsPut (p : Put) : Type 0 where
   pub low : 32 ≤ p.byte
   pub high : p.byte ≤ 126

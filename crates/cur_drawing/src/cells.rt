@@ -54,21 +54,21 @@ impl Attrs {
         Attrs(0)
     }
 
-    /// Whether all of the other set are in this one.
+    /// Whether this set has all attributes of `other`.
     pub fn has(self, other: Attrs) -> bool
         ensures { result ≡ (bit_and self.0 other.0 == other.0) }
     {
         self.0 & other.0 == other.0
     }
 
-    /// Those of either set.
+    /// The attributes of either set.
     pub fn with(self, other: Attrs) -> Attrs
         ensures { result ≡ record { 0 = bit_or self.0 other.0 } }
     {
         Attrs(self.0 | other.0)
     }
 
-    /// Those that the other set doesn't have.
+    /// The attributes of this set that `other` doesn't have.
     pub fn without(self, other: Attrs) -> Attrs
         ensures { result ≡ record { 0 = bit_and self.0 (255 - other.0) } }
     {
@@ -76,10 +76,10 @@ impl Attrs {
     }
 }
 
-/// How many colour pairs there are, from pair 0 on.
+/// The number of color pairs, of which the first is pair 0.
 pub const PAIRS: u8 = 64;
 
-/// What stands in one place: a character of 32 to 126, its attributes and its colour pair of 0 to 63.
+/// The content of one place: a character from 32 to 126, its attributes and its color pair from 0 to 63.
 #[derive(Clone, Copy, Debug, PartialEq, Eq)]
 pub struct Cell {
     // the character, the attributes and the pair, from the lowest byte up
@@ -104,7 +104,8 @@ impl Model for Cell {
 }
 
 impl Cell {
-    /// A cell of these three.
+    /// A cell of this character, which must be from 32 to 126, these attributes and this pair,
+    /// which must be below 64.
     pub fn new(byte: u8, attrs: Attrs, pair: u8) -> Cell
         requires printed { IsPrinted byte }
         requires pair_there { pair < 64 }
@@ -136,7 +137,7 @@ impl Cell {
         Attrs((self.code / 256 % 256) as u8)
     }
 
-    /// The colour pair.
+    /// The color pair.
     pub fn pair(&self) -> u8
         ensures value { result ≡ self.now.pair }
         ensures there { result < 64 }
@@ -144,7 +145,7 @@ impl Cell {
         (self.code / 256 / 256) as u8
     }
 
-    /// Whether it has the attributes and the pair of another one.
+    /// Whether this cell has the attributes and the pair of `other`.
     #[tactic(auto, using(crate::proofs::Numbers::same_styles, crate::proofs::Numbers::equal_styles))]
     pub fn is_styled_like(self, other: Cell) -> bool
         ensures alike { result ≡ true → (self.attrs ≡ other.attrs) × (self.pair ≡ other.pair) }
@@ -160,7 +161,7 @@ impl Cell {
         self.code
     }
 
-    /// The cell after its window's background was exchanged.
+    /// The cell after its window's background was changed from `was` to `new`.
     pub fn restyled(self, was: Cell, new: Cell) -> Cell
         ensures { result ≡ restyled was new self }
     {
@@ -182,12 +183,13 @@ impl Cell {
     }
 }
 
-/// Each of these cells holds a character of 32 to 126 and a pair below 64, as every cell does.
+/// A fact for proofs: each of these cells holds a character from 32 to 126 and a pair below 64. The
+/// call does nothing.
 pub fn all_cells(cells: &[Cell])
     ensures { (k : ℕ) → k < length cells.now → IsCell (slice_index_or cells.now k space) }
 {
     for k in 0..cells.len() {
-        // here the prover learns what a cell holds; the loop does nothing else
+        // the calls bring in a cell's invariant; the loop does nothing else
         let _ = (cells[k].byte(), cells[k].pair());
     }
 }

@@ -15,16 +15,18 @@ use crate::rules::Restyle;
 use crate::windows::{LONGEST, Window, count_to};
 use grids::Grid;
 
-// What a window writes into its grid.
+// How a window writes into its grid.
 impl Window {
-    /// A character at the cursor, which goes on (`addch`). A space becomes the background's character; a newline clears
-    /// to the line's end and goes to the next one, a tab writes spaces, a backspace and a return move the cursor, any
-    /// other control is written as `^X`.
+    /// Writes the character `put` at the cursor, which moves on (`addch`). A space becomes the
+    /// background's character; a newline clears to the line's end and moves to the next line, a tab
+    /// writes spaces, a backspace and a return move the cursor, and any other control is written as `^X`.
     ///
-    /// `BadCell` for a byte above 127, else `BadPair` for a pair above 63: nothing has changed. `NoScroll` where the
-    /// cursor would leave the last line: what was written stands, the cursor stays where it was written last.
+    /// `BadCell` for a byte above 127, else `BadPair` for a pair above 63: nothing has then
+    /// changed. `NoScroll` if the cursor would leave the last line: the characters written before
+    /// remain, and the cursor stays where the last of them is.
     ///
-    /// `scrolled` grows by the lines by which the scrolling region went up; nothing is promised of it.
+    /// `scrolled` is increased by the number of lines by which the scrolling region moved up; no
+    /// clause says so.
     pub fn add(
         &mut self,
         grid: &mut Grid<Cell>,
@@ -39,7 +41,7 @@ impl Window {
         self.add_character(grid, put, scrolled)
     }
 
-    /// The whole window is erased, and the cursor goes to its corner (`erase`).
+    /// Erases the whole window, and moves the cursor to its corner (`erase`).
     pub fn erase(&mut self, grid: &mut Grid<Cell>)
         requires { IsCanvas grid.old self.old }
         ensures value { done grid.new self.new ≡ erased (canvas grid.old self.old) }
@@ -50,7 +52,7 @@ impl Window {
         self.col = 0;
     }
 
-    /// As `erase`, and the screen is to be cleared at the next refresh of this window (`clear`).
+    /// As `erase`; the next refresh of this window also clears the screen (`clear`).
     pub fn clear(&mut self, grid: &mut Grid<Cell>)
         requires { IsCanvas grid.old self.old }
         ensures value { done grid.new self.new ≡ cleared (canvas grid.old self.old) }
@@ -60,8 +62,8 @@ impl Window {
         self.clears = true;
     }
 
-    /// A character comes in at the cursor, and the line's rest goes right; the cursor stays (`insch`). `BadCell` for a
-    /// byte outside 32 to 126, else `BadPair`; then nothing has changed.
+    /// Inserts the character `put` at the cursor, which stays; the rest of the line moves right
+    /// (`insch`). `BadCell` for a byte outside 32 to 126, else `BadPair`; nothing has then changed.
     pub fn insert_char(&self, grid: &mut Grid<Cell>, put: Put) -> Result<(), Refusal>
         requires { IsCanvas grid.old self.now }
         ensures value { step grid.new self.now result ≡ insert_char put (canvas grid.old self.now) }
@@ -72,8 +74,8 @@ impl Window {
         Ok(())
     }
 
-    /// At most `n` cells from the cursor to the line's end, which stays (`hline`). `BadCell` for a byte outside 32 to
-    /// 126, else `BadPair`; then nothing has changed.
+    /// Draws at most `n` cells of `put` from the cursor, which stays, to the line's end (`hline`).
+    /// `BadCell` for a byte outside 32 to 126, else `BadPair`; nothing has then changed.
     pub fn horizontal(&self, grid: &mut Grid<Cell>, put: Put, n: i32) -> Result<(), Refusal>
         requires { IsCanvas grid.old self.now }
         ensures value { step grid.new self.now result ≡ horizontal put n (canvas grid.old self.now) }
@@ -85,8 +87,8 @@ impl Window {
         Ok(())
     }
 
-    /// At most `n` cells from the cursor to the window's bottom, which stays (`vline`). `BadCell` for a byte outside 32
-    /// to 126, else `BadPair`; then nothing has changed.
+    /// Draws at most `n` cells of `put` from the cursor, which stays, to the window's bottom
+    /// (`vline`). `BadCell` for a byte outside 32 to 126, else `BadPair`; nothing has then changed.
     pub fn vertical(&self, grid: &mut Grid<Cell>, put: Put, n: i32) -> Result<(), Refusal>
         requires { IsCanvas grid.old self.now }
         ensures value { step grid.new self.now result ≡ vertical put n (canvas grid.old self.now) }
@@ -98,8 +100,8 @@ impl Window {
         Ok(())
     }
 
-    /// A border just inside the window's edges (`border`, `box`). `BadCell` for a byte outside 32 to 126 anywhere in
-    /// it, else `BadPair`; then nothing has changed.
+    /// Draws `border` just inside the window's edges (`border`, `box`). `BadCell` for a byte
+    /// outside 32 to 126 anywhere in it, else `BadPair`; nothing has then changed.
     pub fn draw_border(&self, grid: &mut Grid<Cell>, border: &Border) -> Result<(), Refusal>
         requires { IsCanvas grid.old self.now }
         ensures value { step grid.new self.now result ≡ bordered border.now (canvas grid.old self.now) }
@@ -111,8 +113,8 @@ impl Window {
         Ok(())
     }
 
-    /// The lines of the scrolling region go up by `n`, down if it is negative (`scroll`). `NoScroll` for a window that
-    /// may not scroll; then nothing has changed.
+    /// Moves the lines of the scrolling region up by `n`, or down if `n` is negative (`scroll`).
+    /// `NoScroll` for a window that may not scroll; nothing has then changed.
     pub fn scroll(&self, grid: &mut Grid<Cell>, n: i32) -> Result<(), Refusal>
         requires { IsCanvas grid.old self.now }
         ensures value { step grid.new self.now result ≡ scroll_by n (canvas grid.old self.now) }
@@ -125,8 +127,9 @@ impl Window {
         Ok(())
     }
 
-    /// The background changes, in the cells too: its old character becomes the new one, its old attributes and pair the
-    /// new ones (`bkgd`). `BadCell` for a byte outside 32 to 126, else `BadPair`; then nothing has changed.
+    /// Changes the background, in the cells too: its old character becomes the new one, its old
+    /// attributes and pair the new ones (`bkgd`). `BadCell` for a byte outside 32 to 126, else
+    /// `BadPair`; nothing has then changed.
     pub fn change_background(&mut self, grid: &mut Grid<Cell>, put: Put) -> Result<(), Refusal>
         requires { IsCanvas grid.old self.old }
         ensures value { step grid.new self.new result ≡ change_background put (canvas grid.old self.old) }
@@ -186,7 +189,7 @@ impl Window {
         }
     }
 
-    // The cursor goes to the next line.
+    // Moves the cursor to the next line.
     fn advance(&mut self, grid: &mut Grid<Cell>, scrolled: &mut u16) -> Result<(), Refusal>
         requires { IsCanvas grid.old self.old }
         ensures value { step grid.new self.new result ≡ advanced (canvas grid.old self.old) }
@@ -207,7 +210,7 @@ impl Window {
         Ok(())
     }
 
-    // A character at the cursor, which moves on.
+    // Writes a character at the cursor, which moves on.
     fn write(&mut self, grid: &mut Grid<Cell>, put: Put, scrolled: &mut u16) -> Result<(), Refusal>
         requires canvas { IsCanvas grid.old self.old }
         requires byte { IsPrinted put.byte }
@@ -242,7 +245,7 @@ impl Window {
         Ok(())
     }
 
-    // One byte below 128.
+    // Writes one byte below 128.
     fn add_character(
         &mut self,
         grid: &mut Grid<Cell>,
@@ -288,7 +291,7 @@ impl Window {
     }
 }
 
-// A number of lines that scrolls as far as this one: no window has more lines than that.
+// A number of lines that scrolls as far as `n` does: no window has more lines.
 fn clamped(n: u32) -> u16
     ensures { result ≡ min n 1000 }
 {

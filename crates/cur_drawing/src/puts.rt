@@ -1,4 +1,4 @@
-//! The characters and borders that calls are given.
+//! The characters and borders that calls take.
 ghost use Rattle.std.specs.Prelude.{◌&&◌, ◌≡◌, nat_lt, OnOk};
 ghost use Rattle.cur_drawing.specs.Windows.{is_printed, is_pair, checked};
 ghost use Rattle.cur_drawing.specs.Calls.{plain, of_cell, to_cell, drawn_line, default_border, box_of, IsBorder};
@@ -7,7 +7,7 @@ ghost use Rattle.cur_drawing.specs.Calls.{checked_cell, checked_border};
 use crate::cells::{Attrs, Cell, PAIRS};
 use crate::refusals::Refusal;
 
-/// A character that is handed to a call: any byte, with attributes and a colour pair of its own.
+/// A character as the argument of a call: any byte, with attributes and a color pair of its own.
 #[derive(Clone, Copy, Debug, PartialEq, Eq)]
 pub struct Put {
     pub byte: u8,
@@ -27,7 +27,7 @@ impl Put {
         }
     }
 
-    /// A character as it stands in a cell.
+    /// The content of `cell` as an argument.
     pub fn of_cell(cell: Cell) -> Put
         ensures { result ≡ of_cell cell }
     {
@@ -38,8 +38,8 @@ impl Put {
         }
     }
 
-    /// The cell that holds this character as it is. `BadCell` for a byte outside 32 to 126, and else `BadPair` for a
-    /// pair above 63.
+    /// The cell that holds this character as it is. `BadCell` for a byte outside 32 to 126, else
+    /// `BadPair` for a pair above 63.
     pub fn to_cell(self) -> Result<Cell, Refusal>
         ensures { result ≡ to_cell self }
     {
@@ -84,21 +84,21 @@ impl Put {
         self.pair < PAIRS
     }
 
-    /// Whether a cell may hold it as it is.
+    /// Whether a cell can hold this character as it is.
     pub fn is_cell(self) -> bool
         ensures { result ≡ (is_printed self.byte && is_pair self.pair) }
     {
         self.is_printed() && self.has_pair()
     }
 
-    // Whether a cell may hold it as it is.
+    // Refuses a character that no cell can hold as it is.
     pub(crate) fn check_cell(self) -> Result<(), Refusal>
         ensures { result ≡ checked_cell self }
     {
         check(self.is_printed(), self.has_pair())
     }
 
-    // Whether `add` takes it.
+    // Refuses a character that `add` doesn't take.
     pub(crate) fn check_written(self) -> Result<(), Refusal>
         ensures { result ≡ checked (nat_lt self.byte 128) (is_pair self.pair) }
     {
@@ -106,7 +106,7 @@ impl Put {
     }
 }
 
-// A wrong character is reported before a wrong pair.
+// Reports a wrong character before a wrong pair.
 fn check(byte: bool, pair: bool) -> Result<(), Refusal>
     ensures { result ≡ checked byte pair }
 {
@@ -149,7 +149,7 @@ impl Border {
         }
     }
 
-    /// These sides, with the default corners.
+    /// A border of these sides, with the default corners.
     pub fn sides(vertical: Put, horizontal: Put) -> Border
         ensures { result ≡ box_of vertical horizontal }
     {
@@ -162,7 +162,7 @@ impl Border {
         }
     }
 
-    // Whether cells may hold all of it.
+    // Refuses a border that cells can't hold.
     pub(crate) fn check_cells(&self) -> Result<(), Refusal>
         ensures value { result ≡ checked_border self.now }
         ensures good { OnOk result (IsBorder self.now) }

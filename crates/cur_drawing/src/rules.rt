@@ -1,11 +1,11 @@
-//! What becomes of cells, where a grid is drawn by a rule.
+//! Rules that change the cells of a grid.
 ghost use Rattle.std.specs.Prelude.{◌≡◌};
 ghost use Rattle.cur_drawing.specs.Cells.{restyled, unless_space};
 
 use crate::cells::Cell;
 use grids::{Merge, Rule};
 
-/// The cell after its window's background was exchanged.
+/// Makes each cell what it is after its window's background was changed from `was` to `new`.
 #[derive(Drop)]
 pub struct Restyle {
     pub was: Cell,
@@ -20,7 +20,7 @@ impl Rule<Cell> for Restyle {
     }
 }
 
-/// Spaces leave what they are laid on.
+/// Keeps the old cell if the new one is a space.
 #[derive(Drop)]
 pub struct SkipSpaces;
 

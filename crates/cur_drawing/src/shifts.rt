@@ -10,9 +10,9 @@ use crate::cells::Cell;
 use crate::windows::Window;
 use grids::{Grid, Place};
 
-// What a window does to the lines and cells of its grid, its cursor staying where it is.
+// Changes of the lines and cells of a window's grid; the cursor stays.
 impl Window {
-    /// The cells from the cursor to the line's end are erased (`clrtoeol`).
+    /// Erases the cells from the cursor to the line's end (`clrtoeol`).
     pub fn clear_line(&self, grid: &mut Grid<Cell>)
         requires { IsCanvas grid.old self.now }
         ensures value { done grid.new self.now ≡ clear_line (canvas grid.old self.now) }
@@ -27,7 +27,7 @@ impl Window {
         );
     }
 
-    /// The cells from the cursor to the window's end are erased (`clrtobot`).
+    /// Erases the cells from the cursor to the window's end (`clrtobot`).
     pub fn clear_bottom(&self, grid: &mut Grid<Cell>)
         requires { IsCanvas grid.old self.now }
         ensures value { done grid.new self.now ≡ clear_bottom (canvas grid.old self.now) }
@@ -42,8 +42,8 @@ impl Window {
         );
     }
 
-    /// A line of the background comes in at the cursor's line, and those from there to the window's bottom go
-    /// down; the last one goes (`insertln`).
+    /// Inserts a line of the background at the cursor's line; the lines from there to the window's
+    /// bottom move down, and the last one is dropped (`insertln`).
     pub fn insert_line(&self, grid: &mut Grid<Cell>)
         requires { IsCanvas grid.old self.now }
         ensures value { done grid.new self.now ≡ insert_line (canvas grid.old self.now) }
@@ -52,8 +52,8 @@ impl Window {
         self.lines_down(grid, self.row, self.area.rows - self.row, 1);
     }
 
-    /// The cursor's line goes, those below it go up, and a line of the background comes in at the window's bottom
-    /// (`deleteln`).
+    /// Deletes the cursor's line; the lines below it move up, and the window's last line becomes
+    /// background (`deleteln`).
     pub fn delete_line(&self, grid: &mut Grid<Cell>)
         requires { IsCanvas grid.old self.now }
         ensures value { done grid.new self.now ≡ delete_line (canvas grid.old self.now) }
@@ -62,7 +62,8 @@ impl Window {
         self.lines_up(grid, self.row, self.area.rows - self.row, 1);
     }
 
-    /// The cursor's cell goes, the line's rest goes left, and the background comes in at its end (`delch`).
+    /// Deletes the cursor's cell; the rest of the line moves left, and the line's last cell becomes
+    /// background (`delch`).
     pub fn delete_char(&self, grid: &mut Grid<Cell>)
         requires { IsCanvas grid.old self.now }
         ensures value { done grid.new self.now ≡ delete_char (canvas grid.old self.now) }
@@ -73,7 +74,7 @@ impl Window {
         self.fill_cells(grid, self.row, self.area.cols - 1, 1, self.background);
     }
 
-    // The cell comes in at the cursor, and the line's rest goes right.
+    // Inserts the cell at the cursor; the rest of the line moves right.
     pub(crate) fn insert_cell(&self, grid: &mut Grid<Cell>, cell: Cell)
         requires { IsCanvas grid.old self.now }
         ensures value { grid.new ≡ inserted cell self.now grid.old }
@@ -84,7 +85,8 @@ impl Window {
         self.fill_cells(grid, self.row, self.col, 1, cell);
     }
 
-    // Of `height` lines from `from` on, the upper `n` go, the others go up, and the background comes in below.
+    // Of `height` lines from `from` on, drops the upper `n`, moves the others up, and fills those
+    // below with the background.
     pub(crate) fn lines_up(&self, grid: &mut Grid<Cell>, from: u16, height: u16, n: u16)
         requires canvas { IsCanvas grid.old self.now }
         requires within { from + height ≤ self.now.area.rows }
@@ -96,7 +98,8 @@ impl Window {
         self.fill_lines(grid, from + (height - n), n, self.background);
     }
 
-    // The lower `n` go, the others go down, and the background comes in above.
+    // Of `height` lines from `from` on, drops the lower `n`, moves the others down, and fills those
+    // above with the background.
     pub(crate) fn lines_down(&self, grid: &mut Grid<Cell>, from: u16, height: u16, n: u16)
         requires canvas { IsCanvas grid.old self.now }
         requires within { from + height ≤ self.now.area.rows }
@@ -108,7 +111,7 @@ impl Window {
         self.fill_lines(grid, from, n, self.background);
     }
 
-    // `n` of its lines become this cell.
+    // Fills `n` of the window's lines with `cell`.
     pub(crate) fn fill_lines(&self, grid: &mut Grid<Cell>, from: u16, n: u16, cell: Cell)
         requires canvas { IsCanvas grid.old self.now }
         requires within { from + n ≤ self.now.area.rows }
@@ -118,7 +121,7 @@ impl Window {
         grid.fill(self.lines(from, n), cell);
     }
 
-    // `n` cells of one of its lines become this one.
+    // Fills `n` cells of one of the window's lines with `cell`.
     pub(crate) fn fill_cells(&self, grid: &mut Grid<Cell>, row: u16, from: u16, n: u16, cell: Cell)
         requires canvas { IsCanvas grid.old self.now }
         requires row_within { row < self.now.area.rows }
@@ -129,7 +132,7 @@ impl Window {
         grid.fill(self.cells(row, from, n), cell);
     }
 
-    // The cursor's cell becomes this one.
+    // Writes `cell` at the cursor.
     pub(crate) fn put_cell(&self, grid: &mut Grid<Cell>, cell: Cell)
         requires { IsCanvas grid.old self.now }
         ensures value { grid.new ≡ filled (cells_of self.now self.now.row self.now.col 1) cell grid.old }
@@ -142,7 +145,7 @@ impl Window {
         );
     }
 
-    // `n` cells of one of its columns become this one.
+    // Fills `n` cells of one of the window's columns with `cell`.
     pub(crate) fn fill_column(&self, grid: &mut Grid<Cell>, from: u16, col: u16, n: u16, cell: Cell)
         requires canvas { IsCanvas grid.old self.now }
         requires col_within { col < self.now.area.cols }
@@ -153,7 +156,7 @@ impl Window {
         grid.fill(self.column(from, col, n), cell);
     }
 
-    // `n` lines from `to` on become those from `from` on.
+    // Copies the `n` lines from `from` on to those from `to` on.
     fn shift_lines(&self, grid: &mut Grid<Cell>, to: u16, from: u16, n: u16)
         requires canvas { IsCanvas grid.old self.now }
         requires to_within { to + n ≤ self.now.area.rows }
@@ -169,7 +172,7 @@ impl Window {
         grid.shift(self.lines(to, n), source);
     }
 
-    // `n` cells of one line from `to` on become those from `from` on.
+    // Copies the `n` cells of a line from `from` on to those from `to` on.
     fn shift_cells(&self, grid: &mut Grid<Cell>, row: u16, to: u16, from: u16, n: u16)
         requires canvas { IsCanvas grid.old self.now }
         requires row_within { row < self.now.area.rows }

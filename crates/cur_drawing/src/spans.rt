@@ -6,7 +6,7 @@ ghost use Rattle.cur_drawing.specs.Spans.{common, matched};
 use crate::refusals::Refusal;
 use grids::Area;
 
-/// A run of lines or columns: the first one, and how many.
+/// A run of lines or columns: the first one, and their number.
 #[derive(Clone, Copy)]
 pub struct Span {
     pub at: u16,
@@ -14,7 +14,7 @@ pub struct Span {
 }
 
 impl Span {
-    /// The part of it that isn't before `first`, counted from there.
+    /// The part of the run that isn't before `first`, counted from there.
     pub fn counted_from(self, first: u16) -> Span
         requires { self.at + self.size < 65536 }
         ensures within { (limit : ℕ) → self.at + self.size ≤ first + limit → result.at + result.size ≤ limit }
@@ -52,7 +52,7 @@ fn span_within(size: i32, at: i64, limit: u16) -> Option<Span>
     })
 }
 
-/// The rectangle of these lines and columns.
+/// The rectangle of these lines and columns; fails with `outside` if either is missing.
 pub fn rectangle(rows: Option<Span>, cols: Option<Span>, outside: Refusal) -> Result<Area, Refusal>
     ensures { result ≡ rectangle rows cols outside }
 {
@@ -89,7 +89,7 @@ pub struct Geometry {
 }
 
 impl Geometry {
-    /// This size, at this place.
+    /// The size `lines` by `cols` at the place `y`, `x`.
     pub fn new(lines: i32, cols: i32, y: i32, x: i32) -> Geometry
         ensures { result ≡ record { lines = lines; cols = cols; y = y; x = x } }
     {
@@ -102,8 +102,8 @@ impl Geometry {
     }
 }
 
-/// The rectangle of a size at a place, in an area of `height` rows and `width` columns. `BadRegion` for a negative
-/// size, else the given refusal where it doesn't lie in that area.
+/// The rectangle of a size at a place, in an area of `height` rows and `width` columns. `BadRegion`
+/// for a negative size, else `outside` if the rectangle isn't within the area.
 pub fn area_within(
     height: u16,
     width: u16,
@@ -123,7 +123,8 @@ pub fn area_within(
     )
 }
 
-/// Lines or columns that are copied: the first one in the source, the first one in the destination, and how many.
+/// The lines or columns of a copy: the first one in the source, the first one in the destination,
+/// and their number.
 #[derive(Clone, Copy)]
 pub struct CopySpan {
     pub from: u16,
@@ -131,7 +132,8 @@ pub struct CopySpan {
     pub count: u16,
 }
 
-/// The lines or columns that both have: the source's from `at` on, and the target's from `to` on.
+/// The lines or columns that both have: the `count` of the source from `at` on, and the `limit` of
+/// the target from `to` on.
 pub fn common(at: u16, count: u16, to: u16, limit: u16) -> Option<CopySpan>
     ensures value { result ≡ common at count to limit }
     ensures within { IfSome result (IsWithin count limit) }
@@ -148,8 +150,8 @@ pub fn common(at: u16, count: u16, to: u16, limit: u16) -> Option<CopySpan>
     })
 }
 
-/// The target's lines or columns `to` to `last`, and as many of the source, if they are all there. That the last one
-/// isn't before the first one is the caller's condition.
+/// The target's lines or columns `to` to `last`, and as many of the source, if they are all there.
+/// `last` must not be before `to`.
 pub fn matched(from: i32, to: i32, last: i32, count: u16, limit: u16) -> Option<CopySpan>
     requires { to ≤ℤ last }
     ensures value { result ≡ matched from to last count limit }

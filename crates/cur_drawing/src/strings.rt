@@ -9,8 +9,8 @@ use crate::refusals::Refusal;
 use crate::windows::Window;
 use grids::{Grid, Paint};
 
-// How a window writes the characters of a string: what a space becomes, and a cell with the attributes and the pair of
-// each other one.
+// The cells that a window writes for the characters of a string: one for a space, and one with the
+// attributes and the pair of each other character.
 #[derive(Drop)]
 struct Style {
     space: Cell,
@@ -28,10 +28,11 @@ impl Paint<Cell> for Style {
     }
 }
 
-// What a window writes of a string.
+// How a window writes a string.
 impl Window {
-    /// A string at the cursor (`addstr`). It stops at the first refusal, and what was written before it stands.
-    /// `scrolled` grows by the lines by which the scrolling region went up; nothing is promised of it.
+    /// Writes the string `text` at the cursor (`addstr`). It stops at the first refusal, and the
+    /// characters written before remain. `scrolled` is increased by the number of lines by which
+    /// the scrolling region moved up; no clause says so.
     pub fn add_all(
         &mut self,
         grid: &mut Grid<Cell>,
@@ -49,7 +50,7 @@ impl Window {
         Ok(())
     }
 
-    // At least one byte of a text at the cursor, which goes on. The answer is how many.
+    // Writes at least one byte of `text` at the cursor, which moves on, and returns how many.
     fn add_some(
         &mut self,
         grid: &mut Grid<Cell>,
@@ -75,7 +76,8 @@ impl Window {
         Ok(run)
     }
 
-    // Characters from 32 to 126 at the cursor, which goes on; they end before the line's last place.
+    // Writes characters from 32 to 126 at the cursor, which moves on; they must end before the
+    // line's last place.
     fn write_run(&mut self, grid: &mut Grid<Cell>, text: &[u8])
         requires canvas { IsCanvas grid.old self.old }
         requires printed { (k : ℕ) → k < length text.now → IsPrinted (slice_index text.now k) }
@@ -94,7 +96,7 @@ impl Window {
     }
 }
 
-// How many bytes from the front on are characters from 32 to 126, counted up to the limit.
+// The number of bytes at the start of `text` that are characters from 32 to 126, counted up to the limit.
 fn printed_front(text: &[u8], limit: usize) -> usize
     ensures within { result ≤ length text.now }
     ensures limit { result ≤ limit }

@@ -25,26 +25,27 @@ pub struct Window {
     pub row: u16,
     /// The cursor's column.
     pub col: u16,
-    /// What each written character gets.
+    /// The attributes that each written character gets.
     pub attrs: Attrs,
-    /// What spaces are written as, and what erasing leaves.
+    /// The cell that spaces are written as, and with which erasing fills.
     pub background: Cell,
-    /// The pair of a written character that has none.
+    /// The pair of a written character that has none of its own.
     pub pair: u8,
     /// Whether it may scroll.
     pub scrolls: bool,
-    /// Whether its cursor is left anywhere.
+    /// Whether refreshes may leave its cursor anywhere.
     pub leaves: bool,
-    /// Whether the screen is to be cleared at its next refresh.
+    /// Whether its next refresh clears the screen.
     pub clears: bool,
     /// The first line of the scrolling region.
     pub region_top: u16,
-    /// Its last line.
+    /// The last line of the scrolling region.
     pub region_bottom: u16,
 }
 
 impl Window {
-    /// A window that was just made: the cursor at its corner, spaces as background, all options off.
+    /// A new window on `area`: the cursor at its corner, spaces as background, all options off.
+    /// `area` must not be empty, and must end within 1000 rows and columns.
     pub fn new(area: Area) -> Window
         requires rows { 0 < area.rows }
         requires cols { 0 < area.cols }
@@ -68,8 +69,8 @@ impl Window {
         }
     }
 
-    /// The cursor goes to a place of the window (X/Open Curses, `move`). `OutOfWindow` where there is none;
-    /// then nothing has changed.
+    /// Moves the cursor to row `y` and column `x` of the window (X/Open Curses, `move`).
+    /// `OutOfWindow` if there is no such place; nothing has then changed.
     pub fn move_to(&mut self, y: i32, x: i32) -> Result<(), Refusal>
         requires { IsWindow self.old }
         ensures value { (self.new, result) ≡ move_to y x self.old }
@@ -87,8 +88,8 @@ impl Window {
         Ok(())
     }
 
-    /// The lines that scroll become those from `top` to `bottom` (`setscrreg`). `BadRegion` where they are
-    /// none of the window's, in order; then nothing has changed.
+    /// Makes the lines from `top` to `bottom` the scrolling region (`setscrreg`). `BadRegion`
+    /// unless they are lines of the window, in order; nothing has then changed.
     pub fn set_region(&mut self, top: i32, bottom: i32) -> Result<(), Refusal>
         requires { IsWindow self.old }
         ensures value { (self.new, result) ≡ set_region top bottom self.old }
@@ -109,8 +110,8 @@ impl Window {
         Ok(())
     }
 
-    /// The pair of written characters that have none (`color_set`). `BadPair` for a number that isn't 0
-    /// to 63; then nothing has changed.
+    /// Sets the pair of written characters that have none of their own (`color_set`). `BadPair` for
+    /// a number that isn't 0 to 63; nothing has then changed.
     pub fn set_pair(&mut self, pair: i32) -> Result<(), Refusal>
         requires { IsWindow self.old }
         ensures value { (self.new, result) ≡ set_pair pair self.old }
@@ -124,8 +125,8 @@ impl Window {
         Ok(())
     }
 
-    /// The background of what is written and erased from now on (`bkgdset`). `BadCell` for a byte outside 32
-    /// to 126, else `BadPair` for a pair above 63; then nothing has changed.
+    /// Sets the background for what is written and erased from now on (`bkgdset`). `BadCell` for a
+    /// byte outside 32 to 126, else `BadPair` for a pair above 63; nothing has then changed.
     pub fn set_background(&mut self, put: Put) -> Result<(), Refusal>
         requires { IsWindow self.old }
         ensures value { (self.new, result) ≡ set_background put self.old }
@@ -137,7 +138,7 @@ impl Window {
         Ok(())
     }
 
-    /// What a character becomes that is written here.
+    /// The cell for `put` when it is written in this window.
     pub(crate) fn content(&self, put: Put) -> Cell
         requires window { IsWindow self.now }
         requires pair { put.pair < 64 }
@@ -157,7 +158,7 @@ impl Window {
         )
     }
 
-    /// `n` of its lines.
+    /// `n` of the window's lines, from `from` on.
     pub(crate) fn lines(&self, from: u16, n: u16) -> Area
         requires window { IsWindow self.now }
         requires within { from + n ≤ self.now.area.rows }
@@ -171,7 +172,7 @@ impl Window {
         }
     }
 
-    /// `n` places of one of its lines.
+    /// `n` places of the window's line `row`, from `from` on.
     pub(crate) fn cells(&self, row: u16, from: u16, n: u16) -> Area
         requires window { IsWindow self.now }
         requires row_within { row < self.now.area.rows }
@@ -186,7 +187,7 @@ impl Window {
         }
     }
 
-    /// `n` places of one of its columns.
+    /// `n` places of the window's column `col`, from `from` on.
     pub(crate) fn column(&self, from: u16, col: u16, n: u16) -> Area
         requires window { IsWindow self.now }
         requires col_within { col < self.now.area.cols }
@@ -202,7 +203,7 @@ impl Window {
     }
 }
 
-/// The number, if it is a place below the limit.
+/// The number `n`, if it is a place below the limit.
 pub fn place_below(n: i32, limit: u16) -> Option<u16>
     ensures value { result ≡ place_below n limit }
     ensures below { IfSome result (λ place. place < limit) }
@@ -213,7 +214,7 @@ pub fn place_below(n: i32, limit: u16) -> Option<u16>
     Some(n as u16)
 }
 
-// As many as the number says, but none if it is negative and no more than the limit.
+// The number `n` as a count: 0 if it is negative, and at most the limit.
 pub(crate) fn count_to(n: i32, limit: u16) -> u16
     ensures value { result ≡ count_to n limit }
     ensures within { result ≤ limit }
@@ -243,8 +244,9 @@ fn first_pair(own: u8, window: u8, background: u8) -> u8
     }
 }
 
-/// Where the window's cursor stands if this part of it is shown from a place on: nowhere if the window leaves it, or if
-/// it doesn't lie in the part.
+/// The place of the window's cursor if its `part` is shown from the place `to` on: none if the
+/// window leaves its cursor anywhere, or if the cursor isn't in the part. The part, shown there,
+/// must end within 1000 rows and columns.
 pub fn cursor_in_part(window: &Window, part: Area, to: Place) -> Option<Place>
     requires window { IsWindow window.now }
     requires height { to.row + part.rows ≤ 1000 }

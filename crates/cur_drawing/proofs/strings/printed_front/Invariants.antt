@@ -1,4 +1,4 @@
--- The bytes that were gone through are characters.
+-- The bytes visited so far are characters.
 use Rattle.std.proofs.Common.{ℕ, ◌<◌, slice_index}
 use Rattle.cur_drawing.specs.Cells.{IsPrinted}
 use Rattle.cur_drawing.proofs.strings.printed_front.Given as goal

@@ -1,4 +1,4 @@
--- The bytes that are left do from here what the whole text did from the start.
+-- The remaining bytes do from here what the whole text did from the start.
 use Rattle.std.proofs.Common.{◌≡◌, ◌≤◌, ◌-◌, drop, length}
 use Rattle.cur_drawing.specs.Calls.{IsKept, canvas, added_all}
 use Rattle.cur_drawing.proofs.windows.Window.add_all.Given as goal

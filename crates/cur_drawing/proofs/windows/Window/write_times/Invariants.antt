@@ -1,4 +1,4 @@
--- The times that are left do from here what all of them did from the start.
+-- The remaining times do from here what all of them did from the start.
 use Rattle.std.proofs.Common.{◌≡◌, ◌-◌}
 use Rattle.cur_drawing.specs.Calls.{IsKept, canvas, written_times}
 use Rattle.cur_drawing.proofs.windows.Window.write_times.Given as goal
