@@ -1,4 +1,4 @@
--- A row of a rectangle is copied where a part of it is copied, and the rest is equal.
+-- A row of a rectangle is copied if a part of it is copied and the rest is equal.
 use Rattle.std.proofs.Common.{◌≡◌, ℕ, ◌+◌, ◌-◌, ◌<◌, ◌≤◌, ◌⊎◌, Bool, true, false, List, length, get_or, refl, sym, ap, ◌∙◌, inl, inr, arith, if◌then◌else◌}
 use Rattle.std.proofs.lemmas.Bool.{cases_lt}
 use Rattle.std.proofs.lemmas.Bool.Decides.{nat_tests}
@@ -55,7 +55,7 @@ beside_part a k i j s off on =
     past : s.at ≤ j - a.left → s.at + s.size ≤ j - a.left
     past high = let row = in_row a k i j on in let left = after_left a k i j on in grind (arith, nat_tests)
 
--- the cell there is read with any default
+-- the cell at a place is read with any default
 same_there : (g source : Grid) (r c r2 c2 : ℕ) (d : Content) → c < length (line_at g r) → c2 < length (line_at source r2) → cell_at g r c ≡ cell_at source r2 c2 → base.cell_at d g r c ≡ base.cell_at (base.cell_at d g r c) source r2 c2
 same_there g source r c r2 c2 d lt lt2 e = get_or_default (line_at g r) c d space lt ∙ e ∙ get_or_default (line_at source r2) c2 space (base.cell_at d g r c) lt2
 
@@ -108,7 +108,7 @@ row_equal a from k source g lt fits there equal =
     (λ i j d. kept (is_in (row_of a k) i j) (taken a from source i j (base.cell_at d g i j)) (base.cell_at d g i j)
     (rest_equal a from k i j nothing source g d lt fits there equal (no_part a k i j)))
 
--- a cell of a row that was copied
+-- a cell of a copied row
 cell_copied : (a : Area) (from : Place) (k x : ℕ) (source g h : Grid) → k < a.rows → x < a.cols → Fits a g → Fits (moved_to a from) source → h ≡ drawn_in (row_of a k) (taken a from source) g →
     cell_at h (a.top + k) (a.left + x) ≡ cell_at source (from.row + k) (from.col + x)
 cell_copied a from k x source g h lt near fits there e =
@@ -130,7 +130,7 @@ equal_beside a from k s source g old new line line2 e e2 is is2 long before afte
     let same : AreEqualAt old new x = elim side [ inl low ↦ before x (omega arith) low | inr high ↦ after x high (omega (arith, long)) ] in
     sym (ap (λ (l : List Content). get_or l (a.left + x) space) e) ∙ sym (is x lt) ∙ same ∙ is2 x lt ∙ ap (λ (l : List Content). get_or l (from.col + x) space) e2
 
--- where the parts differ, the row is changed
+-- if the parts differ, the row changes
 pub changed_there : (a : Area) (from : Place) (k x : ℕ) (source g h : Grid) (old new line line2 : List Content) → k < a.rows → Fits a g → Fits (moved_to a from) source → h ≡ drawn_in (row_of a k) (taken a from source) g →
     line ≡ line_at g (a.top + k) → line2 ≡ line_at source (from.row + k) → IsPart old a.left a.cols line → IsPart new from.col a.cols line2 → length old ≡ a.cols → DifferAt old new x →
     cell_at g (a.top + k) (a.left + x) ≡ cell_at h (a.top + k) (a.left + x) → ⊥
@@ -139,7 +139,7 @@ changed_there a from k x source g h old new line line2 lt fits there value e e2 
     differ.apart (is x near ∙ ap (λ (l : List Content). get_or l (a.left + x) space) e ∙ same ∙ cell_copied a from k x source g h lt near fits there value
     ∙ sym (ap (λ (l : List Content). get_or l (from.col + x) space) e2) ∙ sym (is2 x near))
 
--- from the first place in which two lists differ to the last one there is a place
+-- a span from the first place in which two lists differ to the last one isn't empty
 pub some_changed : (a b : List Content) (s : Span) → HasChanges a b s → 0 < s.size
 some_changed a b s changes = elim (cases_lt 0 s.size) [
   | inl some ↦ some
@@ -174,9 +174,9 @@ line_equal a from source g one fits there equal = row_equal a from 0 source g (o
 pub part_fits : (a : Area) (k : ℕ) (s : Span) (g : Grid) → k < a.rows → s.at + s.size ≤ a.cols → Fits a g → Fits (part_of a k s) g
 part_fits a k s g lt le fits = record { rows = omega (arith, fits.rows); cols = λ i near. omega (arith, fits.cols i near) }
 
--- ---- some rows of a rectangle, where the others are equal
+-- ---- some rows of a rectangle whose other rows are equal
 
--- these rows of it
+-- these rows of the rectangle
 abbrev rows_in : Area → Span → Area
 rows_in a s = record { top = a.top + s.at; left = a.left; rows = s.size; cols = a.cols }
 
@@ -231,7 +231,7 @@ others_equal a from s source g i j d fits there equal off on =
     same_there g source i j (from.row + (i - a.top)) (from.col + (j - a.left)) d near near2
     (ap (λ (n : ℕ). cell_at g n j) row ∙ ap (λ (n : ℕ). cell_at g (a.top + (i - a.top)) n) col ∙ equal (i - a.top) (j - a.left) (omega arith) (omega arith) (off_rows a s i j off on))
 
--- these rows are copied, and so the rectangle is
+-- the rectangle is copied if these rows are
 pub rows_copied : (a : Area) (from : Place) (s : Span) (source g : Grid) → Fits a g → Fits (moved_to a from) source → s.at + s.size ≤ a.rows → AreEqualOff a from s source g →
     copied (rows_in a s) (place (from.row + s.at) from.col) source g ≡ copied a from source g
 rows_copied a from s source g fits there le equal =

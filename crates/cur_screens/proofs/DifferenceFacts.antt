@@ -1,4 +1,4 @@
--- One place more in which two lists are equal.
+-- One more place in which two lists are equal.
 use Rattle.std.proofs.Common.{ℕ, ◌+◌, ◌≤◌, List, length, sym, subst, inl, inr, arith}
 use Rattle.std.proofs.lemmas.Bool.{cases_eq, cases_lt}
 use Rattle.cur_drawing.specs.Cells.{Content}

@@ -1,4 +1,4 @@
--- Columns that are marked, and copies of what is marked.
+-- Marked columns, and copies of marked cells.
 use Rattle.std.proofs.Common.{◌≡◌, ◌≢◌, ℕ, ◌+◌, ◌-◌, ◌<◌, ◌≤◌, ◌⊎◌, false, length, refl, sym, ap, ◌∙◌, inl, inr, arith, subst}
 use Rattle.std.proofs.lemmas.Bool.{cases_eq, cases_lt}
 use Rattle.std.proofs.lemmas.Bool.Decides.{nat_tests}
@@ -16,7 +16,7 @@ use Rattle.cur_drawing.specs.Grids.{Grid, cell_at, copied, drawn_in, is_in, row_
 use Rattle.cur_screens.specs.Marks.{AreSame, AreUnmarked, AreUnmarkedBeside, IsCopiedBut, JoinsLine, JoinsLines, JoinsMarks, IsSameIn, IsUnmarked, IsUntouched, Keeps, Marking, MarksOnly, marked_at, marked_between, nothing, widened}
 use Rattle.cur_screens.proofs.ChangedRows.{AreEqualBeside, AreEqualOff}
 
--- ---- columns of a line that are marked as well
+-- ---- further columns of a line are marked
 
 abbrev IsOff : Marked → ℕ → Type 0
 IsOff x j = (j < x.from) ⊎ (x.end ≤ j)
@@ -27,7 +27,7 @@ off_before from end j x off = grind (arith, nat_tests)
 off_new : (from end j : ℕ) (x : Marked) → IsOff (widened from end x) j → (j < from) ⊎ (end ≤ j)
 off_new from end j x off = grind (arith, nat_tests)
 
--- columns that aren't one after another are none
+-- columns that aren't in order are none
 off_all : (x : Marked) → IsOff x x.from → x.end ≤ x.from
 off_all x (inl low) = absurd (omega (arith, low))
 off_all x (inr past) = past
@@ -41,14 +41,14 @@ off_joined_after from end j x one two = grind (arith, nat_tests)
 off_alone : (from end j : ℕ) (x : Marked) → x.end ≤ x.from → (j < from) ⊎ (end ≤ j) → IsOff (widened from end x) j
 off_alone from end j x none off = grind (arith, nat_tests)
 
--- before the new columns, where none was marked
+-- before the new columns, if none is marked up to there
 off_left : (from end j : ℕ) (x : Marked) → ((k : ℕ) → k ≤ j → IsOff x k) → j < from → IsOff (widened from end x) j
 off_left from end j x off lt = elim (cases_lt j x.from) [
   | inl low ↦ off_joined from end j x (low, lt)
   | inr past ↦ off_alone from end j x (off_all x (off x.from past)) (inl lt)
 ]
 
--- after them
+-- after the new columns, if none is marked from there on
 off_right : (from end j : ℕ) (x : Marked) → ((k : ℕ) → j ≤ k → IsOff x k) → end ≤ j → IsOff (widened from end x) j
 off_right from end j x off le = elim (cases_lt j x.end) [
   | inl near ↦ off_alone from end j x (off_all x (off x.from (from_on (off j (omega arith)) near))) (inr le)
@@ -96,11 +96,11 @@ unmarked_still m row from end i j u off = record {
   ];
 }
 
--- a place before the columns and before all that was marked of its line
+-- a place before the new columns and before all marked ones of its line
 pub unmarked_left : (m : Marking) (row from end i j : ℕ) → ((k : ℕ) → k ≤ j → IsUnmarked m i k) → (i ≡ row → j < from) → IsUnmarked (marked_between row from end m) i j
 unmarked_left m row from end i j all before = unmarked_still m row from end i j (all j (omega arith)) (λ same. off_left from end j (marked_at m i) (λ k le. (all k le).column) (before same))
 
--- one after them
+-- a place after all of these
 pub unmarked_right : (m : Marking) (row from end i j : ℕ) → ((k : ℕ) → j ≤ k → IsUnmarked m i k) → (i ≡ row → end ≤ j) → IsUnmarked (marked_between row from end m) i j
 unmarked_right m row from end i j all after = unmarked_still m row from end i j (all j (omega arith)) (λ same. off_right from end j (marked_at m i) (λ k le. (all k le).column) (after same))
 
@@ -129,7 +129,7 @@ marks_only m n row from end g h e some first last i j side =
 pub marks_only_none : (m : Marking) (g : Grid) → MarksOnly m g m g
 marks_only_none m g i j side = elim side [ inl all ↦ (all j (omega arith)).unmarked | inr all ↦ (all j (omega arith)).unmarked ]
 
--- two steps of which each line is changed by one at most
+-- two steps, at most one of which changes each line
 pub marks_only_then : (m n o : Marking) (g h x : Grid) → MarksOnly m g n h → MarksOnly n h o x → ((i : ℕ) → ((j : ℕ) → cell_at g i j ≡ cell_at h i j) ⊎ ((j : ℕ) → cell_at h i j ≡ cell_at x i j)) → MarksOnly m g o x
 marks_only_then m n o g h x one two apart i j side =
     two i j (elim side [
@@ -173,7 +173,7 @@ copied_kept a from source g h m n one e marks v same i j off =
     ∙ sym (ap (λ (x : Grid). cell_at x i j) e ∙ cell_at-drawn_in_off a (taken a from source) space g i j
     (beside a i j one (λ (is : i ≡ a.top). unmarked_beside m a.top a.left (a.left + a.cols) j (subst (λ (r : ℕ). IsUnmarked (marked_between a.top a.left (a.left + a.cols) m) r j) is u))))
 
--- a row of which what isn't marked is the same
+-- a row whose unmarked cells are equal
 pub equal_beside_marks : (a : Area) (k : ℕ) (s : Span) (source g : Grid) (m : Marking) → a.left ≡ 0 → IsSameIn m (a.top + k) g source →
     ((j : ℕ) → j < a.cols → (j < s.at) ⊎ (s.at + s.size ≤ j) → IsUnmarked m (a.top + k) j) → AreEqualBeside a (place a.top a.left) k s source g
 equal_beside_marks a k s source g m left same others x lt side =
@@ -183,12 +183,12 @@ equal_beside_marks a k s source g m left same others x lt side =
 below_top : (a : Area) (k j : ℕ) → is_in (top_rows a k) (a.top + k) j ≡ false
 below_top a k j = grind (arith, nat_tests)
 
--- the row after those that were copied is as it was
+-- the row after the copied ones is as before
 pub same_below : (a : Area) (k : ℕ) (f : ℕ → ℕ → Content → Content) (source g h : Grid) (m : Marking) → h ≡ drawn_in (top_rows a k) f g → IsSameIn m (a.top + k) g source → IsSameIn m (a.top + k) h source
 same_below a k f source g h m e same j u =
     ap (λ (x : Grid). cell_at x (a.top + k) j) e ∙ cell_at-drawn_in_off (top_rows a k) f space g (a.top + k) j (below_top a k j) ∙ same j u
 
--- a row below those that were copied, of which what isn't marked is the same
+-- a row below the copied ones, whose unmarked cells are equal
 pub equal_beside_touched : (a : Area) (from : Place) (k : ℕ) (f : ℕ → ℕ → Content → Content) (s : Span) (source g h : Grid) (m : Marking) → k < a.rows → h ≡ drawn_in (top_rows a k) f g → IsCopiedBut m a from source g →
     ((j : ℕ) → j < a.cols → (j < s.at) ⊎ (s.at + s.size ≤ j) → IsUnmarked m (a.top + k) (a.left + j)) → AreEqualBeside a from k s source h
 equal_beside_touched a from k f s source g h m lt e same others x near side =
@@ -208,12 +208,12 @@ row_by_row a k f e g h x rows row i = elim (cases_eq i (a.top + k)) [
 
 -- ---- lines that have no mark
 
--- the cells of such lines of a rectangle are the same
+-- the cells of such lines of a rectangle are equal
 pub unmarked_lines : (a : Area) (from : Place) (s : Span) (source g : Grid) (m : Marking) → IsCopiedBut m a from source g →
     ((i j : ℕ) → i < a.rows → (i < s.at) ⊎ (s.at + s.size ≤ i) → IsUnmarked m (a.top + i) j) → AreEqualOff a from s source g
 unmarked_lines a from s source g m same others i x lt near side = same i x lt near (others i (a.left + x) lt side)
 
--- what isn't marked in the other ones is the same
+-- the unmarked cells of the other lines are equal
 pub copied_but_lines : (a : Area) (from : Place) (s : Span) (source g : Grid) (m : Marking) → s.at + s.size ≤ a.rows → IsCopiedBut m a from source g →
     (i j : ℕ) → i < s.size → j < a.cols → IsUnmarked m (a.top + s.at + i) (a.left + j) → cell_at g (a.top + s.at + i) (a.left + j) ≡ cell_at source (from.row + s.at + i) (from.col + j)
 copied_but_lines a from s source g m le same i j lt near u =
@@ -227,9 +227,9 @@ copied_but_lines a from s source g m le same i j lt near u =
 pub same_is_copied : (a : Area) (source g : Grid) (m : Marking) → AreSame m g source → IsCopiedBut m a (place a.top a.left) source g
 same_is_copied a source g m same i j lt near u = same (a.top + i) (a.left + j) u
 
--- ---- what other marks have is marked as well
+-- ---- the marks of another marking are added
 
--- no line yet
+-- the marks of no line
 pub none_joined : (m o : Marking) (lines : Span) (cols : ℕ) → JoinsLines m o lines 0 cols m
 none_joined m o lines cols = record {
   kept = λ i j u. u;
@@ -238,7 +238,7 @@ none_joined m o lines cols = record {
   only = λ i j side. elim side [ inl all ↦ (all j (omega arith)).one | inr all ↦ (all j (omega arith)).one ];
 }
 
--- one line more
+-- the marks of one more line
 pub next_joined : (m o n x : Marking) (lines : Span) (k cols : ℕ) → JoinsLines m o lines k cols n → JoinsLine n o (lines.at + k) cols x → JoinsLines m o lines (k + 1) cols x
 next_joined m o n x lines k cols before next = record {
   kept = λ i j u. before.kept i j (next.kept i j u);
@@ -268,7 +268,7 @@ next_joined m o n x lines k cols before next = record {
     still i j same (inl all) = inl (λ l le. stays i l same (all l le))
     still i j same (inr all) = inr (λ l le. stays i l same (all l le))
 
--- a line of which nothing is marked
+-- a line without marks
 pub line_left : (m o : Marking) (row cols : ℕ) → ((j : ℕ) → j < cols → IsUnmarked o row j) → JoinsLine m o row cols m
 line_left m o row cols none = record {
   kept = λ i j u. u;
@@ -277,7 +277,7 @@ line_left m o row cols none = record {
   only = λ j side. elim side [ inl all ↦ (all j (omega arith)).one | inr all ↦ (all j (omega arith)).one ];
 }
 
--- a line of which these columns are marked
+-- a line in which these columns are marked
 pub line_joined : (m o n : Marking) (row cols : ℕ) (s : Span) → n ≡ marked_between row s.at (s.at + s.size) m → 0 < s.size → s.at + s.size ≤ cols →
     ((j : ℕ) → s.at ≤ j → j < s.at + s.size → IsUnmarked o row j → ⊥) → ((j : ℕ) → j < cols → (j < s.at) ⊎ (s.at + s.size ≤ j) → IsUnmarked o row j) → JoinsLine m o row cols n
 line_joined m o n row cols s e some le marked others = record {

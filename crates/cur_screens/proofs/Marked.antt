@@ -18,7 +18,7 @@ use Rattle.cur_screens.proofs.MarkFacts.{unmarked_before, unmarked_beside}
 pub past_full : (t : Markings) (k : ℕ) → length t ≤ k → (grid_marks t k).all ≡ true
 past_full t k past = ap (λ (m : Marking). m.all) (get_or_past t k (record { all = true; lines = [] }) past)
 
--- what isn't marked in another line stays so
+-- an unmarked place in another line stays unmarked
 pub unmarked_other : (m : Marking) (row from end i j : ℕ) → i ≢ row → IsUnmarked m i j → IsUnmarked (marked_between row from end m) i j
 unmarked_other m row from end i j apart u = record {
   some = u.some;
@@ -26,7 +26,7 @@ unmarked_other m row from end i j apart u = record {
   column = subst (λ (x : Marked). (j < x.from) ⊎ (x.end ≤ j)) (sym (get_or-set_other m.lines row i (widened from end (marked_at m row)) nothing apart)) u.column;
 }
 
--- a line through which the cursor didn't go
+-- a line through which the cursor didn't pass
 pub not_gone : (o : Origin) (w : Window) (first i : ℕ) → (IsGoneThrough o w first i → ⊥) → (i < o.top + w.area.top + first) ⊎ (o.top + w.area.top + first + (w.row + 1 - first) ≤ i)
 not_gone o w first i off = elim (cases_lt i (o.top + w.area.top + first)) [
   | inl low ↦ inl low
@@ -36,7 +36,7 @@ not_gone o w first i off = elim (cases_lt i (o.top + w.area.top + first)) [
   ]
 ]
 
--- in the cells' own line beside them
+-- a place in the cells' own line, beside them
 pub cell_beside : (o : Origin) (w : Window) (col n i j : ℕ) → (i ≡ o.top + w.area.top + w.row → (j < o.left + w.area.left + col) ⊎ (o.left + w.area.left + col + n ≤ j)) → is_in (cells_shown o w col n) i j ≡ false
 cell_beside o w col n i j side = elim (cases_eq i (o.top + w.area.top + w.row)) [
   | inl same ↦ elim (side same) [ inl low ↦ before low | inr high ↦ after high ]
@@ -55,14 +55,14 @@ cell_beside o w col n i j side = elim (cases_eq i (o.top + w.area.top + w.row)) 
 in_cells : (o : Origin) (w : Window) (col n i j : ℕ) → i ≡ o.top + w.area.top + w.row → o.left + w.area.left + col ≤ j → j < o.left + w.area.left + col + n → is_in (cells_shown o w col n) i j ≡ false → ⊥
 in_cells o w col n i j row from to off = grind (arith, nat_tests, row, from, to, off)
 
--- a place of their line is before the first of them if all up to it are free
+-- a place of the cells' line is before the first of them if all places up to it are free
 pub before_cells : (m : Marking) (o : Origin) (w : Window) (col n i j : ℕ) → 0 < n → ((k : ℕ) → k ≤ j → IsUnmarkedOutside m (cells_shown o w col n) i k) → i ≡ o.top + w.area.top + w.row → j < o.left + w.area.left + col
 before_cells m o w col n i j some all row = elim (cases_lt j (o.left + w.area.left + col)) [
   | inl low ↦ low
   | inr past ↦ absurd (in_cells o w col n i (o.left + w.area.left + col) row (omega arith) (omega (arith, some)) (all (o.left + w.area.left + col) past).outside)
 ]
 
--- and after the last one if all from it on are
+-- a place of the cells' line is after the last of them if all places from it on are free
 pub after_cells : (m : Marking) (o : Origin) (w : Window) (col n i j : ℕ) → 0 < n → ((k : ℕ) → j ≤ k → IsUnmarkedOutside m (cells_shown o w col n) i k) → i ≡ o.top + w.area.top + w.row → o.left + w.area.left + col + n ≤ j
 after_cells m o w col n i j some all row = elim (cases_lt j (o.left + w.area.left + col + n)) [
   | inl near ↦ absurd (in_cells o w col n i (o.left + w.area.left + col + n - 1) row (omega (arith, some)) (omega (arith, some)) (all (o.left + w.area.left + col + n - 1) (omega (arith, near, some))).outside)
@@ -80,14 +80,14 @@ low_both from end j x one two = grind (arith, nat_tests)
 high_both : (from end j : ℕ) (x : Marked) → x.end ≤ j → end ≤ j → IsOff (widened from end x) j
 high_both from end j x one two = grind (arith, nat_tests)
 
--- where none was marked
+-- in a line without marks
 low_alone : (from end j : ℕ) (x : Marked) → x.end ≤ x.from → j < from → IsOff (widened from end x) j
 low_alone from end j x none low = grind (arith, nat_tests)
 
 high_alone : (from end j : ℕ) (x : Marked) → x.end ≤ x.from → end ≤ j → IsOff (widened from end x) j
 high_alone from end j x none high = grind (arith, nat_tests)
 
--- columns that aren't one after another are none
+-- columns that aren't in order are none
 none_from : (x : Marked) → IsOff x x.from → x.end ≤ x.from
 none_from x (inl low) = absurd (omega (arith, low))
 none_from x (inr past) = past
@@ -138,7 +138,7 @@ next_row a k i j off beside = elim (cases_eq i (a.top + k)) [
   | inr apart ↦ other_row a k i j off apart
 ]
 
--- no line yet
+-- no line is marked yet
 pub no_line_marked : (m : Marking) (a : Area) → MarksArea m m (top_rows a 0)
 no_line_marked m a = record {
   kept = λ i j u. u;
@@ -146,7 +146,7 @@ no_line_marked m a = record {
   only = λ i j side. elim side [ inl all ↦ (all j (omega arith)).unmarked | inr all ↦ (all j (omega arith)).unmarked ];
 }
 
--- one line more
+-- one more line is marked
 pub line_marked : (m n x : Marking) (a : Area) (k : ℕ) → MarksArea m n (top_rows a k) → x ≡ marked_between (a.top + k) a.left (a.left + a.cols) n → 0 < a.cols → MarksArea m x (top_rows a (k + 1))
 line_marked m n x a k before e some = record {
   kept = λ i j u. before.kept i j (sooner i j u);
@@ -196,7 +196,7 @@ line_marked m n x a k before e some = record {
         let off : (l : ℕ) → j ≤ l → IsUnmarked n row l = λ l le. before.only row l (fewer row l (inr (λ o lo. all o (omega (arith, lo, le))))) in
         unmarked_there n row a.left end j (off j (omega arith)) (off_after a.left end j (marked_at n row) (λ l le. (off l le).column) (high j all))
 
--- what isn't marked in another line stays so
+-- an unmarked place in another line stays unmarked
 above : (a : Area) (i j : ℕ) → i < a.top → is_in a i j ≡ false
 above a i j low = grind (arith, nat_tests)
 

@@ -1,4 +1,4 @@
--- Lists of marks of which all is marked from a number on.
+-- Lists of marks in which all is marked from a number on.
 use Rattle.std.proofs.Common.{◌≡◌, ℕ, ◌+◌, ◌<◌, ◌≤◌, true, [], ◌∷◌, length, set, suc, zero, refl, sym, ap, ◌∙◌, arith, replicate}
 use Rattle.cur_screens.specs.Marks.{Marking, none_marked}
 use Rattle.cur_screens.specs.Touched.{AreFull, FillsAll, Markings, all_marked, full_from, grid_marks}
@@ -19,7 +19,7 @@ used_at (suc n) [] k lt = refl
 used_at (suc n) (m ∷ t) zero lt = refl
 used_at (suc n) (m ∷ t) (suc k) lt = used_at n t k (omega (arith, lt))
 
--- one from it on
+-- a grid from the number on
 pub full_at : (n : ℕ) (t : Markings) (k : ℕ) → n ≤ k → grid_marks (full_from n t) k ≡ filled (grid_marks t k)
 full_at zero [] k le = refl
 full_at (suc n) [] k le = refl
@@ -37,7 +37,7 @@ set_open (suc n) [] k m lt = refl
 set_open (suc n) (x ∷ t) zero m lt = refl
 set_open (suc n) (x ∷ t) (suc k) m lt = ap (λ (l : Markings). x ∷ l) (set_open n t k m (omega (arith, lt)))
 
--- one more that is marked itself
+-- one more grid is marked by itself
 opened_next : (n : ℕ) (t : Markings) → full_from (suc n) (set t n (filled (grid_marks t n))) ≡ full_from n t
 opened_next zero [] = refl
 opened_next (suc n) [] = refl

@@ -1,4 +1,4 @@
--- A grid that gets all cells of another one of its shape is that one, and so is a screen.
+-- A grid that gets all cells of another one of its shape equals it, and so does a screen.
 use Rattle.std.proofs.Common.{◌≡◌, ℕ, ◌<◌, ◌++◌, List, length, take, drop, get_or, sym, ap, ◌∙◌, arith, if◌then◌else◌}
 use Rattle.std.proofs.lemmas.Bool.Decides.{nat_tests}
 use Rattle.std.proofs.lemmas.List.{get_or_default}
@@ -27,7 +27,7 @@ all_copied rows cols source g e f wide wide2 =
     (λ k d lt2. get_or_default (line_at source i) k d (get_or (line_at g i) k d) (omega (arith, wide i (omega (arith, e, f)), wide2 i lt))
     ∙ sym (taken_there rows cols i k source (get_or (line_at g i) k d) (omega (arith, f)) (omega (arith, wide2 i lt))))))
 
--- all of a screen but its size, which is the same
+-- all parts of a screen but its size, which is equal
 pub taken_over : (v w : Screen) (g : Grid) (pairs : List Colors) → IsScreen v → IsScreen w → v.rows ≡ w.rows → v.cols ≡ w.cols → g ≡ copied (whole v.rows v.cols) (place 0 0) w.grid v.grid → pairs ≡ w.pairs
     → record { rows = v.rows; cols = v.cols; grid = g; cursor = w.cursor; clearok = w.clearok; pairs = pairs } ≡ w
 taken_over v w g pairs is there rows cols copied_is same =
@@ -37,6 +37,6 @@ taken_over v w g pairs is there rows cols copied_is same =
 pub same_size : (v w now other : Screen) (size : Screen → ℕ) → v ≡ now → w ≡ other → size now ≡ size other → size v ≡ size w
 same_size v w now other size e f h = ap size e ∙ h ∙ sym (ap size f)
 
--- a vector whose slice became this has just that
+-- a vector whose slice became this list is this list
 pub written_back : (n : ℕ) (new old : List Colors) → length new ≡ n → take n (new ++ drop (length new) old) ≡ new
 written_back n new old e = ap (λ (k : ℕ). take k (new ++ drop (length new) old)) (sym e) ∙ take-append_seam new (drop (length new) old)

@@ -10,7 +10,7 @@ use Rattle.cur_screens.proofs.Marked.{past_full}
 abbrev pub unknown : Marking
 unknown = record { all = true; lines = [] }
 
--- nothing is to be marked where all is
+-- no mark is missing if all is marked
 pub joins_full : (m o : Marking) (rows cols : ℕ) → m.all ≡ true → JoinsMarks m o rows cols m
 joins_full m o rows cols full = record {
   kept = λ i j u. u;
@@ -18,7 +18,7 @@ joins_full m o rows cols full = record {
   only = λ i j side. elim side [ inl all ↦ (all j (omega arith)).one | inr all ↦ (all j (omega arith)).one ];
 }
 
--- the grids up to one more have the marks
+-- the marks are added to one more grid
 pub next_spread : (t x : Markings) (n o : Marking) (k but rows cols : ℕ) → k < length x → ((l : ℕ) → l < k → l ≢ but → JoinsMarks (grid_marks t l) o rows cols (grid_marks x l)) → JoinsMarks (grid_marks t k) o rows cols n →
     (l : ℕ) → l < k + 1 → l ≢ but → JoinsMarks (grid_marks t l) o rows cols (grid_marks (set x k n) l)
 next_spread t x n o k but rows cols lt before next l near apart = elim (cases_eq l k) [
@@ -34,11 +34,11 @@ pub later : (k l but : ℕ) → (k + 1 ≤ l) ⊎ (l ≡ but) → (k ≤ l) ⊎ 
 later k l but (inl past) = inl (omega (arith, past))
 later k l but (inr same) = inr same
 
--- but for the one that gets none
+-- the grid `but` gets none
 pub next_left : (t x : Markings) (o : Marking) (k but rows cols : ℕ) → k ≡ but → ((l : ℕ) → l < k → l ≢ but → JoinsMarks (grid_marks t l) o rows cols (grid_marks x l)) → (l : ℕ) → l < k + 1 → l ≢ but → JoinsMarks (grid_marks t l) o rows cols (grid_marks x l)
 next_left t x o k but rows cols is before l near apart = before l (omega (arith, is, near, apart)) apart
 
--- the grids that are used, of which all were gone through
+-- the marks are added to all grids in use
 pub all_spread : (t x : Markings) (o : Marking) (n k but rows cols : ℕ) → min n (length t) ≤ k → k ≤ min n (length t) → length x ≡ length t → ((l : ℕ) → l < k → l ≢ but → JoinsMarks (grid_marks t l) o rows cols (grid_marks x l)) →
     ((l : ℕ) → (k ≤ l) ⊎ (l ≡ but) → grid_marks x l ≡ grid_marks t l) → Spreads (full_from n t) (full_from n x) but o rows cols
 all_spread t x o n k but rows cols end near size before rest = record {

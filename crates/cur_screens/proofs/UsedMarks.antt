@@ -1,4 +1,4 @@
--- Marks of one grid, which is used or of which all is marked.
+-- The marks of one grid, which is in use or fully marked.
 use Rattle.std.proofs.Common.{◌≡◌, ◌≢◌, ℕ, ◌<◌, ◌≤◌, ◌⊎◌, Bool, true, false, length, get_or, set, refl, sym, ap, ◌∙◌, inl, inr, arith, subst}
 use Rattle.std.proofs.lemmas.List.{get_or-set_same, get_or-set_other, get_or_default}
 use Rattle.grids.specs.declared.areas.Area.{Area}
@@ -10,14 +10,14 @@ use Rattle.cur_screens.proofs.Openings.{is_full_at, length_full_from, set_open, 
 use Rattle.cur_screens.proofs.Spreading.{unknown}
 use Rattle.cur_screens.proofs.Marked.{past_full}
 
--- one grid's marks become others, unless it is a pad's; those of the others stay
+-- one grid's marks change, unless it is a pad's; those of the other grids stay
 pub record OnGrid (p : Marking → Marking → Type 0) (t u : Markings) (root : ℕ) (lies : Bool) : Type 0 where
   pub grid : lies ≡ false → root < length t → p (grid_marks t root) (grid_marks u root)
   pub pad : lies ≡ true → u ≡ t
   pub none : length t ≤ root → u ≡ t
   pub others : (k : ℕ) → k ≢ root → grid_marks u k ≡ grid_marks t k
 
--- all is marked of a grid that isn't used
+-- a grid that isn't in use is fully marked
 pub all_marked_at : (n : ℕ) (g t : Markings) (k : ℕ) → full_from n g ≡ t → (n ≤ k) ⊎ (length g ≤ k) → (grid_marks t k).all ≡ true
 all_marked_at n g t k is (inl unused) = ap (λ (x : Markings). (grid_marks x k).all) (sym is) ∙ is_full_at n g k unused
 all_marked_at n g t k is (inr past) = past_full t k (omega (arith, past, ap length is, length_full_from n g))
@@ -45,7 +45,7 @@ is_used p n g t root lies was m is used lt at step off = record {
     after : grid_marks (full_from n (set g root m)) root ≡ m
     after = used_at n (set g root m) root used ∙ get_or-set_same g root m unknown lt
 
--- ---- nothing more is to be marked where all is
+-- ---- no mark is missing if all is marked
 none_unmarked : (m : Marking) (i j : ℕ) → m.all ≡ true → IsUnmarked m i j → ⊥
 none_unmarked m i j all off = absurd (let some = off.some in cc)
 

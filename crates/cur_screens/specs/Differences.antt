@@ -11,7 +11,7 @@ pub record DifferAt (a b : List Content) (k : ℕ) : Type 0 where
   pub within : k < length a
   pub apart : AreEqualAt a b k → ⊥
 
--- in all places from one on, before another one
+-- equal in all places from one on and before another
 abbrev pub AreEqualIn : List Content → List Content → ℕ → ℕ → Type 0
 AreEqualIn a b from to = (k : ℕ) → from ≤ k → k < to → AreEqualAt a b k
 

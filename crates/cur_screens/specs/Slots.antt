@@ -1,4 +1,4 @@
--- Rectangles from the corner on.
+-- Rectangles that begin at the corner.
 use Rattle.std.specs.Prelude.{ℕ}
 use Rattle.grids.specs.declared.areas.Area.{Area}
 

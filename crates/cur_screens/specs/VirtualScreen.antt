@@ -1,4 +1,4 @@
--- The virtual screen: what the terminal is to show (X/Open Curses Issue 7, noutrefresh, doupdate; "Color
+-- The virtual screen: the picture that the terminal must show (X/Open Curses Issue 7, noutrefresh, doupdate; "Color
 -- Manipulation").
 use Rattle.std.specs.Prelude.{◌≡◌, ℕ, zero, suc, ◌<◌, ◌≤◌, ◌||◌, ◌==◌, List, length, slice_index_or, slice_set, replicate}
 use Rattle.std.specs.Prelude.{Bool, false, nat_lt, Option, Some, None, IfSome, Result, Ok, Err, if◌then◌else◌, ℤ, pos, negsuc}
@@ -16,11 +16,11 @@ pub record Screen : Type 0 where
   pub rows : ℕ
   pub cols : ℕ
   pub grid : Grid
-  -- where the cursor is to stand, or none where it may stand anywhere
+  -- the place of the cursor, or none if it may be anywhere
   pub cursor : Option Place
-  -- the terminal is to be cleared first
+  -- the next refresh must clear the terminal first
   pub clearok : Bool
-  -- the colours of the pairs
+  -- the colors of the pairs
   pub pairs : List Colors
 
 abbrev pub default_colors : Colors
@@ -29,19 +29,19 @@ default_colors = record { foreground = None; background = None }
 abbrev pub colors_at : Screen → ℕ → Colors
 colors_at v p = slice_index_or v.pairs p default_colors
 
--- the grid has the size, the cursor lies in it, and all pairs have colours
+-- the grid has the size, the cursor is in it, and all pairs have colors
 pub record IsScreen (v : Screen) : Type 0 where
   pub lines : length v.grid ≡ v.rows
   pub columns : (i : ℕ) → i < length v.grid → length (line_at v.grid i) ≡ v.cols
   pub cursor : IfSome v.cursor (λ p. (p.row < v.rows) × (p.col < v.cols))
   pub pairs : length v.pairs ≡ pair_count
 
--- the pairs from one on are default on default; it is one of them, or the first that there isn't
+-- the pairs from `first` on are default on default; `first` is a pair, or one more than the last pair
 pub record AreDefault (first : ℕ) (pairs : List Colors) : Type 0 where
   pub within : first ≤ pair_count
   pub colors : (p : ℕ) → first ≤ p → slice_index_or pairs p default_colors ≡ default_colors
 
--- at first: spaces without attributes, the cursor at the corner, all pairs default on default
+-- a new screen: spaces without attributes, the cursor at the corner, all pairs default on default
 abbrev pub new_screen : ℕ → ℕ → Screen
 new_screen rows cols = record {
   rows = rows;
@@ -52,7 +52,7 @@ new_screen rows cols = record {
   pairs = replicate pair_count default_colors;
 }
 
--- what a refresh that was done leaves
+-- the screen after a refresh that succeeded
 abbrev pub refreshed : Screen → Screen
 refreshed v = record v { clearok = false }
 
@@ -64,7 +64,7 @@ initialized (Some p) (Some f) None v = (v, Err BadPair)
 initialized (Some p) None b v = (v, Err BadPair)
 initialized None f b v = (v, Err BadPair)
 
--- init_pair: pairs 1 to 63, colours 0 to 7
+-- init_pair: pairs 1 to 63, colors 0 to 7
 abbrev pub init_pair : ℤ → ℤ → ℤ → Screen → Screen × Result (Unit {0}) Refusal
 init_pair p f b v = initialized (place_below p pair_count) (place_below f 8) (place_below b 8) v
 

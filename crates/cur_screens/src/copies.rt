@@ -11,8 +11,8 @@ use crate::marks::Marks;
 use cur_drawing::{Cell, SkipSpaces};
 use grids::{Area, Grid, Place};
 
-/// The rectangle `area` of a grid that gets the cells from the place `from` of a grid on, without the spaces among them
-/// if these are to `skip`.
+/// A rectangle `area` of a grid, and the place `from` of a grid whose cells it gets, without the
+/// spaces among them if `skip`.
 #[derive(Clone, Copy)]
 pub struct Patch {
     pub area: Area,
@@ -20,7 +20,7 @@ pub struct Patch {
     pub skip: bool,
 }
 
-/// The patch of a grid gets the cells of another one.
+/// Copies the cells of `source` into the rectangle of `patch`. Both rectangles must be in their grids.
 pub fn overlay_from(grid: &mut Grid<Cell>, source: &Grid<Cell>, patch: Patch)
     requires target { Fits patch.area grid.old }
     requires source { Fits (moved_to patch.area patch.from) source.now }
@@ -34,7 +34,8 @@ pub fn overlay_from(grid: &mut Grid<Cell>, source: &Grid<Cell>, patch: Patch)
     }
 }
 
-/// The patch of a grid gets the grid's own cells, as if they were all read first.
+/// Copies the grid's own cells into the rectangle of `patch`, as if all were read first. Both
+/// rectangles must be in the grid.
 pub fn overlay_shift(grid: &mut Grid<Cell>, patch: Patch)
     requires target { Fits patch.area grid.old }
     requires source { Fits (moved_to patch.area patch.from) grid.old }
@@ -48,8 +49,9 @@ pub fn overlay_shift(grid: &mut Grid<Cell>, patch: Patch)
     }
 }
 
-/// The rectangle, which outside the marks `touched` has the cells of another grid from a place on, gets all of them. Of
-/// each line only the cells from the first one that differs to the last one are written, and marked in `marks` as well.
+/// Copies the cells of `source` from the place `from` on into the rectangle `area`, which must
+/// already have them outside the marks `touched`. In each line only the cells from the first one
+/// that differs to the last one are written, and these are added to `marks`.
 pub fn copy_changed(
     grid: &mut Grid<Cell>,
     area: Area,
@@ -116,7 +118,7 @@ fn copy_changed_lines(
     }
 }
 
-// Copies and marks as `copy_changed` does, in a rectangle of one line, in which each cell may differ.
+// Copies and marks as `copy_changed` does, in a rectangle of one line whose cells may all differ.
 fn copy_changed_line(
     grid: &mut Grid<Cell>,
     area: Area,
@@ -152,8 +154,8 @@ fn copy_changed_line(
     marks.mark(part.top, part.left, part.left + part.cols);
 }
 
-/// The rectangle, from the first column on, gets the cells of the same places of another grid, which has the same cells
-/// outside the marks: only what is marked is written.
+/// Copies the cells of `source` at the same places into the rectangle `area`, which must begin at the
+/// first column. The grids must have equal cells there outside `marks`; only marked cells are written.
 pub fn copy_marked(grid: &mut Grid<Cell>, area: Area, source: &Grid<Cell>, marks: &Marks)
     requires left { area.left ≡ 0 }
     requires short { area.top + area.rows < 65536 }
@@ -188,7 +190,7 @@ fn copy_marked_rows(grid: &mut Grid<Cell>, area: Area, source: &Grid<Cell>, mark
     }
 }
 
-// The row `k` of the rectangle.
+// Copies the row `k` of the rectangle.
 fn copy_marked_row(grid: &mut Grid<Cell>, area: Area, k: u16, source: &Grid<Cell>, marks: &Marks)
     requires left { area.left ≡ 0 }
     requires short { area.top + area.rows < 65536 }
@@ -211,7 +213,7 @@ fn copy_marked_row(grid: &mut Grid<Cell>, area: Area, k: u16, source: &Grid<Cell
     copy_cells(grid, part, source, Place { row, col: left });
 }
 
-// Copies into the rectangle the cells of another grid from a place on; one cell without a loop.
+// Copies the cells of `source` from a place on into the rectangle; one cell without a loop.
 fn copy_cells(grid: &mut Grid<Cell>, area: Area, source: &Grid<Cell>, from: Place)
     requires target { Fits area grid.old }
     requires source { Fits (moved_to area from) source.now }
@@ -225,7 +227,7 @@ fn copy_cells(grid: &mut Grid<Cell>, area: Area, source: &Grid<Cell>, from: Plac
     }
 }
 
-// Copies into the rectangle of one place the cell of a place of another grid.
+// Copies the cell at a place of `source` into a rectangle of one place.
 fn copy_cell(grid: &mut Grid<Cell>, area: Area, source: &Grid<Cell>, from: Place)
     requires rows { area.rows ≡ 1 }
     requires cols { area.cols ≡ 1 }

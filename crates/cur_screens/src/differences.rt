@@ -1,4 +1,4 @@
-//! Where two lists of cells differ.
+//! The places where two lists of cells differ.
 ghost use Rattle.std.specs.Prelude.{ℕ, length, slice_index_or, ◌≡◌, ◌<◌, ◌≤◌, ◌+◌, true, false};
 ghost use Rattle.std.specs.Bool.{OnTrue};
 ghost use Rattle.cur_drawing.specs.Cells.{content_of, space};
@@ -7,7 +7,7 @@ ghost use Rattle.cur_screens.specs.Differences.{AreEqualAt, AreEqualIn, IsChange
 use cur_drawing::{Cell, Span};
 use std::simd::prelude::*;
 
-// How many cells are compared at a time.
+// The number of cells compared at a time.
 const LANES: usize = 8;
 
 // Eight cells as their numbers.
@@ -28,7 +28,7 @@ fn numbers(cells: &[Cell], at: usize) -> u32x8
     ])
 }
 
-// Whether the cells of a place are equal.
+// Whether the cells at a place are equal.
 #[tactic(auto, using(cur_drawing::proofs::Numbers::equal_numbers))]
 fn same_cell(a: &[Cell], b: &[Cell], at: usize) -> bool
     requires in_a { at < length a.now }
@@ -55,7 +55,7 @@ fn same_eight(a: &[Cell], b: &[Cell], at: usize) -> bool
     same_lanes(numbers(a, at), numbers(b, at))
 }
 
-// A place before which the lists are equal, as far as that shows eight cells at a time.
+// A place before which the lists are equal, found by comparing eight cells at a time.
 fn same_front(a: &[Cell], b: &[Cell]) -> usize
     requires { length a.now ≡ length b.now }
     ensures within { result ≤ length a.now }
@@ -68,7 +68,7 @@ fn same_front(a: &[Cell], b: &[Cell]) -> usize
     at
 }
 
-// A place from which on the lists are equal, as far as that shows eight cells at a time.
+// A place from which on the lists are equal, found by comparing eight cells at a time.
 fn same_back(a: &[Cell], b: &[Cell]) -> usize
     requires { length a.now ≡ length b.now }
     ensures within { result ≤ length a.now }
@@ -81,8 +81,7 @@ fn same_back(a: &[Cell], b: &[Cell]) -> usize
     end
 }
 
-/// The least index where two lists differ, or `None` where they are equal. That they have one length is
-/// the caller's condition.
+/// The least index where two lists differ, or `None` if they are equal. They must have equal lengths.
 pub fn first_diff(a: &[Cell], b: &[Cell]) -> Option<usize>
     requires { length a.now ≡ length b.now }
     ensures { IsFirst a.now b.now result }
@@ -95,8 +94,7 @@ pub fn first_diff(a: &[Cell], b: &[Cell]) -> Option<usize>
     None
 }
 
-/// The greatest index where two lists differ, or `None` where they are equal. That they have one length is
-/// the caller's condition.
+/// The greatest index where two lists differ, or `None` if they are equal. They must have equal lengths.
 pub fn last_diff(a: &[Cell], b: &[Cell]) -> Option<usize>
     requires { length a.now ≡ length b.now }
     ensures { IsLast a.now b.now result }
@@ -111,7 +109,7 @@ pub fn last_diff(a: &[Cell], b: &[Cell]) -> Option<usize>
     None
 }
 
-// The places from the first one in which two lists differ to the last one, or `None` where they are equal.
+// The places from the first one in which two lists differ to the last one, or `None` if they are equal.
 pub(crate) fn changed(a: &[Cell], b: &[Cell]) -> Option<Span>
     requires same_length { length a.now ≡ length b.now }
     requires short { length a.now < 65536 }

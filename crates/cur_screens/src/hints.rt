@@ -1,10 +1,10 @@
-//! Hints at lines that were scrolled, and which grids the screen's lines show.
+//! Hints about scrolled lines, and the grids that the screen's lines show.
 use crate::virtual_screen::ScreenCopy;
 use grids::Area;
 use vt_term::MAX_ROWS;
 
-/// The screen's rows from `top` to `bottom` went up by `up` lines, or down where that is negative. Nothing is promised
-/// of what they hold.
+/// The screen's rows from `top` to `bottom` moved up by `up` lines, or down if that is negative. No
+/// clause says what they hold.
 #[derive(Clone, Copy, Debug, PartialEq, Eq)]
 pub struct Hint {
     pub top: u16,
@@ -12,7 +12,7 @@ pub struct Hint {
     pub up: i32,
 }
 
-/// A hint, and the number of the grid whose lines went.
+/// A hint, and the number of the grid whose lines moved.
 #[derive(Clone, Copy)]
 pub struct Scroll {
     pub root: u8,
@@ -20,13 +20,14 @@ pub struct Scroll {
 }
 
 impl Scroll {
-    /// These rows went up by `up` lines.
+    /// A scroll of the same rows by `up` lines.
     pub fn by(self, up: i32) -> Scroll {
         let hint = Hint { up, ..self.hint };
         Scroll { hint, ..self }
     }
 
-    // One scroll after another: of the same rows of one grid they add up, else the later one replaces the earlier one.
+    // This scroll after the scroll `before`: they add up if they move the same rows of one grid;
+    // else the later one replaces the earlier one.
     fn after(self, before: Scroll) -> Scroll {
         let (early, late) = (before.hint, self.hint);
         if before.root != self.root || early.top != late.top || early.bottom != late.bottom {
@@ -36,7 +37,7 @@ impl Scroll {
     }
 }
 
-// What is remembered after this scroll, if there was one.
+// The scroll to remember after `later`, if there was one.
 pub fn joined(before: Option<Scroll>, later: Option<Scroll>) -> Option<Scroll> {
     let Some(later) = later else {
         return before;
@@ -47,8 +48,8 @@ pub fn joined(before: Option<Scroll>, later: Option<Scroll>) -> Option<Scroll> {
     }
 }
 
-// Takes note of a copy to a screen of `cols` columns: whose its lines are, and which scroll is remembered. Mostly no
-// rows have gone.
+// Records which grid now owns the copied lines of a screen of `cols` columns, and updates the
+// scroll to remember. Usually nothing has scrolled.
 #[inline(always)]
 pub(crate) fn remember(
     owners: &mut Owners,
@@ -64,7 +65,7 @@ pub(crate) fn remember(
     }
 }
 
-// The same where rows have gone.
+// Records and updates as `remember` does, if something has scrolled.
 #[inline(never)]
 fn remember_scroll(
     owners: &mut Owners,
@@ -77,7 +78,7 @@ fn remember_scroll(
     *scrolled = later_of(kept, later);
 }
 
-// What is remembered on the screen: the later scroll, if there was one.
+// The scroll to remember on the screen: the later one, if there was one.
 fn later_of(before: Option<Scroll>, later: Option<Scroll>) -> Option<Scroll> {
     match later {
         Some(later) => Some(later),
@@ -85,7 +86,7 @@ fn later_of(before: Option<Scroll>, later: Option<Scroll>) -> Option<Scroll> {
     }
 }
 
-// What is remembered after the rows of a region went up by `lines` lines while a window wrote.
+// The scroll to remember after a window wrote and the rows of a region moved up by `lines` lines.
 pub fn after_writing(before: Option<Scroll>, region: Option<Scroll>, lines: u16) -> Option<Scroll> {
     if lines == 0 {
         return before;
@@ -96,8 +97,8 @@ pub fn after_writing(before: Option<Scroll>, region: Option<Scroll>, lines: u16)
     }
 }
 
-/// Which grid was last copied over the whole of each line of the screen, by its number: that of the last copy for the
-/// lines from `top` on and before `end`, and what is noted for the other ones.
+/// The number of the grid that was last copied over the whole of each line of the screen: for the
+/// lines from `top` on and before `end` that of the last copy, for the others as noted in `roots`.
 #[derive(Clone, Copy)]
 pub(crate) struct Owners {
     top: u16,
@@ -110,7 +111,7 @@ pub(crate) struct Owners {
 const NONE: u8 = 255;
 
 impl Owners {
-    // Nothing was copied yet.
+    // The owners before any copy.
     pub(crate) fn none() -> Owners {
         Owners {
             top: 0,
@@ -120,14 +121,14 @@ impl Owners {
         }
     }
 
-    // No line is known to be a grid's.
+    // Forgets the owners of all lines.
     pub(crate) fn forget(&mut self) {
         self.top = 0;
         self.end = u16::MAX;
         self.root = NONE;
     }
 
-    // Whether the grid was copied last over the whole of the line.
+    // Whether the last copy over the whole of the line was from this grid.
     pub(crate) fn has(&self, row: u16, root: u8) -> bool {
         if self.top <= row && row < self.end {
             return self.root == root;
@@ -135,7 +136,7 @@ impl Owners {
         (row as usize) < MAX_ROWS && self.roots[row as usize] == root
     }
 
-    // The grid is copied over the whole of the area's lines.
+    // Records a copy of the grid over the whole of the area's lines.
     fn cover(&mut self, area: Area, root: u8) {
         let end = area.top.saturating_add(area.rows);
         if self.top < area.top || end < self.end {
@@ -146,7 +147,7 @@ impl Owners {
         self.root = root;
     }
 
-    // Notes whose the lines of the last copy are.
+    // Notes the owner of the lines of the last copy.
     fn note_last(&mut self) {
         let end = (self.end as usize).min(MAX_ROWS);
         for row in self.top as usize..end {
@@ -154,7 +155,7 @@ impl Owners {
         }
     }
 
-    // Whether one of the rows that went is still its grid's.
+    // Whether one of the rows that moved is still its grid's.
     fn keep(&self, scroll: Scroll) -> bool {
         for row in scroll.hint.top..scroll.hint.bottom.saturating_add(1) {
             if self.has(row, scroll.root) {
@@ -164,8 +165,8 @@ impl Owners {
         false
     }
 
-    // What is remembered after this copy to a screen of `cols` columns: no rows of which another grid has taken the
-    // last line. A copy that is narrower takes none.
+    // The scroll to remember after this copy to a screen of `cols` columns: none if the
+    // copy takes the last row that was still its grid's. A narrower copy takes no rows.
     fn take(&mut self, copy: ScreenCopy, cols: u16, before: Option<Scroll>) -> Option<Scroll> {
         if copy.area.cols != cols {
             return before;

@@ -1,4 +1,4 @@
-//! Screens, and what has changed of them: the virtual screen, marks, copies and differences.
+//! Screens and their changes: the virtual screen, marks, copies and differences.
 #![tactic(auto)]
 
 mod copies;

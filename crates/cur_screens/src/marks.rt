@@ -1,4 +1,4 @@
-//! Marks at the places of a screen that may differ from another one.
+//! Marks at the places where a screen may differ from another one.
 ghost use Rattle.std.specs.Prelude.{ℕ, ◌≡◌, ◌<◌, ◌≤◌, ◌+◌, ◌⊎◌, IfOk, length, replicate, true, []};
 ghost use Rattle.cur_screens.specs.Marks.{AreMarkedWithin, IsUnmarked, JoinsMarks, JoinsLine, JoinsLines};
 ghost use Rattle.cur_screens.specs.Marks.{marked_between, none_marked, nothing, widened};
@@ -7,7 +7,7 @@ use cur_drawing::Span;
 use std::alloc::{AllocError, Global};
 use std::marker::Model;
 
-/// The marked columns of a line, or lines of a screen: from one on, and before another.
+/// A run of marked columns of a line, or of lines of a screen: from one on, and before another.
 #[derive(Clone, Copy)]
 pub struct Marked {
     pub from: u16,
@@ -18,7 +18,7 @@ pub struct Marked {
 const NONE: Marked = Marked { from: 0, end: 0 };
 
 impl Marked {
-    // These columns and those from `from` on and before `end`, with all between them.
+    // These columns, those from `from` on and before `end`, and all between them.
     fn widened(self, from: u16, end: u16) -> Marked
         ensures { result ≡ widened from end self }
     {
@@ -52,7 +52,7 @@ impl Model for Marks {
 }
 
 impl Marks {
-    /// Marks for `rows` lines, none of which is marked. An error where a growth was refused.
+    /// Marks for `rows` lines, none of which is marked. Fails if memory runs out.
     pub fn new(alloc: Global, rows: u16) -> Result<Marks, AllocError>
         ensures { IfOk result (λ m. m ≡ none_marked rows) }
     {
@@ -64,7 +64,7 @@ impl Marks {
         })
     }
 
-    /// Marks at all places, however many there are. Takes no memory.
+    /// Marks at all places, for any number of lines. Takes no memory.
     pub fn unknown(alloc: Global) -> Marks
         ensures { result ≡ record { all = true; lines = [] } }
     {
@@ -82,8 +82,8 @@ impl Marks {
         self.all = true;
     }
 
-    /// Marks the columns from `from` on and before `end` of the line `row` as well, with all between them and those
-    /// that are marked there. A line that isn't among the lines is marked as a whole already.
+    /// Marks the columns from `from` on and before `end` of the line `row`, and all between them
+    /// and those already marked there. A line beyond the last one counts as marked already.
     pub fn mark(&mut self, row: u16, from: u16, end: u16)
         ensures { self.new ≡ marked_between row from end self.old }
     {
@@ -94,7 +94,7 @@ impl Marks {
         }
     }
 
-    /// Takes all marks off the lines.
+    /// Removes all marks from the lines.
     pub fn clear(&mut self)
         ensures { self.new ≡ none_marked (length self.old.lines) }
     {
@@ -107,22 +107,22 @@ impl Marks {
         self.all = false;
     }
 
-    /// Whether all places are marked, however many there are.
+    /// Whether all places are marked, for any number of lines.
     pub fn is_full(&self) -> bool
         ensures { result ≡ (self.now).all }
     {
         self.all
     }
 
-    /// Marks what other marks have in the first `rows` lines and `cols` columns as well, of each line from its first
-    /// mark to its last one.
+    /// Adds the marks that `other` has in the first `rows` lines and `cols` columns, in each line
+    /// from its first mark to its last one.
     pub fn join(&mut self, other: &Marks, rows: u16, cols: u16)
         ensures { JoinsMarks self.old other.now rows cols self.new }
     {
         join_lines(self, other, other.rows(rows), cols);
     }
 
-    /// The lines that may have a mark, of the first `rows`.
+    /// A run of lines, among the first `rows`, outside which none of these has a mark.
     pub fn rows(&self, rows: u16) -> Span
         ensures within { result.at + result.size ≤ rows }
         ensures others { (i j : ℕ) → i < rows → (i < result.at) ⊎ (result.at + result.size ≤ i)
@@ -136,7 +136,8 @@ impl Marks {
         Span { at, size: end - at }
     }
 
-    /// The lines that may have a mark, of the `rows` lines from `top` on, counted from there.
+    /// A run of lines, among the `rows` lines from `top` on and counted from there, outside which
+    /// none of these has a mark.
     pub(crate) fn rows_from(&self, top: u16, rows: u16) -> Span
         requires { top + rows < 65536 }
         ensures within { result.at + result.size ≤ rows }
@@ -146,7 +147,7 @@ impl Marks {
         self.rows(top + rows).counted_from(top)
     }
 
-    /// The marked columns of the line `row`, of `cols` columns.
+    /// The marked columns of the line `row`, which has `cols` columns.
     pub fn columns(&self, row: u16, cols: u16) -> Span
         ensures within { result.at + result.size ≤ cols }
         ensures marked { (j : ℕ) → result.at ≤ j → j < result.at + result.size → IsUnmarked self.now row j → ⊥ }
@@ -179,7 +180,7 @@ impl Marks {
     }
 }
 
-// Takes the marks off the lines `rows`, which are all that have any.
+// Removes the marks from the lines `rows`, which must be all that have any.
 fn clear_lines(lines: &mut [Marked], rows: Marked)
     requires { AreMarkedWithin rows lines.old }
     ensures { lines.new ≡ replicate (length lines.old) nothing }
@@ -189,7 +190,7 @@ fn clear_lines(lines: &mut [Marked], rows: Marked)
     }
 }
 
-// The same where that is one line.
+// Removes the marks from the only line that has any.
 fn clear_line(lines: &mut [Marked], rows: Marked)
     requires within { AreMarkedWithin rows lines.old }
     requires one { rows.end ≡ rows.from + 1 }
@@ -198,7 +199,7 @@ fn clear_line(lines: &mut [Marked], rows: Marked)
     lines[rows.from as usize] = NONE;
 }
 
-// Marks what other marks have in these lines as well.
+// Adds the marks that `other` has in these lines.
 fn join_lines(marks: &mut Marks, other: &Marks, lines: Span, cols: u16)
     requires { lines.at + lines.size < 65536 }
     ensures { JoinsLines marks.old other.now lines lines.size cols marks.new }
@@ -208,7 +209,7 @@ fn join_lines(marks: &mut Marks, other: &Marks, lines: Span, cols: u16)
     }
 }
 
-// Marks what other marks have in a line as well.
+// Adds the marks that `other` has in a line.
 fn join_line(marks: &mut Marks, other: &Marks, row: u16, cols: u16)
     ensures { JoinsLine marks.old other.now row cols marks.new }
 {

@@ -1,14 +1,14 @@
-//! Where windows and their grids lie.
+//! The places of windows and of their grids.
 ghost use Rattle.std.specs.Prelude.{◌≡◌};
 ghost use Rattle.cur_screens.specs.Slots as spec;
 
 use cur_drawing::Window;
 use grids::Area;
 
-/// How many windows there may be.
+/// The most windows.
 pub const WINDOWS: usize = 64;
 
-/// Where a grid lies on the screen, and whether it is a pad's, which lies nowhere.
+/// The place of a grid on the screen, and whether it is a pad's, which has none.
 #[derive(Clone, Copy)]
 pub struct Origin {
     pub top: u16,

@@ -1,4 +1,4 @@
-//! Where each grid may have changed since it was copied to the virtual screen.
+//! The places where each grid may have changed since it was copied to the virtual screen.
 ghost use Rattle.std.specs.Prelude.{◌≡◌, ◌≢◌, ◌⊎◌, ◌<◌, ◌≤◌, ◌+◌, ℕ, IfErr, IfOk, IfSome, None, OnOk, false, true};
 ghost use Rattle.std.specs.Prelude.{length, replicate};
 ghost use Rattle.cur_screens.specs.Marks.{JoinsMarks, none_marked};
@@ -15,12 +15,12 @@ use cur_drawing::{Area, Put, Refusal, Window};
 use std::alloc::{AllocError, Global};
 use std::marker::Model;
 
-/// For each grid, by the number of the window that made it, marks at the places of the screen where it may differ from
-/// the virtual screen. A grid without marks may differ in all of them.
+/// Marks for each grid, by the number of the window that made it, at the places of the screen where
+/// it may differ from the virtual screen. A grid without marks may differ everywhere.
 #[derive(Drop)]
 pub struct Touched {
     grids: Vec<Marks>,
-    // how many of them are used: all is marked of each grid from this one on
+    // how many grids are in use: each grid from this number on is fully marked
     used: usize,
 }
 
@@ -33,7 +33,7 @@ impl Model for Touched {
 }
 
 impl Touched {
-    /// The marks of 64 grids on a screen of `rows` lines, all of which are marked. An error where a growth was refused.
+    /// The marks of 64 grids on a screen of `rows` lines, all of them marked. Fails if memory runs out.
     #[tactic(auto, using(crate::proofs::Openings::new_marks, crate::proofs::Openings::none_open))]
     pub fn new(alloc: Global, rows: u16) -> Result<Touched, AllocError>
         ensures value { IfOk result (λ touched. touched ≡ replicate 64 (all_marked rows)) }
@@ -43,7 +43,7 @@ impl Touched {
         Ok(Touched { grids, used: 0 })
     }
 
-    /// The marks of no grid. Takes no memory.
+    /// Marks for no grid, so that all count as marked. Takes no memory.
     #[tactic(auto, using(crate::proofs::Openings::none_open))]
     pub fn unknown(alloc: Global) -> Touched
         ensures { AreFull result }
@@ -62,7 +62,7 @@ impl Touched {
         self.used = 0;
     }
 
-    /// The marks of the grid that the window of this number made. None says that all of it is marked.
+    /// The marks of the grid that the window `root` made. `None` means that all of it is marked.
     #[tactic(auto, using(crate::proofs::Openings::used_at, crate::proofs::Openings::is_full_at, crate::proofs::Openings::length_full_from))]
     pub fn of_grid(&self, root: usize) -> Option<&Marks>
         ensures marks { IfSome result (λ m. m.now ≡ grid_marks self.now root) }
@@ -75,7 +75,7 @@ impl Touched {
     }
 }
 
-// Marks for 64 grids, none of which is marked, on a screen of `rows` lines. An error where a growth was refused.
+// Marks for 64 grids, none of them marked, on a screen of `rows` lines. Fails if memory runs out.
 fn unmarked_grids(alloc: Global, rows: u16) -> Result<Vec<Marks>, AllocError>
     ensures { IfOk result (λ grids. grids.items ≡ replicate 64 (none_marked rows)) }
 {
@@ -86,8 +86,8 @@ fn unmarked_grids(alloc: Global, rows: u16) -> Result<Vec<Marks>, AllocError>
     Ok(grids)
 }
 
-/// Marks a rectangle of the screen for the grid that the window `root` made, which lies on the screen. The `area` must
-/// have a column.
+/// Marks the rectangle `area` of the screen for the grid that the window `root` made, which must be
+/// on the screen. `area` must have a column.
 pub fn mark_rectangle(touched: &mut Touched, root: usize, area: Area)
     requires rows { area.top + area.rows < 65536 }
     requires cols { area.left + area.cols < 65536 }
@@ -112,8 +112,8 @@ fn mark_area(marks: &mut Marks, area: Area)
     }
 }
 
-/// Marks what was written on a window since its cursor was in the line `first`: all of its grid, if its region may have
-/// gone up. The grid lies at `origin`, unless it is a pad's.
+/// Marks the lines that a window wrote since its cursor was in the line `first`, or all of its grid
+/// if its region may have scrolled. `origin` must be the grid's place, unless it is a pad's.
 fn touch(touched: &mut Touched, slot: &Slot, origin: Origin, first: u16)
     requires window { IsWindow (slot.now).window }
     requires within { origin.pad ≡ false → LiesWithin origin (slot.now).window.area }
@@ -126,8 +126,8 @@ fn touch(touched: &mut Touched, slot: &Slot, origin: Origin, first: u16)
     touch_grid(&mut touched.grids[root], &slot.window, origin, first);
 }
 
-/// As `touch`, after a call that has answered so; nothing is marked where it was refused and so has written nothing.
-/// `NoScroll` it may answer after it has written.
+/// As `touch`, after a call with this `answer`. Nothing is marked if the call was refused before it
+/// wrote; `NoScroll` may come after it has written.
 fn touch_unless_refused(
     touched: &mut Touched,
     slot: &Slot,
@@ -162,8 +162,8 @@ fn touch_grid(marks: &mut Marks, window: &Window, origin: Origin, first: u16)
     }
 }
 
-/// Where a window's cursor was before it was written, and whether what is written fits in that line: becomes `cells`
-/// cells of it, none of them in the last column.
+/// The place of a window's cursor before a call writes, and whether its text fits in that line: it
+/// then becomes `cells` cells of the line, none of them in the last column.
 #[derive(Clone, Copy)]
 pub struct WrittenFrom {
     pub row: u16,
@@ -172,7 +172,7 @@ pub struct WrittenFrom {
     pub fits: bool,
 }
 
-/// What is to be remembered before a character is written.
+/// The facts to remember before the character `put` is written in `window`.
 pub fn start_of(window: &Window, put: Put) -> WrittenFrom
     requires { IsWindow window.now }
     ensures row { result.row ≡ (window.now).row }
@@ -188,7 +188,7 @@ pub fn start_of(window: &Window, put: Put) -> WrittenFrom
     }
 }
 
-/// What is to be remembered before a string is written.
+/// The facts to remember before the string `text` is written in `window`.
 pub fn start_of_text(window: &Window, text: &[u8]) -> WrittenFrom
     requires { IsWindow window.now }
     ensures row { result.row ≡ (window.now).row }
@@ -214,7 +214,7 @@ fn fits_line(window: &Window, text: &[u8]) -> bool
     text.len() < (window.area.cols - window.col) as usize && are_printed(text)
 }
 
-// Whether each of the bytes is a character of 32 to 126.
+// Whether each byte is a character from 32 to 126.
 fn are_printed(text: &[u8]) -> bool
     ensures printed { result ≡ true → ArePrinted text.now }
     ensures exact { ArePrinted text.now → result ≡ true }
@@ -227,8 +227,8 @@ fn are_printed(text: &[u8]) -> bool
     true
 }
 
-/// Marks what was written by a call that wrote a character from `start` on, and has answered so: one cell, or what
-/// `touch_unless_refused` does.
+/// Marks the changes of a call that wrote a character from `start` on, with this `answer`: one
+/// cell, or as `touch_unless_refused` does.
 pub fn touch_written(
     touched: &mut Touched,
     slot: &Slot,
@@ -254,7 +254,7 @@ pub fn touch_written(
     touch_unless_refused(touched, slot, origin, start.row, answer);
 }
 
-/// Marks what was written by a call that wrote a string from `start` on: its cells, or what `touch` does.
+/// Marks the changes of a call that wrote a string from `start` on: its cells, or as `touch` does.
 pub fn touch_text(touched: &mut Touched, slot: &Slot, origin: Origin, start: WrittenFrom)
     requires window { IsWindow (slot.now).window }
     requires within { origin.pad ≡ false → LiesWithin origin (slot.now).window.area }
@@ -272,8 +272,8 @@ pub fn touch_text(touched: &mut Touched, slot: &Slot, origin: Origin, start: Wri
     touch(touched, slot, origin, start.row);
 }
 
-/// Marks `count` cells from the column `col` on of the window's line in which its cursor is. The grid lies at `origin`,
-/// unless it is a pad's.
+/// Marks `count` cells from the column `col` on of the window's line with the cursor. `origin` must
+/// be the grid's place, unless it is a pad's.
 fn touch_cells(touched: &mut Touched, slot: &Slot, origin: Origin, col: u16, count: u16)
     requires window { IsWindow (slot.now).window }
     requires within { origin.pad ≡ false → LiesWithin origin (slot.now).window.area }
@@ -290,7 +290,7 @@ fn touch_cells(touched: &mut Touched, slot: &Slot, origin: Origin, col: u16, cou
     mark_cells(&mut touched.grids[root], &slot.window, origin, col, count);
 }
 
-// Marks cells of the line in which the window's cursor is.
+// Marks cells of the window's line with the cursor.
 fn mark_cells(marks: &mut Marks, window: &Window, origin: Origin, col: u16, count: u16)
     requires window { IsWindow window.now }
     requires within { LiesWithin origin (window.now).area }
@@ -322,7 +322,7 @@ fn mark_lines(marks: &mut Marks, window: &Window, origin: Origin, first: u16)
     mark_area(marks, lines);
 }
 
-/// Takes all marks off a grid, of which a window is `whole`.
+/// Removes all marks of the grid `root` if a window is `whole` of it.
 #[tactic(auto, using(crate::proofs::Openings::set_open, crate::proofs::Openings::used_at, crate::proofs::Openings::length_full_from))]
 pub fn unmark(touched: &mut Touched, root: usize, whole: bool)
     ensures { TakesMarksOff touched.old touched.new root whole }
@@ -334,7 +334,8 @@ pub fn unmark(touched: &mut Touched, root: usize, whole: bool)
     touched.grids[root].clear();
 }
 
-// Marks all of those that aren't used, up to `end`, which are used then; the answer says how many are.
+// Marks all of each grid that isn't in use, up to `end`, and takes them into use. Returns how many
+// are in use then.
 #[tactic(auto, using(crate::proofs::Openings::opened))]
 fn use_until(grids: &mut Vec<Marks>, used: usize, end: usize) -> usize
     requires within { end ≤ length grids.old.items }
@@ -350,14 +351,15 @@ fn use_until(grids: &mut Vec<Marks>, used: usize, end: usize) -> usize
     used
 }
 
-/// Marks what the screen's marks have for each grid but one, on a screen of `rows` lines and `cols` columns.
+/// Adds the screen's marks to those of each grid but the one `but`, on a screen of `rows` lines and
+/// `cols` columns.
 pub fn spread(touched: &mut Touched, but: usize, marks: &Marks, rows: u16, cols: u16)
     ensures { Spreads touched.old touched.new but marks.now rows cols }
 {
     spread_over(&mut touched.grids, touched.used, but, marks, rows, cols);
 }
 
-// The same for the grids that are used.
+// Adds the marks as `spread` does, to the grids in use.
 fn spread_over(grids: &mut Vec<Marks>, used: usize, but: usize, marks: &Marks, rows: u16, cols: u16)
     ensures { Spreads (full_from used grids.old.items) (full_from used grids.new.items) but marks.now rows cols }
 {
@@ -368,7 +370,7 @@ fn spread_over(grids: &mut Vec<Marks>, used: usize, but: usize, marks: &Marks, r
     }
 }
 
-// Marks what the screen's marks have for one grid, unless all of it is marked.
+// Adds the screen's marks to those of one grid, unless all of it is marked.
 fn join_grid(grid: &mut Marks, marks: &Marks, rows: u16, cols: u16)
     ensures { JoinsMarks grid.old marks.now rows cols grid.new }
 {

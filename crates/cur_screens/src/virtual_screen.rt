@@ -1,4 +1,4 @@
-//! The virtual screen and its colour pairs.
+//! The virtual screen and its color pairs.
 ghost use Rattle.std.specs.Prelude.{ℕ, length, slice_index_or, ◌≡◌, ◌<◌, ◌≤◌, ◌+◌, IfOk, IfSome, replicate, true};
 ghost use Rattle.cur_drawing.specs.Cells.{IsCell, space};
 ghost use Rattle.cur_drawing.specs.Grids.{Fits, blank, line_at, moved_to};
@@ -15,18 +15,18 @@ use std::alloc::{AllocError, Global};
 use std::marker::Model;
 use vt_term::Size;
 
-// How many colours a pair may have.
+// How many colors there are for a pair.
 const COLORS: u16 = 8;
 
-/// The colours of a pair, 0 to 7 in the order of ECMA-48's SGR. None is the terminal's own.
+/// The colors of a pair, 0 to 7 in the order of ECMA-48's SGR. `None` is the terminal's own.
 #[derive(Clone, Copy, PartialEq, Eq)]
 pub struct Colors {
     pub foreground: Option<u8>,
     pub background: Option<u8>,
 }
 
-/// What is copied to the virtual screen: a rectangle of it gets the cells of the grid `root` from a place on, and the
-/// screen this cursor; it is to be cleared where `clears` says so.
+/// A copy to the virtual screen: its rectangle `area` gets the cells of the grid `root` from the place
+/// `from` on, and the screen gets this cursor; the next refresh clears the terminal if `clears`.
 #[derive(Clone, Copy)]
 pub struct ScreenCopy {
     pub area: Area,
@@ -36,7 +36,7 @@ pub struct ScreenCopy {
     pub root: u8,
 }
 
-/// What the terminal is to show: cells, a cursor or none, and the colours of the pairs.
+/// The picture that the terminal must show: cells, a cursor or none, and the colors of the pairs.
 #[derive(Drop)]
 pub struct Virtual {
     rows: u16,
@@ -76,8 +76,8 @@ impl Model for Virtual {
 }
 
 impl Virtual {
-    /// The first screen: spaces without attributes, the cursor at the corner, all pairs default on default. An error
-    /// where a growth was refused.
+    /// A new screen: spaces without attributes, the cursor at the corner, all pairs default on
+    /// default. Fails if memory runs out.
     pub fn new(alloc: Global, size: Size) -> Result<Virtual, AllocError>
         ensures { IfOk result (λ screen. screen ≡ spec.new_screen size.rows size.cols) }
     {
@@ -96,15 +96,15 @@ impl Virtual {
         })
     }
 
-    /// Its lines and columns.
+    /// The numbers of its lines and columns.
     pub fn size(&self) -> (u16, u16)
         ensures { result ≡ ((self.now).rows, (self.now).cols) }
     {
         (self.rows, self.cols)
     }
 
-    /// One line; each of its cells holds a character of 32 to 126 and a pair below 64. That it is on the screen is the
-    /// caller's condition.
+    /// The line `y`, which must be on the screen. Each of its cells holds a character from 32 to
+    /// 126 and a pair below 64.
     pub fn row(&self, y: u16) -> &[Cell]
         requires { y < (self.now).rows }
         ensures value { result.now ≡ line_at (self.now).grid y }
@@ -116,22 +116,22 @@ impl Virtual {
         cells
     }
 
-    /// Where the cursor is to stand, or none where it may stand anywhere.
+    /// The place of the cursor, or none if it may be anywhere.
     pub fn cursor(&self) -> Option<Place>
         ensures { result ≡ (self.now).cursor }
     {
         self.cursor
     }
 
-    /// Whether the terminal is to be cleared first.
+    /// Whether the next refresh must clear the terminal first.
     pub fn clearok(&self) -> bool
         ensures { result ≡ (self.now).clearok }
     {
         self.clearok
     }
 
-    /// Rows that were scrolled since the last refresh that was done, where that is known. Nothing is promised of what
-    /// they hold.
+    /// Rows that were scrolled since the last refresh that succeeded, if they are known. No clause
+    /// says what they hold.
     pub fn hint(&self) -> Option<Hint>
         ensures order { IfSome result (λ h. h.top ≤ h.bottom) }
         ensures there { IfSome result (λ h. h.bottom < (self.now).rows) }
@@ -144,7 +144,7 @@ impl Virtual {
         }
     }
 
-    /// To be called after a refresh that was done: nothing is to be cleared any more, and no hint is left.
+    /// Records a refresh that succeeded: the next one needn't clear the terminal, and there is no hint.
     pub fn shown(&mut self)
         ensures { self.new ≡ spec.refreshed self.old }
     {
@@ -152,8 +152,8 @@ impl Virtual {
         self.scrolled = None;
     }
 
-    /// The colours of a pair (`init_pair`). `BadPair` for a pair that isn't 1 to 63, or a colour that isn't 0 to 7;
-    /// then nothing has changed.
+    /// Sets the colors of `pair` (`init_pair`). `BadPair` for a pair that isn't 1 to 63, or a color
+    /// that isn't 0 to 7; nothing has then changed.
     pub fn init_pair(&mut self, pair: i32, foreground: i32, background: i32) -> Result<(), Refusal>
         ensures { (self.new, result) ≡ spec.init_pair pair foreground background self.old }
     {
@@ -194,7 +194,7 @@ impl Virtual {
         Ok(())
     }
 
-    /// The colours of a pair below 64, which is the caller's condition: foreground and background.
+    /// The colors of `pair`, which must be below 64: foreground and background.
     pub fn pair(&self, pair: u8) -> (Option<u8>, Option<u8>)
         requires { pair < 64 }
         ensures { result ≡ ((spec.colors_at self.now pair).foreground, (spec.colors_at self.now pair).background) }
@@ -203,7 +203,7 @@ impl Virtual {
         (colors.foreground, colors.background)
     }
 
-    /// Whether all pairs have the same colours on another virtual screen. Pairs that were never set aren't compared.
+    /// Whether all pairs have the same colors on `other`. Pairs that were never set aren't compared.
     pub fn same_pairs(&self, other: &Virtual) -> bool
         ensures same { result ≡ true → (self.now).pairs ≡ (other.now).pairs }
         ensures found { (self.now).pairs ≡ (other.now).pairs → result ≡ true }
@@ -211,8 +211,8 @@ impl Virtual {
         same_colors(&self.pairs, &other.pairs, self.colored.max(other.colored))
     }
 
-    /// Becomes what another virtual screen of its size is, whose cells are the same outside the marks. Only what is
-    /// marked is copied, and no hint is left. Takes no memory.
+    /// Makes this screen equal to `other`, which must have its size and equal cells outside
+    /// `marks`. Only marked cells are copied, and no hint is left. Takes no memory.
     pub fn copy_marked(&mut self, other: &Virtual, marks: &Marks)
         requires rows { (self.old).rows ≡ (other.now).rows }
         requires cols { (self.old).cols ≡ (other.now).cols }
@@ -273,7 +273,7 @@ impl Virtual {
     }
 }
 
-/// A grid of spaces without attributes. An error where a growth was refused.
+/// A grid of spaces without attributes. Fails if memory runs out.
 pub fn blank_grid(alloc: Global, rows: u16, cols: u16) -> Result<Grid<Cell>, AllocError>
     ensures { IfOk result (λ grid. grid ≡ blank rows cols) }
 {
@@ -307,7 +307,7 @@ fn default_pairs(alloc: Global) -> Result<Vec<Colors>, AllocError>
     Ok(pairs)
 }
 
-// Whether the pairs before `end` have the same colours, all others being default on default.
+// Whether the pairs before `end` have the same colors; all others must be default on default.
 fn same_colors(a: &[Colors], b: &[Colors], end: u16) -> bool
     requires long { length a.now ≡ 64 }
     requires long_too { length b.now ≡ 64 }
@@ -324,7 +324,7 @@ fn same_colors(a: &[Colors], b: &[Colors], end: u16) -> bool
     true
 }
 
-// Copies the pairs before `end`, all others being default on default.
+// Copies the pairs before `end`; all others must be default on default.
 fn copy_colors(pairs: &mut [Colors], source: &[Colors], end: u16)
     requires long { length pairs.old ≡ 64 }
     requires long_too { length source.now ≡ 64 }

@@ -1,4 +1,4 @@
--- The rows that were gone through are copied, and from the first to the last place of each that differed marked.
+-- The rows visited so far are copied, and each is marked from its first place that differed to its last one.
 use Rattle.std.proofs.Common.{◌≡◌}
 use Rattle.cur_drawing.specs.Grids.{drawn_in, taken, shape_of}
 use Rattle.cur_screens.specs.Marks.{Keeps, MarksOnly}

@@ -1,4 +1,4 @@
--- The rows that were gone through are copied.
+-- The rows visited so far are copied.
 use Rattle.std.proofs.Common.{◌≡◌}
 use Rattle.cur_drawing.specs.Calls.{place}
 use Rattle.cur_drawing.specs.Grids.{drawn_in, taken, shape_of}

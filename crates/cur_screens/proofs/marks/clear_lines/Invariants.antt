@@ -1,4 +1,4 @@
--- The lines that were gone through have no mark.
+-- The lines visited so far have no mark.
 use Rattle.std.proofs.Common.{ℕ, ◌≡◌, ◌<◌, ◌≤◌, ◌⊎◌, length, slice_index_or}
 use Rattle.cur_screens.specs.Marks.{nothing}
 use Rattle.cur_screens.proofs.marks.clear_lines.Given as goal

@@ -1,4 +1,4 @@
--- What other marks have in the lines that were gone through is marked as well.
+-- The other marks are added in the lines visited so far.
 use Rattle.cur_screens.specs.Marks.{JoinsLines}
 use Rattle.cur_screens.proofs.marks.join_lines.Given as goal
 

@@ -1,4 +1,4 @@
--- The lines that were gone through are marked as well.
+-- The lines visited so far are marked.
 use Rattle.grids.proofs.Rectangles.{top_rows}
 use Rattle.cur_screens.specs.Touched.{MarksArea}
 use Rattle.cur_screens.proofs.touched.mark_area.Given as goal

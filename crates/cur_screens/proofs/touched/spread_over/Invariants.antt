@@ -1,4 +1,4 @@
--- For the grids that were gone through what the screen's marks have is marked.
+-- The screen's marks are added to the grids visited so far.
 use Rattle.std.proofs.Common.{◌≡◌, ◌≢◌, ◌<◌, ◌≤◌, ◌⊎◌, ℕ, length}
 use Rattle.cur_screens.specs.Marks.{JoinsMarks}
 use Rattle.cur_screens.specs.Touched.{grid_marks}

@@ -1,4 +1,4 @@
--- What is marked in all stays so.
+-- A grid that is fully marked stays so.
 use Rattle.std.proofs.Common.{◌≡◌, ◌-◌, length}
 use Rattle.cur_screens.specs.Touched.{full_from}
 use Rattle.cur_screens.proofs.touched.use_until.Given as goal

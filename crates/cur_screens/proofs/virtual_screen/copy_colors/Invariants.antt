@@ -1,4 +1,4 @@
--- The pairs before this one, and those from the last one on, have the same colours.
+-- The pairs before this one, and those from the last one on, have the same colors.
 use Rattle.std.proofs.Common.{ℕ, ◌≡◌, ◌<◌, ◌≤◌, ◌⊎◌, length, slice_index_or}
 use Rattle.cur_screens.specs.VirtualScreen.{default_colors}
 use Rattle.cur_screens.proofs.virtual_screen.copy_colors.Given as goal

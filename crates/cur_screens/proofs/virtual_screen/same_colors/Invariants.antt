@@ -1,4 +1,4 @@
--- The pairs before this one have the same colours.
+-- The pairs before this one have the same colors.
 use Rattle.std.proofs.Common.{ℕ, ◌≡◌, ◌<◌, slice_index_or}
 use Rattle.cur_screens.specs.VirtualScreen.{default_colors}
 use Rattle.cur_screens.proofs.virtual_screen.same_colors.Given as goal
