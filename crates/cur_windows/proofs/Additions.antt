@@ -1,4 +1,4 @@
--- What making, moving and deleting a window leaves is a desk.
+-- The result of making, moving or deleting a window is a desk.
 use Rattle.std.proofs.Common.{◌≡◌, ◌≢◌, ℕ, ◌+◌, ◌<◌, ◌≤◌, List, [], ◌∷◌, Option, Some, None, IsSome, length, get_or, set, refl, sym, ap, ◌∙◌, subst, inl, inr, arith, false, true, Bool, replicate, zero, suc, ◌||◌, ◌==◌, ◌&&◌, not}
 use Rattle.std.proofs.lemmas.Bool.{cases_eq}
 use Rattle.std.proofs.lemmas.Bool.Decides.{nat_tests}
@@ -23,7 +23,7 @@ pub no_some : (o : Option Slot) → o ≡ None → IsSome o → (A : Type 0) →
 no_some None e is A = absurd cc
 no_some (Some s) e is A = absurd cc
 
--- a window was written where none was, or another one than the windows' root
+-- a window is written at the number n, and those of other numbers stay
 windows_other : (ws : List (Option Slot)) (n m : ℕ) (o : Option Slot) → m ≢ n → get_or (set ws n o) m None ≡ get_or ws m None
 windows_other ws n m o other = get_or-set_other ws n m o None other
 
@@ -186,7 +186,7 @@ or_right : (p q : Bool) → (p || q) ≡ false → q ≡ false
 or_right true q h = absurd cc
 or_right false q h = h
 
--- without children no other window has the grid
+-- without children, a window shares its grid with no other
 no_child : (n k : ℕ) (ws : List (Option Slot)) (i : ℕ) (t : Slot) → has_child n k ws ≡ false → get_or ws i None ≡ Some t → k + i ≢ n → t.root ≢ n
 no_child n k [] i t h at apart = absurd cc
 no_child n k (None ∷ os) zero t h at apart = absurd cc

@@ -1,4 +1,4 @@
--- A rectangle of the screen that is marked, and calls that change nothing outside a window's.
+-- A marked rectangle of the screen, and calls that change nothing outside a window's rectangle.
 use Rattle.std.proofs.Common.{◌≡◌, ℕ, ◌+◌, ◌-◌, false, List, [], Option, Result, Ok, Err, refl, sym, ap, ◌∙◌, subst, arith}
 use Rattle.std.proofs.lemmas.Bool.Decides.{nat_tests}
 use Rattle.std.proofs.lemmas.List.{set-get_or}
@@ -21,7 +21,7 @@ use Rattle.cur_windows.proofs.TouchedFacts.{SparesGrid, slot_spared, with_grid}
 
 -- ---- calls that change nothing outside a window's rectangle
 
--- a place of the grid that isn't in the rectangle on the screen isn't in the window's
+-- a place of the grid outside the marked rectangle of the screen is outside the window
 outside : (o : Origin) (a : Area) (i j : ℕ) → is_in (record { top = o.top + a.top; left = o.left + a.left; rows = a.rows; cols = a.cols }) (o.top + i) (o.left + j) ≡ false → is_in a i j ≡ false
 outside o a i j off = grind (arith, nat_tests, off)
 
@@ -35,7 +35,7 @@ area_spared d s h t u same marks = record {
   others = marks.others;
 }
 
--- what such a call leaves of a window and its grid
+-- the canvas of a window after such a call
 abbrev acted : State → (Canvas → CanvasStep) → Slot → Canvas
 acted d act s = (act (canvas (grid_at d s.root) s.window)).0
 
@@ -45,7 +45,7 @@ slot_marked d n s ws act t u desk local shape found marks =
     slot_spared d ws s (acted d act s).grid t u (omega (arith, desk.grids, placed.root)) (shape (canvas (grid_at d s.root) s.window))
     (area_spared d s (acted d act s).grid t u (local (canvas (grid_at d s.root) s.window) placed.canvas).outside marks)
 
--- whatever it does to the windows
+-- a call of any effect on the windows
 after_marked : (x : Result Slot Refusal) (t u : Markings) (d e : State) (n : ℕ) (act : Canvas → CanvasStep) (r : Result (Unit {0}) Refusal) (next : Slot → DeskStep) (ws : Slot → List (Option Slot)) → IsDesk d → IsLocal act → KeepsShape act →
     ((s : Slot) → (next s).0 ≡ with_grid d s (acted d act s).grid (ws s)) → slot_of d n ≡ x → (e, r) ≡ after x d next → MarksWindow t u d x → KeepsShown t d u e
 after_marked (Ok s) t u d e n act r next ws desk local shape leaves found is marks =

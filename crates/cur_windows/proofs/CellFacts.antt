@@ -1,4 +1,4 @@
--- What becomes cells of the cursor's line: nothing else changes, and no more is marked.
+-- Text that becomes cells of the cursor's line changes and marks nothing else.
 use Rattle.std.proofs.Common.{Some, Ok, set, ◌≡◌, inl, inr, ℕ, ◌+◌, ◌-◌, ◌<◌, ◌==◌, ◌||◌, nat_lt, Bool, true, false, List, [], Option, length, get_or, sym, ap, subst, ◌∙◌, arith, if◌then◌else◌, refl, suc, ◌∷◌}
 use Rattle.std.proofs.lemmas.Bool.{cases_lt}
 use Rattle.std.proofs.lemmas.Bool.Decides.{nat_tests}
@@ -60,7 +60,7 @@ one_cell p s is =
 
 -- ---- cells of one line
 
--- writing moves the cursor on by n columns of its line, and changes no other cells than these
+-- writing moves the cursor n columns to the right in its line, and changes only these cells
 pub record StaysInLine (s t : Canvas) (n : ℕ) : Type 0 where
   pub window : t.window ≡ record s.window { col = s.window.col + n }
   pub cells : (i j : ℕ) → is_in (cells_of s.window s.window.row s.window.col n) i j ≡ false → cell_at t.grid i j ≡ cell_at s.grid i j
@@ -74,7 +74,7 @@ one_stays p s = record {
 pub put_stays : (p : Put) (s : Canvas) (r : CanvasStep) → IsOneCell s.window p → r ≡ calls.added p s → StaysInLine s r.0 1
 put_stays p s r is value = subst (λ (x : CanvasStep). StaysInLine s x.0 1) (sym (value ∙ one_cell p s is)) (one_stays p s)
 
--- it isn't refused
+-- the character isn't refused
 pub put_answers : (p : Put) (s : Canvas) (r : CanvasStep) → IsOneCell s.window p → r ≡ calls.added p s → r.1 ≡ Ok tt
 put_answers p s r is value = ap (λ (x : CanvasStep). x.1) (value ∙ one_cell p s is)
 
@@ -84,7 +84,7 @@ apart_front a n i j off = grind (arith, nat_tests, off)
 apart_rest : (a : Area) (left n i j : ℕ) → left ≡ a.left + 1 → is_in (record a { cols = 1 + n }) i j ≡ false → is_in (record a { left = left; cols = n }) i j ≡ false
 apart_rest a left n i j next off = grind (arith, nat_tests, next, off)
 
--- one cell, and those after it
+-- one cell, and the cells after it
 one_then : (p : Put) (s u : Canvas) (n : ℕ) → StaysInLine (canvas (one_drawn p s) (record s.window { col = s.window.col + 1 })) u n → StaysInLine s u (1 + n)
 one_then p s u n rest = record {
   window = rest.window ∙ ap (λ (m : ℕ). record s.window { col = m }) (omega arith);
@@ -107,7 +107,7 @@ text_stays_from (b ∷ bs) s fits =
 pub text_stays : (text : List ℕ) (s : Canvas) (r : CanvasStep) → FitsLine s.window text → r ≡ calls.added_all text s → StaysInLine s r.0 (length text)
 text_stays text s r fits value = subst (λ (x : CanvasStep). StaysInLine s x.0 (length text)) (sym value) (text_stays_from text s fits)
 
--- a place of the grid that isn't one of the cells on the screen isn't one of the window's
+-- a place of the grid outside the cells on the screen is outside the window's
 beside : (o : Origin) (w v : Window) (col n i j : ℕ) → w.area ≡ v.area → w.row ≡ v.row → is_in (cells_shown o w col n) (o.top + i) (o.left + j) ≡ false → is_in (cells_of v v.row col n) i j ≡ false
 beside o w v col n i j area row off = near v.area v.row (subst (λ (a : Area). is_in (shown a v.row) (o.top + i) (o.left + j) ≡ false) area (subst (λ (r : ℕ). is_in (shown w.area r) (o.top + i) (o.left + j) ≡ false) row off))
   where
@@ -136,7 +136,7 @@ touched_cells d now ws n s w g h t u o count stays e desk placed at kept there t
     } in
     slot_spared d ws (record s { window = w }) h t u lt (kept.shape ∙ ap shape_of read) spares v (subst (λ (x : State). ShowsBut t x v) (sym e) shown)
 
--- the line of the cells is the only one that is marked
+-- only the line of these cells is marked
 pub written_cells : (d now e : State) (n : ℕ) (s : Slot) (w : Window) (g h : Grid) (t u : Markings) (o : Origin) (count : ℕ) → StaysInLine (canvas g s.window) (canvas h w) count → d ≡ now → IsDesk d →
     (n < 64) × (window_at now n ≡ Some s) → Ok s ≡ slot_of now n → e.windows ≡ set d.windows n (Some (record s { window = w })) → o ≡ origin_at now s.root → AreTouched t u (record s { window = w }) o s.window.col count → MarksWritten t u now e n
 written_cells d now e n s w g h t u o count stays is desk there before at lies touched = written_within d now e n s w t u o is desk there before at lies (record {
@@ -155,7 +155,7 @@ none_more : (m : Marking) (a : Area) → MarksNoMore m m a
 none_more m a i j (inl all) = (all j (omega arith)).unmarked
 none_more m a i j (inr all) = (all j (omega arith)).unmarked
 
--- so it is of the window's grid after a call that wrote them
+-- a call that wrote these cells marks no more of the window's grid
 pub alone_cells : (now : State) (s : Slot) (w : Window) (g h : Grid) (t u : Markings) (o : Origin) (col n count : ℕ) → StaysInLine (canvas g s.window) (canvas h w) count → o ≡ origin_at now s.root → col ≡ s.window.col → n ≡ count → AreTouched t u (record s { window = w }) o col n → MarksCellsAlone t u now s count
 alone_cells now s w g h t u o col n count stays lies from all touched = by_pad o.pad refl
   where

@@ -1,4 +1,4 @@
--- What a call on one window leaves is a desk.
+-- The result of a call on one window is a desk.
 use Rattle.std.proofs.Common.{◌≡◌, ℕ, ◌<◌, List, [], Option, Some, None, IsSome, length, get_or, set, refl, sym, ap, ◌∙◌, subst, inl, inr, arith, rules}
 use Rattle.std.proofs.lemmas.Bool.{cases_eq}
 use Rattle.std.proofs.lemmas.List.{get_or-set_same, get_or-set_other, length-set, get_or_default}
@@ -39,7 +39,7 @@ some_inj s t e = cc
 pub is_some : (s : Slot) (o : Option Slot) → o ≡ Some s → IsSome o
 is_some s o e = rw (e) search rules
 
--- where a window is, one is also after a window was written
+-- a number that names a window still does after a window was written
 pub some_kept : (ws : List (Option Slot)) (n k : ℕ) (s : Slot) → n < length ws → IsSome (get_or ws k None) → IsSome (get_or (set ws n (Some s)) k None)
 some_kept ws n k s lt is = elim (cases_eq k n) [
   | inl same ↦ is_some s (get_or (set ws n (Some s)) k None) (ap (λ (m : ℕ). get_or (set ws n (Some s)) m None) same ∙ get_or-set_same ws n (Some s) None lt)
@@ -82,7 +82,7 @@ desk_kept d n s w gs is lt there len shape same legal =
       framed = λ k window. framed_same d e k refl refl refl (shape k) (is.framed k window);
     }
 
--- one grid was written that keeps its shape
+-- one grid is written, and keeps its shape
 pub shape_kept : (gs : List Grid) (r k : ℕ) (g : Grid) → r < length gs → shape_of g ≡ shape_of (get_or gs r []) → shape_of (get_or (set gs r g) k []) ≡ shape_of (get_or gs k [])
 shape_kept gs r k g lt e = elim (cases_eq k r) [
   | inl same ↦ rw (same) (ap shape_of (get_or-set_same gs r g [] lt) ∙ e)
@@ -106,13 +106,13 @@ closes_canvas d now n s w g h e is there at kept =
     desk_kept d n s w (set d.grids s.root h) is there.0 there2 (length-set d.grids s.root h ∙ is.grids)
     (λ k. shape_kept d.grids s.root k h lt (kept.shape ∙ ap shape_of read)) kept.area kept.canvas.window
 
--- the window that was found is placed
+-- the window found is at its place
 pub placed_here : (d now : State) (n : ℕ) (s : Slot) (o : Option Slot) → d ≡ now → IsDesk d → n < 64 → o ≡ get_or d.windows n o → o ≡ Some s → IsPlaced now n s
 placed_here d now n s o e is lt read found =
     let lt2 : n < length d.windows = omega (arith, is.windows) in
     subst (λ (x : State). IsPlaced x n s) e (is.placed n s (sym (get_or_default d.windows n o None lt2) ∙ sym read ∙ found))
 
--- only grids were written, each of which keeps its shape
+-- grids alone are written, each of which keeps its shape
 pub grids_kept : (d : State) (gs : List Grid) → IsDesk d → length gs ≡ 64 → ((k : ℕ) → shape_of (get_or gs k []) ≡ shape_of (grid_at d k)) → IsDesk (record d { grids = gs })
 grids_kept d gs is len shape =
     let e : State = record d { grids = gs } in record {
@@ -141,7 +141,7 @@ closes_grid d now n s g h e is there at shape =
     let read : g ≡ get_or d.grids s.root [] = at ∙ get_or_default d.grids s.root g [] lt in
     grids_kept d (set d.grids s.root h) is (length-set d.grids s.root h ∙ is.grids) (λ k. shape_kept d.grids s.root k h lt (shape ∙ ap shape_of read))
 
--- an option or an attribute moves neither cursor nor region
+-- a change of an option or an attribute moves neither cursor nor region
 pub legal_same : (w v : Window) → IsWindow w → v.area ≡ w.area → v.row ≡ w.row → v.col ≡ w.col → v.region_top ≡ w.region_top → v.region_bottom ≡ w.region_bottom → v.pair ≡ w.pair → IsWindow v
 legal_same w v is area row col top bottom pair =
     let rows : v.area.rows ≡ w.area.rows = ap (λ (a : Area). a.rows) area in

@@ -16,7 +16,7 @@ use Rattle.cur_drawing.specs.Spans.{matched}
 use Rattle.cur_windows.specs.Copies.{spans_copied, target_area, source_place, copied_or, copywin, in_order}
 use Rattle.cur_windows.proofs.Closures.{grids_kept, shape_kept}
 
--- the target's grid was taken out, and the source is another one
+-- the target's grid is taken out, and the source is another grid
 pub other_grid : (gs : List Grid) (s t : ℕ) (spare was new x y : Grid) (a : Area) (from : Place) (skip : Bool) → s < length gs → t < length gs → s ≢ t →
     was ≡ get_or gs t y → new ≡ overlaid a from skip (get_or (set gs t spare) s x) was → set (set gs t spare) t new ≡ set gs t (overlaid a from skip (get_or gs s []) (get_or gs t []))
 other_grid gs s t spare was new x y a from skip lt lt2 apart at e =
@@ -29,7 +29,7 @@ overlaid_shape : (a : Area) (from : Place) (skip : Bool) (source g : Grid) → s
 overlaid_shape a from true source g = shape_of-drawn (λ i j old. if is_in a i j then combined a from unless_space source i j old else old) g
 overlaid_shape a from false source g = shape_of-drawn (λ i j old. if is_in a i j then taken a from source i j old else old) g
 
--- what a slice of all grids was left as is all grids
+-- the slice of all grids is all grids
 whole_slice : (gs zs : List Grid) (n : ℕ) → length gs ≡ n → take n (gs ++ zs) ≡ gs
 whole_slice gs zs n e = take_at gs zs n e
 
@@ -51,7 +51,7 @@ spans_view d now s t v h skip us gs zs n view same len e =
     let whole : take n (gs ++ zs) ≡ set d.grids t.root new = whole_slice gs zs n (ap length e ∙ length-set us t.root _ ∙ len) ∙ all in
     ap (λ (xs : List Grid). record d { grids = xs }) whole ∙ ap (λ (x : State). spans_copied x s t v h skip) view
 
--- copywin whose tests are all passed
+-- copywin, if all tests pass
 pub copywin_by : (d : State) (n m : ℕ) (sr sc dr dc er ec : ℤ) (skip : Bool) (u w : Unit {0}) (s t : Slot) (rows cols : Option CopySpan) → Ok u ≡ in_range n m → Ok s ≡ slot_of d n → Ok t ≡ slot_of d m → Ok w ≡ in_order dr er dc ec →
     rows ≡ matched sr dr er s.window.area.rows t.window.area.rows → cols ≡ matched sc dc ec s.window.area.cols t.window.area.cols → copied_or (Err OutOfWindow) d s t skip rows cols ≡ copywin d n m sr sc dr dc er ec skip
 copywin_by d n m sr sc dr dc er ec skip u w s t rows cols range source target order v h =

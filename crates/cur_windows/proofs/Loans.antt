@@ -1,4 +1,4 @@
--- A line that is lent stays a line of its window.
+-- A borrowed line stays a line of its window.
 use Rattle.std.proofs.Common.{◌≡◌, ◌≢◌, ◌⊎◌, ℕ, ◌+◌, ◌-◌, ◌<◌, false, List, [], length, get_or, set, drop, Result, Ok, IfOk, sym, subst, ap, ◌∙◌, inl, inr, arith, if◌then◌else◌}
 use Rattle.std.proofs.lemmas.Bool.{cases_eq, cases_lt}
 use Rattle.std.proofs.lemmas.Bool.Decides.{nat_tests}
@@ -17,7 +17,7 @@ use Rattle.cur_windows.specs.Views.{cut}
 use Rattle.cur_windows.proofs.Supports.{found_there}
 use Rattle.cur_windows.proofs.Closures.{grids_kept, shape_kept}
 
--- a grid that was written and keeps its shape
+-- a grid that is written and keeps its shape
 pub closes_root : (d now : State) (r : ℕ) (g h : Grid) → d ≡ now → IsDesk d → r < 64 → g ≡ get_or d.grids r g → shape_of h ≡ shape_of g → IsDesk (record d { grids = set d.grids r h })
 closes_root d now r g h e is small at shape =
     let lt : r < length d.grids = omega (arith, is.grids) in
@@ -48,7 +48,7 @@ line_kept d s y x c is = record {
   within = is.within;
 }
 
--- one place of a part, where only its cell x is another than before
+-- one place of a part in which only the cell x has changed
 one_cell : (i j n x y k : ℕ) (c d : Content) (w : List Content) (g : Grid) → n ≡ length w → x < n → ((m : ℕ) (d : Content) → m < n → get_or w m d ≡ base.cell_at d g i (j + m)) →
     (if is_in (record { top = i; left = j; rows = 1; cols = n }) y k then get_or (set w x c) (k - j) (base.cell_at d g y k) else base.cell_at d g y k) ≡ (if is_in (one i (j + x)) y k then c else base.cell_at d g y k)
 one_cell i j n x y k c d w g e lt same = elim (cases_eq y i) [
@@ -67,13 +67,13 @@ one_cell i j n x y k c d w g e lt same = elim (cases_eq y i) [
   ])
 ]
 
--- a part in which one cell was written
+-- a part in which one cell is written
 one_written_in_part : (i j x : ℕ) (c : Content) (w : List Content) (g : Grid) → x < length w → ((m : ℕ) (d : Content) → m < length w → get_or w m d ≡ base.cell_at d g i (j + m)) → part_written i j (set w x c) g ≡ filled (one i (j + x)) c g
 one_written_in_part i j x c w g lt same = let e = length-set w x c in let a : Area = record { top = i; left = j; rows = 1; cols = length (set w x c) } in
     drawn_same (λ y k old. if is_in a y k then get_or (set w x c) (k - j) old else old) (λ y k old. if is_in (one i (j + x)) y k then c else old) g
     (λ y k d. one_cell i j (length (set w x c)) x y k c d w g e (omega (arith, e)) (λ m d h. same m d (omega (arith, e))))
 
--- one cell of a lent line was written
+-- one cell of a borrowed line is written
 row_cell : (d : State) (s : Slot) (y x : ℕ) (c : Content) (cells : List Content) → IsLine d s y → cells ≡ cut s.window.area (line_at (grid_at d s.root) (s.window.area.top + y)) → x < s.window.area.cols →
     row_written d s y (set cells x c) ≡ place_written d s y x c
 row_cell d s y x c cells is e lt =

@@ -1,4 +1,4 @@
--- The refusal of a call is the first that there is cause for.
+-- The refusal of a call is the first one that applies.
 use Rattle.std.proofs.Common.{◌≡◌, ℕ, ◌+◌, zero, suc, ◌==◌, ◌&&◌, ◌||◌, nat_lt, nat_le, not, [], ◌∷◌, Bool, true, false, Option, Some, None, Result, Ok, Err, ℤ, pos, refl, ap, ◌∙◌, if◌then◌else◌}
 use Rattle.std.specs.Prelude.{is_some, is_ok, int_lt, bit_xor, ◌-ℤ◌}
 use Rattle.grids.specs.declared.areas.Area.{Area}
@@ -84,7 +84,7 @@ newwin d n lines cols y x = record {
   first = first_if d (nat_lt 63 n) Full (if is_used d n then Err NumberUsed else Ok tt) _ _ (λ low. first_free d n _ _ (first_area d d.rows d.cols lines cols y x OutOfScreen _ (λ a. refl)));
 }
 
--- two numbers, the first of which is to be free, and the second a window's
+-- two numbers, the first of which must be free, and the second a window's
 pub part_of_window : (d : State) (n w : ℕ) (next : Slot → DeskStep) (later : Option Slot → Answer) → ((s : Slot) → (next s).1 ≡ later (Some s)) →
     (after (making.in_range n w) d (λ u. after (making.free d n) d (λ u. after (slot_of d w) d next))).1
     ≡ (if is_past_last n || is_past_last w then Err Full else if is_used d n then Err NumberUsed else if not (is_used d w) then Err NoWindow else later (window_at d w))
@@ -332,7 +332,7 @@ bordered d n b = record {
       (λ s. cell_accepted (border_printed b) (border_pairs b) (canvas (grid_at d s.root) s.window) _ refl);
 }
 
--- ---- a character is refused for nothing else than a window that may not scroll
+-- ---- a character is refused only if the window may not scroll
 record OnlyNoScroll (x : CanvasStep) : Type 0 where
   only : (e : Refusal) → x.1 ≡ Err e → e ≡ NoScroll
 

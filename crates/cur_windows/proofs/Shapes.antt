@@ -39,7 +39,7 @@ scrolled : (n : ℤ) (w : Window) (g : Grid) → shape_of (calls.scrolled n w g)
 scrolled (pos n) w g = lines_up w w.region_top (region_height w) n g
 scrolled (negsuc n) w g = lines_down w w.region_top (region_height w) (n + 1) g
 
--- a choice, and what is done only after a good judgement
+-- a choice, and a step that needs a good judgement
 either : (s : Canvas) (b : Bool) (x y : CanvasStep) → shape_of x.0.grid ≡ shape_of s.grid → shape_of y.0.grid ≡ shape_of s.grid → shape_of (if b then x else y).0.grid ≡ shape_of s.grid
 either s true x y p q = p
 either s false x y p q = q

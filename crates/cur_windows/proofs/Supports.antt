@@ -1,4 +1,4 @@
--- A refused call gives the desk back.
+-- A refused call leaves the desk as it was.
 use Rattle.std.proofs.Common.{◌≡◌, ◌≢◌, ℕ, nat_lt, nat_le, List, [], Bool, true, false, Option, Some, None, Result, Ok, Err, ℤ, set, refl, sym, ap, ◌∙◌, if◌then◌else◌}
 use Rattle.std.proofs.lemmas.List.{set-get_or}
 use Rattle.cur_drawing.specs.declared.puts.Put.{Put}
@@ -26,7 +26,7 @@ not_full : (b : Bool) (o : Option Slot) (s : Slot) → (if b then Err Full else 
 not_full true o s h = absurd cc
 not_full false o s h = some_found o s h
 
--- the window that is found has the number
+-- the window found has the number
 pub found_there : (d : State) (n : ℕ) (s : Slot) → slot_of d n ≡ Ok s → window_at d n ≡ Some s
 found_there d n s h = not_full (nat_lt 63 n) (window_at d n) s h
 
@@ -41,7 +41,7 @@ back_found d (Err x) next p e h = refl
 back_done : (d e : State) → UnchangedIfRefused d (e, Ok tt)
 back_done d e x h = absurd cc
 
--- a window and its grid that are as they were
+-- a window and its grid without changes
 window_back : (d : State) (n : ℕ) (s : Slot) → slot_of d n ≡ Ok s → set d.windows n (Some s) ≡ d.windows
 window_back d n s h = ap (λ (o : Option Slot). set d.windows n o) (sym (found_there d n s h)) ∙ set-get_or d.windows n None
 

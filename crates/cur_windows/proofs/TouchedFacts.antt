@@ -1,4 +1,4 @@
--- A screen that shows a grid where it isn't marked, after writing and after copying.
+-- A screen that shows a grid where the grid isn't marked, after writing and after copying.
 use Rattle.std.proofs.Common.{◌≡◌, ◌≢◌, ℕ, ◌+◌, ◌-◌, ◌<◌, ◌≤◌, ◌⊎◌, Bool, true, false, List, [], Option, Some, None, Result, Ok, Err, IfErr, OnOk, nat_lt, if◌then◌else◌, length, get_or, set, refl, sym, ap, ◌∙◌, inl, inr, arith, subst}
 use Rattle.std.specs.Option.{is_some}
 use Rattle.std.proofs.lemmas.Bool.{cases_eq, cases_lt}
@@ -30,7 +30,7 @@ use Rattle.cur_screens.proofs.Marked.{past_full}
 
 -- ---- writing
 
--- lines of a rectangle of a grid, on the screen
+-- lines of a rectangle of a grid, as places of the screen
 abbrev lines_at : Origin → Area → ℕ → ℕ → Area
 lines_at o a first n = record { top = o.top + a.top + first; left = o.left + a.left; rows = n; cols = a.cols }
 
@@ -38,7 +38,7 @@ lines_at o a first n = record { top = o.top + a.top + first; left = o.left + a.l
 other_line : (o : Origin) (a : Area) (first last i j : ℕ) → first ≤ last → is_in a i j ≡ true → is_in (lines_at o a first (last + 1 - first)) (o.top + i) (o.left + j) ≡ false → (i < a.top + first) ⊎ (a.top + last < i)
 other_line o a first last i j le on off = grind (arith, nat_tests)
 
--- what isn't marked after writing is as it was
+-- an unmarked place is unchanged by writing
 unchanged : (s : Canvas) (h : Grid) (m n : Marking) (w : Window) (o : Origin) → Writes s (canvas h w) → Stays s (canvas h w) → TouchesGrid m n w o s.window.row →
     (i j : ℕ) → IsUnmarked n (o.top + i) (o.left + j) → cell_at h i j ≡ cell_at s.grid i j
 unchanged s h m n w o writes stays is i j off = at (is_in s.window.area i j) refl
@@ -61,12 +61,12 @@ shown_full m o g v all i j row col off = absurd (let some = off.some in cc)
 pub shows_full : (t : Markings) (d : State) (v : Grid) → AreFull t → ShowsBut t d v
 shows_full t d v full k lies = shown_full (grid_marks t k) (origin_at d k) (grid_at d k) v (full k)
 
--- what isn't marked after a call wasn't before, and is as it was on the grid
+-- a place unmarked after a call was unmarked before it, and has kept its cell
 pub record Spares (m n : Marking) (o : Origin) (g h : Grid) : Type 0 where
   pub kept : (i j : ℕ) → IsUnmarked n i j → IsUnmarked m i j
   pub same : (i j : ℕ) → IsUnmarked n (o.top + i) (o.left + j) → cell_at h i j ≡ cell_at g i j
 
--- the same of the grid of a window, unless it is a pad's, and nothing of any other has changed
+-- such a call on the grid of a window, unless it is a pad's; no other grid changes
 pub record SparesGrid (t u : Markings) (d : State) (slot : Slot) (h : Grid) : Type 0 where
   pub grid : (origin_at d slot.root).pad ≡ false → slot.root < length t → Spares (grid_marks t slot.root) (grid_marks u slot.root) (origin_at d slot.root) (grid_at d slot.root) h
   pub none : length t ≤ slot.root → u ≡ t
@@ -81,7 +81,7 @@ same_written d ws slot h m n v lt shape spares shown =
     shown i j (omega (arith, row, shape_of-length (grid_at d slot.root) h shape)) (omega (arith, col, shape_of-line (grid_at d slot.root) h i shape)) (spares.kept _ _ off)
     ∙ sym (spares.same i j off))
 
--- another one
+-- another grid
 other_written : (d : State) (ws : List (Option Slot)) (slot : Slot) (h : Grid) (m : Marking) (v : Grid) (k : ℕ) → k ≢ slot.root → IsShownBut m (origin_at d k) (grid_at d k) v → IsShownBut m (origin_at d k) (grid_at (with_grid d slot h ws) k) v
 other_written d ws slot h m v k apart shown = subst (λ (x : Grid). IsShownBut m (origin_at d k) x v) (sym (get_or-set_other d.grids slot.root k h [] apart)) shown
 
@@ -98,7 +98,7 @@ slot_spared d ws slot h t u lt shape spares v shown k = elim (cases_eq k slot.ro
           (ap (λ (x : Markings). (grid_marks x slot.root).all) (spares.none past) ∙ past_full t slot.root past)
     ]
 
--- a call that writes on the window of a number
+-- a call that writes in the window of a number
 pub touched_by : (d now : State) (ws : List (Option Slot)) (n : ℕ) (s : Slot) (w : Window) (g h : Grid) (t u : Markings) (o : Origin) (act : Canvas → CanvasStep) (r : Result (Unit {0}) Refusal) → Writing act → IsLocal act → d ≡ now → IsDesk d →
     IsPlaced now n s → g ≡ get_or d.grids s.root g → step h w r ≡ act (canvas g s.window) → IsKept g s.window h w → o ≡ origin_at now s.root → IsTouched t u (record s { window = w }) o s.window.row → KeepsShown t now u (with_grid d s h ws)
 touched_by d now ws n s w g h t u o act r writing local e is placed at value kept there touched v shown =
@@ -121,7 +121,7 @@ touched_by d now ws n s w g h t u o act r writing local e is placed at value kep
     } in
     slot_spared d ws (record s { window = w }) h t u lt (kept.shape ∙ ap shape_of read) spares v (subst (λ (x : State). ShowsBut t x v) (sym e) shown)
 
--- one that is refused, and has changed nothing
+-- a call that is refused and has changed nothing
 grid_kept : (act : Canvas → CanvasStep) (s : Canvas) (t : Canvas) (r : Result (Unit {0}) Refusal) → ChangesNothingIfRefusedButNoScroll act → (t, r) ≡ act s → OnOk r ⊥ → IfErr r (λ e. e ≢ NoScroll) → t.grid ≡ s.grid
 grid_kept act s t (Ok u) back value refused other = absurd refused
 grid_kept act s t (Err e) back value refused other = ap (λ (x : CanvasStep). x.0.grid) value ∙ ap (λ (x : Canvas). x.grid) (back s e other (ap (λ (x : CanvasStep). x.1) (sym value)))
@@ -143,7 +143,7 @@ slot_there e ws n t small lt at =
     ap (λ (b : Bool). if b then Err Full else some_slot (window_at e n)) off
     ∙ ap (λ (x : List (Option Slot)). some_slot (get_or x n None)) at ∙ ap some_slot (get_or-set_same ws n (Some t) None lt)
 
--- no other line of a window's grid is marked as well than one in which the window may have been written from a line on
+-- new marks of a window's grid are only in lines in which the window may have written since the line `first`
 pub record MarksLess (t u : Markings) (s : Slot) (o : Origin) (first : ℕ) : Type 0 where
   pub only : o.pad ≡ false → s.root < length t → (i j : ℕ) → IsUnmarked (grid_marks t s.root) i j → (IsWrittenLine s.window o first i → ⊥) → IsUnmarked (grid_marks u s.root) i j
   pub pad : o.pad ≡ true → u ≡ t
@@ -194,7 +194,7 @@ no_parent None e = refl
 inside_area : (a : Area) (i j : ℕ) → is_in a i j ≡ true → (a.top ≤ i) × (i < a.top + a.rows) × (a.left ≤ j) × (j < a.left + a.cols)
 inside_area a i j on = grind (arith, nat_tests)
 
--- a rectangle is copied: it shows the grid where it didn't and lies in the rectangle
+-- a rectangle is copied: it then shows the grid in all of its places
 shown_after : (m : Marking) (o : Origin) (a : Area) (from : Place) (g v h : Grid) → a.top ≡ o.top + from.row → a.left ≡ o.left + from.col → Fits a v → h ≡ copied a from g v →
     ((i j : ℕ) → i < length g → j < length (line_at g i) → is_in a (o.top + i) (o.left + j) ≡ false → IsUnmarked m (o.top + i) (o.left + j) → cell_at v (o.top + i) (o.left + j) ≡ cell_at g i j) → IsShownBut m o g h
 shown_after m o a from g v h top left fits is others i j row col off = ap (λ (x : Grid). cell_at x (o.top + i) (o.left + j)) is ∙ at (is_in a (o.top + i) (o.left + j)) refl
@@ -214,12 +214,12 @@ shown_after m o a from g v h top left fits is others i j row col off = ap (λ (x
 fits_screen : (a : Area) (v : Screen) (rows cols : ℕ) → IsScreen v → v.rows ≡ rows → v.cols ≡ cols → a.top + a.rows ≤ rows → a.left + a.cols ≤ cols → Fits a v.grid
 fits_screen a v rows cols legal e f low right = record { rows = omega (arith, legal.lines, e, low); cols = λ i lt. omega (arith, legal.columns i lt, f, right) }
 
--- a place of the screen where the grid lies is in a window that is all of it
+-- a place of the grid on the screen is in a window that has the whole grid
 in_whole : (o : Origin) (a w : Area) (g : Grid) (i j : ℕ) → a.top ≡ o.top + w.top → a.left ≡ o.left + w.left → a.rows ≡ w.rows → a.cols ≡ w.cols → IsWhole w g → i < length g → j < length (line_at g i) → is_in a (o.top + i) (o.left + j) ≡ false → ⊥
 in_whole o a w g i j top left rows cols is row col off =
     let high = is.rows in let wide = is.cols i row in let up = is.top in let first = is.left in grind (arith, nat_tests)
 
--- or in one as large as the screen
+-- or in a window as large as the screen
 in_screenful : (o : Origin) (a : Area) (high wide rows cols i j : ℕ) → a.rows ≡ high → a.cols ≡ wide → a.top + a.rows ≤ high → a.left + a.cols ≤ wide → i < rows → j < cols → o.top + rows ≤ high → o.left + cols ≤ wide → is_in a (o.top + i) (o.left + j) ≡ false → ⊥
 in_screenful o a high wide rows cols i j e f low right row col framed framed2 off = grind (arith, nat_tests)
 
@@ -242,12 +242,12 @@ all_copied m d s a v h at low right framed whole all legal rows cols is =
         in_screenful (origin_at d s.root) a d.rows d.cols (length (grid_at d s.root)) (length (line_at (grid_at d s.root) i)) i j (ap (λ (x : Area). x.rows) at ∙ full.rows) (ap (λ (x : Area). x.cols) at ∙ full.cols)
         low right row col framed.rows (framed.cols i row) beside
 
--- the grid of another window, for which the screen's marks are marked as well
+-- the grid of another window, to whose marks the screen's are added
 pub other_copied : (m n o : Marking) (rows cols : ℕ) (p : Origin) (g v h : Grid) → JoinsMarks m o rows cols n → AreSame o v h → p.top + length g ≤ rows → ((i : ℕ) → i < length g → p.left + length (line_at g i) ≤ cols) → IsShownBut m p g v → IsShownBut n p g h
 other_copied m n o rows cols p g v h is same high wide shown i j row col off =
     sym (same (p.top + i) (p.left + j) (is.joined (p.top + i) (p.left + j) (omega (arith, high, row)) (omega (arith, wide i row, col)) off)) ∙ shown i j row col (is.kept (p.top + i) (p.left + j) off)
 
--- the marks of a grid that a window was copied of
+-- the marks of the grid from which a window was copied
 marks_part : (t x u : Markings) (root : ℕ) (o : Marking) (rows cols : ℕ) (whole : Bool) → Spreads t x root o rows cols → TakesMarksOff x u root whole → (whole ≡ false) ⊎ (length t ≤ root) → grid_marks u root ≡ grid_marks t root
 marks_part t x u root o rows cols whole spread cleared side =
     ap (λ (y : Markings). grid_marks y root) (elim side [ inl part ↦ cleared.part part | inr past ↦ cleared.past (omega (arith, past, spread.size)) ]) ∙ spread.same
@@ -258,7 +258,7 @@ marks_whole t x u root o rows cols whole spread cleared is lt =
     ∙ get_or-set_same x root (none_marked (length (grid_marks x root).lines)) (record { all = true; lines = [] }) (omega (arith, lt, spread.size))
     ∙ ap (λ (m : Marking). none_marked (length m.lines)) spread.same
 
--- those of another one
+-- the marks of another grid
 marks_other : (x u : Markings) (root k : ℕ) (whole : Bool) → TakesMarksOff x u root whole → k ≢ root → grid_marks u k ≡ grid_marks x k
 marks_other x u root k whole cleared apart = elim (cases_lt root (length x)) [
   | inl lt ↦ at whole refl lt

@@ -1,5 +1,4 @@
--- Writing changes no line above the one where the cursor was or below the one where it is, unless the region may have
--- gone up.
+-- Writing changes no line above the cursor's old one or below its new one, unless the region may have scrolled.
 use Rattle.std.proofs.Common.{◌≡◌, ℕ, ◌+◌, ◌-◌, ◌<◌, ◌≤◌, ◌⊎◌, ◌&&◌, ◌||◌, ◌==◌, nat_lt, bit_xor, zero, suc, Bool, true, false, List, [], ◌∷◌, Result, Ok, Err, refl, ap, ◌∙◌, inl, inr, arith, if◌then◌else◌}
 use Rattle.std.proofs.lemmas.Bool.Decides.{nat_tests}
 use Rattle.grids.specs.declared.areas.Area.{Area}
@@ -56,7 +55,7 @@ other_line : (w : Window) (from n i j : ℕ) → (i < w.area.top + w.row) ⊎ (w
 other_line w from n i j (inl low) = grind (arith, nat_tests)
 other_line w from n i j (inr high) = grind (arith, nat_tests)
 
--- cells of the cursor's line get a content
+-- cells of the cursor's line are filled
 writes_filled : (s : Canvas) (from n : ℕ) (c : Content) → Writes s (canvas (filled (cells_of s.window s.window.row from n) c s.grid) s.window)
 writes_filled s from n c = record {
   area = refl;
@@ -67,15 +66,15 @@ writes_filled s from n c = record {
   cells = λ off i j side. cell_at-drawn_in_off (cells_of s.window s.window.row from n) (λ i j old. c) space s.grid i j (other_line s.window from n i j side);
 }
 
--- the cursor goes to another column
+-- the cursor moves to another column
 writes_column : (s : Canvas) (col : ℕ) → Writes s (canvas s.grid (record s.window { col = col }))
 writes_column s col = record { area = refl; scrolls = refl; bottom = refl; down = omega arith; stuck = λ may. may; cells = λ off i j side. refl }
 
--- it goes to the next line, which is in no region that would go up
+-- the cursor moves to the next line, which doesn't make the region scroll
 writes_next : (s : Canvas) → (MayScroll s.window → ⊥) → Writes s (canvas s.grid (record s.window { row = s.window.row + 1; col = 0 }))
 writes_next s not = record { area = refl; scrolls = refl; bottom = refl; down = omega arith; stuck = λ may. absurd (not may); cells = λ off i j side. refl }
 
--- the region goes up
+-- the region scrolls
 writes_scrolled : (s : Canvas) (h : Grid) → MayScroll s.window → Writes s (canvas h (record s.window { col = 0 }))
 writes_scrolled s h may = record { area = refl; scrolls = refl; bottom = refl; down = omega arith; stuck = λ m. m; cells = λ off i j side. absurd (off may) }
 

@@ -1,5 +1,5 @@
--- Copying from one window to another (X/Open Curses Issue 7, overlay, overwrite, copywin). What is read is what the
--- source had before the call, also where both are parts of one grid.
+-- Copying from one window to another (X/Open Curses Issue 7, overlay, overwrite, copywin). The source is read as it
+-- was before the call, even if both windows are parts of one grid.
 use Rattle.std.specs.Prelude.{ℕ, ◌+◌, ◌||◌, slice_set, Bool, Option, Some, None, Result, Ok, Err, if◌then◌else◌, ℤ}
 use Rattle.std.specs.Prelude.{int_lt}
 use Rattle.grids.specs.declared.areas.Area.{Area}
@@ -15,7 +15,7 @@ use Rattle.cur_windows.specs.Creations.{in_range, window_only}
 use Rattle.cur_drawing.specs.Spans.{common, matched}
 use Rattle.cur_windows.specs.Refreshes.{area_on_screen}
 
--- where the lines and columns lie in the destination's grid, and where they come from in the source's
+-- the places of the lines and columns in the destination's grid, and in the source's
 abbrev pub target_area : Slot → CopySpan → CopySpan → Area
 target_area t v h =
     record { top = t.window.area.top + v.to; left = t.window.area.left + h.to; rows = v.count; cols = h.count }
@@ -30,26 +30,26 @@ spans_copied d s t v h skip =
           (overlaid (target_area t v h) (source_place s v h) skip (grid_at d s.root) (grid_at d t.root));
     }
 
--- where there are such lines and columns they are copied, else nothing is done and this is the answer
+-- these lines and columns are copied if there are any; else nothing changes, and this is the answer
 abbrev pub copied_or : Result (Unit {0}) Refusal → State → Slot → Slot → Bool → Option CopySpan → Option CopySpan
     → DeskStep
 copied_or otherwise d s t skip (Some v) (Some h) = (spans_copied d s t v h skip, Ok tt)
 copied_or otherwise d s t skip (Some v) None = (d, otherwise)
 copied_or otherwise d s t skip None h = (d, otherwise)
 
--- what both have on the screen
+-- the part that both windows have on the screen is copied
 abbrev pub common_copied : State → Slot → Slot → Bool → DeskStep
 common_copied d s t skip =
     let a = area_on_screen d s in let b = area_on_screen d t in
     copied_or (Ok tt) d s t skip (common a.top a.rows b.top b.rows) (common a.left a.cols b.left b.cols)
 
--- overwrite and, where spaces are skipped, overlay
+-- overwrite, and overlay, which skips spaces
 abbrev pub common_part : Bool → State → ℕ → ℕ → DeskStep
 common_part skip d n m =
     after (in_range n m) d (λ u. after (slot_of d n) d (λ s. after (slot_of d m) d (λ t.
     after (window_only d s) d (λ u. after (window_only d t) d (λ u. common_copied d s t skip)))))
 
--- no end is before its start
+-- no last line or column is before the first one
 abbrev pub in_order : ℤ → ℤ → ℤ → ℤ → Result (Unit {0}) Refusal
 in_order top bottom left right = if int_lt bottom top || int_lt right left then Err BadRegion else Ok tt
 

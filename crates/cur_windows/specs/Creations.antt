@@ -20,11 +20,11 @@ abbrev pub is_some_slot : Option Slot → Bool
 is_some_slot (Some s) = true
 is_some_slot None = false
 
--- a number for a new window
+-- the number can name a new window
 abbrev pub free : State → ℕ → Result (Unit {0}) Refusal
 free d n = if nat_lt last_number n then Err Full else if is_some_slot (window_at d n) then Err NumberUsed else Ok tt
 
--- window n is made, with a grid of its own
+-- window n is made with a grid of its own
 abbrev pub root_added : State → ℕ → Grid → Origin → Window → State
 root_added d n g o w = record d {
   grids = slice_set d.grids n g;
@@ -42,7 +42,7 @@ newwin d n lines cols y x =
 abbrev pub inside : Area → Area → Area
 inside outer a = record a { top = outer.top + a.top; left = outer.left + a.left }
 
--- window n is made as a part of another one
+-- window n is made as a part of another window
 abbrev pub subwindow_added : State → ℕ → ℕ → Slot → Area → State
 subwindow_added d n parent s a =
     record d {
@@ -50,21 +50,21 @@ subwindow_added d n parent s a =
           (Some (record { root = s.root; parent = Some parent; window = fresh (inside s.window.area a) }));
     }
 
--- a window that is no pad
+-- the window isn't a pad
 abbrev pub window_only : State → Slot → Result (Unit {0}) Refusal
 window_only d s = if (origin_at d s.root).pad then Err PadKind else Ok tt
 
--- both numbers name places for windows
+-- both numbers can name windows
 abbrev pub in_range : ℕ → ℕ → Result (Unit {0}) Refusal
 in_range n w = if nat_lt last_number n || nat_lt last_number w then Err Full else Ok tt
 
--- a part of window w, at a place that counts from (top, left) of it
+-- a part of window w, at a place relative to its place (top, left)
 abbrev pub subwindow_at : State → ℕ → ℕ → Slot → ℤ → ℤ → ℤ → ℤ → DeskStep
 subwindow_at d n w s lines cols y x =
     after (area_within s.window.area.rows s.window.area.cols lines cols y x OutOfWindow) d (λ a.
     (subwindow_added d n w s a, Ok tt))
 
--- derwin: the place counts from the window's corner
+-- derwin: the place is relative to the window's corner
 abbrev pub derwin : State → ℕ → ℕ → ℤ → ℤ → ℤ → ℤ → DeskStep
 derwin d n w lines cols y x =
     after (in_range n w) d (λ u. after (free d n) d (λ u. after (slot_of d w) d (λ s. after (window_only d s) d (λ u.
@@ -74,13 +74,13 @@ derwin d n w lines cols y x =
 abbrev pub corner : State → Slot → ℕ × ℕ
 corner d s = ((origin_at d s.root).top + s.window.area.top, (origin_at d s.root).left + s.window.area.left)
 
--- subwin: the place counts from the screen's corner
+-- subwin: the place is relative to the screen's corner
 abbrev pub subwin : State → ℕ → ℕ → ℤ → ℤ → ℤ → ℤ → DeskStep
 subwin d n w lines cols y x =
     after (in_range n w) d (λ u. after (free d n) d (λ u. after (slot_of d w) d (λ s. after (window_only d s) d (λ u.
     subwindow_at d n w s lines cols (y -ℤ pos (corner d s).0) (x -ℤ pos (corner d s).1)))))
 
--- a window has window n as its parent, or n's grid
+-- another window has window n as its parent, or has n's grid
 abbrev pub is_parent : ℕ → Option ℕ → Bool
 is_parent n (Some p) = p == n
 is_parent n None = false
@@ -89,7 +89,7 @@ abbrev pub is_child : ℕ → ℕ → Option Slot → Bool
 is_child n k (Some s) = not (k == n) && (is_parent n s.parent || (s.root == n))
 is_child n k None = false
 
--- one of these windows does, the first of which is window k
+-- one of these windows is such a child of window n; the first of them is window k
 abbrev pub has_child : ℕ → ℕ → List (Option Slot) → Bool
 has_child n k [] = false
 has_child n k (o ∷ os) = is_child n k o || has_child n (k + 1) os
@@ -111,17 +111,17 @@ moved d s (Some y) (Some x) = (record d { origins = slice_set d.origins s.root (
 moved d s (Some y) None = (d, Err OutOfScreen)
 moved d s None x = (d, Err OutOfScreen)
 
--- mvwin: its subwindows go with it, since they lie in its grid
+-- mvwin: subwindows move with their window, since they are parts of its grid
 abbrev pub mvwin : State → ℕ → ℤ → ℤ → DeskStep
 mvwin d n y x = after (slot_of d n) d (λ s. after (window_only d s) d (λ u. after (no_sub s.parent) d (λ u.
     moved d s (start_within y s.window.area.rows d.rows) (start_within x s.window.area.cols d.cols))))
 
--- a grid of a window that lies on the screen at a place
+-- a grid at a place of the screen is within the screen
 pub record IsInFrame (height width : ℕ) (o : Origin) (g : Grid) : Type 0 where
   pub high : o.top + length g ≤ height
   pub wide : (i : ℕ) → i < length g → o.left + length (line_at g i) ≤ width
 
--- where the copy of a window lies: where the window does; a pad lies nowhere
+-- the place of the copy of a window: that of the window; a pad has none
 abbrev pub copy_origin : State → Slot → Origin
 copy_origin d s = if (origin_at d s.root).pad then on_screen 0 0 true else on_screen (corner d s).0 (corner d s).1 false
 

@@ -1,5 +1,5 @@
 -- A desk: root grids, and windows that are rectangles of them (X/Open Curses Issue 7, "Windows"). A subwindow has its
--- parent's root, so that it shows and changes its parent's cells.
+-- parent's root, so it shows and changes its parent's cells.
 use Rattle.std.specs.Prelude.{◌≡◌, ℕ, ◌+◌, ◌<◌, ◌≤◌, nat_lt, List, [], length, slice_index_or, slice_set, Bool, false}
 use Rattle.std.specs.Prelude.{Option, Some, None, IsSome, Result, Ok, Err, if◌then◌else◌, replicate}
 use Rattle.grids.specs.declared.areas.Area.{Area}
@@ -14,14 +14,15 @@ use Rattle.cur_screens.specs.declared.slots.Origin.{Origin}
 use Rattle.cur_screens.specs.declared.slots.Slot.{Slot}
 use Rattle.cur_screens.specs.Slots.{whole_area}
 
--- how many windows there can be, and the last number of one
+-- the most windows, and their last number
 abbrev pub window_count : ℕ
 window_count = 64
 
 abbrev pub last_number : ℕ
 last_number = 63
 
--- The k-th grid was made by window k. Where it lies on the screen, and whether it is a pad's, stands in its origin.
+-- The k-th grid is that of window k, which made it. Its origin is its place on the screen, and says whether it is a
+-- pad's.
 pub record State : Type 0 where
   pub rows : ℕ
   pub cols : ℕ
@@ -41,7 +42,7 @@ origin_at d k = slice_index_or d.origins k (on_screen 0 0 false)
 abbrev pub window_at : State → ℕ → Option Slot
 window_at d n = slice_index_or d.windows n None
 
--- the cell of a window at a place of it
+-- the cell at a place of a window
 abbrev pub cell : State → Slot → ℕ → ℕ → Content
 cell d s y x = cell_at (grid_at d s.root) (s.window.area.top + y) (s.window.area.left + x)
 
@@ -52,7 +53,8 @@ pub record IsWhole (a : Area) (g : Grid) : Type 0 where
   pub rows : length g ≡ a.rows
   pub cols : (i : ℕ) → i < length g → length (line_at g i) ≡ a.cols
 
--- the window lies in its root, which some window made; one that is no subwindow made it itself, and has all of it
+-- the window is within its root, which an existing window made; a window without parent made its root itself, and has
+-- all of it
 pub record IsPlaced (d : State) (n : ℕ) (s : Slot) : Type 0 where
   pub root : s.root < window_count
   pub canvas : IsCanvas (grid_at d s.root) s.window
@@ -60,7 +62,7 @@ pub record IsPlaced (d : State) (n : ℕ) (s : Slot) : Type 0 where
   pub own : s.parent ≡ None → s.root ≡ n
   pub whole : s.parent ≡ None → IsWhole s.window.area (grid_at d s.root)
 
--- a grid that is no pad's lies on the screen
+-- a grid that isn't a pad's is within the screen
 pub record IsFramed (d : State) (k : ℕ) : Type 0 where
   pub rows : (origin_at d k).top + length (grid_at d k) ≤ d.rows
   pub cols : (i : ℕ) → i < length (grid_at d k) → (origin_at d k).left + length (line_at (grid_at d k) i) ≤ d.cols
@@ -82,7 +84,7 @@ DeskStep = State × Result (Unit {0}) Refusal
 abbrev pub step : State → Result (Unit {0}) Refusal → DeskStep
 step d r = (d, r)
 
--- what follows is done only if a test is passed; a refusal leaves the desk as it was
+-- the next step is done only if a test passes; a refusal leaves the desk as it was
 abbrev pub after : {A : Type 0} → Result A Refusal → State → (A → DeskStep) → DeskStep
 after (Ok a) d next = next a
 after (Err e) d next = (d, Err e)
@@ -123,7 +125,7 @@ set d n change = on_cursor d n (λ w. (change w, Ok tt))
 abbrev pub unchanged : State → ℕ → DeskStep
 unchanged d n = after (slot_of d n) d (λ s. (d, Ok tt))
 
--- the desk at first: window 0 on a grid of the screen's size
+-- a new desk: window 0 on a grid of the screen's size
 abbrev pub new_slot : ℕ → Area → Slot
 new_slot n a = record { root = n; parent = None; window = fresh a }
 

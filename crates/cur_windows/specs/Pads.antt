@@ -1,5 +1,5 @@
--- What the crate of pads calls: a pad lies on no screen, and parts of it are shown (X/Open Curses Issue 7, newpad,
--- subpad, pnoutrefresh).
+-- The calls that the crate of pads uses: a pad isn't on the screen, but parts of it can be shown (X/Open Curses Issue
+-- 7, newpad, subpad, pnoutrefresh).
 use Rattle.std.specs.Prelude.{ℕ, ◌+◌, Bool, true, false, Result, Ok, Err}
 use Rattle.grids.specs.declared.areas.Area.{Area}
 use Rattle.grids.specs.declared.areas.Place.{Place}
@@ -25,11 +25,11 @@ pad_of d (Err e) = Err e
 abbrev pub is_pad : State → ℕ → Result Bool Refusal
 is_pad d n = pad_of d (slot_of d n)
 
--- window n is made, a pad of so many rows and columns
+-- window n is made, a pad of `rows` rows and `cols` columns
 abbrev pub pad_added : State → ℕ → ℕ → ℕ → State
 pad_added d n rows cols = root_added d n (blank rows cols) (on_screen 0 0 true) (fresh (whole_area rows cols))
 
--- a part of window n is copied to a place of the screen, and the window's clearok goes over to it
+-- a part of window n is copied to a place of the screen, which takes over the window's clearok
 abbrev pub part_shown : State → Screen → ℕ → Slot → Area → Place → State × Screen
 part_shown d v n s part to = (
   with_window d n s (record s.window { clears = false }),

@@ -1,4 +1,4 @@
--- What each call is refused for, in the order of ranks. No condition depends on another one.
+-- The refusals of each call, in the order of ranks. No condition depends on another one.
 use Rattle.std.specs.Prelude.{ℕ, ◌==◌, ◌&&◌, ◌||◌, nat_le, nat_lt, not, is_some, is_ok, List, [], ◌∷◌, Bool, false}
 use Rattle.std.specs.Prelude.{Option, Some, None, ℤ, int_lt, pos, ◌-ℤ◌}
 use Rattle.cur_drawing.specs.declared.puts.Put.{Put}
@@ -27,7 +27,7 @@ abbrev pub slot_is : (Slot → Bool) → Option Slot → Bool
 slot_is test (Some s) = test s
 slot_is test None = false
 
--- there is such a window, and the test holds of it
+-- the number names a window, and the test holds of it
 abbrev pub window_is : State → ℕ → (Slot → Bool) → Bool
 window_is d n test = slot_is test (window_at d n)
 
@@ -39,7 +39,7 @@ slots_are test None t = false
 abbrev pub is_pad : State → Slot → Bool
 is_pad d s = (origin_at d s.root).pad
 
--- a size at a place doesn't lie in so many rows and columns
+-- a size at a place isn't within this height and width
 abbrev pub lies_outside : ℕ → ℕ → ℤ → ℤ → ℤ → ℤ → Bool
 lies_outside height width lines cols y x =
     not (is_some (span_within lines y height) && is_some (span_within cols x width))
@@ -87,7 +87,7 @@ mvwin d n y x =
     ∷ (IsSub, window_is d n (λ s. is_some s.parent))
     ∷ (OutOfScreen, window_is d n (moves_outside d y x)) ∷ []
 
--- overlay and overwrite
+-- the conditions of overlay and overwrite
 abbrev pub overlay : State → ℕ → ℕ → List Condition
 overlay d n m =
     (Full, is_past_last n || is_past_last m) ∷ (NoWindow, not (is_used d n && is_used d m))
@@ -110,7 +110,7 @@ noutrefresh d n = (Full, is_past_last n) ∷ (NoWindow, not (is_used d n)) ∷ (
 abbrev pub any_window : State → ℕ → List Condition
 any_window d n = (Full, is_past_last n) ∷ (NoWindow, not (is_used d n)) ∷ []
 
--- calls with a character that goes into a cell as it is: insch, hline, vline, bkgd, bkgdset
+-- calls with a character that a cell gets as it is: insch, hline, vline, bkgd, bkgdset
 abbrev pub with_cell : State → ℕ → Put → List Condition
 with_cell d n p =
     (Full, is_past_last n) ∷ (NoWindow, not (is_used d n)) ∷ (BadCell, not (is_printed p.byte))
@@ -146,7 +146,7 @@ abbrev pub scroll : State → ℕ → List Condition
 scroll d n =
     (Full, is_past_last n) ∷ (NoWindow, not (is_used d n)) ∷ (NoScroll, window_is d n (λ s. not s.window.scrolls)) ∷ []
 
--- each part of the border is a byte that a cell may hold
+-- a cell can hold the byte of each part of the border
 abbrev pub border_printed : Border → Bool
 border_printed b =
     (is_printed b.left.byte && is_printed b.right.byte && is_printed b.top.byte && is_printed b.bottom.byte)

@@ -1,4 +1,4 @@
--- One line of a window that is lent for writing.
+-- One line of a window that is borrowed for writing.
 use Rattle.std.specs.Prelude.{ℕ, List, ◌+◌, ◌<◌, nat_lt, slice_set, Result, Ok, Err, if◌then◌else◌}
 use Rattle.grids.specs.declared.areas.Area.{Area}
 use Rattle.cur_drawing.specs.declared.refusals.Refusal.{Refusal}
@@ -10,7 +10,7 @@ use Rattle.cur_windows.specs.declared.rows.RowMut.{RowMut}
 use Rattle.cur_screens.specs.declared.slots.Slot.{Slot}
 use Rattle.cur_windows.specs.Desks.{State, grid_at, slot_of, window_count}
 
--- the window lies in its grid and has such a line
+-- the window is within its grid and has such a line
 pub record IsLine (d : State) (s : Slot) (y : ℕ) : Type 0 where
   pub root : s.root < window_count
   pub canvas : IsCanvas (grid_at d s.root) s.window
@@ -28,7 +28,7 @@ abbrev pub lent_of : Result RowMut Refusal → Result Slot Refusal
 lent_of (Ok r) = Ok r.slot
 lent_of (Err e) = Err e
 
--- the cells of line y of the window became these, and nothing else has changed
+-- the cells of line y of the window become `cells`, and nothing else changes
 abbrev pub row_written : State → Slot → ℕ → List Content → State
 row_written d s y cells =
     record d {
@@ -36,11 +36,11 @@ row_written d s y cells =
           (part_written (s.window.area.top + y) s.window.area.left cells (grid_at d s.root));
     }
 
--- the places of that line's first n cells
+-- the places of the line's first n cells
 abbrev pub line_area : Slot → ℕ → ℕ → Area
 line_area s y n = record { top = s.window.area.top + y; left = s.window.area.left; rows = 1; cols = n }
 
--- the cell at place y x of the window became c, and nothing else has changed
+-- the cell at the place y x of the window becomes c, and nothing else changes
 abbrev pub place_written : State → Slot → ℕ → ℕ → Content → State
 place_written d s y x c =
     record d {

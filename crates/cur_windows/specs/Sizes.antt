@@ -1,4 +1,4 @@
--- How many lines and columns a window has (X/Open Curses Issue 7, getmaxyx).
+-- The numbers of lines and columns of a window (X/Open Curses Issue 7, getmaxyx).
 use Rattle.std.specs.Prelude.{ℕ, Result, Ok, Err}
 use Rattle.cur_drawing.specs.declared.refusals.Refusal.{Refusal}
 use Rattle.cur_screens.specs.declared.slots.Slot.{Slot}

@@ -1,4 +1,5 @@
--- The marks of the grids of a desk: where each may differ from the virtual screen, and which of them a call adds.
+-- The marks of the grids of a desk: the places where each may differ from the virtual screen, and the marks that a
+-- call adds.
 use Rattle.std.specs.Prelude.{ℕ, ◌≡◌, ◌≢◌, ◌-◌, ◌<◌, ◌≤◌, ◌⊎◌, [], length, true, false, None, Result, Ok, Err}
 use Rattle.cur_drawing.specs.declared.refusals.Refusal.{Refusal}
 use Rattle.cur_drawing.specs.Grids.{Grid}
@@ -9,23 +10,23 @@ use Rattle.cur_windows.specs.Refreshes.{area_on_screen}
 use Rattle.cur_screens.specs.Touched.{IsShownBut, IsWrittenLine, Markings, MarksArea, MarksNoMore, cells_shown}
 use Rattle.cur_screens.specs.Touched.{grid_marks}
 
--- a screen has the cells of each grid, but for what is marked for it; a pad's lies nowhere
+-- a screen shows the cells of each grid, except where the grid is marked; a pad's isn't on the screen
 abbrev pub ShowsBut : Markings → State → Grid → Type 0
 ShowsBut t d v =
     (k : ℕ) → (origin_at d k).pad ≡ false → IsShownBut (grid_marks t k) (origin_at d k) (grid_at d k) v
 
--- Every screen that shows desk `d` but for the marks `t` shows desk `e` but for the marks `u`. So what was
--- marked stays marked, and each place in which grids differ is marked.
+-- Each screen that shows desk `d` except at the marks `t` shows desk `e` except at the marks `u`. So marked places
+-- stay marked, and each place in which grids differ is marked.
 abbrev pub KeepsShown : Markings → State → Markings → State → Type 0
 KeepsShown t d u e = (v : Grid) → ShowsBut t d v → ShowsBut u e v
 
--- of a window's grid no more is marked afterwards than so many cells, from the cursor on
+-- the new marks of a window's grid cover only `count` cells, from the cursor on
 abbrev pub MarksCellsAlone : Markings → Markings → State → Slot → ℕ → Type 0
 MarksCellsAlone t u d s count =
     MarksNoMore (grid_marks t s.root) (grid_marks u s.root)
     (cells_shown (origin_at d s.root) s.window s.window.col count)
 
--- a window's rectangle is marked as well of its grid, unless that is a pad's, and nothing of any other grid
+-- a window's rectangle of its grid becomes marked, unless the grid is a pad's, and no other grid changes its marks
 pub record MarksSlot (t u : Markings) (d : State) (s : Slot) : Type 0 where
   pub grid : (origin_at d s.root).pad ≡ false → s.root < length t
       → MarksArea (grid_marks t s.root) (grid_marks u s.root) (area_on_screen d s)
@@ -33,15 +34,15 @@ pub record MarksSlot (t u : Markings) (d : State) (s : Slot) : Type 0 where
   pub none : length t ≤ s.root → u ≡ t
   pub others : (k : ℕ) → k ≢ s.root → grid_marks u k ≡ grid_marks t k
 
--- that of the window of a number, if there is one
+-- the rectangle of the window of a number becomes marked, if there is one
 abbrev pub MarksWindow : Markings → Markings → State → Result Slot Refusal → Type 0
 MarksWindow t u d (Ok s) = MarksSlot t u d s
 MarksWindow t u d (Err e) = u ≡ t
 
--- ---- no more is marked
+-- ---- no other place is marked
 
--- a line of the screen in which a call may have written on a window of the grid k that was so before it and is so
--- afterwards
+-- a line of the screen in which a call may have written, by a window of the grid k that was `s` before the call and
+-- is `t` after it
 pub record WritesOn (k : ℕ) (d : State) (s t : Slot) (i : ℕ) : Type 0 where
   pub root : t.root ≡ k
   pub lies : (origin_at d t.root).pad ≡ false
@@ -52,7 +53,7 @@ WritesLine k d (Ok s) (Ok t) i = WritesOn k d s t i
 WritesLine k d (Ok s) (Err e) i = ⊥
 WritesLine k d (Err e) t i = ⊥
 
--- what wasn't marked of a grid stays unmarked, but for the lines in which the call may have written on the window of a
+-- an unmarked place of a grid stays unmarked, except in lines in which the call may have written in the window of a
 -- number
 pub record MarksWritten (t u : Markings) (d e : State) (id : ℕ) : Type 0 where
   pub only : (k i j : ℕ) → IsUnmarked (grid_marks t k) i j → (WritesLine k d (slot_of d id) (slot_of e id) i → ⊥)
@@ -63,12 +64,12 @@ pub record IsScreenful (d : State) (s : Slot) : Type 0 where
   pub rows : s.window.area.rows ≡ d.rows
   pub cols : s.window.area.cols ≡ d.cols
 
--- a window that is all of its grid
+-- a window that has the whole of its grid, or of the screen
 abbrev pub HasAll : State → Slot → Type 0
 HasAll d s = (s.parent ≡ None) ⊎ IsScreenful d s
 
--- The marks after a window was copied, the screen being marked so: none of a grid that it is all of, and else those
--- that there were; of each other grid also what the screen has.
+-- The marks after a window was copied to a screen with the marks `o`: none for a grid of which the window has all,
+-- else the previous ones; for each other grid also the screen's.
 pub record MarksCopied (t u : Markings) (o : Marking) (d : State) (s : Slot) : Type 0 where
   pub whole : s.root < length t → HasAll d s → grid_marks u s.root ≡ none_marked (length (grid_marks t s.root).lines)
   pub part : (HasAll d s → ⊥) → grid_marks u s.root ≡ grid_marks t s.root

@@ -12,10 +12,11 @@ use cur_screens::{
     Touched, after_writing, joined, start_of, start_of_text, touch_text, touch_written,
 };
 
-// The calls on one window. Each refuses with `Full` a number above 63, and else with `NoWindow` one that names no
-// window; a refusal changes nothing, but for `NoScroll` and strings.
+// The calls on one window. Each refuses a number above 63 with `Full`, and else one that names no
+// window with `NoWindow`. A refusal changes nothing, except for `NoScroll` and strings.
 impl Desk {
-    /// The cursor goes to a place of the window (X/Open Curses, `move`). `OutOfWindow` where there is none.
+    /// Moves the cursor to row `y` and column `x` of the window (X/Open Curses, `move`).
+    /// `OutOfWindow` if there is no such place.
     pub fn move_to(&mut self, id: usize, y: i32, x: i32) -> Result<(), Refusal>
         ensures { spec.step self.new result ≡ spec.on_cursor self.old id (window.move_to y x) }
     {
@@ -25,8 +26,8 @@ impl Desk {
         answer
     }
 
-    /// The scrolling region becomes the lines from `top` to `bottom`. `BadRegion` where these aren't lines of the
-    /// window, in order.
+    /// Makes the lines from `top` to `bottom` the scrolling region. `BadRegion` unless these are
+    /// lines of the window, in order.
     pub fn setscrreg(&mut self, id: usize, top: i32, bottom: i32) -> Result<(), Refusal>
         ensures { spec.step self.new result ≡ spec.on_cursor self.old id (window.set_region top bottom) }
     {
@@ -36,7 +37,8 @@ impl Desk {
         answer
     }
 
-    /// The pair of written characters that have none. `BadPair` for a number that isn't 0 to 63.
+    /// Sets the pair of written characters that have none of their own. `BadPair` for a number that
+    /// isn't 0 to 63.
     pub fn color_set(&mut self, id: usize, pair: i32) -> Result<(), Refusal>
         ensures { spec.step self.new result ≡ spec.on_cursor self.old id (window.set_pair pair) }
     {
@@ -46,8 +48,8 @@ impl Desk {
         answer
     }
 
-    /// The background of what is written and erased from now on. `BadCell` for a byte outside 32 to 126, else
-    /// `BadPair`.
+    /// Sets the background for what is written and erased from now on. `BadCell` for a byte outside
+    /// 32 to 126, else `BadPair`.
     pub fn bkgdset(&mut self, id: usize, put: Put) -> Result<(), Refusal>
         ensures { spec.step self.new result ≡ spec.on_cursor self.old id (window.set_background put) }
     {
@@ -57,7 +59,7 @@ impl Desk {
         answer
     }
 
-    /// Whether the window may scroll.
+    /// Sets whether the window may scroll.
     pub fn scrollok(&mut self, id: usize, on: bool) -> Result<(), Refusal>
         ensures { spec.step self.new result ≡ spec.set self.old id (λ w. record w { scrolls = on }) }
     {
@@ -67,7 +69,7 @@ impl Desk {
         Ok(())
     }
 
-    /// Whether the window's cursor may be left anywhere.
+    /// Sets whether refreshes may leave the window's cursor anywhere.
     pub fn leaveok(&mut self, id: usize, on: bool) -> Result<(), Refusal>
         ensures { spec.step self.new result ≡ spec.set self.old id (λ w. record w { leaves = on }) }
     {
@@ -77,7 +79,7 @@ impl Desk {
         Ok(())
     }
 
-    /// Whether the screen is to be cleared at the next refresh of this window.
+    /// Sets whether the next refresh of this window clears the screen.
     pub fn clearok(&mut self, id: usize, on: bool) -> Result<(), Refusal>
         ensures { spec.step self.new result ≡ spec.set self.old id (λ w. record w { clears = on }) }
     {
@@ -87,7 +89,7 @@ impl Desk {
         Ok(())
     }
 
-    /// The attributes of what is written from now on.
+    /// Sets the attributes of characters written from now on.
     pub fn attrset(&mut self, id: usize, attrs: Attrs) -> Result<(), Refusal>
         ensures { spec.step self.new result ≡ spec.set self.old id (λ w. record w { attrs = attrs }) }
     {
@@ -97,7 +99,7 @@ impl Desk {
         Ok(())
     }
 
-    /// These attributes too are those of what is written from now on.
+    /// Adds these attributes to those of characters written from now on.
     pub fn attron(&mut self, id: usize, attrs: Attrs) -> Result<(), Refusal>
         ensures { spec.step self.new result ≡ spec.set self.old id
             (λ w. record w { attrs = record { 0 = bit_or w.attrs.0 attrs.0 } }) }
@@ -108,7 +110,7 @@ impl Desk {
         Ok(())
     }
 
-    /// These attributes are no longer those of what is written.
+    /// Removes these attributes from those of characters written from now on.
     pub fn attroff(&mut self, id: usize, attrs: Attrs) -> Result<(), Refusal>
         ensures { spec.step self.new result ≡ spec.set self.old id
             (λ w. record w { attrs = record { 0 = bit_and w.attrs.0 (255 - attrs.0) } }) }
@@ -119,9 +121,9 @@ impl Desk {
         Ok(())
     }
 
-    /// A character at the cursor, which moves on. `BadCell` for a byte above 127, else `BadPair` for a pair above 63,
-    /// else `NoScroll` where the cursor would leave the last line: the cell is written, and the cursor stays. A window
-    /// that is as wide as the screen and scrolls then leaves a hint, as `scroll` does.
+    /// Writes the character `put` at the cursor, which moves on. `BadCell` for a byte above 127, else `BadPair`
+    /// for a pair above 63, else `NoScroll` if the cursor would leave the last line: the cell is written, and
+    /// the cursor stays. If a window as wide as the screen scrolls, a hint remains, as after `scroll`.
     pub fn addch(&mut self, id: usize, put: Put) -> Result<(), Refusal>
         ensures { spec.step self.new result ≡ spec.on_window self.old id (call.added put) }
     {
@@ -129,10 +131,11 @@ impl Desk {
         self.addch_marked(id, put, &mut touched)
     }
 
-    /// As `addch`; where the window's grid has changed it is marked as well. Nothing is marked but the lines of that
-    /// grid through which the cursor went, or all of it if the region may have gone up; nothing where the call is
-    /// refused with another answer than `NoScroll`. A character that becomes one cell of the cursor's line, not in its
-    /// last column, marks this cell alone, and what lies between it and the marks that were in its line.
+    /// Writes as `addch` does, and marks the places of the window's grid that change. It marks only
+    /// lines of that grid from the cursor's old one to its new one, or all of it if the region may
+    /// have scrolled, and nothing if the call is refused with anything but `NoScroll`. A character
+    /// that becomes one cell of the cursor's line, but not in its last column, marks this cell
+    /// alone, and the places between it and the marks already in its line.
     pub fn addch_marked(
         &mut self,
         id: usize,
@@ -158,11 +161,11 @@ impl Desk {
         answer
     }
 
-    /// A string at the cursor. It stops at its first refusal, and what was written before stands. At `NoScroll` the
-    /// byte at which it stopped was written too, and the cursor stays in the cell that was written last. The answer
-    /// doesn't say how many bytes that were: of a string without controls, as many as there were cells from the
-    /// cursor to the window's last one. A window that is as wide as the screen and scrolls then leaves a hint, as
-    /// `scroll` does.
+    /// Writes the string `text` at the cursor. It stops at the first refusal, and the characters
+    /// written before remain. At `NoScroll` the byte at which it stopped was written too, and the
+    /// cursor stays in the cell written last. The answer doesn't say how many bytes that were: for
+    /// a string without controls, as many as there were cells from the cursor to the window's last
+    /// one. If a window as wide as the screen scrolls, a hint remains, as after `scroll`.
     pub fn addstr(&mut self, id: usize, text: &[u8]) -> Result<(), Refusal>
         ensures { spec.step self.new result ≡ spec.on_window self.old id (call.added_all text.now) }
     {
@@ -170,10 +173,10 @@ impl Desk {
         self.addstr_marked(id, text, &mut touched)
     }
 
-    /// As `addstr`; where the window's grid has changed it is marked as well. Nothing is marked but the lines of that
-    /// grid through which the cursor went, or all of it if the region may have gone up. A string that becomes cells of
-    /// the cursor's line, none in its last column, marks these alone, and what lies between them and the marks that
-    /// were in their line.
+    /// Writes as `addstr` does, and marks the places of the window's grid that change. It marks
+    /// only lines of that grid from the cursor's old one to its new one, or all of it if the region
+    /// may have scrolled. A string that becomes cells of the cursor's line, none in its last
+    /// column, marks these alone, and the places between them and the marks already in their line.
     pub fn addstr_marked(
         &mut self,
         id: usize,
@@ -198,7 +201,7 @@ impl Desk {
         answer
     }
 
-    /// The whole window is erased, and the cursor goes to its corner.
+    /// Erases the whole window, and moves the cursor to its corner.
     pub fn erase(&mut self, id: usize) -> Result<(), Refusal>
         ensures { spec.step self.new result ≡ spec.on_window self.old id (call.erased) }
     {
@@ -209,7 +212,7 @@ impl Desk {
         Ok(())
     }
 
-    /// As `erase`, and the screen is to be cleared at the next refresh of this window.
+    /// As `erase`; the next refresh of this window also clears the screen.
     pub fn clear(&mut self, id: usize) -> Result<(), Refusal>
         ensures { spec.step self.new result ≡ spec.on_window self.old id (call.cleared) }
     {
@@ -220,7 +223,8 @@ impl Desk {
         Ok(())
     }
 
-    /// The background changes, in the window's cells too. `BadCell` for a byte outside 32 to 126, else `BadPair`.
+    /// Changes the background, in the window's cells too. `BadCell` for a byte outside 32 to 126,
+    /// else `BadPair`.
     pub fn bkgd(&mut self, id: usize, put: Put) -> Result<(), Refusal>
         ensures { spec.step self.new result ≡ spec.on_window self.old id (call.change_background put) }
     {
@@ -231,8 +235,8 @@ impl Desk {
         answer
     }
 
-    /// A character comes in at the cursor, and the line's rest goes right. `BadCell` for a byte outside 32 to 126, else
-    /// `BadPair`.
+    /// Inserts the character `put` at the cursor; the rest of the line moves right. `BadCell` for a
+    /// byte outside 32 to 126, else `BadPair`.
     pub fn insch(&mut self, id: usize, put: Put) -> Result<(), Refusal>
         ensures { spec.step self.new result ≡ spec.on_grid self.old id (call.insert_char put) }
     {
@@ -241,7 +245,7 @@ impl Desk {
         slot.window.insert_char(grid, put)
     }
 
-    /// The cursor's cell goes, and the line's rest goes left.
+    /// Deletes the cursor's cell; the rest of the line moves left.
     pub fn delch(&mut self, id: usize) -> Result<(), Refusal>
         ensures { spec.step self.new result ≡ spec.on_grid self.old id (call.delete_char) }
     {
@@ -251,7 +255,7 @@ impl Desk {
         Ok(())
     }
 
-    /// A line comes in at the cursor's, and those from there to the window's bottom go down.
+    /// Inserts a line at the cursor's; the lines from there to the window's bottom move down.
     pub fn insertln(&mut self, id: usize) -> Result<(), Refusal>
         ensures { spec.step self.new result ≡ spec.on_grid self.old id (call.insert_line) }
     {
@@ -261,7 +265,7 @@ impl Desk {
         Ok(())
     }
 
-    /// The cursor's line goes, and those below it go up.
+    /// Deletes the cursor's line; the lines below it move up.
     pub fn deleteln(&mut self, id: usize) -> Result<(), Refusal>
         ensures { spec.step self.new result ≡ spec.on_grid self.old id (call.delete_line) }
     {
@@ -271,7 +275,7 @@ impl Desk {
         Ok(())
     }
 
-    /// The cells from the cursor to the line's end are erased.
+    /// Erases the cells from the cursor to the line's end.
     pub fn clrtoeol(&mut self, id: usize) -> Result<(), Refusal>
         ensures { spec.step self.new result ≡ spec.on_grid self.old id (call.clear_line) }
     {
@@ -281,7 +285,7 @@ impl Desk {
         Ok(())
     }
 
-    /// The cells from the cursor to the window's end are erased.
+    /// Erases the cells from the cursor to the window's end.
     pub fn clrtobot(&mut self, id: usize) -> Result<(), Refusal>
         ensures { spec.step self.new result ≡ spec.on_grid self.old id (call.clear_bottom) }
     {
@@ -291,7 +295,8 @@ impl Desk {
         Ok(())
     }
 
-    /// At most `n` cells from the cursor to the line's end. `BadCell` for a byte outside 32 to 126, else `BadPair`.
+    /// Draws at most `n` cells of `put` from the cursor to the line's end. `BadCell` for a byte
+    /// outside 32 to 126, else `BadPair`.
     pub fn hline(&mut self, id: usize, put: Put, n: i32) -> Result<(), Refusal>
         ensures { spec.step self.new result ≡ spec.on_grid self.old id (call.horizontal put n) }
     {
@@ -300,8 +305,8 @@ impl Desk {
         slot.window.horizontal(grid, put, n)
     }
 
-    /// At most `n` cells from the cursor to the window's bottom. `BadCell` for a byte outside 32 to 126, else
-    /// `BadPair`.
+    /// Draws at most `n` cells of `put` from the cursor to the window's bottom. `BadCell` for a
+    /// byte outside 32 to 126, else `BadPair`.
     pub fn vline(&mut self, id: usize, put: Put, n: i32) -> Result<(), Refusal>
         ensures { spec.step self.new result ≡ spec.on_grid self.old id (call.vertical put n) }
     {
@@ -310,7 +315,8 @@ impl Desk {
         slot.window.vertical(grid, put, n)
     }
 
-    /// A border inside the window's edges. `BadCell` for a byte outside 32 to 126 anywhere in it, else `BadPair`.
+    /// Draws `border` inside the window's edges. `BadCell` for a byte outside 32 to 126 anywhere in
+    /// it, else `BadPair`.
     pub fn border(&mut self, id: usize, border: &Border) -> Result<(), Refusal>
         ensures { spec.step self.new result ≡ spec.on_grid self.old id (call.bordered border.now) }
     {
@@ -319,8 +325,8 @@ impl Desk {
         slot.window.draw_border(grid, border)
     }
 
-    /// The scrolling region goes up by `n` lines, down if negative. `NoScroll` for a window that may not scroll. Of a
-    /// window that is as wide as the screen the next `noutrefresh` leaves a hint there.
+    /// Moves the scrolling region up by `n` lines, or down if `n` is negative. `NoScroll` for a window that
+    /// may not scroll. If the window is as wide as the screen, the next `noutrefresh` leaves a hint there.
     pub fn scroll(&mut self, id: usize, n: i32) -> Result<(), Refusal>
         ensures { spec.step self.new result ≡ spec.on_grid self.old id (call.scroll_by n) }
     {
@@ -331,8 +337,8 @@ impl Desk {
         slot.window.scroll(grid, n)
     }
 
-    /// A border with these sides and the default corners (`box`). `BadCell` for a byte outside 32 to 126, else
-    /// `BadPair`.
+    /// Draws a border with these sides and the default corners (`box`). `BadCell` for a byte
+    /// outside 32 to 126, else `BadPair`.
     pub fn draw_box(&mut self, id: usize, vertical: Put, horizontal: Put) -> Result<(), Refusal>
         ensures { spec.step self.new result ≡ spec.on_grid self.old id
             (call.bordered (call.box_of vertical horizontal)) }
@@ -340,15 +346,15 @@ impl Desk {
         self.border(id, &Border::sides(vertical, horizontal))
     }
 
-    /// Changes nothing: a refresh scrolls by the terminal's own strings wherever that takes fewer bytes, and doesn't
-    /// use its insertion and deletion of lines.
+    /// Changes nothing: a refresh scrolls with the terminal's own strings whenever that takes fewer
+    /// bytes, and doesn't use its insertion and deletion of lines.
     pub fn idlok(&self, id: usize, _on: bool) -> Result<(), Refusal>
         ensures { spec.step self.now result ≡ spec.unchanged self.now id }
     {
         self.find(id).map(|_slot| ())
     }
 
-    /// Changes nothing: whole windows are copied.
+    /// Changes nothing: copies are of whole windows.
     pub fn touchwin(&self, id: usize) -> Result<(), Refusal>
         ensures { spec.step self.now result ≡ spec.unchanged self.now id }
     {
@@ -356,7 +362,7 @@ impl Desk {
         Ok(())
     }
 
-    /// Changes nothing, and refuses no numbers: whole windows are copied.
+    /// Changes nothing, and refuses no line numbers: copies are of whole windows.
     pub fn touchline(&self, id: usize, _y: i32, _n: i32) -> Result<(), Refusal>
         ensures { spec.step self.now result ≡ spec.unchanged self.now id }
     {

@@ -15,25 +15,26 @@ use std::mem;
 
 // Copying from a window to another one, or to itself, as if the source were read first. It takes no memory.
 impl Desk {
-    /// What both windows have on the screen is copied from `source` to `target`, without the source's spaces (X/Open
-    /// Curses, `overlay`); `Ok` also where that is nothing. `Full`, `NoWindow`, `PadKind` where one is a pad; then
-    /// nothing has changed.
+    /// Copies the part that both windows have on the screen from `source` to `target`, without the
+    /// source's spaces (X/Open Curses, `overlay`); `Ok` even if there is no such part. `Full`,
+    /// `NoWindow`, `PadKind` if one is a pad; nothing has then changed.
     pub fn overlay(&mut self, source: usize, target: usize) -> Result<(), Refusal>
         ensures { spec.step self.new result ≡ common_part true self.old source target }
     {
         self.copy_common(source, target, true)
     }
 
-    /// As `overlay`, with the source's spaces (`overwrite`).
+    /// Copies as `overlay` does, from `source` to `target`, but with the source's spaces (`overwrite`).
     pub fn overwrite(&mut self, source: usize, target: usize) -> Result<(), Refusal>
         ensures { spec.step self.new result ≡ common_part false self.old source target }
     {
         self.copy_common(source, target, false)
     }
 
-    /// The target's rows `row` to `last_row` and columns `col` to `last_col` get the source's cells from a place on,
-    /// without its spaces if these are skipped (`copywin`). `Full`, `NoWindow`, `BadRegion` where an end is before its
-    /// start, `OutOfWindow` where a place is outside its window; then nothing has changed.
+    /// Copies the cells of `source` from row `from_row` and column `from_col` on to the rows `row`
+    /// to `last_row` and columns `col` to `last_col` of `target`, without spaces if these are
+    /// skipped (`copywin`). `Full`, `NoWindow`, `BadRegion` if an end is before its start,
+    /// `OutOfWindow` if a place is outside its window; nothing has then changed.
     pub fn copywin(
         &mut self,
         source: usize,
@@ -67,8 +68,7 @@ impl Desk {
         Ok(())
     }
 
-    // What both windows have on the screen is copied from the source to the target, without its spaces if these are
-    // skipped.
+    // Copies the part that both windows have on the screen, without the source's spaces if these are skipped.
     fn copy_common(&mut self, source: usize, target: usize, skip: bool) -> Result<(), Refusal>
         ensures { spec.step self.new result ≡ common_part skip self.old source target }
     {
@@ -87,7 +87,7 @@ impl Desk {
         Ok(())
     }
 
-    // These lines and columns of the target become those of the source.
+    // Copies these lines and columns of the source to the target.
     fn copy_spans(
         &mut self,
         source: &Slot,
@@ -123,8 +123,8 @@ impl Desk {
     }
 }
 
-// A rectangle of one grid gets the cells of another one, or of itself, as they were before. The spare one stands in the
-// target's place while it is written.
+// Copies a rectangle from one grid to another, or to itself, as the source was before. The grid
+// `spare` takes the target's place while that is written.
 fn copy_between(
     grids: &mut [Grid<Cell>],
     source: usize,
@@ -148,7 +148,7 @@ fn copy_between(
     grids[target] = grid;
 }
 
-/// `BadRegion` where a last row or column is before the first one.
+/// `BadRegion` if `bottom` is before `top` or `right` before `left`.
 pub fn in_order(top: i32, bottom: i32, left: i32, right: i32) -> Result<(), Refusal>
     ensures value { result ≡ in_order top bottom left right }
     ensures order { OnOk result ((top ≤ℤ bottom) × (left ≤ℤ right)) }

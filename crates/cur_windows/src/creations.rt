@@ -16,9 +16,9 @@ use grids::{Area, Grid, Place};
 
 // Making, moving and deleting windows. A refusal changes nothing.
 impl Desk {
-    /// A new window of a size, at a place of the screen; 0 lines or columns mean all up to the screen's edge (X/Open
-    /// Curses, `newwin`). `Full` for a number above 63, `NumberUsed`, `BadRegion` for a negative size, `OutOfScreen`
-    /// where it doesn't lie on the screen; `NoMemory` where a growth was refused.
+    /// Makes window `n` of this size, at this place of the screen; 0 lines or columns mean all up to the
+    /// screen's edge (X/Open Curses, `newwin`). `Full` for a number above 63, `NumberUsed`, `BadRegion` for
+    /// a negative size, `OutOfScreen` if the window isn't within the screen; `NoMemory` if memory runs out.
     pub fn newwin(&mut self, n: usize, lines: i32, cols: i32, y: i32, x: i32) -> Result<(), Refusal>
         ensures { ((result ≡ Err
             Refusal.NoMemory) × (self.new ≡ self.old) × ((make.newwin self.old n lines cols y x).1 ≡ Ok tt))
@@ -34,9 +34,9 @@ impl Desk {
         Ok(())
     }
 
-    /// A new window that is a part of another one and shares its cells; the place counts from that one's corner, and 0
-    /// lines or columns mean all up to its edge (`derwin`). `Full`, `NumberUsed`, `NoWindow`, `PadKind` for a pad,
-    /// `BadRegion` for a negative size, `OutOfWindow` where it isn't a part.
+    /// Makes window `n` as a part of window `id`, whose cells it shares; the place is relative to the corner
+    /// of `id`, and 0 lines or columns mean all up to its edge (`derwin`). `Full`, `NumberUsed`, `NoWindow`,
+    /// `PadKind` for a pad, `BadRegion` for a negative size, `OutOfWindow` if it isn't within `id`.
     pub fn derwin(
         &mut self,
         n: usize,
@@ -56,7 +56,7 @@ impl Desk {
         self.make_subwindow(n, id, &slot, geometry)
     }
 
-    /// As `derwin`, but that the place counts from the screen's corner (`subwin`).
+    /// Makes window `n` as `derwin` does, at a place relative to the screen's corner (`subwin`).
     pub fn subwin(
         &mut self,
         n: usize,
@@ -82,9 +82,9 @@ impl Desk {
         self.make_subwindow(n, id, &slot, geometry)
     }
 
-    /// A new window with a copy of the other's cells, cursor, attributes, background, region and options, at its
-    /// place; the copy of a subwindow is none (`dupwin`). `Full`, `NumberUsed`, `NoWindow`; `NoMemory` where a growth
-    /// was refused.
+    /// Makes window `n` with a copy of the cells, cursor, attributes, background, region and
+    /// options of `id`, at its place; the copy of a subwindow isn't a subwindow (`dupwin`). `Full`,
+    /// `NumberUsed`, `NoWindow`; `NoMemory` if memory runs out.
     pub fn dupwin(&mut self, n: usize, id: usize) -> Result<(), Refusal>
         ensures { ((result ≡ Err Refusal.NoMemory) × (self.new ≡ self.old) × ((make.dupwin self.old n id).1 ≡ Ok tt))
             ⊎ (spec.step self.new result ≡ make.dupwin self.old n id) }
@@ -109,8 +109,8 @@ impl Desk {
         Ok(())
     }
 
-    /// The window is deleted, and its number is free (`delwin`). `Full`, `NoWindow`, `IsScreen` for window 0,
-    /// `HasChildren` where another window has it as its parent or shares its grid.
+    /// Deletes the window, whose number becomes free (`delwin`). `Full`, `NoWindow`, `IsScreen` for
+    /// window 0, `HasChildren` if another window has it as its parent or shares its grid.
     pub fn delwin(&mut self, id: usize) -> Result<(), Refusal>
         ensures { spec.step self.new result ≡ make.delwin self.old id }
     {
@@ -121,8 +121,9 @@ impl Desk {
         Ok(())
     }
 
-    /// The window goes to a place of the screen, and its subwindows with it (`mvwin`). `Full`, `NoWindow`, `PadKind`
-    /// for a pad, `IsSub` for a subwindow, `OutOfScreen` where it wouldn't lie on the screen.
+    /// Moves the window `id` and its subwindows to row `y` and column `x` of the screen (`mvwin`).
+    /// `Full`, `NoWindow`, `PadKind` for a pad, `IsSub` for a subwindow, `OutOfScreen` if it
+    /// wouldn't be within the screen.
     pub fn mvwin(&mut self, id: usize, y: i32, x: i32) -> Result<(), Refusal>
         ensures { spec.step self.new result ≡ make.mvwin self.old id y x }
     {
@@ -158,7 +159,7 @@ impl Desk {
         Ok(())
     }
 
-    // Whether it is no pad.
+    // Refuses a pad.
     pub(crate) fn check_window(&self, slot: &Slot) -> Result<(), Refusal>
         requires { slot.now.root < 64 }
         ensures value { result ≡ make.window_only self.now slot.now }
@@ -170,7 +171,7 @@ impl Desk {
         Ok(())
     }
 
-    // Whether it can be deleted.
+    // Refuses a window that can't be deleted.
     fn check_childless(&self, n: usize) -> Result<(), Refusal>
         requires { n < 64 }
         ensures value { result ≡ make.childless self.now n }
@@ -185,7 +186,7 @@ impl Desk {
         Ok(())
     }
 
-    // Window `n` is made on this grid, at the area's place of the screen.
+    // Makes window `n` on this grid, at the area's place of the screen.
     fn add_blank_root(&mut self, n: usize, grid: Grid<Cell>, area: Area)
         requires number { n < 64 }
         requires free { spec.window_at self.old n ≡ None }
@@ -195,7 +196,7 @@ impl Desk {
             (fresh (whole_area area.rows area.cols)) }
     {
         let whole = whole_area(area.rows, area.cols);
-        // a look at a field brings in the invariant: no screen is larger than a window may be
+        // reading a field brings in the invariant: no screen is larger than a window may be
         let _ = &self.rows;
         let origin = Origin {
             top: area.top,
@@ -205,7 +206,7 @@ impl Desk {
         self.add_root(n, grid, origin, Window::new(whole));
     }
 
-    // Window `n` is made with this grid of its own.
+    // Makes window `n` with this grid of its own.
     pub(crate) fn add_root(&mut self, n: usize, grid: Grid<Cell>, origin: Origin, window: Window)
         requires number { n < 64 }
         requires free { spec.window_at self.old n ≡ None }
@@ -223,7 +224,7 @@ impl Desk {
         });
     }
 
-    // Where the copy of a window lies.
+    // The place of the copy of a window.
     fn copy_origin(&self, slot: &Slot) -> Origin
         requires canvas { IsCanvas (spec.grid_at self.now (slot.now).root) (slot.now).window }
         requires root { (slot.now).root < 64 }
@@ -246,7 +247,7 @@ impl Desk {
         }
     }
 
-    // Window `n` is made as a part of another one; the place counts from that one's corner.
+    // Makes window `n` as a part of window `id`, at a place relative to its corner.
     fn make_subwindow(
         &mut self,
         n: usize,
@@ -267,7 +268,7 @@ impl Desk {
         Ok(())
     }
 
-    // Window `n` is made as this part of another one, in places of that one.
+    // Makes window `n` as the part `area` of window `id`, in places of that window.
     pub(crate) fn add_subwindow(&mut self, n: usize, id: usize, slot: &Slot, area: Area)
         requires number { n < 64 }
         requires free { spec.window_at self.old n ≡ None }
@@ -291,7 +292,7 @@ impl Desk {
     }
 }
 
-/// `Full` where one of the numbers is above 63.
+/// `Full` if one of the numbers is above 63.
 pub fn in_range(n: usize, id: usize) -> Result<(), Refusal>
     ensures value { result ≡ make.in_range n id }
     ensures small { OnOk result ((n < 64) × (id < 64)) }
@@ -302,7 +303,7 @@ pub fn in_range(n: usize, id: usize) -> Result<(), Refusal>
     Ok(())
 }
 
-// A row or a column of the screen, as it counts from a corner.
+// A row or a column of the screen, relative to a corner.
 fn counted_from(place: i32, corner: u16) -> i64
     ensures { result ≡ place -ℤ pos corner }
 {
@@ -319,7 +320,7 @@ fn no_sub(parent: Option<u8>) -> Result<(), Refusal>
     Ok(())
 }
 
-// Whether a window other than `n` has it as its parent, or its grid.
+// Whether a window other than `n` has `n` as its parent, or has its grid.
 fn has_child(windows: &[Option<Slot>], n: usize) -> bool
     requires { n < 64 }
     ensures { result ≡ make.has_child n 0 windows.now }

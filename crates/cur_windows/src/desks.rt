@@ -46,8 +46,8 @@ impl Model for Desk {
 }
 
 impl Desk {
-    /// A desk with window 0 over a screen of this size, of spaces without attributes. An error where a growth was
-    /// refused.
+    /// A desk with window 0, of spaces without attributes, over a screen of this size. Fails if
+    /// memory runs out.
     pub fn new(alloc: Global, size: Size) -> Result<Desk, AllocError>
         ensures { IfOk result (λ desk. desk ≡ spec.new_desk size.rows size.cols) }
     {
@@ -87,7 +87,7 @@ impl Desk {
         Ok(slot)
     }
 
-    // The same, where it stands.
+    // As `find`, without a copy of the slot.
     pub(crate) fn slot(&self, id: usize) -> Result<&Slot, Refusal>
         ensures found { IfOk result (λ s. spec.slot_of self.now id ≡ Ok s.now) }
         ensures refused { IfErr result (λ e. spec.slot_of self.now id ≡ Err e) }

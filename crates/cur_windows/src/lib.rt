@@ -1,4 +1,4 @@
-//! Windows and the virtual screen: what each curses call does to their cells (X/Open Curses Issue 7).
+//! Windows and the virtual screen: the effect of each curses call on their cells (X/Open Curses Issue 7).
 #![tactic(auto)]
 
 mod calls;

@@ -1,4 +1,4 @@
-//! Marking what a call may change of a window.
+//! Marks for the places of a window that a call may change.
 ghost use Rattle.cur_drawing.specs.Calls.{IsCanvas};
 ghost use Rattle.cur_windows.specs.Desks as spec;
 ghost use Rattle.cur_windows.specs.Desks.{IsDesk};
@@ -9,14 +9,14 @@ use crate::desks::Desk;
 use cur_screens::{Slot, Touched, mark_rectangle};
 
 impl Desk {
-    /// Marks the window's rectangle, for a call that changes nothing outside of it and has no marks itself; nothing if
-    /// there is no such window, or if it lies in a pad. The desk is a legal one.
+    /// Marks the rectangle of window `id`, for a call that changes nothing outside it and makes no marks
+    /// itself. Marks nothing if there is no such window, or if it is in a pad. The desk is a legal one.
     pub fn mark_window(&self, id: usize, touched: &mut Touched)
         ensures marks { MarksWindow touched.old touched.new self.now
             (spec.slot_of self.now id) }
         ensures legal { IsDesk self.now }
     {
-        // a look at a field brings in the invariant: the desk is a legal one
+        // reading a field brings in the invariant: the desk is a legal one
         let _ = &self.rows;
         if let Ok(slot) = self.find(id) {
             self.mark_slot(&slot, touched);

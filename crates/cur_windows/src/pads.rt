@@ -1,4 +1,4 @@
-//! What the crate of pads calls.
+//! The calls that the crate of pads uses.
 ghost use Rattle.std.specs.Prelude.{◌≡◌, ◌<◌, ◌≤◌, ◌+◌, None, IfOk, IsOk, MatchResult};
 ghost use Rattle.cur_drawing.specs.Calls.{place};
 ghost use Rattle.cur_drawing.specs.Spans.{IsAreaWithin};
@@ -12,9 +12,10 @@ use cur_screens::{Marks, Origin, ScreenCopy, Virtual, blank_grid, whole_area};
 use grids::{Area, Place};
 use std::alloc::AllocError;
 
-// What the crate of pads calls. A pad is a window that lies on no screen; parts of it are shown.
+// The calls that the crate of pads uses. A pad is a window that isn't on the screen, of which parts
+// can be shown.
 impl Desk {
-    /// Whether the number names a pad or a part of one. `Full`, `NoWindow`.
+    /// Whether window `id` is a pad or a part of one. `Full`, `NoWindow`.
     pub fn is_pad(&self, id: usize) -> Result<bool, Refusal>
         ensures { result ≡ is_pad self.now id }
     {
@@ -22,8 +23,8 @@ impl Desk {
         Ok(self.origins[slot.root as usize].pad)
     }
 
-    /// A new pad of 1 to 1000 rows and columns. That the number is free is the caller's condition. An error where a
-    /// growth was refused; then nothing has changed.
+    /// Makes a pad of `rows` rows and `cols` columns, 1 to 1000 each, as window `n`; the number
+    /// must be free. Fails if memory runs out; nothing has then changed.
     pub fn add_pad(&mut self, n: usize, rows: u16, cols: u16) -> Result<(), AllocError>
         requires number { n < 64 }
         requires free { spec.window_at self.old n ≡ None }
@@ -42,9 +43,9 @@ impl Desk {
         Ok(())
     }
 
-    /// A new window that is a part of window `id` and shares its cells: `rows` rows and `cols` columns of it, from row
-    /// `y` and column `x` on. That the number is free, that there is such a window and that the part lies in it is the
-    /// caller's condition.
+    /// Makes window `n` as a part of window `id`, whose cells it shares: `rows` rows and `cols`
+    /// columns of it, from row `y` and column `x` on. The number `n` must be free, there must be a
+    /// window `id`, and the part must be within it.
     pub fn add_subpad(&mut self, n: usize, id: usize, y: u16, x: u16, rows: u16, cols: u16)
         requires number { n < 64 }
         requires free { spec.window_at self.old n ≡ None }
@@ -66,11 +67,11 @@ impl Desk {
         self.add_subwindow(n, id, &slot, area);
     }
 
-    /// A part of window `id`, `rows` rows and `cols` columns from row `y` and column `x` on, is copied to the virtual
-    /// screen, from row `to_y` and column `to_x` on. The screen's cursor becomes the window's if the window doesn't
-    /// leave it and it lies in that part, else none; the window's `clearok` goes over to the screen. That there is such
-    /// a window, that the part lies in it and, where it is copied to, on the screen, and that the screen has the desk's
-    /// size is the caller's condition.
+    /// Copies a part of window `id`, `rows` rows and `cols` columns from row `y` and column `x` on,
+    /// to the virtual screen, from row `to_y` and column `to_x` on. The screen's cursor becomes the
+    /// window's if that is in the part and the window doesn't leave it anywhere, else none; the
+    /// screen takes over the window's `clearok`. There must be such a window, the part must be
+    /// within it and its copy within the screen, and the screen must have the desk's size.
     pub fn show_part(
         &mut self,
         id: usize,
@@ -129,7 +130,7 @@ impl Desk {
             left: to.col,
             ..part
         };
-        // a look at a field brings in the invariant: no screen is larger than a window may be
+        // reading a field brings in the invariant: no screen is larger than a window may be
         let _ = &self.rows;
         let cursor = cursor_in_part(&slot.window, part, to);
         let copy = ScreenCopy {

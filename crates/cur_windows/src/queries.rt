@@ -1,4 +1,4 @@
-//! What a program asks of a window: its cursor, place, cell under the cursor and parent.
+//! A program's queries of a window: its cursor, place, cell under the cursor and parent.
 ghost use Rattle.std.specs.Prelude.{◌≡◌, ◌<◌, ℕ, Option, None, IfSome, IsSome};
 ghost use Rattle.cur_windows.specs.Desks.{window_at, window_count};
 ghost use Rattle.cur_windows.specs.Queries.{window_of, parent_of, cell_of, corner_of, IsFirstFree};
@@ -8,9 +8,10 @@ use cur_drawing::{Cell, Place, Refusal, Window};
 use cur_screens::WINDOWS;
 
 impl Desk {
-    /// The cursor (`getyx`), the size (`getmaxyx`), the attributes, the pair, the background (`getbkgd`), the options
-    /// and the scrolling region of a window. Its `area` is in the places of the grid that it shares with the windows
-    /// it was made of, so that two areas give a subwindow's place in its parent (`getparyx`). `Full`, `NoWindow`.
+    /// The cursor (`getyx`), the size (`getmaxyx`), the attributes, the pair, the background
+    /// (`getbkgd`), the options and the scrolling region of a window. Its `area` is in the places
+    /// of the grid that it shares with its ancestors, so that two areas give a subwindow's place in
+    /// its parent (`getparyx`). `Full`, `NoWindow`.
     pub fn window(&self, id: usize) -> Result<Window, Refusal>
         ensures { result ≡ window_of self.now id }
     {
@@ -44,14 +45,14 @@ impl Desk {
         Ok(line[(window.area.left + window.col) as usize])
     }
 
-    /// The window that a subwindow was made of, or `None` for any other window. `Full`, `NoWindow`.
+    /// The parent of a subwindow, or `None` for any other window. `Full`, `NoWindow`.
     pub fn parent(&self, id: usize) -> Result<Option<u8>, Refusal>
         ensures { result ≡ parent_of self.now id }
     {
         Ok(self.find(id)?.parent)
     }
 
-    /// The lowest number that no window has, or `None` where all 64 are taken.
+    /// The lowest number that no window has, or `None` if all 64 are used.
     pub fn first_free(&self) -> Option<usize>
         ensures first { IfSome result (λ n. IsFirstFree self.now n) }
         ensures none { result ≡ None → (k : ℕ) → k < window_count → IsSome (window_at self.now k) }

@@ -18,9 +18,9 @@ use cur_screens::{Marks, Origin, ScreenCopy, Slot, Touched, Virtual, spread, unm
 use grids::{Area, Grid, Place};
 
 impl Desk {
-    /// The whole window is copied to the virtual screen, whose cursor becomes the window's, or none where the window
-    /// leaves it; a window's `clearok` and the desk's hint go over to the screen. `Full`, `NoWindow`, `PadKind` for a
-    /// pad; then nothing has changed. That the screen has the desk's size is the caller's condition.
+    /// Copies the whole window to the virtual screen. The screen's cursor becomes the window's, or none if the
+    /// window leaves it anywhere; the screen takes over the window's `clearok` and the desk's hint. `Full`,
+    /// `NoWindow`, `PadKind` for a pad; nothing has then changed. The screen must have the desk's size.
     pub fn noutrefresh(&mut self, id: usize, screen: &mut Virtual) -> Result<(), Refusal>
         requires rows { (screen.old).rows ≡ (self.old).rows }
         requires cols { (screen.old).cols ≡ (self.old).cols }
@@ -31,10 +31,11 @@ impl Desk {
         self.noutrefresh_marked(id, screen, &mut touched, &mut marks)
     }
 
-    /// As `noutrefresh`. Outside the marks `touched` the screen has the cells of each grid, and it has them outside
-    /// these marks afterwards; what isn't marked of the window's grid isn't looked at. A window that is all of its grid
-    /// takes that grid's marks off, and any other adds none to them. Where the screen's cells have changed, `marks` are
-    /// added, and all that is marked there is marked for each other grid.
+    /// Copies as `noutrefresh` does, but looks only at the marked places of the window's grid.
+    /// Outside the marks `touched` the screen must have the cells of each grid, and it has them
+    /// there afterwards. A window that has all of its grid removes that grid's marks, and any other
+    /// adds none to them. The changed places of the screen are added to `marks`, and all that is
+    /// marked there is added to the marks of each other grid.
     pub fn noutrefresh_marked(
         &mut self,
         id: usize,
@@ -66,7 +67,7 @@ impl Desk {
         Ok(())
     }
 
-    // Copies the whole window to the screen, with its cursor and its `clearok`, and the desk's hint.
+    // Copies the whole window to the screen, with its cursor, its `clearok` and the desk's hint.
     fn copy_slot(&self, slot: &Slot, screen: &mut Virtual, touched: &mut Touched, marks: &mut Marks)
         requires canvas { IsCanvas (spec.grid_at self.now (slot.now).root) (slot.now).window }
         requires root { (slot.now).root < 64 }
@@ -90,7 +91,7 @@ impl Desk {
         unmark(touched, root, self.has_all(slot));
     }
 
-    // Copies as `copy_slot` does what is marked of the window's grid.
+    // Copies the marked places of the window's grid as `copy_slot` does.
     fn show_slot(&self, slot: &Slot, screen: &mut Virtual, touched: &Touched, marks: &mut Marks)
         requires canvas { IsCanvas (spec.grid_at self.now (slot.now).root) (slot.now).window }
         requires root { (slot.now).root < 64 }
@@ -133,7 +134,7 @@ impl Desk {
         }
     }
 
-    // Whether the window is all of its grid, or as large as the screen.
+    // Whether the window has all of its grid, or is as large as the screen.
     fn has_all(&self, slot: &Slot) -> bool
         ensures there { result ≡ true → HasAll self.now slot.now }
         ensures part { result ≡ false → HasAll self.now slot.now → ⊥ }
@@ -142,7 +143,7 @@ impl Desk {
         slot.parent.is_none() || (area.rows == self.rows && area.cols == self.cols)
     }
 
-    // The grid that a window lies in.
+    // The grid of a window.
     pub(crate) fn grid_of(&self, slot: &Slot) -> &Grid<Cell>
         requires { (slot.now).root < 64 }
         ensures { result.now ≡ spec.grid_at self.now (slot.now).root }
@@ -150,7 +151,7 @@ impl Desk {
         &self.grids[slot.root as usize]
     }
 
-    // Where the grid lies that a window lies in.
+    // The place of a window's grid on the screen.
     pub(crate) fn origin_of(&self, slot: &Slot) -> Origin
         requires canvas { IsCanvas (spec.grid_at self.now (slot.now).root) (slot.now).window }
         requires root { (slot.now).root < 64 }
@@ -180,7 +181,7 @@ impl Desk {
     }
 }
 
-// Where the window's cursor stands, its rectangle lying here.
+// The place of the window's cursor, if the window is at `area`.
 fn cursor_in(slot: &Slot, area: Area) -> Option<Place>
     requires window { IsWindow (slot.now).window }
     requires rows { area.rows ≡ (slot.now).window.area.rows }

@@ -5,8 +5,8 @@ use crate::desks::Desk;
 use cur_screens::{Hint, Scroll, Slot};
 
 impl Desk {
-    // The rows of the window's region, which went by no line yet: of a window that is as wide as the screen and may
-    // scroll, and no pad's.
+    // A scroll of the window's region by 0 lines, if the window is as wide as the screen, may
+    // scroll, and isn't in a pad.
     pub(crate) fn region_of(&self, slot: &Slot) -> Option<Scroll>
         requires { (slot.now).root < 64 }
     {

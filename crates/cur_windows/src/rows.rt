@@ -1,4 +1,4 @@
-//! One line of a window, lent for writing.
+//! One line of a window, borrowed for writing.
 ghost use Rattle.std.specs.Prelude.{◌≡◌, ◌<◌, ◌≤◌, ◌+◌, ◌-◌, IfOk, length, take, drop, slice_set};
 ghost use Rattle.cur_drawing.specs.Grids.{Fits, filled, line_at, one};
 ghost use Rattle.cur_windows.specs.Desks as spec;
@@ -9,7 +9,7 @@ use crate::desks::Desk;
 use cur_drawing::{Cell, Refusal};
 use cur_screens::Slot;
 
-/// One line of a window that is lent for writing. While it is held, nothing else can be done with the desk.
+/// One line of a window that is borrowed for writing. The desk can't be used while it is held.
 #[derive(Drop)]
 pub struct RowMut<'a> {
     desk: &'a mut Desk,
@@ -22,8 +22,9 @@ impl Desk {
     ghost use Rattle.cur_windows.specs.Loans.{LendsPart};
     ghost use Rattle.cur_windows.specs.contracts.desks.Desk.{the_row};
 
-    /// One line of a window, for writing: what is written through it is in the grid at that place, and nothing else has
-    /// changed. `Full`, `NoWindow`, `OutOfWindow` where the window has no such line; then nothing has changed.
+    /// The line `y` of window `id`, for writing: each cell written through it is in the grid at its
+    /// place, and nothing else changes. `Full`, `NoWindow`, `OutOfWindow` if the window has no such
+    /// line; nothing has then changed.
     pub fn row_mut(&mut self, id: usize, y: u16) -> Result<RowMut<'_>, Refusal>
         ensures* refused { sem 𝓛 (RestsIfErr the_row self.entry (λ r. r.desk.ghost_name) result (λ d. d ≡ self.old)) }
         ensures same_reference { IfOk result (λ r. r.desk.ghost_name ≡ self.entry.ghost_name) }
@@ -42,7 +43,7 @@ impl Desk {
         })
     }
 
-    // The cells of one line of a grid, from one column up to another, for writing.
+    // The cells of one line of a grid, from column `from` on and before column `to`, for writing.
     fn part_mut(&mut self, root: usize, row: usize, from: usize, to: usize) -> &mut [Cell]
         requires root { root < 64 }
         requires row { row < length (spec.grid_at self.old root) }
@@ -54,7 +55,7 @@ impl Desk {
         self.grids[root].part_mut(row, from, to)
     }
 
-    // One cell of a grid becomes this one.
+    // Writes one cell of a grid.
     fn put_cell(&mut self, root: usize, row: usize, col: usize, cell: Cell)
         requires root { root < 64 }
         requires place { Fits (one row col) (spec.grid_at self.old root) }
@@ -70,8 +71,8 @@ impl<'a> RowMut<'a> {
     ghost use Rattle.std.specs.Borrow.{sem};
     ghost use Rattle.cur_windows.specs.Loans.{LendsLine};
 
-    /// Its cells, for writing: what is left in them is in the window's grid at that place, and nothing else has
-    /// changed.
+    /// The cells of the line, for writing: their last content is in the window's grid at its place,
+    /// and nothing else changes.
     pub fn into_cells(self) -> &'a mut [Cell]
         requires { IsLine self.desk.now self.slot self.row }
         ensures* writes_back { sem 𝓛 (LendsLine self.entry result) }
@@ -86,14 +87,14 @@ impl<'a> RowMut<'a> {
         desk.part_mut(slot.root as usize, (area.top + row) as usize, left, right)
     }
 
-    /// How many places it has.
+    /// The number of its places.
     pub fn cols(&self) -> u16
         ensures { result ≡ (self.now).slot.window.area.cols }
     {
         self.slot.window.area.cols
     }
 
-    /// Its cells.
+    /// The cells of the line.
     pub fn cells(&self) -> &[Cell]
         requires { IsLine (self.now).desk.now (self.now).slot (self.now).row }
         ensures { result.now ≡ cut (self.now).slot.window.area
@@ -109,7 +110,7 @@ impl<'a> RowMut<'a> {
         &line[left..left + area.cols as usize]
     }
 
-    /// One of its cells becomes this one. That it has such a place is the caller's condition.
+    /// Writes `cell` at the place `x` of the line, which must exist.
     pub fn set(&mut self, x: u16, cell: Cell)
         requires line { IsLine (self.old).desk.now (self.old).slot (self.old).row }
         requires within { x < (self.old).slot.window.area.cols }

@@ -5,7 +5,7 @@ ghost use Rattle.cur_windows.specs.Sizes.{window_size};
 use crate::desks::Desk;
 use cur_drawing::Refusal;
 
-// How large the screen and its windows are.
+// The sizes of the screen and its windows.
 impl Desk {
     /// The screen's lines and columns.
     pub fn screen_size(&self) -> (u16, u16)

@@ -10,20 +10,20 @@ use cur_screens::Slot;
 use grids::{Area, Grid};
 use std::marker::Model;
 
-/// What is seen of a window, a subwindow or a pad: its cells, line by line.
+/// The view of a window, a subwindow or a pad: its cells, line by line.
 pub trait View {
     /// The cells as a grid.
     ghost cells: { Self → Grid };
 
-    /// How many lines there are.
+    /// The number of lines.
     fn rows(&self) -> u16
         ensures { result ≡ length (cells self.now) };
 
-    /// How many columns there are.
+    /// The number of columns.
     fn cols(&self) -> u16
         ensures { (y : ℕ) → y < length (cells self.now) → length (line_at (cells self.now) y) ≡ result };
 
-    /// One line. That it is there is the caller's condition.
+    /// The line `y`, which must exist.
     fn row(&self, y: u16) -> &[Cell]
         requires { y < length (cells self.now) }
         ensures { result.now ≡ line_at (cells self.now) y };

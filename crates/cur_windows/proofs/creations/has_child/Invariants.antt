@@ -1,4 +1,4 @@
--- What is left of the windows has a child where all of them have.
+-- The remaining windows have a child if all of them have.
 use Rattle.std.proofs.Common.{◌≡◌, drop}
 use Rattle.cur_windows.specs.Creations.{has_child}
 use Rattle.cur_windows.proofs.creations.has_child.Given as goal

@@ -1,4 +1,4 @@
--- As many as were gone through.
+-- There are as many as were made so far.
 use Rattle.std.proofs.Common.{◌≡◌, replicate, []}
 use Rattle.cur_windows.proofs.desks.empty_grids.Given as goal
 

@@ -1,4 +1,4 @@
--- As many as were gone through.
+-- There are as many as were made so far.
 use Rattle.std.proofs.Common.{◌≡◌, replicate, None}
 use Rattle.cur_windows.proofs.desks.no_windows.Given as goal
 

@@ -1,4 +1,4 @@
--- As many as were gone through.
+-- There are as many as were made so far.
 use Rattle.std.proofs.Common.{◌≡◌, replicate, false}
 use Rattle.cur_windows.specs.Desks.{on_screen}
 use Rattle.cur_windows.proofs.desks.screen_origins.Given as goal
