@@ -52,7 +52,7 @@ within_after : {A : Type 0} (d : State) (m : ℕ) (t : Slot) (r : Result A Refus
 within_after d m t (Ok a) next p = p a refl
 within_after d m t (Err e) next p = only_same d m t
 
--- ---- the lines and columns lie in the target
+-- ---- the lines and columns are in the target
 pub copy_span_inj : (s t : CopySpan) → Some s ≡ Some t → s ≡ t
 copy_span_inj s t e = cc
 

@@ -63,7 +63,7 @@ source_fits s g v h a fits rows cols e f = record {
   cols = λ i lt. (let line = fits.cols i lt in omega (arith, f));
 }
 
--- what the copied lines and columns leave in the target
+-- the target after lines and columns were copied to it
 spans_by_place : (d : State) (s t : Slot) (v h : CopySpan) (skip : Bool) (y x : ℕ) → t.root < length d.grids → Fits s.window.area (grid_at d s.root) → Fits t.window.area (grid_at d t.root) →
     v.from + v.count ≤ s.window.area.rows → h.from + h.count ≤ s.window.area.cols → y < t.window.area.rows → x < t.window.area.cols →
     cell (spans_copied d s t v h skip) t y x ≡
@@ -111,7 +111,7 @@ ends_in_order dr dc er ec u h =
     let kept : (nat_lt er dr || nat_lt ec dc) ≡ false = passed_test (nat_lt er dr || nat_lt ec dc) BadRegion u h in
     (grind (arith, nat_tests), grind (arith, nat_tests))
 
--- the places from a first one to a last one are as many as the copied ones
+-- there are as many places from a first to a last one as were copied
 same_run : (first last i : ℕ) → first ≤ last → (nat_le first i && nat_lt i (first + (last - first + 1))) ≡ is_between first last i
 same_run first last i h = grind (arith, nat_tests)
 
@@ -158,7 +158,7 @@ common_run at n to m y some lt = grind (arith, nat_tests)
 common_row : (at n to y : ℕ) → (nat_le at (to + y) && nat_lt (to + y) (at + n)) ≡ true → max at to - at + (y - (max at to - to)) ≡ to + y - at
 common_row at n to y on = grind (arith, nat_tests)
 
--- of a target's line or column y: whether the source has it on the screen
+-- whether the source has the target's line or column y on the screen
 abbrev has : ℕ → ℕ → ℕ → ℕ → Bool
 has at n to y = nat_le at (to + y) && nat_lt (to + y) (at + n)
 

@@ -43,7 +43,7 @@ stretch_inj s t e = cc
 area_inj : (s t : Area) → (let r : Result Area Refusal = Ok s in r ≡ Ok t) → s ≡ t
 area_inj s t e = cc
 
--- the lines or columns begin where they were asked for
+-- the lines or columns begin at the given place
 choose_at : (b c e : Bool) (u w v : Span) (k : ℕ) → u.at ≡ k → w.at ≡ k → (if b then (if c then Some u else if e then Some w else None) else None) ≡ Some v → v.at ≡ k
 choose_at true true e u w v k one two h = ap (λ (s : Span). s.at) (sym (stretch_inj u v h)) ∙ one
 choose_at true false true u w v k one two h = ap (λ (s : Span). s.at) (sym (stretch_inj w v h)) ∙ two
@@ -126,13 +126,13 @@ subwin_part d n w lines cols y x s t is ok found at =
     (λ u4 e4 ok4. (let all : last s2 ≡ subwindow_at d n w s lines cols (pos y) (pos x) = ap last (ok_inj s2 s (slot_of d w) e3 found) ∙ here in
     subst P (sym all) (made_part d n w s lines cols y x is.windows (free_few d n u2 e2) (ap (λ (z : DeskStep). z.1) (sym all) ∙ ok4))))))) t at
 
--- what is seen of a window at a place is its cell there
+-- the view of a window shows at each place its cell there
 pub cell_seen : (a : Area) (g : Grid) (y x : ℕ) → Fits a g → y < a.rows → x < a.cols → cell_at (window_cells a g) y x ≡ cell_at g (a.top + y) (a.left + x)
 cell_seen a g y x fits lt lt2 =
     ap (λ (l : List Content). get_or l x space) (sym (line_seen a g y fits (omega (arith, rows_seen a g fits))))
     ∙ get_or-take a.cols (drop a.left (line_at g (a.top + y))) x space lt2 ∙ get_or-drop a.left (line_at g (a.top + y)) x space
 
--- a window that was made is on a grid of its own
+-- a new window has a grid of its own
 pub settled_apart : (d : State) (n m : ℕ) (g : Grid) (o : Origin) (w : Window) (t : Slot) (y x : ℕ) → IsDesk d → window_at d n ≡ None → window_at d m ≡ Some t → cell (root_added d n g o w) t y x ≡ cell d t y x
 settled_apart d n m g o w t y x is none there =
     let was : IsPlaced d m t = is.placed m t there in

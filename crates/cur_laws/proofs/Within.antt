@@ -16,7 +16,7 @@ use Rattle.cur_windows.specs.Desks.{State, DeskStep, IsDesk, IsPlaced, after, gr
 use Rattle.cur_windows.specs.Laws.{OnlyWithin, Apart}
 use Rattle.cur_windows.proofs.Supports.{found_there}
 
--- one grid was written, and only within the window's rectangle
+-- one grid is written, and only within the window's rectangle
 pub grid_within : (d : State) (s : Slot) (g : Grid) (k i j : ℕ) → s.root < length d.grids → ((i j : ℕ) → is_in s.window.area i j ≡ false → cell_at g i j ≡ cell_at (grid_at d s.root) i j) →
     (k ≢ s.root) ⊎ (is_in s.window.area i j ≡ false) → cell_at (get_or (set d.grids s.root g) k []) i j ≡ cell_at (grid_at d k) i j
 grid_within d s g k i j lt same (inl other) = ap (λ (x : Grid). cell_at x i j) (get_or-set_other d.grids s.root k g [] other)
@@ -62,7 +62,7 @@ on_cursor d n s act found =
 place_within : (a : Area) (y x : ℕ) → y < a.rows → x < a.cols → is_in a (a.top + y) (a.left + x) ≡ true
 place_within a y x lt lt2 = grind (arith, nat_tests)
 
--- what another window shows that has no cell in common with it
+-- the cells of another window, which has none in common with this one
 pub apart_kept : (d e : State) (n : ℕ) (s t : Slot) (y x : ℕ) → OnlyWithin d e n s → Apart s t → y < t.window.area.rows → x < t.window.area.cols → cell e t y x ≡ cell d t y x
 apart_kept d e n s t y x only (inl other) lt lt2 = only.cells t.root (t.window.area.top + y) (t.window.area.left + x) (inl other)
 apart_kept d e n s t y x only (inr off) lt lt2 =

@@ -10,7 +10,7 @@ ghost use Rattle.cur_drawing.specs.Laws.{line_deleted};
 
 use cur_drawing::{Border, Put, Window};
 
-/// A call that writes leaves each cell outside its window's rectangle as it was, and the window at its place.
+/// A call that writes changes no cell outside its window's rectangle, and leaves the window at its place.
 pub fn writing_stays_inside()
     ensures addch { (put : Put) → IsLocal (calls.added put) }
     ensures addstr { (text : List ℕ) → IsLocal (calls.added_all text) }
@@ -21,7 +21,8 @@ pub fn writing_stays_inside()
     ensures bkgd { (put : Put) → IsLocal (calls.change_background put) }
 {}
 
-/// So does one that erases, deletes or scrolls.
+/// A call that erases, deletes or scrolls changes no cell outside its window's rectangle, and
+/// leaves the window at its place.
 pub fn erasing_stays_inside()
     ensures erase { IsLocal calls.erased }
     ensures clear { IsLocal calls.cleared }
@@ -33,20 +34,21 @@ pub fn erasing_stays_inside()
     ensures scroll { (n : ℤ) → IsLocal (calls.scroll_by n) }
 {}
 
-/// A scroll up by `n` lines gives each place of the region what was `n` lines below it, or the background; all other
-/// places keep what they had.
+/// A scroll up by `n` lines gives each place of the region the cell `n` lines below it, or the
+/// background; all other places keep their cells.
 pub fn scroll_up_by_place()
     ensures { (g : Grid) (w : Window) (n y x : ℕ) → calls.IsCanvas g w → y < w.area.rows → x < w.area.cols →
         cell_of w (calls.scrolled (pos n) w g) y x ≡ went_up w n g y x }
 {}
 
-/// A scroll down by `n` lines gives each place of the region what was `n` lines above it, or the background.
+/// A scroll down by `n` lines gives each place of the region the cell `n` lines above it, or the
+/// background; all other places keep their cells.
 pub fn scroll_down_by_place()
     ensures { (g : Grid) (w : Window) (n y x : ℕ) → calls.IsCanvas g w → y < w.area.rows → x < w.area.cols →
         cell_of w (calls.scrolled (negsuc n) w g) y x ≡ went_down w (n + 1) g y x }
 {}
 
-/// A call that is refused has changed nothing; a character's only where it isn't `NoScroll`.
+/// A refused call changes nothing, except that `addch` may have written before it answers `NoScroll`.
 pub fn refusals_change_nothing()
     ensures addch { (put : Put) → ChangesNothingIfRefusedButNoScroll (calls.added put) }
     ensures insch { (put : Put) → ChangesNothingIfRefused (calls.insert_char put) }
@@ -70,8 +72,8 @@ pub fn lines_shift_by_place()
     ensures deleteln { LeavesCells calls.delete_line (λ w g y x. line_deleted w g y x) }
 {}
 
-/// `bkgd` exchanges the old background for the new one in each cell: its character, its attributes and its pair, each
-/// by itself.
+/// `bkgd` replaces the old background by the new one in each cell: its character, its attributes
+/// and its pair, each by itself.
 pub fn background_changes_by_place()
     ensures { (put : Put)
         → LeavesCells (calls.change_background put) (λ w g y x. restyled w.background (as_is put) (cell_of w g y x)) }

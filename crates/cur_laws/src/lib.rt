@@ -1,5 +1,5 @@
-//! The laws of windows and of what is drawn in them (X/Open Curses Issue 7). Each is the contract of a function that
-//! does nothing.
+//! The laws of windows and of drawing in them (X/Open Curses Issue 7). Each is the contract of a
+//! function that does nothing.
 #![tactic(auto)]
 
 pub mod drawing;

@@ -23,8 +23,8 @@ use cur_drawing::{Border, Cell, Put, Refusal, Window};
 use cur_screens::{Origin, Slot};
 use cur_windows::Desk;
 
-/// A call on one window changes no cell outside the window's rectangle, and no other window. That what it does to the
-/// window and its grid stays inside is a law of each such call.
+/// A call on one window changes no cell outside the window's rectangle, and no other window. It
+/// must be local to its window and grid, which is a law of each such call.
 pub fn calls_stay_inside()
     ensures writing { (d : State) (n : ℕ) (s : Slot) (act : calls.Canvas → calls.CanvasStep) → IsDesk d
         → slot_of d n ≡ Ok s → IsLocal act → OnlyWithin d (on_window d n act).0 n s }
@@ -34,7 +34,7 @@ pub fn calls_stay_inside()
         → OnlyWithin d (on_cursor d n act).0 n s }
 {}
 
-/// What such a call leaves in each window that has no cell in common with its own is as before.
+/// A call on one window changes no cell of a window that has no cell in common with it.
 pub fn windows_apart_stay()
     ensures { (d e : State) (n : ℕ) (s t : Slot) (y x : ℕ) → OnlyWithin d e n s → Apart s t → y < t.window.area.rows
         → x < t.window.area.cols → cell e t y x ≡ cell d t y x }
@@ -48,25 +48,25 @@ pub fn copies_stay_inside()
         → slot_of d m ≡ Ok t → OnlyWithin d (copying.copywin d n m sr sc dr dc er ec skip).0 m t }
 {}
 
-/// A window that was made with a grid of its own changes no cell of the others.
+/// A new window with a grid of its own changes no cell of the others.
 pub fn new_windows_lie_apart()
     ensures { (d : State) (n m : ℕ) (g : Grid) (o : Origin) (w : Window) (t : Slot) (y x : ℕ) → IsDesk d
         → window_at d n ≡ None → window_at d m ≡ Some t → cell (making.root_added d n g o w) t y x ≡ cell d t y x }
 {}
 
-/// A subwindow and its parent show the same cell at the same place, whatever was done to the desk.
+/// A subwindow and its parent show the same cell at the same place, whatever happens to the desk.
 pub fn subwindows_share_cells()
     ensures { (d : State) (s t : Slot) (y x i j : ℕ) → IsSubwindowOf s t y x → cell d t i j ≡ cell d s (y + i) (x + j) }
 {}
 
-/// What `derwin` makes is such a subwindow, at the place that was asked for.
+/// `derwin` makes such a subwindow, at the given place of its parent.
 pub fn derwin_makes_subwindows()
     ensures { (d : State) (n w : ℕ) (lines cols : ℤ) (y x : ℕ) (s t : Slot) → IsDesk d
         → (making.derwin d n w lines cols (pos y) (pos x)).1 ≡ Ok tt → slot_of d w ≡ Ok s
         → window_at (making.derwin d n w lines cols (pos y) (pos x)).0 n ≡ Some t → IsSubwindowOf s t y x }
 {}
 
-/// What `subwin` makes too, the place counting from the screen's corner.
+/// `subwin` makes such a subwindow, at a place relative to the screen's corner.
 pub fn subwin_makes_subwindows()
     ensures { (d : State) (n w : ℕ) (lines cols : ℤ) (y x : ℕ) (s t : Slot) → IsDesk d
         → (making.subwin d n w lines cols (pos ((making.corner d s).0 + y)) (pos ((making.corner d s).1 + x))).1 ≡ Ok tt
@@ -82,7 +82,8 @@ pub fn views_tell_cells()
         → x < s.window.area.cols → cell_at (window_cells s.window.area (grid_at d s.root)) y x ≡ cell d s y x }
 {}
 
-/// A refused call that writes changes nothing, but for a character's `NoScroll`.
+/// A refused call that writes changes nothing, except that `addch` may have written before it
+/// answers `NoScroll`.
 pub fn refused_writing_changes_nothing()
     ensures addch { (d : State) (n : ℕ) (put : Put) (e : Refusal) → e ≢ Refusal.NoScroll
         → (on_window d n (calls.added put)).1 ≡ Err e → (on_window d n (calls.added put)).0 ≡ d }
@@ -98,7 +99,7 @@ pub fn refused_writing_changes_nothing()
     ensures scroll { (d : State) (n : ℕ) (count : ℤ) → UnchangedIfRefused d (on_grid d n (calls.scroll_by count)) }
 {}
 
-/// So does one that sets a place, a region, a pair or a background.
+/// A refused call that sets a place, a region, a pair or a background changes nothing.
 pub fn refused_setting_changes_nothing()
     ensures move_to { (d : State) (n : ℕ) (y x : ℤ) → UnchangedIfRefused d (on_cursor d n (window_calls.move_to y x)) }
     ensures setscrreg { (d : State) (n : ℕ) (top bottom : ℤ)
@@ -109,7 +110,7 @@ pub fn refused_setting_changes_nothing()
         → UnchangedIfRefused d (on_cursor d n (window_calls.set_background put)) }
 {}
 
-/// So does one that makes, moves, deletes or copies windows.
+/// A refused call that makes, moves, deletes or copies windows changes nothing.
 pub fn refused_making_changes_nothing()
     ensures newwin { (d : State) (n : ℕ) (lines cols y x : ℤ)
         → UnchangedIfRefused d (making.newwin d n lines cols y x) }
@@ -125,8 +126,8 @@ pub fn refused_making_changes_nothing()
         → UnchangedIfRefused d (copying.copywin d n m sr sc dr dc er ec skip) }
 {}
 
-/// What is written through a lent line is in the window's grid at that place, and nothing else has changed; a refusal
-/// changes nothing. That the line has the place is the caller's condition.
+/// A cell written through a borrowed line is in the window's grid at its place, and nothing else
+/// changes; a refusal changes nothing. The line must have the place `x`.
 pub fn lent_lines_are_written(desk: &mut Desk, id: usize, y: u16, x: u16, cell: Cell)
     requires { IfOk (line_of desk.old id y) (λ s. x < s.window.area.cols) }
     ensures { desk.new ≡ written_through (line_of desk.old id y) desk.old y x cell }
@@ -136,7 +137,8 @@ pub fn lent_lines_are_written(desk: &mut Desk, id: usize, y: u16, x: u16, cell: 
     }
 }
 
-/// So is what is left in the line's cells where they are lent as a slice.
+/// A cell written into the slice of a borrowed line is in the window's grid at its place, and
+/// nothing else changes; a refusal changes nothing. The line must have the place `x`.
 pub fn lent_cells_are_written(desk: &mut Desk, id: usize, y: u16, x: u16, cell: Cell)
     requires { IfOk (line_of desk.old id y) (λ s. x < s.window.area.cols) }
     ensures { desk.new ≡ written_through (line_of desk.old id y) desk.old y x cell }
@@ -146,7 +148,8 @@ pub fn lent_cells_are_written(desk: &mut Desk, id: usize, y: u16, x: u16, cell: 
     }
 }
 
-/// A line that was written so has its cells place by place, and no cell outside it has changed, nor a window.
+/// A line that was written as a whole has these cells place by place, and no cell outside it
+/// changes, nor a window.
 pub fn lines_are_written_in_place()
     ensures inside { (d : State) (n : ℕ) (s : Slot) (y x : ℕ) (cells : List Content) → IsDesk d → slot_of d n ≡ Ok s
         → y < s.window.area.rows → x < s.window.area.cols → x < length cells
@@ -158,14 +161,15 @@ pub fn lines_are_written_in_place()
         → window_at (row_written d s y cells) m ≡ window_at d m }
 {}
 
-/// `noutrefresh` gives each place of the virtual screen under the window the window's cell, and leaves all others.
+/// `noutrefresh` gives each place of the virtual screen under the window the window's cell, and
+/// keeps all other places.
 pub fn windows_are_shown_by_place()
     ensures { (d : State) (v : Screen) (n : ℕ) (s : Slot) → IsDesk d → slot_of d n ≡ Ok s
         → (noutrefresh d v n).2 ≡ Ok tt → IsWindowShown d s v (noutrefresh d v n).1 }
 {}
 
-/// `overlay`, `overwrite` and `copywin` give each place of the target that is copied to the source's cell as it was
-/// before the call, and leave all others. `copywin` refuses every negative number.
+/// `overlay`, `overwrite` and `copywin` give each place copied to the source's cell as it was
+/// before the call, and keep all other places. `copywin` refuses every negative number.
 pub fn copies_are_made_by_place()
     ensures overlay { (d : State) (skip : Bool) (n m : ℕ) (s t : Slot) → IsDesk d → slot_of d n ≡ Ok s
         → slot_of d m ≡ Ok t → (copying.common_part skip d n m).1 ≡ Ok tt
@@ -177,8 +181,8 @@ pub fn copies_are_made_by_place()
         sr sc dr dc er ec }
 {}
 
-/// What `dupwin` makes has the window's cells on a grid of its own, so that what is written in the one leaves the
-/// other.
+/// `dupwin` makes a window with equal cells on a grid of its own, so that writing in one of the two
+/// doesn't change the other.
 pub fn duplicates_are_apart()
     ensures copy { (d : State) (n w : ℕ) (s t : Slot) → IsDesk d → slot_of d w ≡ Ok s
         → (making.dupwin d n w).1 ≡ Ok tt → window_at (making.dupwin d n w).0 n ≡ Some t
@@ -189,8 +193,8 @@ pub fn duplicates_are_apart()
         → y < t.window.area.rows → x < t.window.area.cols → cell f t y x ≡ cell e t y x }
 {}
 
-/// The refusal of a call that makes, moves or deletes a window is the first in the order of ranks that there is cause
-/// for. `NoMemory`, the last of all, is reported only where there is cause for none of these.
+/// The refusal of a call that makes, moves or deletes a window is the first, in the order of ranks,
+/// that applies. `NoMemory`, the last of all, is reported only if none of the others applies.
 pub fn refused_making_is_ranked()
     ensures newwin { (d : State) (n : ℕ) (lines cols y x : ℤ)
         → IsFirstOf (causes.newwin d n lines cols y x) (making.newwin d n lines cols y x).1 }
@@ -203,7 +207,7 @@ pub fn refused_making_is_ranked()
     ensures mvwin { (d : State) (n : ℕ) (y x : ℤ) → IsFirstOf (causes.mvwin d n y x) (making.mvwin d n y x).1 }
 {}
 
-/// So is that of a call that copies.
+/// The refusal of a call that copies is the first, in the order of ranks, that applies.
 pub fn refused_copying_is_ranked()
     ensures overlay { (d : State) (skip : Bool) (n m : ℕ)
         → IsFirstOf (causes.overlay d n m) (copying.common_part skip d n m).1 }
@@ -212,7 +216,8 @@ pub fn refused_copying_is_ranked()
     ensures noutrefresh { (d : State) (v : Screen) (n : ℕ) → IsFirstOf (causes.noutrefresh d n) (noutrefresh d v n).2 }
 {}
 
-/// So is that of a call on one window that sets its cursor, region, pair, options or background.
+/// The refusal of a call that sets a window's cursor, region, pair, options or background is the
+/// first, in the order of ranks, that applies.
 pub fn refused_setting_is_ranked()
     ensures move_to { (d : State) (n : ℕ) (y x : ℤ)
         → IsFirstOf (causes.move_to d n y x) (on_cursor d n (window_calls.move_to y x)).1 }
@@ -227,7 +232,8 @@ pub fn refused_setting_is_ranked()
     ensures touchwin { (d : State) (n : ℕ) → IsFirstOf (causes.any_window d n) (unchanged d n).1 }
 {}
 
-/// So is that of a call that writes or erases. A string stops at its first refusal, whatever the ranks.
+/// The refusal of a call that writes or erases is the first, in the order of ranks, that applies. A
+/// string stops at its first refusal, whatever the ranks.
 pub fn refused_writing_is_ranked()
     ensures addch { (d : State) (n : ℕ) (put : Put)
         → IsFirstOf (causes.addch d n put) (on_window d n (calls.added put)).1 }
