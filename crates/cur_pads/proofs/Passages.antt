@@ -1,4 +1,4 @@
--- What is known where a part was shown: no test was failed.
+-- The facts if a part was shown: all tests passed.
 use Rattle.std.proofs.Common.{◌≡◌, ℕ, ◌+◌, ◌-◌, ◌<◌, ◌≤◌, ◌&&◌, ◌||◌, length, nat_le, nat_lt, Bool, true, false, refl, sym, ap, ◌∙◌, arith, if◌then◌else◌, Option, Some, None, Result, Ok, Err, ℤ, pos}
 use Rattle.std.proofs.lemmas.Bool.Decides.{nat_tests}
 use Rattle.grids.specs.declared.areas.Area.{Area}
@@ -22,7 +22,7 @@ use Rattle.cur_pads.specs.Displays.{done, start}
 use Rattle.cur_windows.proofs.Supports.{found_there}
 use Rattle.cur_pads.proofs.Places.{cell_at-shown, area_of}
 
--- what is done after a test is done only if it was passed
+-- a step after a test is done only if the test passed
 passed : {A : Type 0} (r : Result A Refusal) (d e : State) (v w : Screen) (next : A → Refresh) → if_shown r d v next ≡ refresh e w (Ok tt) →
     (a : A) × (r ≡ Ok a) × (next a ≡ refresh e w (Ok tt))
 passed (Ok a) d e v w next h = (a, refl, h)
@@ -46,7 +46,7 @@ both_ways : (o : Bool) (e : Refusal) → tested o e ≡ Ok tt → o ≡ false
 both_ways true e h = absurd cc
 both_ways false e h = refl
 
--- a rectangle that was made has the lines and columns
+-- a rectangle has the lines and columns that it was made from
 rectangle_ok : (a b : Option Span) (e : Refusal) (t : Area) → rectangle a b e ≡ Ok t →
     (a ≡ Some (record { at = t.top; size = t.rows })) × (b ≡ Some (record { at = t.left; size = t.cols }))
 rectangle_ok (Some v) (Some h) e t is =
@@ -91,7 +91,7 @@ in_order_last top bottom left right h =
 abbrev run : ℕ → ℕ → Span
 run at size = record { at = at; size = size }
 
--- the cells that are shown lie in the pad's grid
+-- the cells that are shown are in the pad's grid
 cells_there : (g : Grid) (a : Area) (y x top left bottom right i j : ℕ) → Fits a g → y + (bottom - top + 1) ≤ a.rows → x + (right - left + 1) ≤ a.cols → top ≤ bottom → left ≤ right →
     (is_between top bottom i && is_between left right j) ≡ true → a.left + (x + (j - left)) < length (line_at g (a.top + (y + (i - top))))
 cells_there g a y x top left bottom right i j fits rows cols high wide on =

@@ -13,11 +13,11 @@ use Rattle.cur_windows.specs.Laws.{is_between}
 abbrev pub area_of : ℕ → ℕ → ℕ → ℕ → Area
 area_of top left rows cols = record { top = top; left = left; rows = rows; cols = cols }
 
--- the places up to a last one are those of so many from the first one on
+-- the places up to a last one, as a number of places from the first one on
 same_place : (first last i : ℕ) → first ≤ last → (nat_le first i && nat_lt i (first + (last - first + 1))) ≡ is_between first last i
 same_place first last i h = grind (arith, nat_tests)
 
--- the cell that is read is there
+-- the cell that is read exists
 read_there : (b : Bool) (g : Grid) (row col : ℕ) (old : Content) → (b ≡ true → col < length (line_at g row)) → (if b then base.cell_at old g row col else old) ≡ (if b then cell_at g row col else old)
 read_there true g row col old there = get_or_default (line_at g row) col old space (there refl)
 read_there false g row col old there = refl

@@ -1,4 +1,4 @@
--- The refusal of a call is the first that there is cause for.
+-- The refusal of a call is the first one that applies.
 use Rattle.std.proofs.Common.{◌≡◌, ℕ, ◌&&◌, ◌||◌, nat_lt, not, [], ◌∷◌, Bool, true, false, Option, Some, None, Result, Ok, Err, ℤ, pos, refl, ◌∙◌, if◌then◌else◌}
 use Rattle.std.specs.Prelude.{is_some, int_lt}
 use Rattle.grids.specs.declared.areas.Area.{Area}
@@ -69,7 +69,7 @@ shown_pad : (d : State) (v : Screen) (b : Bool) (s : Slot) (next : Slot → Refr
 shown_pad d v true s next x h = h
 shown_pad d v false s next x h = refl
 
--- the part of the pad is asked for only where there is a rectangle of the screen
+-- the part of the pad matters only if there is a rectangle of the screen
 parts_answer : (d : State) (v : Screen) (r c : Option Span) (f g : ℕ) (height width : ℕ) (last : Area → Area → Refresh) → ((to part : Area) → (last to part).2 ≡ Ok tt) →
     (if_shown (rectangle r c OutOfScreen) d v (λ to. if_shown (rectangle (from f to.rows height) (from g to.cols width) OutOfWindow) d v (λ part. last to part))).2
     ≡ (if not (is_some r && is_some c) then Err OutOfScreen else if ends_past r f height || ends_past c g width then Err OutOfWindow else Ok tt)

@@ -1,4 +1,4 @@
--- A refused call gives the desk, and the screen, back.
+-- A refused call leaves the desk and the screen as they were.
 use Rattle.std.proofs.Common.{ℕ, refl, Result, Ok, Err, ℤ, pos}
 use Rattle.cur_drawing.specs.declared.refusals.Refusal.{Refusal}
 use Rattle.cur_drawing.specs.declared.refusals.Refusal.TheVariants.{OutOfScreen, OutOfWindow}

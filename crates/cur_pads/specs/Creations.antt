@@ -1,4 +1,4 @@
--- Making pads (X/Open Curses Issue 7, newpad, subpad). A pad is a window that lies on no screen.
+-- Making pads (X/Open Curses Issue 7, newpad, subpad). A pad is a window that isn't on the screen.
 use Rattle.std.specs.Prelude.{ℕ, ◌&&◌, nat_lt, nat_le, Option, Some, None, Result, Ok, Err, if◌then◌else◌, ℤ, pos}
 use Rattle.std.specs.Prelude.{negsuc}
 use Rattle.cur_drawing.specs.declared.refusals.Refusal.{Refusal}
@@ -9,7 +9,7 @@ use Rattle.cur_windows.specs.Desks.{State, DeskStep, after, slot_of, origin_at}
 use Rattle.cur_windows.specs.Creations.{free, in_range, subwindow_at}
 use Rattle.cur_windows.specs.Pads.{pad_added}
 
--- as many lines or columns as a pad may have
+-- a number of lines or columns that a pad can have
 abbrev pub side : ℤ → Option ℕ
 side (pos n) = if nat_lt 0 n && nat_le n most_lines then Some n else None
 side (negsuc n) = None
@@ -33,7 +33,7 @@ pad_only d (Err e) = Err e
 abbrev pub pad_of : State → ℕ → Result Slot Refusal
 pad_of d n = pad_only d (slot_of d n)
 
--- subpad: the place counts from the pad's corner
+-- subpad: the place is relative to the pad's corner
 abbrev pub subpad : State → ℕ → ℕ → ℤ → ℤ → ℤ → ℤ → DeskStep
 subpad d n w lines cols y x =
     after (in_range n w) d (λ u.

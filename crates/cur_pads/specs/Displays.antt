@@ -19,7 +19,8 @@ start (negsuc n) = 0
 abbrev pub done : State × Screen → Refresh
 done (d, v) = (d, v, Ok tt)
 
--- pnoutrefresh: the pad's cells from (pr, pc) on come to the screen's rows sr to er and columns sc to ec, ends included
+-- pnoutrefresh: the pad's cells from (pr, pc) on are copied to the screen's rows sr to er and columns sc to ec, ends
+-- included
 abbrev pub pnoutrefresh : State → Screen → ℕ → ℤ → ℤ → ℤ → ℤ → ℤ → ℤ → Refresh
 pnoutrefresh d v n pr pc sr sc er ec =
     if_shown (pad_of d n) d v (λ s. if_shown (in_order (pos (start sr)) er (pos (start sc)) ec) d v (λ u.

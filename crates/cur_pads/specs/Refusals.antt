@@ -1,4 +1,4 @@
--- What each call is refused for, in the order of ranks. No condition depends on another one.
+-- The refusals of each call, in the order of ranks. No condition depends on another one.
 use Rattle.std.specs.Prelude.{ℕ, ◌&&◌, ◌||◌, not, is_some, List, [], ◌∷◌, Bool, false, Option, Some, None, ℤ, int_lt}
 use Rattle.std.specs.Prelude.{pos}
 use Rattle.cur_drawing.specs.declared.refusals.Refusal.TheVariants.{NoWindow, OutOfWindow, OutOfScreen, PadKind}
@@ -25,7 +25,7 @@ subpad d n w lines cols y x =
     ∷ (BadRegion, is_negative lines || is_negative cols)
     ∷ (OutOfWindow, window_is d w (λ s. lies_outside s.window.area.rows s.window.area.cols lines cols y x)) ∷ []
 
--- as many lines or columns as the screen's, from a first one on, aren't all below the limit
+-- as many lines or columns as the screen's run has, from a first one on, aren't all below the limit
 abbrev pub ends_past : Option Span → ℕ → ℕ → Bool
 ends_past (Some v) first limit = not (is_some (from first v.size limit))
 ends_past None first limit = false

@@ -1,4 +1,4 @@
-//! What is checked of a pad.
+//! Checks of a pad.
 ghost use Rattle.std.specs.Prelude.{◌≡◌, Ok, IfOk};
 ghost use Rattle.cur_screens.specs.declared.slots.Slot.{Slot};
 ghost use Rattle.cur_windows.specs.Desks.{slot_of};

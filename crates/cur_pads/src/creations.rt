@@ -7,8 +7,8 @@ use crate::checks::pad_size;
 use cur_drawing::{Geometry, LONGEST, area_within};
 use cur_windows::{Desk, Refusal, in_range};
 
-/// A new pad of 1 to 1000 lines and as many columns (X/Open Curses, `newpad`). `Full` for a number above 63,
-/// `NumberUsed`, `BadRegion` for any other size; `NoMemory` where a growth was refused. Then nothing has changed.
+/// Makes pad `n` of 1 to 1000 lines and 1 to 1000 columns (X/Open Curses, `newpad`). `Full` for a number above
+/// 63, `NumberUsed`, `BadRegion` for any other size; `NoMemory` if memory runs out. Nothing has then changed.
 pub fn newpad(desk: &mut Desk, n: usize, lines: i32, cols: i32) -> Result<(), Refusal>
     ensures { ((result ≡ Err Refusal.NoMemory) × (desk.new ≡ desk.old) ×
         ((spec.newpad desk.old n lines cols).1 ≡ Ok tt)) ⊎ (step desk.new result ≡ spec.newpad desk.old n lines cols) }
@@ -23,9 +23,9 @@ pub fn newpad(desk: &mut Desk, n: usize, lines: i32, cols: i32) -> Result<(), Re
     Ok(())
 }
 
-/// A new pad that is a part of another one and shares its cells; the place counts from that one's corner, and 0 lines
-/// or columns mean all up to its edge (`subpad`). `Full`, `NumberUsed`, `NoWindow`, `PadKind` for a window, `BadRegion`
-/// for a negative size, `OutOfWindow` where it isn't a part. Then nothing has changed.
+/// Makes pad `n` as a part of pad `id`, whose cells it shares; the place is relative to the corner of `id`,
+/// and 0 lines or columns mean all up to its edge (`subpad`). `Full`, `NumberUsed`, `NoWindow`, `PadKind` for
+/// a window, `BadRegion` for a negative size, `OutOfWindow` if it isn't within `id`. Nothing has then changed.
 pub fn subpad(
     desk: &mut Desk,
     n: usize,
@@ -46,7 +46,7 @@ pub fn subpad(
     Ok(())
 }
 
-// A pad's lines or columns, if it may have `n`.
+// The number `n` of a pad's lines or columns, if a pad can have as many.
 fn side(n: i32) -> Option<u16>
     ensures value { result ≡ spec.side n }
     ensures within { IfSome result (λ size. (0 < size) × (size ≤ 1000)) }

@@ -9,12 +9,13 @@ use cur_drawing::rectangle;
 use cur_screens::Virtual;
 use cur_windows::{Desk, Refusal, in_order};
 
-/// The pad's cells from a row and a column on are copied to the rows `top` to `bottom` and columns `left` to `right` of
-/// the virtual screen, of which all other cells stay (X/Open Curses, `pnoutrefresh`). The screen's cursor becomes the
-/// pad's if it lies in the shown part and the pad doesn't leave it, else none; the pad's `clearok` goes over to the
-/// screen. Of the first four numbers a negative one counts as 0. `Full`, `NoWindow`, `PadKind` for a window,
-/// `BadRegion` where an end is before its start, `OutOfScreen` where it isn't on the screen, `OutOfWindow` where the
-/// pad ends before; then nothing has changed. That the screen has the desk's size is the caller's condition.
+/// Copies the cells of pad `id` from row `row` and column `col` on to the rows `top` to `bottom` and
+/// columns `left` to `right` of the virtual screen, and keeps all its other cells (X/Open Curses,
+/// `pnoutrefresh`). The screen's cursor becomes the pad's if that is in the shown part and the pad
+/// doesn't leave it anywhere, else none; the screen takes over the pad's `clearok`. A negative
+/// `row`, `col`, `top` or `left` counts as 0. `Full`, `NoWindow`, `PadKind` for a window,
+/// `BadRegion` if an end is before its start, `OutOfScreen` if it isn't on the screen, `OutOfWindow`
+/// if the pad ends before; nothing has then changed. The screen must have the desk's size.
 pub fn pnoutrefresh(
     desk: &mut Desk,
     id: usize,

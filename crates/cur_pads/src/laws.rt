@@ -9,8 +9,8 @@ ghost use Rattle.cur_drawing.specs.Refusals.{IsFirstOf};
 ghost use Rattle.cur_pads.specs.Refusals as causes;
 ghost use Rattle.cur_pads.specs.Displays.{pnoutrefresh};
 
-/// Where a part of a pad is shown, the screen's places from its first row and column to its last ones have the pad's
-/// cells, and all others what they had.
+/// If a part of a pad is shown, the screen's places from its first row and column to its last ones
+/// have the pad's cells, and all others keep their cells.
 pub fn parts_are_shown()
     ensures { (d : State) (v : Screen) (n : ℕ) (pr pc sr sc : ℤ) (bottom right : ℕ) → IsDesk d →
         ShowsCells d v n pr pc sr sc bottom right }
@@ -24,8 +24,8 @@ pub fn refused_calls_change_nothing()
         BothUnchangedIfRefused d v (pnoutrefresh d v n pr pc sr sc er ec) }
 {}
 
-/// The refusal of a call is the first in the order of ranks that there is cause for. `NoMemory`, the last of all, is
-/// reported only where there is cause for none of these.
+/// The refusal of a call is the first, in the order of ranks, that applies. `NoMemory`, the last of
+/// all, is reported only if none of the others applies.
 pub fn refused_calls_are_ranked()
     ensures newpad { (d : State) (n : ℕ) (lines cols : ℤ) →
         IsFirstOf (causes.newpad d n lines cols) (newpad d n lines cols).1 }

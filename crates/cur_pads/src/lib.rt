@@ -1,4 +1,5 @@
-//! Pads: windows that lie on no screen, larger than it or not, of which parts are shown (X/Open Curses Issue 7).
+//! Pads: windows that aren't on the screen and may be larger than it; parts of them are shown
+//! (X/Open Curses Issue 7).
 #![tactic(auto)]
 
 mod checks;

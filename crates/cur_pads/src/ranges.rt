@@ -5,21 +5,21 @@ ghost use Rattle.cur_pads.specs.Displays as show;
 
 use cur_drawing::Span;
 
-/// The number, or 0 for a negative one.
+/// The number `n`, or 0 if it is negative.
 pub(crate) fn at_least_zero(n: i32) -> i32
     ensures { result ≡ pos (show.start n) }
 {
     if n < 0 { 0 } else { n }
 }
 
-/// A first row or column, where a negative number counts as 0.
+/// A first row or column; a negative number counts as 0.
 pub(crate) fn start(n: i32) -> u32
     ensures { result ≡ show.start n }
 {
     at_least_zero(n) as u32
 }
 
-/// The lines or columns from the first one to the last one, if that is below the limit.
+/// The lines or columns from `first` to `last`, if `last` is below `limit`; it must not be before `first`.
 pub(crate) fn between(first: u32, last: i32, limit: u16) -> Option<Span>
     requires { pos first ≤ℤ last }
     ensures value { result ≡ between first last limit }
