@@ -9,8 +9,7 @@ use crate::groups::{
 use crate::texts::Text;
 use cur_drawing::{Attrs, Border, Put};
 
-/// A call of curses. Windows and pads are named by numbers; rows and columns come before each other
-/// as in curses, rows first.
+/// A call of curses. Numbers name windows and pads; a row comes before its column, as in curses.
 #[derive(Drop)]
 pub enum Call<'a> {
     /// `newwin`: the window's number, its size, and its place on the screen.
@@ -27,7 +26,8 @@ pub enum Call<'a> {
         lines: i32,
         cols: i32,
     },
-    /// `subwin`, `derwin`, `subpad`: the part's number, the window or pad that it is a part of, its size and its place.
+    /// `subwin`, `derwin`, `subpad`: the part's number, the window or pad of which it is a part,
+    /// its size and its place.
     Part {
         call: PartCall,
         window: usize,
@@ -107,8 +107,8 @@ pub enum Call<'a> {
         source: usize,
         target: usize,
     },
-    /// `copywin`: whether spaces are skipped; from a place of the source on, to the target's rows `row` to `last_row`
-    /// and columns `col` to `last_col`.
+    /// `copywin`: whether spaces are skipped, the place of the source from which it copies, and the
+    /// target's rows `row` to `last_row` and columns `col` to `last_col`.
     Copywin {
         skip: bool,
         source: usize,
@@ -125,8 +125,8 @@ pub enum Call<'a> {
         call: ShowCall,
         window: usize,
     },
-    /// `pnoutrefresh`, `prefresh`: from a place of the pad on, to the screen's rows `top` to `bottom` and columns
-    /// `left` to `right`.
+    /// `pnoutrefresh`, `prefresh`: the place of the pad from which it copies, and the screen's rows
+    /// `top` to `bottom` and columns `left` to `right`.
     ShowPad {
         call: PadCall,
         window: usize,
@@ -152,7 +152,7 @@ pub enum Call<'a> {
 }
 
 impl<'a> Call<'a> {
-    /// Its name in curses.
+    /// The call's name in curses.
     pub fn name(&self) -> &'static str
         ensures { result.now ≡ call_name self.now }
     {

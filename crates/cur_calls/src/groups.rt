@@ -2,7 +2,7 @@
 ghost use Rattle.std.specs.Prelude.{◌≡◌};
 ghost use Rattle.cur_calls.specs.Names as spec;
 
-/// Making a window that is a part of another one.
+/// Calls that make a window as a part of another one.
 #[derive(Clone, Copy, Debug, PartialEq, Eq)]
 pub enum PartCall {
     Subwin,
@@ -40,7 +40,7 @@ pub enum NumbersCall {
     Touchline,
 }
 
-/// Options of a window.
+/// Calls that set an option of a window.
 #[derive(Clone, Copy, Debug, PartialEq, Eq)]
 pub enum FlagCall {
     Scrollok,
@@ -49,7 +49,7 @@ pub enum FlagCall {
     Idlok,
 }
 
-/// Setting a window's attributes.
+/// Calls that set a window's attributes.
 #[derive(Clone, Copy, Debug, PartialEq, Eq)]
 pub enum AttrsCall {
     Attron,
@@ -66,28 +66,28 @@ pub enum CellCall {
     Bkgd,
 }
 
-/// Lines of one character.
+/// Calls that draw a line of one character.
 #[derive(Clone, Copy, Debug, PartialEq, Eq)]
 pub enum LineCall {
     Hline,
     Vline,
 }
 
-/// Laying one window on another.
+/// Calls that lay one window on another.
 #[derive(Clone, Copy, Debug, PartialEq, Eq)]
 pub enum LayCall {
     Overlay,
     Overwrite,
 }
 
-/// Showing a window.
+/// Calls that show a window.
 #[derive(Clone, Copy, Debug, PartialEq, Eq)]
 pub enum ShowCall {
     Noutrefresh,
     Refresh,
 }
 
-/// Showing a part of a pad.
+/// Calls that show a part of a pad.
 #[derive(Clone, Copy, Debug, PartialEq, Eq)]
 pub enum PadCall {
     Pnoutrefresh,
@@ -103,7 +103,7 @@ pub enum ScreenCall {
 }
 
 impl PartCall {
-    /// Its name in curses.
+    /// The call's name in curses.
     pub fn name(self) -> &'static str
         ensures { result.now ≡ spec.part_name self }
     {
@@ -116,7 +116,7 @@ impl PartCall {
 }
 
 impl PlainCall {
-    /// Its name in curses.
+    /// The call's name in curses.
     pub fn name(self) -> &'static str
         ensures { result.now ≡ spec.plain_name self }
     {
@@ -135,7 +135,7 @@ impl PlainCall {
 }
 
 impl NumberCall {
-    /// Its name in curses.
+    /// The call's name in curses.
     pub fn name(self) -> &'static str
         ensures { result.now ≡ spec.number_name self }
     {
@@ -147,7 +147,7 @@ impl NumberCall {
 }
 
 impl NumbersCall {
-    /// Its name in curses.
+    /// The call's name in curses.
     pub fn name(self) -> &'static str
         ensures { result.now ≡ spec.numbers_name self }
     {
@@ -161,7 +161,7 @@ impl NumbersCall {
 }
 
 impl FlagCall {
-    /// Its name in curses.
+    /// The call's name in curses.
     pub fn name(self) -> &'static str
         ensures { result.now ≡ spec.flag_name self }
     {
@@ -175,7 +175,7 @@ impl FlagCall {
 }
 
 impl AttrsCall {
-    /// Its name in curses.
+    /// The call's name in curses.
     pub fn name(self) -> &'static str
         ensures { result.now ≡ spec.attrs_name self }
     {
@@ -188,7 +188,7 @@ impl AttrsCall {
 }
 
 impl CellCall {
-    /// Its name in curses.
+    /// The call's name in curses.
     pub fn name(self) -> &'static str
         ensures { result.now ≡ spec.cell_name self }
     {
@@ -202,7 +202,7 @@ impl CellCall {
 }
 
 impl LineCall {
-    /// Its name in curses.
+    /// The call's name in curses.
     pub fn name(self) -> &'static str
         ensures { result.now ≡ spec.line_name self }
     {
@@ -214,7 +214,7 @@ impl LineCall {
 }
 
 impl LayCall {
-    /// Its name in curses.
+    /// The call's name in curses.
     pub fn name(self) -> &'static str
         ensures { result.now ≡ spec.lay_name self }
     {
@@ -226,7 +226,7 @@ impl LayCall {
 }
 
 impl ShowCall {
-    /// Its name in curses.
+    /// The call's name in curses.
     pub fn name(self) -> &'static str
         ensures { result.now ≡ spec.show_name self }
     {
@@ -238,7 +238,7 @@ impl ShowCall {
 }
 
 impl PadCall {
-    /// Its name in curses.
+    /// The call's name in curses.
     pub fn name(self) -> &'static str
         ensures { result.now ≡ spec.pad_name self }
     {
@@ -250,7 +250,7 @@ impl PadCall {
 }
 
 impl ScreenCall {
-    /// Its name in curses.
+    /// The call's name in curses.
     pub fn name(self) -> &'static str
         ensures { result.now ≡ spec.screen_name self }
     {

@@ -18,14 +18,14 @@ impl<'a> Model for Text<'a> {
 }
 
 impl<'a> Text<'a> {
-    /// These bytes.
+    /// A text of `bytes`.
     pub fn new(bytes: &'a [u8]) -> Text<'a>
         ensures { result ≡ bytes.now }
     {
         Text { bytes }
     }
 
-    /// The bytes one after another.
+    /// The bytes of the text.
     pub fn as_slice(&self) -> &'a [u8]
         ensures { result.now ≡ self.now }
     {
