@@ -1,4 +1,4 @@
--- Numbers that are capped on the way are capped at the end.
+-- Capping a number on the way is capping it at the end.
 use Rattle.std.proofs.Common.{◌≡◌, ℕ, ◌+◌, ◌*◌, ◌≤◌, List, [], ◌∷◌, Option, Some, None, refl, sym, ap, ◌∙◌, ⊎_elim, arith}
 use Rattle.std.specs.Prelude.{option_map, option_and_then}
 use Rattle.std.proofs.Math.Nat.{mul-le-mul_left}

@@ -1,4 +1,4 @@
--- A text is related to its lines, and a line to its fields, just as they are cut.
+-- The relation between a text and its lines, and a line and its fields, is that of cutting.
 use Rattle.std.proofs.Common.{◌≡◌, ◌≢◌, ℕ, Bool, true, false, not, ◌&&◌, List, [], ◌∷◌, ◌++◌, refl, sym, ap, ◌∙◌, subst}
 use Rattle.std.specs.Prelude.{if◌then◌else◌, ◌==◌, IsTrue}
 use Rattle.std.specs.List.{list_all}
@@ -32,7 +32,7 @@ no_feed_parts b line h =
 no_feed_more : (b : ℕ) (line : List ℕ) → (b == 10) ≡ false → NoFeed line → NoFeed (b ∷ line)
 no_feed_more b line e h = both_true (not (b == 10)) (list_all (λ c. not (c == 10)) line) (ap not e) h
 
--- what is cut is so related
+-- a cut text is related to its lines
 onto_first : (b : ℕ) (line rest text : List ℕ) → (b == 10) ≡ false → ((b == 13) && begins_feed text) ≡ false → FirstLine line rest text → FirstLine (b ∷ line) rest (b ∷ text)
 onto_first b [] rest text e f (Fed is clean apart) =
     Fed (ap (λ xs. b ∷ xs) is) (no_feed_more b [] e clean) (sym (ap (λ xs. (b == 13) && begins_feed xs) is ∙ and_yes (b == 13)) ∙ f)
@@ -64,7 +64,7 @@ has_lines (b ∷ c ∷ more) =
     (λ f. let parts = and_parts (b == 13) (c == 10) f in behind_return b c more parts.0 parts.1 (has_lines more))
     (λ f. onto_lines b (lines_of (c ∷ more)) (c ∷ more) e f (has_lines (c ∷ more))))
 
--- what is so related is cut
+-- a text related to lines is cut into them
 fed_cut : (line rest : List ℕ) → NoFeed line → ends_in_return line ≡ false → lines_of (line ++ 10 ∷ rest) ≡ line ∷ lines_of rest
 fed_cut [] rest clean apart = refl
 fed_cut (b ∷ []) rest clean apart =
@@ -126,7 +126,7 @@ pub has_fields : (line : List ℕ) → HasFields (cut_of line).ended (cut_of lin
 unfolding cut_of
 has_fields line = from_start (cut_from Nothing line).ended (cut_from Nothing line).last line (has_from Nothing line)
 
--- what is so related is cut
+-- a line related to fields is cut into them
 unended_cut : (opener : Opener) (last : List ℕ) → is_unended opener last ≡ true → cut_from opener last ≡ record { ended = []; last = last }
 unended_cut opener [] e = refl
 unended_cut opener (b ∷ rest) e =

@@ -1,4 +1,4 @@
--- How a value is decoded piece by piece.
+-- Decoding a value piece by piece.
 use Rattle.std.proofs.Common.{◌≡◌, ℕ, ◌+◌, ◌*◌, ◌-◌, ◌<◌, ◌≤◌, ◌&&◌, subst, zero, suc, Bool, true, false, List, [], ◌∷◌, ◌++◌, length, drop, Option, Some, None, refl, sym, ap, ◌∙◌, arith, append_assoc, append-nil}
 use Rattle.std.specs.Prelude.{option_map, option_and_then, if◌then◌else◌, ◌==◌, nat_le}
 use Rattle.std.proofs.lemmas.Option.{none-some}
@@ -6,21 +6,21 @@ use Rattle.std.specs.Int.{from_bool}
 use Rattle.ti_source.specs.declared.escapes.Piece.{Piece}
 use Rattle.ti_source.specs.Escapes.{Decoding, empty_decoding, put_first, plain, letter_from, letter_value, letter_piece, third_at, second_at, escape_at, control_at, control_of, piece_at, decoding_from, decoding_of, is_octal}
 
--- what was decoded before, and then the rest
+-- an earlier decoding, followed by the rest
 abbrev pub put_before : List ℕ → ℕ → Decoding → Decoding
 put_before bytes odd rest = record { bytes = bytes ++ rest.bytes; odd = odd + rest.odd }
 
--- a piece of so many bytes at the front of a list of n
+-- a piece takes at least one byte, and at most n
 pub record Within (n : ℕ) (piece : Piece) : Type 0 where
   pub some : 0 < piece.used
   pub room : piece.used ≤ n
 
--- a fact on whichever of two values a test chooses
+-- a property of both branches holds of the choice
 pub either_way : {A : Type 0} (P : A → Type 0) (t : Bool) (x y : A) → P x → P y → P (if t then x else y)
 either_way P true x y p q = p
 either_way P false x y p q = q
 
--- how far a piece reaches
+-- the bytes that a piece takes
 reaches : (n used byte : ℕ) (odd : Bool) → 0 < used → used ≤ n → Within n (record { byte = byte; used = used; odd = odd })
 reaches n used byte odd p q = record { some = p; room = q }
 
@@ -46,7 +46,7 @@ within_letter : (letter : ℕ) (value : Option ℕ) → Within 2 (letter_from le
 within_letter letter None = reaches 2 2 _ true (omega arith) (omega arith)
 within_letter letter (Some v) = within_plain 2 v 2 (omega arith) (omega arith)
 
--- what holds of a piece that is there
+-- a property of a piece, if there is one
 abbrev pub IfPiece : ℕ → Option Piece → Type 0
 IfPiece n None = Unit {0}
 IfPiece n (Some piece) = Within n piece
@@ -77,7 +77,7 @@ within_piece (b ∷ rest) =
     (either_way (IfPiece (length (b ∷ rest))) (b == 94) (control_at rest) (Some (plain b 1))
     (farther_if _ _ _ (omega arith) (within_control rest)) (within_plain _ b 1 (omega arith) (omega arith)))
 
--- the piece that was found lies in the text
+-- the piece found is in the text
 pub piece_within : (text : List ℕ) (piece : Piece) → piece_at text ≡ Some piece → Within (length text) piece
 piece_within text piece e = subst (IfPiece (length text)) e (within_piece text)
 
@@ -130,7 +130,7 @@ piece_more bytes text whole odd piece so_far e =
 pub piece_fails : (bytes text whole : List ℕ) (odd : ℕ) → option_map (put_before bytes odd) (decoding_of text) ≡ decoding_of whole → 0 < length text → piece_at text ≡ None → None ≡ decoding_of whole
 piece_fails bytes text whole odd so_far h e = sym (ap (option_map (put_before bytes odd)) (stops text h e)) ∙ so_far
 
--- all is decoded
+-- everything is decoded
 pub piece_last : (bytes text whole : List ℕ) (odd : ℕ) → option_map (put_before bytes odd) (decoding_of text) ≡ decoding_of whole → length text ≡ 0 → made bytes odd ≡ decoding_of whole
 piece_last bytes text whole odd so_far h =
     let count : odd ≡ odd + 0 = omega arith in

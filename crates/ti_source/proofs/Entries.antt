@@ -1,4 +1,4 @@
--- How an entry grows by its fields and notes.
+-- An entry, as its fields and notes are added.
 use Rattle.std.proofs.Common.{◌≡◌, ℕ, ◌<◌, Bool, true, false, List, [], ◌∷◌, ◌++◌, length, replicate, Some, None, Result, Ok, Err, refl, sym, ap, ◌∙◌, append-nil, append_assoc}
 use Rattle.std.specs.Prelude.{slice_set}
 use Rattle.ti_source.specs.declared.types.FaultKind.{FaultKind}
@@ -12,7 +12,7 @@ use Rattle.ti_source.specs.Layout.{Cut, put_field, cut_of}
 use Rattle.ti_source.specs.Source.{FailsBy}
 use Rattle.ti_source.proofs.Flags.{flags_none, flags_same, flags_more}
 
--- a fault that one step gives is that of all that begins with it
+-- a fault of one step is the fault of everything that begins with it
 pub fault_passes : {A : Type 0} (kind : FaultKind) (step all : Result A FaultKind) → (step ≡ Err kind → all ≡ Err kind) → FailsBy kind kind step → FailsBy kind kind all
 fault_passes faults.NoName step all h e = h e
 fault_passes faults.WrongKind step all h e = h e
@@ -45,14 +45,14 @@ pub cut_last : (line : ℕ) (raw : RawEntry) (rest : List ℕ) → cut_of rest �
 unfolding add_cut
 cut_last line raw rest e = ap (add_cut line raw) e
 
--- notes one after another
+-- notes added one after another
 noted_twice : (raw : RawEntry) (xs ys : List Note) → with_notes (with_notes raw xs) ys ≡ with_notes raw (xs ++ ys)
 noted_twice raw xs ys = ap (λ ns. record raw { notes = ns }) (append_assoc raw.notes xs ys)
 
 pub no_notes : (raw : RawEntry) → raw ≡ with_notes raw []
 no_notes raw = ap (λ ns. record raw { notes = ns }) (sym (append-nil raw.notes))
 
--- the flags of fields: none yet, one more, and one that is on no capability
+-- the flags of no fields, of one more, and of one that is about no capability
 pub seen_none : (seen : List Bool) → seen ≡ replicate 497 false → IsSeen [] seen
 unfolding is_told
 seen_none seen e = flags_none cap_of seen e

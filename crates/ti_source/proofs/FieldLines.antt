@@ -1,4 +1,4 @@
--- The fields that count, by parts, by lines and by entries; and that they are those that reading gives.
+-- The fields that count, by parts, lines and entries, are those that reading returns.
 use Rattle.std.proofs.Common.{◌≡◌, ◌≢◌, ℕ, zero, suc, ◌+◌, ◌-◌, Bool, true, false, not, ◌&&◌, ◌||◌, List, [], ◌∷◌, ◌++◌, Option, Some, None, Result, Ok, Err, refl, sym, ap, ◌∙◌, subst, arith, append-nil, append_assoc}
 use Rattle.std.specs.Prelude.{⊤, if◌then◌else◌, ◌==◌, map, cond, slice_get, slice_index_or, option_map, option_to_list}
 use Rattle.std.specs.List.{filter, cons_option, list_any, list_all}
@@ -86,7 +86,7 @@ hides : (s h : Bool) → (s ≡ true → h ≡ true) → (not s && not h) ≡ no
 hides true h e = ap not (sym (e refl))
 hides false h e = refl
 
--- what is new beside the fields and one more
+-- the new fields among one more, given the fields so far
 new_beside : (fields : List FieldLine) (x : FieldLine) (b : Option ℕ) (t : Bool) → is_held fields x.cap ≡ t → (not (is_same x.cap b) && not (is_held fields b)) ≡ not (is_held (if t then fields else fields ++ x ∷ []) b)
 new_beside fields x b true e =
     hides (is_same x.cap b) (is_held fields b) (λ same. subst (λ o. is_held fields o ≡ true) (same_is x.cap b same) e)
@@ -232,7 +232,7 @@ pub block_is : (first ahead none middle block : List FieldLine) → none ≡ [] 
 block_is first ahead none middle block bare began went =
     went ∙ (ap (λ fs. with_lines fs ahead) (began ∙ ap (λ fs. with_lines fs first) bare) ∙ (sym (with_more [] first ahead) ∙ with_all (first ++ ahead)))
 
--- what reading says of a part
+-- the meaning of a part by reading
 
 abbrev line_said : ℕ → Reading → Option FieldLine
 line_said line (Says field odd) = Some (field_line line (cap_of field))
@@ -286,7 +286,7 @@ part_said line part =
     let field = skip_white part in
     choose_both (IsSaid line) (is_skipped field) None (split_line line field (marked_in field)) (Ok Skipped) (split_reading field (marked_in field)) refl (split_said line field (marked_in field))
 
--- an entry grows by the fields that count
+-- an entry gets the fields that count
 
 bound_same : (reading other : Reading) → bounded_reading reading ≡ Ok other → reading ≡ other
 bound_same reading other = choose (λ r. r ≡ Ok other → reading ≡ other) (is_long reading) (Err faults.TooLong) (Ok reading) (λ _ e. cc) (λ _ e. cc)
@@ -387,7 +387,7 @@ open_caps (Some raw) fields ahead = caps_of_lines (with_lines fields ahead) ∷ 
 abbrev firsts_caps : List FieldLine → List (Option ℕ)
 firsts_caps fields = caps_of_lines (firsts fields)
 
--- the capabilities of all entries, where those of the open one so far are these
+-- the capabilities of all entries, if those of the open one so far are these
 abbrev all_caps : Progress → List FieldLine → Blocks → List (List (Option ℕ))
 all_caps progress fields blocks = map caps_of_raw progress.done ++ (open_caps progress.open_entry fields blocks.ahead ++ map firsts_caps blocks.entries)
 

@@ -1,4 +1,4 @@
--- What reading gives can be made an entry.
+-- An entry can be made from what reading returns.
 use Rattle.std.proofs.Common.{◌≡◌, ℕ, ◌+◌, ◌*◌, ◌-◌, ◌^◌, ◌<◌, zero, suc, Bool, true, false, not, ◌&&◌, List, [], ◌∷◌, ◌++◌, length, Option, Some, None, Result, Ok, Err, refl, ap, ◌∙◌, subst, arith}
 use Rattle.std.specs.Prelude.{if◌then◌else◌, ◌==◌, nat_le, nat_lt, option_map, option_and_then, option_to_list}
 use Rattle.std.specs.List.{AllByRecursion, list_all, list_any}
@@ -32,7 +32,7 @@ use Rattle.ti_source.specs.Raw.{FitsField, IsRaw}
 use Rattle.ti_source.specs.Source.{Progress, all_of, is_comment, is_passed, begins_white, continued, begun, read_line, fault_at, lines_behind, read_lines, no_progress, source_of}
 use Rattle.ti_source.proofs.Decodings.{either_way}
 
--- what holds of each answer that is no fault
+-- a property of each result that isn't a fault
 abbrev pub OnAnswer : {A E : Type 0} → (A → Type 0) → Result A E → Type 0
 OnAnswer P (Ok x) = P x
 OnAnswer P (Err e) = Unit {0}
@@ -45,7 +45,7 @@ pub chosen : {A : Type 0} (P : A → Type 0) (t : Bool) (x y : A) → (t ≡ tru
 chosen P true x y p q = p refl
 chosen P false x y p q = q refl
 
--- no piece stands for a byte 0
+-- no piece means a byte 0
 NotZero : Piece → Type 0
 NotZero piece = (piece.byte == 0) ≡ false
 
@@ -116,7 +116,7 @@ decoding_set passed [] = refl
 decoding_set (suc passed) (b ∷ rest) = decoding_set passed rest
 decoding_set zero (b ∷ rest) = put_set (piece_at (b ∷ rest)) (λ p. decoding_from (p.used - 1) rest) (piece_not_zero (b ∷ rest)) (λ p. decoding_set (p.used - 1) rest)
 
--- what a field says fits its capability, but for the length of a string
+-- the meaning of a field fits its capability, apart from the length of a string
 abbrev Nearly : Reading → Type 0
 Nearly (Says (Set cap (values.String bytes)) odd) = (kind_of cap ≡ kinds.String) × (list_all is_set bytes ≡ true)
 Nearly (Says (Set cap values.Flag) odd) = FitsField (Set cap values.Flag)
@@ -191,7 +191,7 @@ both a b e f = ap (λ t. t && b) e ∙ f
 not_long : (n most : ℕ) → nat_lt most n ≡ false → nat_le n most ≡ true
 not_long n most e = grind (arith, nat_tests)
 
--- what a field that a comma ends says fits its capability
+-- the meaning of a field that a comma ends fits its capability
 abbrev Fitting : Reading → Type 0
 Fitting Skipped = Unit {0}
 Fitting Unknown = Unit {0}
@@ -247,7 +247,7 @@ pub cut_fits : (line : ℕ) (raw : RawEntry) (cut : Cut) → IsRaw raw → OnAns
 unfolding add_cut
 cut_fits line raw cut h = onward IsRaw IsRaw (add_fields line raw cut.ended) (λ next. add_last next cut.last) (fields_fit line raw cut.ended h) (λ next k. last_fits next cut.last k)
 
--- the first field of a line is one field, and begins as the line does
+-- the first field of a line is one field, and begins like the line
 abbrev StartsAs : List ℕ → List ℕ → Type 0
 StartsAs [] line = Unit {0}
 StartsAs (b ∷ rest) [] = ⊥
@@ -304,7 +304,7 @@ pub entry_fits : (number : ℕ) (line : List ℕ) → is_comment line ≡ false 
 unfolding entry_on cut_of
 entry_fits number line comment white = begun_by_fits number line (cut_of line).ended (cut_of line).last (front_fits Nothing line) comment white
 
--- whole progress
+-- all progress so far
 abbrev OnOpen : Option RawEntry → Type 0
 OnOpen None = Unit {0}
 OnOpen (Some raw) = IsRaw raw
@@ -353,6 +353,6 @@ text_fits text =
     either_way (OnAnswer (AllByRecursion IsRaw)) (nat_lt 16777216 (length text)) (Err (fault_at 0 faults.TooLong)) (read_lines 1 (lines_of text) no_progress) tt
     (lines_fit 1 (lines_of text) no_progress (record { done = tt; current = tt }))
 
--- the entries that a text gives can be made entries
+-- the entries of a text can be made into entries
 pub entries_fit : (text : List ℕ) (raws : List RawEntry) → source_of text ≡ Ok raws → AllByRecursion IsRaw raws
 entries_fit text raws e = subst (OnAnswer (AllByRecursion IsRaw)) e (text_fits text)

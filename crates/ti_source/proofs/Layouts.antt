@@ -1,4 +1,4 @@
--- How texts are cut.
+-- Cutting texts.
 use Rattle.std.proofs.Common.{◌≡◌, ℕ, ◌+◌, ◌-◌, ◌<◌, zero, suc, Bool, true, false, ◌&&◌, List, [], ◌∷◌, ◌++◌, length, reverse, take, drop, get_or, Option, Some, None, refl, sym, ap, ◌∙◌, subst, arith}
 use Rattle.std.specs.Prelude.{if◌then◌else◌, ◌==◌, option_map}
 use Rattle.std.proofs.lemmas.List.{take_more, take_all, drop_all, reverse-append, reverse-reverse}
@@ -9,13 +9,13 @@ use Rattle.ti_caps.specs.declared.fits.Opener.TheVariants.{Nothing}
 use Rattle.ti_source.specs.Layout.{onto_line, begins_feed, lines_of, is_white, skip_white, trim_end, ends_field, put_field, onto_cut, cut_from, cut_of}
 use Rattle.ti_source.specs.Scan.{without_return, feed_in, comma_from, comma_in}
 
--- a list is its front and its last element
+-- a nonempty list is all but its last element, followed by that
 pub front_and_last : (xs : List ℕ) → 0 < length xs → xs ≡ take (length xs - 1) xs ++ get_or xs (length xs - 1) 0 ∷ []
 front_and_last xs h =
     let e : length xs ≡ length xs - 1 + 1 = omega arith in
     sym (take_all (length xs) xs (omega arith)) ∙ (ap (λ n. take n xs) e ∙ take_more xs (length xs - 1) 0 (omega arith))
 
--- whichever way the test goes
+-- a function applied after a choice is applied in both branches
 pub pushed : {A B : Type 0} (f : A → B) (t : Bool) (x y : A) → f (if t then x else y) ≡ (if t then f x else f y)
 pushed f true x y = refl
 pushed f false x y = refl
@@ -66,7 +66,7 @@ unfolding trim_end
 empty_trimmed [] h = refl
 empty_trimmed (b ∷ rest) h = absurd (omega arith)
 
--- a line feed straight at the front, by its place
+-- whether a line feed is at the start, by its place
 at_front : Option ℕ → Bool
 at_front None = false
 at_front (Some zero) = true
@@ -87,12 +87,12 @@ unfolding at_front
 feed_first [] = refl
 feed_first (b ∷ rest) = sym (feed_test (b == 10) (feed_in rest))
 
--- a text that is not empty, as one line
+-- a nonempty text as one line
 abbrev whole_line : List ℕ → List (List ℕ)
 whole_line [] = []
 whole_line (b ∷ rest) = (b ∷ rest) ∷ []
 
--- the lines of a text by the place of its first line feed
+-- the lines of a text, by the place of its first line feed
 abbrev pub LinesAt : List ℕ → Option ℕ → Type 0
 LinesAt text None = lines_of text ≡ whole_line text
 LinesAt text (Some at) = lines_of text ≡ without_return (take at text) ∷ lines_of (drop (suc at) text)
@@ -101,7 +101,7 @@ onto_whole : (b : ℕ) (rest : List ℕ) → onto_line b (whole_line rest) ≡ (
 onto_whole b [] = refl
 onto_whole b (c ∷ rest) = refl
 
--- the choice at a byte that is no line feed
+-- the choice at a byte that isn't a line feed
 not_feed : (b : ℕ) (rest : List ℕ) → (b == 10) ≡ false → lines_of (b ∷ rest) ≡ (if (b == 13) && begins_feed rest then lines_of rest else onto_line b (lines_of rest))
 not_feed b rest e = ap (λ t. if t then [] ∷ lines_of rest else (if (b == 13) && begins_feed rest then lines_of rest else onto_line b (lines_of rest))) e
 
@@ -155,7 +155,7 @@ last_line (b ∷ rest) h = refl
 pub line_whole : (text : List ℕ) → 0 < length text → feed_in text ≡ None → lines_of text ≡ text ∷ []
 line_whole text h e = subst (LinesAt text) e (lines_at text) ∙ last_line text h
 
--- the fields of a line by the place of its first comma
+-- the fields of a line, by the place of its first comma
 abbrev FieldsAt : Opener → List ℕ → Option ℕ → Type 0
 FieldsAt opener line None = cut_from opener line ≡ record { ended = []; last = line }
 FieldsAt opener line (Some at) = cut_from opener line ≡ put_field (take at line) (cut_from Nothing (drop (suc at) line))

@@ -35,7 +35,7 @@ unfolding string_text spelled
 string_short [] = omega arith
 string_short (b ∷ bytes) = omega (arith, length-append (spelled_with b (letter_for b)) (string_text bytes), spelled_short b (letter_for b), string_short bytes)
 
--- the most bytes of a field's line
+-- the greatest length in bytes of a field's line
 abbrev line_most : Kind → ℕ
 line_most kinds.Flag = 11
 line_most kinds.Number = 22
@@ -119,7 +119,7 @@ text_lines entry is =
     ap lines_of (text_prints entry)
     ∙ (whole_line line (flat_map printed (fields_of entry)) inline ∙ ap (λ ls. line ∷ ls) (fields_lines [] (fields_of entry) (fine_fields entry is)))
 
--- the law
+-- printing reads back
 pub reads_back : ReadsBack
 unfolding source_of
 reads_back entry is =

@@ -30,7 +30,7 @@ use Rattle.ti_source.proofs.Entries.{no_notes}
 use Rattle.ti_source.proofs.Spellings.{both_true, is_inline, Passes, passes_both, onto_all, StringByte, string_reads}
 use Rattle.ti_source.proofs.Words.{is_word, word_passes, word_inline, word_skips, word_read, word_marked, word_unmarked, word_trimmed, name_word, decimal_is, number_reads, word_byte}
 
--- lines without breaks in them
+-- a line without line breaks in it
 pub whole_line : (line rest : List ℕ) → list_all is_inline line ≡ true → lines_of (line ++ (10 ∷ rest)) ≡ line ∷ lines_of rest
 whole_line [] rest e = refl
 whole_line (b ∷ line) rest e =
@@ -41,7 +41,7 @@ whole_line (b ∷ line) rest e =
     ∙ (ap (λ t. if t && begins_feed behind then lines_of behind else onto_line b (lines_of behind)) (not-true (b == 13) both.1)
     ∙ ap (onto_line b) (whole_line line rest parts.1))
 
--- what stands before the comma of a field's line, and the line
+-- the text before the comma of a field's line, and the line
 unfoldable pub body_of : Field → List ℕ
 body_of (Set place value) = 9 ∷ (name_at place ++ value_text value)
 body_of (Cancel place) = []
@@ -102,7 +102,7 @@ quiet_body place value inside h k =
     quiet_byte 9 (name_at place ++ value_text value) (record { inside = refl; passes = λ rest. refl })
     (quiet_both (name_at place) (value_text value) (quiet_word (name_at place) (name_word place inside).word) (quiet_value place value h k))
 
--- the line of a field is that field and nothing after its comma
+-- the line of a field has that field and nothing after its comma
 onto_front : (xs ys : List ℕ) (more : List (List ℕ)) (last : List ℕ) → onto_all xs (record { ended = ys ∷ more; last = last }) ≡ record { ended = (xs ++ ys) ∷ more; last = last }
 onto_front [] ys more last = refl
 onto_front (b ∷ xs) ys more last = ap (onto_cut b) (onto_front xs ys more last)
@@ -119,7 +119,7 @@ is_kind_same kinds.String = refl
 pub of_kind : (place : ℕ) (kind : Kind) → kind_of place ≡ kind → is_kind (kind_of place) kind ≡ true
 of_kind place kind e = ap (λ k. is_kind k kind) e ∙ is_kind_same kind
 
--- a field's text says that field
+-- a field's text means that field
 flag_says : (place : ℕ) → kind_of place ≡ kinds.Flag → flag_reading (Some place) ≡ Ok (Says (Set place values.Flag) 0)
 flag_says place e = ap (λ t. if t then Ok (Says (Set place values.Flag) 0) else Err faults.WrongKind) (of_kind place kinds.Flag e)
 

@@ -1,4 +1,4 @@
--- What is read is related to the text, and what is related to the text is read.
+-- Reading returns exactly the entries that are related to the text.
 use Rattle.std.proofs.Common.{◌≡◌, ℕ, ◌+◌, ◌≤◌, Bool, true, false, not, ◌&&◌, List, [], ◌∷◌, ◌++◌, length, Option, Some, None, Result, Ok, Err, refl, sym, ap, ◌∙◌, subst, arith, append-nil, append_assoc}
 use Rattle.std.specs.Prelude.{if◌then◌else◌, ◌==◌, nat_lt, is_some, option_map, option_to_list}
 use Rattle.std.specs.List.{list_all}
@@ -101,7 +101,7 @@ use_name (a ∷ b ∷ c ∷ []) e =
     ap (λ x. x ∷ b ∷ c ∷ []) (eqb-true a 117 parts.0) ∙ (ap (λ y. 117 ∷ y ∷ c ∷ []) (eqb-true b 115 more.0) ∙ ap (λ z. 117 ∷ 115 ∷ z ∷ []) (eqb-true c 101 more.1))
 use_name (a ∷ b ∷ c ∷ d ∷ rest) e = cc
 
--- what reading says of a field, unless it is too long, is what the field means
+-- the meaning of a field by reading, unless it is too long, is its meaning by the relation
 abbrev Justified : List ℕ → Result Reading FaultKind → Type 0
 Justified field (Ok reading) = is_long reading ≡ false → Means field reading
 Justified field (Err kind) = Unit {0}
@@ -154,7 +154,7 @@ split_means : (field : List ℕ) (cut : Option Marked) → Split field cut → J
 split_means field None h = flag_means field (place_in (trim_end field)) refl h
 split_means field (Some m) h = marked_means field m.name m.value h.byte m.mark h.is h.clean h.marks
 
--- white space before a field
+-- the white space before a field
 leading : (part : List ℕ) → (white : List ℕ) × White white × (part ≡ white ++ skip_white part)
 leading [] = ([], refl, refl)
 leading (b ∷ rest) =
@@ -176,7 +176,7 @@ skipped (b ∷ white) field h p =
     let parts = and_parts (is_white b) (list_all is_white white) h in
     ap (λ t. if t then skip_white (white ++ field) else b ∷ (white ++ field)) parts.0 ∙ skipped white field parts.1 p
 
--- what stands before a comma
+-- the text before a comma
 abbrev PartJustified : List ℕ → Result Reading FaultKind → Type 0
 PartJustified part (Ok reading) = is_long reading ≡ false → PartSays part reading
 PartJustified part (Err kind) = Unit {0}
@@ -206,7 +206,7 @@ ended_says part =
     let h = leading part in
     bounded_says part (trimmed_reading (skip_white part)) (part_means part h.0 (skip_white part) h.1 h.2 (plain_behind part))
 
--- and the other way
+-- conversely, the meaning by the relation is that by reading
 unknown_read : (name value : List ℕ) (mark : Mark) → (mark ≡ Equals → is_use name ≡ false) → place_in name ≡ None → marked_reading mark name value ≡ Ok Unknown
 unknown_read name value At apart none = ap (λ o. named_reading o At value) none
 unknown_read name value Hash apart none = ap (λ o. named_reading o Hash value) none
@@ -250,7 +250,7 @@ means_short field reading (UnknownMarked name value b mark spelt clean marks apa
 no_begin : false ≡ true → ⊥
 no_begin e = cc
 
--- a field is no comment, and no white space stands before it
+-- a field isn't a comment, and no white space precedes it
 begins_plain : (field : List ℕ) → begins_field field ≡ true → Plain field × (is_skipped field ≡ false)
 begins_plain [] e = absurd (no_begin e)
 begins_plain (b ∷ rest) e =
@@ -291,7 +291,7 @@ grown_read number raw [] grown h = ap Ok (sym h)
 grown_read number raw (part ∷ parts) grown h =
     ap (λ r. (r >>= λ reading. Ok (with_reading number raw reading)) >>= λ next. add_fields number next parts) (part_read part h.0 h.1) ∙ grown_read number (with_reading number raw h.0) parts grown h.2
 
--- and after the last comma
+-- the text after the last comma
 never : (read : Result Reading FaultKind) (grown : RawEntry) → (read >>= λ reading. Err faults.OpenField) ≡ Ok grown → ⊥
 never (Ok reading) grown e = no_answer faults.OpenField grown e
 never (Err fault) grown e = no_answer fault grown e
@@ -397,7 +397,7 @@ stands number (line ∷ lines) all done open_entry =
     (λ white e. continued_behind number line lines all done open_entry told white more e)
     (λ white e. begun_behind number line lines all done open_entry (entry_on number line) refl told white more e))
 
--- and the other way
+-- conversely, entries related to lines are read
 abbrev Reads : ℕ → List (List ℕ) → Type 0
 Reads number lines = (done : List RawEntry) (open_entry : Option RawEntry) (entries : List RawEntry) → Stand number lines open_entry entries → read_lines number lines (at_last done open_entry) ≡ Ok (done ++ entries)
 
@@ -443,7 +443,7 @@ related_is_read text entries h =
 pub fault_has_none : FaultHasNone
 fault_has_none text fault e entries h = no_answer fault entries (sym e ∙ related_is_read text entries h)
 
--- where reading stops
+-- the line at which reading stops
 record Stops (number : ℕ) (lines : List (List ℕ)) (progress : Progress) (fault : SourceFault) : Type 0 where
   before : List (List ℕ)
   line : List ℕ

@@ -1,4 +1,4 @@
--- A printed entry is read as that entry: the names, all fields, and that the text is short enough.
+-- A printed entry is read as that entry: its names, all its fields, and its length.
 use Rattle.std.proofs.Common.{◌≡◌, ◌≢◌, ℕ, ◌+◌, ◌<◌, ◌≤◌, zero, suc, Bool, true, false, not, ◌&&◌, ◌||◌, List, [], ◌∷◌, ◌++◌, map, length, Option, Some, None, Ok, Err, refl, sym, ap, ◌∙◌, subst, arith, append-nil, append_assoc}
 use Rattle.std.specs.Prelude.{if◌then◌else◌, ◌==◌, nat_le, nat_lt, flat_map, IsTrue}
 use Rattle.std.specs.Int.{from_be_bytes, w64}
@@ -108,7 +108,7 @@ names_read (b ∷ rest) h =
     ∙ (ap (λ t. if t then Ok no_progress else begun 1 (b ∷ line) no_progress) hash
     ∙ ap (λ r. r >>= λ raw. Ok (opened raw)) (names_entry (b ∷ rest) h))
 
--- fields that are new to those before them
+-- fields that differ from those before them
 abbrev pub IsHeld : Field → Type 0
 IsHeld (Set place value) = (place < 497) × FitsPlace place (Some value) × HasBytes (Some value)
 IsHeld (Cancel place) = ⊥
@@ -178,7 +178,7 @@ text_prints entry =
     ∙ (ap (λ xs. entry.names ++ (44 ∷ 10 ∷ xs)) (sym (flat_map-append printed flags (numbers ++ strings)))
     ∙ sym (append_assoc entry.names (44 ∷ []) (10 ∷ flat_map printed (flags ++ (numbers ++ strings))))))))
 
--- no field is on the capability of another
+-- no field is about the capability of another
 told_both : (xs ys : List Field) (place : ℕ) → is_told xs place ≡ false → is_told ys place ≡ false → is_told (xs ++ ys) place ≡ false
 unfolding is_told
 told_both xs ys place e f = list_any-append (λ field. is_cap place (cap_of field)) xs ys ∙ (ap (λ t. t || list_any (λ field. is_cap place (cap_of field)) ys) e ∙ f)

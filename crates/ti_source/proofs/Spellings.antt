@@ -1,4 +1,4 @@
--- How a printed string is read again.
+-- Reading a printed string.
 use Rattle.std.proofs.Common.{◌≡◌, ℕ, ◌+◌, ◌*◌, ◌-◌, ◌/◌, ◌%◌, ◌<◌, ◌≤◌, Bool, true, false, not, ◌&&◌, ◌||◌, List, [], ◌∷◌, ◌++◌, length, Option, Some, None, refl, sym, ap, ◌∙◌, subst, arith, append_assoc}
 use Rattle.std.specs.Prelude.{if◌then◌else◌, ◌==◌, nat_le, option_map}
 use Rattle.std.specs.List.{list_all, AllByRecursion}
@@ -24,12 +24,12 @@ both_true a b e f = ap (λ t. t && b) e ∙ f
 abbrev pub is_inline : ℕ → Bool
 is_inline b = not (b == 10) && not (b == 13)
 
--- bytes at the front of the first field
+-- bytes prepended to the first field
 abbrev pub onto_all : List ℕ → Cut → Cut
 onto_all [] cut = cut
 onto_all (b ∷ rest) cut = onto_cut b (onto_all rest cut)
 
--- no comma among these bytes ends a field, and nothing is left open after them
+-- no comma among these bytes ends a field, and no backslash or caret is left open after them
 abbrev pub Passes : List ℕ → Type 0
 Passes xs = (rest : List ℕ) → cut_from Nothing (xs ++ rest) ≡ onto_all xs (cut_from Nothing rest)
 
@@ -41,7 +41,7 @@ pub passes_both : (xs ys : List ℕ) → Passes xs → Passes ys → Passes (xs 
 passes_both xs ys p q rest =
     ap (cut_from Nothing) (append_assoc xs ys rest) ∙ (p (ys ++ rest) ∙ (ap (onto_all xs) (q rest) ∙ sym (onto_append xs ys (cut_from Nothing rest))))
 
--- a byte that means nothing to the cut
+-- a byte without a meaning for the cut
 unfoldable pub is_mute : ℕ → Bool
 is_mute b = not (b == 44) && (not (b == 92) && not (b == 94))
 
@@ -60,7 +60,7 @@ mute_passes b e rest =
     ap (λ t. if t then record { ended = [] ∷ (cut_from Nothing rest).ended; last = (cut_from Nothing rest).last } else onto_cut b (cut_from (opener_after Nothing b) rest)) (not_true (b == 44) comma.0)
     ∙ ap (λ o. onto_cut b (cut_from o rest)) (nothing_open b (not_true (b == 92) open_two.0) (not_true (b == 94) open_two.1))
 
--- what a printed byte is for the reader
+-- a printed byte, as the reader sees it
 pub record IsSpelling (b : ℕ) (xs : List ℕ) : Type 0 where
   pub inside : list_all is_inline xs ≡ true
   pub passes : Passes xs
@@ -165,7 +165,7 @@ bare_spells b low high e =
     choose (IsSpelling b) (nat_le 33 b && nat_le b 126) (b ∷ []) (octal b)
     (λ f. plain_spells b (leb-true 33 b (and_parts (nat_le 33 b) (nat_le b 126) f).0) comma.0 back.0 caret.0) (λ _. octal_spells b low high)
 
--- each byte is read again, whatever follows it
+-- each printed byte is read as that byte, whatever follows it
 pub spelled_spells : (b : ℕ) → 0 < b → b < 256 → IsSpelling b (spelled b)
 unfolding spelled
 spelled_spells b low high =
@@ -181,7 +181,7 @@ spelled_spells b low high =
 abbrev pub StringByte : ℕ → Type 0
 StringByte b = (0 < b) × (b < 256)
 
--- what a printed string is for the reader
+-- a printed string, as the reader sees it
 pub record IsStringText (bytes xs : List ℕ) : Type 0 where
   pub inside : list_all is_inline xs ≡ true
   pub passes : Passes xs

@@ -1,4 +1,4 @@
--- Reading the entries of a text one by one, line by line; and that they are those of the whole text.
+-- Reading the entries of a text one by one, line by line, gives those of the whole text.
 use Rattle.std.proofs.Common.{◌≡◌, ◌≢◌, ℕ, ◌+◌, Bool, true, false, not, ◌&&◌, List, [], ◌∷◌, ◌++◌, length, Option, Some, None, Result, Ok, Err, refl, sym, ap, ◌∙◌, subst, append-nil, append_assoc}
 use Rattle.std.specs.Prelude.{if◌then◌else◌, map, nat_lt}
 use Rattle.std.proofs.lemmas.Bool.{cond-true, cond-false}
@@ -12,7 +12,7 @@ use Rattle.ti_source.specs.Layout.{cut_of, lines_of}
 use Rattle.ti_source.specs.Lines.{begins_entry}
 use Rattle.ti_source.specs.Source.{FailsBy, Progress, begins_white, begun, continued, fault_at, is_passed, lines_behind, no_progress, read_line, read_lines, source_of}
 
--- ---- a line more
+-- ---- one more line
 
 pub begun_stretch : (number : ℕ) (line : List ℕ) (behind : Stretches) → begins_entry line ≡ true → onto_stretches number line behind ≡ record { ahead = []; entries = stretch_at number line behind.ahead ∷ behind.entries }
 unfolding onto_stretches
@@ -132,7 +132,7 @@ apart_fails text fault short front = cond-false (nat_lt 16777216 (length text)) 
 
 -- ---- the whole text
 
--- an entry that goes on, and those after it
+-- an entry that is continued, and those after it
 joined : List RawEntry → Result RawEntry SourceFault → Result (List RawEntry) SourceFault → Result (List RawEntry) SourceFault
 joined done (Err fault) rest = Err fault
 joined done (Ok raw) (Err fault) = Err fault
@@ -156,7 +156,7 @@ one_joined s (Err fault) rest = refl
 one_joined s (Ok next) (Err fault) = refl
 one_joined s (Ok next) (Ok raws) = refl
 
--- which kind of line it is
+-- the kind of a line
 record Passes (number : ℕ) (line : List ℕ) (progress : Progress) : Type 0 where
   reads : read_line number line progress ≡ Ok progress
   begins : begins_entry line ≡ false

@@ -1,4 +1,4 @@
--- What a test for an empty slice says of its length.
+-- A test for an empty slice, in terms of its length.
 use Rattle.std.proofs.Common.{◌≡◌, ℕ, ◌<◌, Bool, true, false, arith}
 use Rattle.std.specs.Prelude.{◌==◌}
 use Rattle.std.proofs.lemmas.Bool.Decides.{nat_tests}

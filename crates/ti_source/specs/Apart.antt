@@ -1,4 +1,4 @@
--- The entries of a terminfo(5) source text, each read by itself: what can't be read of one hides no other.
+-- The entries of a terminfo(5) source text, each read by itself: an entry that can't be read hides no other.
 use Rattle.std.specs.Prelude.{ℕ, ◌+◌, ◌≡◌, List, [], ◌∷◌, map, length, Option, Some, None, Result, Ok, Err}
 use Rattle.std.specs.Prelude.{if◌then◌else◌, nat_lt}
 use Rattle.ti_source.specs.declared.types.FaultKind.{FaultKind}
@@ -10,15 +10,15 @@ use Rattle.ti_source.specs.Layout.{cut_of, lines_of}
 use Rattle.ti_source.specs.Lines.{begins_entry}
 use Rattle.ti_source.specs.Source.{fault_at, is_passed, source_of}
 
--- ---- the stretch of an entry
+-- ---- the lines of an entry
 
--- the line that an entry begins on, with its number, and the lines after it up to the next one that begins an entry
+-- the line on which an entry begins, with its number, and the lines after it up to the next one that begins an entry
 pub record Stretch : Type 0 where
   pub number : ℕ
   pub first : List ℕ
   pub further : List (List ℕ)
 
--- the lines before the first entry, and the stretch of each entry
+-- the lines before the first entry, and those of each entry
 pub record Stretches : Type 0 where
   pub ahead : List (List ℕ)
   pub entries : List Stretch
@@ -41,12 +41,12 @@ stretches_from number (line ∷ lines) = onto_stretches number line (stretches_f
 
 -- ---- an entry by itself
 
--- what follows a step on a line, which has a fault with the line's number
+-- a step on a line, and the next one; a fault of the first gets the line's number
 abbrev pub on_line : {A B : Type 0} → ℕ → Result A FaultKind → (A → Result B SourceFault) → Result B SourceFault
 on_line number (Err kind) behind = Err (fault_at number kind)
 on_line number (Ok x) behind = behind x
 
--- a line that is passed over, or goes on with the entry
+-- a line that is ignored, or that continues the entry
 unfoldable pub add_line : ℕ → List ℕ → RawEntry → Result RawEntry FaultKind
 add_line number line raw = if is_passed line then Ok raw else add_cut number raw (cut_of line)
 
@@ -54,7 +54,7 @@ abbrev pub further_of : ℕ → List (List ℕ) → RawEntry → Result RawEntry
 further_of number [] raw = Ok raw
 further_of number (line ∷ lines) raw = on_line number (add_line number line raw) (further_of (number + 1) lines)
 
--- the entry of a stretch, or the first fault in it
+-- the entry of its lines, or the first fault in them
 abbrev pub entry_alone : Stretch → Result RawEntry SourceFault
 entry_alone s = on_line s.number (entry_on s.number s.first) (further_of (s.number + 1) s.further)
 
@@ -66,7 +66,7 @@ first_field (names ∷ parts) last = names
 unfoldable pub names_on : List ℕ → List ℕ
 names_on line = first_field (cut_of line).ended (cut_of line).last
 
--- an entry, and why it can't be read, if it can't: then it has its names alone
+-- an entry and its fault; if it can't be read, it has only its names
 pub record Alone : Type 0 where
   pub raw : RawEntry
   pub fault : Option SourceFault
@@ -83,7 +83,7 @@ alone s = alone_by s (entry_alone s)
 
 -- ---- a text
 
--- no line before the first entry goes on with one
+-- a line before the first entry that continues one is a fault
 abbrev pub front_fault : ℕ → List (List ℕ) → Option SourceFault
 front_fault number [] = None
 front_fault number (line ∷ lines) =
@@ -101,14 +101,14 @@ unfoldable pub apart_of : List ℕ → Result (List Alone) SourceFault
 apart_of text =
     if nat_lt 16777216 (length text) then Err (fault_at 0 TooLong) else apart_in (stretches_from 1 (lines_of text))
 
--- these are the entries, and these say why one can't be read
+-- `raws` are the entries of the text, and `faults` their faults
 pub record IsApart (text : List ℕ) (raws : List RawEntry) (faults : List (Option SourceFault)) : Type 0 where
   pub ones : List Alone
   pub reads : apart_of text ≡ Ok ones
   pub raws_are : raws ≡ map (λ one. one.raw) ones
   pub faults_are : faults ≡ map (λ one. one.fault) ones
 
--- ---- what the whole text gives
+-- ---- the result of reading the whole text
 
 abbrev pub with_alone : RawEntry → Option SourceFault → Result (List RawEntry) SourceFault
     → Result (List RawEntry) SourceFault
@@ -116,7 +116,7 @@ with_alone raw (Some fault) rest = Err fault
 with_alone raw None (Ok raws) = Ok (raw ∷ raws)
 with_alone raw None (Err fault) = Err fault
 
--- all of the entries, or the fault of the first that can't be read
+-- all entries, or the fault of the first that can't be read
 abbrev pub together : List Alone → Result (List RawEntry) SourceFault
 together [] = Ok []
 together (one ∷ others) = with_alone one.raw one.fault (together others)
@@ -129,7 +129,7 @@ all_together (Err fault) = Err fault
 abbrev pub WholeIsTogether : Type 0
 WholeIsTogether = (text : List ℕ) → source_of text ≡ all_together (apart_of text)
 
--- so a text without a fault gives the same entries, each of which can be read
+-- a text without a fault gives the same entries, each of which can be read
 abbrev pub FaultlessIsApart : Type 0
 FaultlessIsApart = (text : List ℕ) (raws : List RawEntry) → source_of text ≡ Ok raws
     → apart_of text ≡ Ok (map was_read raws)

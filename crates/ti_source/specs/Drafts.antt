@@ -1,4 +1,4 @@
--- (Serves the code alone.) The flags that say which capabilities the fields of an entry are on.
+-- (Serves the code alone.) The flags that say which capabilities the fields of an entry are about.
 use Rattle.std.specs.Prelude.{ℕ, ◌<◌, ◌≡◌, Bool, false, List, slice_index_or}
 use Rattle.ti_source.specs.declared.types.Field.{Field}
 use Rattle.ti_source.specs.Fields.{is_told}

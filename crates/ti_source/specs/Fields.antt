@@ -1,4 +1,4 @@
--- What a field of terminfo(5) source says, and what an entry becomes by it.
+-- The meaning of a field of terminfo(5) source, and the entry after the field.
 use Rattle.std.specs.Prelude.{ℕ, Bool, true, false, ◌&&◌, ◌||◌, List, [], ◌∷◌, ◌++◌, length, replicate, Option, Some}
 use Rattle.std.specs.Prelude.{None, Result, Ok, Err, if◌then◌else◌, ◌==◌, nat_lt}
 use Rattle.std.specs.List.{list_any, list_all}
@@ -27,7 +27,7 @@ abbrev pub ◌>>=◌ : {A B : Type 0} → Result A FaultKind → (A → Result B
 (Ok x) >>= f = f x
 (Err e) >>= f = Err e
 
--- the text of an inclusion, use=name
+-- the name of an inclusion, use=name
 abbrev pub is_use : List ℕ → Bool
 is_use [] = false
 is_use (a ∷ []) = false
@@ -35,7 +35,7 @@ is_use (a ∷ b ∷ []) = false
 is_use (a ∷ b ∷ c ∷ []) = (a == 117) && ((b == 115) && (c == 101))
 is_use (a ∷ b ∷ c ∷ d ∷ rest) = false
 
--- a field that is its name alone
+-- a field that is just a name
 abbrev pub flag_reading : Option ℕ → Result Reading FaultKind
 flag_reading None = Ok Unknown
 flag_reading (Some cap) =
@@ -54,7 +54,7 @@ unfoldable pub string_reading : ℕ → List ℕ → Result Reading FaultKind
 string_reading cap value =
     if is_kind (kind_of cap) kinds.String then decoded_reading cap (decoding_of value) else Err faults.WrongKind
 
--- a field with a mark, whose name is known: what stands after an @ is not read
+-- a field with a mark and a known name; the text after an @ isn't read
 abbrev pub known_reading : ℕ → Mark → List ℕ → Result Reading FaultKind
 known_reading cap At value = Ok (Says (Cancel cap) 0)
 known_reading cap Hash value = number_reading cap value
@@ -75,7 +75,7 @@ abbrev pub split_reading : List ℕ → Option Marked → Result Reading FaultKi
 split_reading field None = flag_reading (place_in (trim_end field))
 split_reading field (Some m) = marked_reading m.mark m.name m.value
 
--- nothing, or a field that is commented out by a period
+-- nothing, or a field commented out by a period
 abbrev pub is_skipped : List ℕ → Bool
 is_skipped [] = true
 is_skipped (b ∷ rest) = b == period
@@ -83,7 +83,7 @@ is_skipped (b ∷ rest) = b == period
 abbrev pub trimmed_reading : List ℕ → Result Reading FaultKind
 trimmed_reading field = if is_skipped field then Ok Skipped else split_reading field (marked_in field)
 
--- what stands between two commas: the faults here come before that of a field that has no comma after it
+-- the text between two commas; faults here come before that of a field without a comma after it
 unfoldable pub reading_of : List ℕ → Result Reading FaultKind
 reading_of part = trimmed_reading (skip_white part)
 
@@ -95,11 +95,11 @@ is_long _ = false
 abbrev pub bounded_reading : Reading → Result Reading FaultKind
 bounded_reading reading = if is_long reading then Err faults.TooLong else Ok reading
 
--- what stands before a comma
+-- the text before a comma
 unfoldable pub ended_reading : List ℕ → Result Reading FaultKind
 ended_reading part = reading_of part >>= bounded_reading
 
--- the capability that a field is on
+-- the capability that a field is about
 abbrev pub cap_of : Field → Option ℕ
 cap_of (Set cap value) = Some cap
 cap_of (Cancel cap) = Some cap
@@ -109,11 +109,11 @@ abbrev pub is_cap : ℕ → Option ℕ → Bool
 is_cap cap None = false
 is_cap cap (Some other) = other == cap
 
--- some field is on the capability
+-- some field is about the capability
 unfoldable pub is_told : List Field → ℕ → Bool
 is_told fields cap = list_any (λ field. is_cap cap (cap_of field)) fields
 
--- a name that stands twice in an entry: an inclusion may
+-- a name that is in an entry already; inclusions may repeat
 abbrev pub repeats : List Field → Option ℕ → Bool
 repeats fields None = false
 repeats fields (Some cap) = is_told fields cap
@@ -128,12 +128,12 @@ abbrev pub with_field : RawEntry → Field → RawEntry
 with_field raw field =
     record { line = raw.line; names = raw.names; fields = raw.fields ++ field ∷ []; notes = raw.notes }
 
--- the first field of a name counts
+-- the first field with a name counts
 abbrev pub with_said : Bool → ℕ → RawEntry → Field → RawEntry
 with_said true line raw field = with_notes raw (note line Duplicate ∷ [])
 with_said false line raw field = with_field raw field
 
--- an entry and one more field
+-- an entry after one more field
 unfoldable pub with_reading : ℕ → RawEntry → Reading → RawEntry
 with_reading line raw Skipped = raw
 with_reading line raw Unknown = with_notes raw (note line UnknownName ∷ [])
@@ -144,7 +144,7 @@ unfoldable pub add_field : ℕ → RawEntry → List ℕ → Result RawEntry Fau
 add_field line raw part =
     ended_reading part >>= λ reading. Ok (with_reading line raw reading)
 
--- what stands after the last comma has to be white space
+-- the text after the last comma must be white space
 unfoldable pub add_last : RawEntry → List ℕ → Result RawEntry FaultKind
 add_last raw part = if list_all is_white part then Ok raw else (reading_of part >>= λ reading. Err faults.OpenField)
 
@@ -152,7 +152,7 @@ abbrev pub add_fields : ℕ → RawEntry → List (List ℕ) → Result RawEntry
 add_fields line raw [] = Ok raw
 add_fields line raw (part ∷ parts) = add_field line raw part >>= λ next. add_fields line next parts
 
--- the fields of a line, or of what stands after the names
+-- the fields of a line, or those after the names
 unfoldable pub add_cut : ℕ → RawEntry → Cut → Result RawEntry FaultKind
 add_cut line raw cut = add_fields line raw cut.ended >>= λ next. add_last next cut.last
 
@@ -161,20 +161,20 @@ abbrev pub begins_unnamed : List ℕ → Bool
 begins_unnamed [] = true
 begins_unnamed (b ∷ rest) = b == bar
 
--- not the names of an entry, which stand from the first column on
+-- not the names of an entry, which begin in the first column
 unfoldable pub is_no_name : List ℕ → Bool
 is_no_name names = begins_unnamed names || list_any (λ b. nat_lt b space) names
 
 abbrev pub new_entry : ℕ → List ℕ → RawEntry
 new_entry line names = record { line = line; names = names; fields = []; notes = [] }
 
--- the names field that a comma ends
+-- the entry with a names field that a comma ends
 unfoldable pub named_entry : ℕ → List ℕ → Result RawEntry FaultKind
 named_entry line names =
     if is_no_name names then Err faults.NoName
     else (if nat_lt 4095 (length names) then Err faults.TooLong else Ok (new_entry line names))
 
--- a names field without a comma
+-- the fault of a names field without a comma
 abbrev pub open_names : List ℕ → Result RawEntry FaultKind
 open_names names = if is_no_name names then Err faults.NoName else Err faults.OpenField
 

@@ -1,4 +1,4 @@
--- Where a source text has `%^`, which terminfo(5) reads as `%` and a control character.
+-- The places of `%^` in a source text, which terminfo(5) reads as `%` and a control character.
 use Rattle.std.specs.Prelude.{ℕ, ◌+◌, Bool, false, ◌&&◌, ◌||◌, List, [], ◌∷◌, ◌++◌, Option, Some, None, if◌then◌else◌}
 use Rattle.std.specs.Prelude.{◌==◌}
 use Rattle.ti_caps.specs.declared.fits.Opener.{Opener}
@@ -21,7 +21,7 @@ is_percent Nothing b = b == percent
 is_percent Backslash b = false
 is_percent Caret b = false
 
--- a value in which a caret follows such a `%`; the mark says whether one stands straight before the value
+-- a value in which a caret follows such a `%`; `follows` says whether one is right before the value
 abbrev pub has_caret : Opener → Bool → List ℕ → Bool
 has_caret opener follows [] = false
 has_caret opener follows (b ∷ rest) =
@@ -30,7 +30,7 @@ has_caret opener follows (b ∷ rest) =
 unfoldable pub has_percent_caret : List ℕ → Bool
 has_percent_caret value = has_caret Nothing false value
 
--- the string capability that a field gives such a value
+-- the capability, if it is a string and the value has `%^`
 abbrev pub hinted_cap : ℕ → List ℕ → Option ℕ
 hinted_cap cap value = if is_kind (kind_of cap) kinds.String && has_percent_caret value then Some cap else None
 
@@ -47,7 +47,7 @@ hinted_in (Some m) = hinted_by m.mark (place_in m.name) m.value
 abbrev pub hinted_field : List ℕ → Option ℕ
 hinted_field field = if is_skipped field then None else hinted_in (marked_in field)
 
--- what stands before a comma
+-- the hint on the text before a comma
 unfoldable pub hinted : List ℕ → Option ℕ
 hinted part = hinted_field (skip_white part)
 

@@ -1,4 +1,4 @@
--- How a terminfo(5) source text is cut: into lines, a line into fields, a field into a name and a value.
+-- Cutting a terminfo(5) source text: into lines, a line into fields, a field into a name and a value.
 use Rattle.std.specs.Prelude.{ℕ, Bool, false, ◌&&◌, ◌||◌, List, [], ◌∷◌, reverse, Option, Some, None, if◌then◌else◌}
 use Rattle.std.specs.Prelude.{◌==◌, option_map}
 use Rattle.ti_caps.specs.declared.fits.Opener.{Opener}
@@ -8,7 +8,7 @@ use Rattle.ti_source.specs.declared.layout.Mark.{Mark}
 use Rattle.ti_source.specs.declared.layout.Mark.TheVariants.{At, Hash, Equals}
 use Rattle.ti_source.specs.Marks.{tab, line_feed, carriage_return, space, hash, comma, equals, at_sign}
 
--- a byte at the front of the first line
+-- a byte prepended to the first line
 abbrev pub onto_line : ℕ → List (List ℕ) → List (List ℕ)
 onto_line b [] = (b ∷ []) ∷ []
 onto_line b (line ∷ lines) = (b ∷ line) ∷ lines
@@ -17,8 +17,8 @@ abbrev pub begins_feed : List ℕ → Bool
 begins_feed [] = false
 begins_feed (b ∷ rest) = b == line_feed
 
--- Lines end with a line feed, the last one perhaps with the text. A carriage return straight before a
--- line feed is dropped.
+-- A line ends with a line feed; the last one may end with the text. A carriage return right before a line feed is
+-- dropped.
 abbrev pub lines_of : List ℕ → List (List ℕ)
 lines_of [] = []
 lines_of (b ∷ rest) =
@@ -33,11 +33,11 @@ abbrev pub skip_white : List ℕ → List ℕ
 skip_white [] = []
 skip_white (b ∷ rest) = if is_white b then skip_white rest else b ∷ rest
 
--- without white space at the end
+-- the bytes without white space at the end
 unfoldable pub trim_end : List ℕ → List ℕ
 trim_end bytes = reverse (skip_white (reverse bytes))
 
--- the fields of a line that end with a comma, and what stands after the last comma
+-- the fields of a line that commas end, and the text after the last comma
 pub record Cut : Type 0 where
   pub ended : List (List ℕ)
   pub last : List ℕ
@@ -49,12 +49,12 @@ abbrev pub onto_ended : ℕ → List (List ℕ) → List ℕ → Cut
 onto_ended b [] last = record { ended = []; last = b ∷ last }
 onto_ended b (field ∷ fields) last = record { ended = (b ∷ field) ∷ fields; last = last }
 
--- a byte at the front of the first field
+-- a byte prepended to the first field
 abbrev pub onto_cut : ℕ → Cut → Cut
 onto_cut b cut = onto_ended b cut.ended cut.last
 
--- A comma ends its field, but not where a backslash takes it: backslashes and carets are paired with the
--- bytes after them from the front of the field.
+-- A comma ends its field unless a backslash takes it. Backslashes and carets take the bytes after them, in pairs from
+-- the start of the field.
 abbrev pub ends_field : Opener → ℕ → Bool
 ends_field opener b = ends_at_comma opener && (b == comma)
 
@@ -72,7 +72,7 @@ abbrev pub mark_of : ℕ → Option Mark
 mark_of b =
     if b == at_sign then Some At else (if b == hash then Some Hash else (if b == equals then Some Equals else None))
 
--- the name in a field, its first mark, and what stands after the mark
+-- the name in a field, its first mark, and the value after the mark
 pub record Marked : Type 0 where
   pub name : List ℕ
   pub mark : Mark
@@ -88,7 +88,7 @@ abbrev pub marked_at : Option Mark → ℕ → List ℕ → Option Marked → Op
 marked_at (Some mark) b rest behind = Some (marked_with [] mark rest)
 marked_at None b rest behind = option_map (onto_name b) behind
 
--- the field cut at its first mark, or None where it has none, as a flag's
+-- the field cut at its first mark, or None if it has none, like a flag's
 abbrev pub marked_in : List ℕ → Option Marked
 marked_in [] = None
 marked_in (b ∷ rest) = marked_at (mark_of b) b rest (marked_in rest)

@@ -1,5 +1,5 @@
--- The lines on which the fields of the entries of a terminfo(5) source text stand. Values are not read, so
--- that these are there for every text.
+-- The lines of the fields of the entries of a terminfo(5) source text. Values aren't read, so every text has field
+-- lines.
 use Rattle.std.specs.Prelude.{ℕ, ◌+◌, ◌≡◌, Bool, false, not, ◌&&◌, List, [], ◌∷◌, ◌++◌, map, Option, Some, None, Ok}
 use Rattle.std.specs.Prelude.{if◌then◌else◌, slice_get, slice_index_or}
 use Rattle.std.specs.List.{filter, filter_map}
@@ -15,7 +15,7 @@ use Rattle.ti_source.specs.Source.{begins_white, is_passed, source_of}
 abbrev pub field_line : ℕ → Option ℕ → FieldLine
 field_line line cap = record { line = line; cap = cap }
 
--- a field of this name, if a capability has the name
+-- a field with this name, if a capability has the name
 abbrev pub named_line : ℕ → Option ℕ → Option FieldLine
 named_line line None = None
 named_line line (Some cap) = Some (field_line line (Some cap))
@@ -32,7 +32,7 @@ split_line line field (Some m) = marked_line line m.mark m.name
 abbrev pub trimmed_line : ℕ → List ℕ → Option FieldLine
 trimmed_line line field = if is_skipped field then None else split_line line field (marked_in field)
 
--- what stands before a comma, if it is a field whose name is known
+-- the field before a comma, if its name is known
 unfoldable pub part_line : ℕ → List ℕ → Option FieldLine
 part_line line part = trimmed_line line (skip_white part)
 
@@ -44,8 +44,7 @@ abbrev pub after_names : List (List ℕ) → List (List ℕ)
 after_names [] = []
 after_names (names ∷ parts) = parts
 
--- What some lines have: the fields of an entry that began before them, and the entries that begin on them,
--- each as all of its fields.
+-- The fields on some lines: those of an entry that began before them, and those of each entry that begins on them.
 pub record Blocks : Type 0 where
   pub ahead : List FieldLine
   pub entries : List (List FieldLine)
@@ -53,7 +52,7 @@ pub record Blocks : Type 0 where
 abbrev pub no_blocks : Blocks
 no_blocks = record { ahead = []; entries = [] }
 
--- a further line of an entry
+-- a line that continues an entry
 abbrev pub onto_blocks : List FieldLine → Blocks → Blocks
 onto_blocks fields behind = record { ahead = fields ++ behind.ahead; entries = behind.entries }
 
@@ -61,7 +60,7 @@ onto_blocks fields behind = record { ahead = fields ++ behind.ahead; entries = b
 abbrev pub begin_block : List FieldLine → Blocks → Blocks
 begin_block fields behind = record { ahead = []; entries = (fields ++ behind.ahead) ∷ behind.entries }
 
--- a line that is neither passed over nor goes on with an entry
+-- a line that is neither ignored nor continues an entry
 abbrev pub begins_entry : List ℕ → Bool
 begins_entry line = not (is_passed line) && not (begins_white line)
 
@@ -78,12 +77,12 @@ abbrev pub blocks_from : ℕ → List (List ℕ) → Blocks
 blocks_from number [] = no_blocks
 blocks_from number (line ∷ lines) = line_blocks number line (blocks_from (number + 1) lines)
 
--- both are on one capability: an inclusion is on none
+-- both are about one capability; an inclusion is about none
 abbrev pub is_same : Option ℕ → Option ℕ → Bool
 is_same None other = false
 is_same (Some cap) other = is_cap cap other
 
--- of the fields on one capability the first, and every inclusion
+-- of the fields about one capability the first, and every inclusion
 abbrev pub firsts : List FieldLine → List FieldLine
 firsts [] = []
 firsts (field ∷ fields) = field ∷ filter (λ other. not (is_same field.cap other.cap)) (firsts fields)
@@ -92,7 +91,7 @@ firsts (field ∷ fields) = field ∷ filter (λ other. not (is_same field.cap o
 unfoldable pub lined_of : List ℕ → List (List FieldLine)
 lined_of text = map firsts (blocks_from 1 (lines_of text)).entries
 
--- those of the entry with this number, counted from 0
+-- the fields that count of the entry with this number, counted from 0
 unfoldable pub field_lines_of : List ℕ → ℕ → List FieldLine
 field_lines_of text entry = slice_index_or (lined_of text) entry []
 
@@ -102,7 +101,7 @@ caps_of_lines fields = map (λ field. field.cap) fields
 abbrev pub caps_of_raw : RawEntry → List (Option ℕ)
 caps_of_raw raw = map cap_of raw.fields
 
--- they are the fields that reading gives, one for one
+-- the field lines are those of the fields that reading returns, one for one
 abbrev pub LinesAreOfFields : Type 0
 LinesAreOfFields =
     (text : List ℕ) (raws : List RawEntry) (entry : ℕ) (raw : RawEntry) → source_of text ≡ Ok raws

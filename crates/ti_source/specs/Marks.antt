@@ -1,4 +1,4 @@
--- The bytes that have a meaning in terminfo(5) source.
+-- The bytes with a meaning in terminfo(5) source.
 use Rattle.std.specs.Prelude.{ℕ, List, [], ◌∷◌}
 
 abbrev pub tab : ℕ
@@ -13,7 +13,7 @@ carriage_return = 13
 abbrev pub space : ℕ
 space = 32
 
--- before a number, and at the front of a comment
+-- before a number, and at the start of a comment
 abbrev pub hash : ℕ
 hash = 35
 

@@ -20,7 +20,7 @@ below_base base (Some digit) = if nat_lt digit base then Some digit else None
 unfoldable pub digit_in : ℕ → ℕ → Option ℕ
 digit_in base b = below_base base (digit_value b)
 
--- the number that digits spell after those of a number before them
+-- the number spelled by digits that follow those of a number
 abbrev pub digits_from : ℕ → ℕ → List ℕ → Option ℕ
 digits_from base before [] = Some before
 digits_from base before (b ∷ rest) =
@@ -31,17 +31,17 @@ abbrev pub digits_of : ℕ → List ℕ → Option ℕ
 digits_of base [] = None
 digits_of base (b ∷ rest) = digits_from base 0 (b ∷ rest)
 
--- what a 0 begins: 0 itself, hexadecimal, or octal
+-- the number after a 0: 0 itself, hexadecimal, or octal
 abbrev pub behind_zero : List ℕ → Option ℕ
 behind_zero [] = Some 0
 behind_zero (b ∷ rest) = if b == 120 then digits_of 16 rest else digits_from 8 0 (b ∷ rest)
 
--- what a number's text spells, or None where it is no number
+-- the number that a text spells, or None if it isn't a number
 unfoldable pub spelled_number : List ℕ → Option ℕ
 spelled_number [] = None
 spelled_number (b ∷ rest) = if b == 48 then behind_zero rest else digits_of 10 (b ∷ rest)
 
--- a number that is too great, whichever it is, as the least of these
+-- a number, or the least that is too great in place of any such
 abbrev pub capped : ℕ → ℕ
 capped number = if nat_le number 2147483647 then number else 2147483648
 
@@ -50,6 +50,6 @@ abbrev pub ranged : Option ℕ → Result ℕ FaultKind
 ranged None = Err BadNumber
 ranged (Some number) = if nat_le number 2147483647 then Ok number else Err NumberRange
 
--- the number that stands after a #, or what is wrong with it
+-- the number after a #, or its fault
 unfoldable pub number_of : List ℕ → Result ℕ FaultKind
 number_of value = ranged (spelled_number (trim_end value))

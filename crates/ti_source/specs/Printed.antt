@@ -1,4 +1,4 @@
--- What an entry is as a raw entry: what its printed text is read as.
+-- An entry as a raw entry, which its printed text is read as.
 use Rattle.std.specs.Prelude.{ℕ, ◌≡◌, ◌<◌, zero, suc, List, [], ◌∷◌, ◌++◌, Option, Some, None, Ok, if◌then◌else◌}
 use Rattle.std.specs.List.{AllByRecursion, Contains}
 use Rattle.ti_caps.specs.declared.types.Kind.{Kind}
@@ -30,8 +30,8 @@ ranks_fields entry kind (suc n) = ranks_fields entry kind n ++ rank_fields entry
 unfoldable pub kind_fields : Content → Kind → List Field
 kind_fields entry kind = ranks_fields entry kind 497
 
--- the capabilities that an entry has, each with its value: flags, numbers and strings, each kind in the
--- order of the names' bytes
+-- the capabilities that an entry has, each with its value: flags, numbers and strings, each kind in the byte order of
+-- the names
 unfoldable pub fields_of : Content → List Field
 fields_of entry = kind_fields entry kinds.Flag ++ (kind_fields entry kinds.Number ++ kind_fields entry kinds.String)
 
@@ -48,7 +48,7 @@ SetsAsIn entry (Set place value) = (place < 497) × (value_at entry place ≡ So
 SetsAsIn entry (Cancel place) = ⊥
 SetsAsIn entry (Include name) = ⊥
 
--- the fields are just those of the entry's capabilities
+-- the fields are exactly those of the entry's capabilities
 pub record AreJust (entry : Content) (fields : List Field) : Type 0 where
   pub each : AllByRecursion (SetsAsIn entry) fields
   pub all : (place : ℕ) (value : Value) → place < 497 → value_at entry place ≡ Some value

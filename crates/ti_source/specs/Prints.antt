@@ -1,5 +1,5 @@
--- The one text that an entry is printed as, in the form of infocmp(1): the names on a line, and each
--- capability on a line of its own.
+-- The one text that is printed for an entry, in the form of infocmp(1): the names on a line, and each capability on a
+-- line of its own.
 use Rattle.std.specs.Prelude.{ℕ, ◌+◌, ◌/◌, ◌%◌, zero, suc, ◌&&◌, ◌||◌, List, [], ◌∷◌, ◌++◌, Option, Some, None}
 use Rattle.std.specs.Prelude.{if◌then◌else◌, ◌==◌, nat_le, flat_map, decimal}
 use Rattle.ti_caps.specs.declared.types.Kind.{Kind}
@@ -11,7 +11,7 @@ use Rattle.ti_caps.specs.Table.{name_at, kind_of, place_of_rank}
 use Rattle.ti_caps.specs.Table.{is_kind}
 use Rattle.ti_source.specs.Marks.{tab, line_feed, hash, comma, colon, equals, backslash, caret}
 
--- what a backslash stands before: E n r t b f s for the bytes 27 10 13 9 8 12 32, and the marks , \ ^ :
+-- the letter after a backslash: E n r t b f s for the bytes 27 10 13 9 8 12 32, and the marks , \ ^ : for themselves
 abbrev pub letter_for : ℕ → Option ℕ
 letter_for b =
     if b == 27 then Some 69
@@ -32,14 +32,14 @@ abbrev pub spelled_with : ℕ → Option ℕ → List ℕ
 spelled_with b (Some letter) = backslash ∷ letter ∷ []
 spelled_with b None = if nat_le 33 b && nat_le b 126 then b ∷ [] else octal b
 
--- how a byte of a string is printed
+-- the text of a byte of a string
 unfoldable pub spelled : ℕ → List ℕ
 spelled b = spelled_with b (letter_for b)
 
 unfoldable pub string_text : List ℕ → List ℕ
 string_text bytes = flat_map spelled bytes
 
--- what stands after a name
+-- the text after a name
 abbrev pub value_text : Value → List ℕ
 value_text Flag = []
 value_text (Number n) = hash ∷ decimal n
@@ -61,7 +61,7 @@ rank_text entry kind rank =
     then place_text (place_of_rank rank) (value_at entry (place_of_rank rank))
     else []
 
--- the fields of a kind whose names are among this many first ones in the order of bytes
+-- the fields of a kind whose names have the first n ranks
 abbrev pub ranks_text : Content → Kind → ℕ → List ℕ
 ranks_text entry kind zero = []
 ranks_text entry kind (suc n) = ranks_text entry kind n ++ rank_text entry kind n

@@ -1,4 +1,4 @@
--- What reading gives can be made an entry.
+-- An entry can be made from what reading returns.
 use Rattle.std.specs.Prelude.{Some, IsTrue}
 use Rattle.std.specs.List.{AllByRecursion}
 use Rattle.ti_caps.specs.Entry.{FitsPlace}
@@ -7,7 +7,7 @@ use Rattle.ti_source.specs.declared.types.Field.{Field}
 use Rattle.ti_source.specs.declared.types.Field.TheVariants.{Set, Cancel, Include}
 use Rattle.ti_source.specs.declared.types.RawEntry.{RawEntry}
 
--- a field's value is one that its capability can have
+-- a field's value fits its capability
 abbrev pub FitsField : Field → Type 0
 FitsField (Set place value) = FitsPlace place (Some value)
 FitsField (Cancel place) = Unit {0}

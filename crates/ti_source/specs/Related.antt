@@ -1,5 +1,5 @@
--- What a terminfo(5) source text says, as a relation between the text and its entries: a text is lines, a
--- line is fields, a field is a name with a value, and an entry begins in column one with its names.
+-- The relation between a terminfo(5) source text and its entries: a text is lines, a line is fields, a field is a
+-- name with a value, and an entry begins in column one with its names.
 use Rattle.std.specs.Prelude.{ℕ, ◌≡◌, ◌≢◌, ◌+◌, ◌≤◌, Bool, true, false, not, ◌&&◌, List, [], ◌∷◌, ◌++◌, length, Option}
 use Rattle.std.specs.Prelude.{Some, None, Ok, Err, IsTrue, ◌==◌, is_some, option_to_list}
 use Rattle.std.specs.List.{list_all}
@@ -32,8 +32,8 @@ ends_in_return [] = false
 ends_in_return (b ∷ []) = b == carriage_return
 ends_in_return (b ∷ c ∷ line) = ends_in_return (c ∷ line)
 
--- The first line of a text, and what stands after it. A line feed ends it, or a carriage return with a
--- line feed, or the text.
+-- The first line of a text, and the rest. The line ends with a line feed, with a carriage return and a line feed, or
+-- with the text.
 pub data FirstLine (line rest text : List ℕ) : Type 0 where
   Fed : text ≡ line ++ line_feed ∷ rest → NoFeed line → ends_in_return line ≡ false → FirstLine line rest text
   Returned : text ≡ line ++ carriage_return ∷ line_feed ∷ rest → NoFeed line → FirstLine line rest text
@@ -43,7 +43,7 @@ abbrev pub HasLines : List (List ℕ) → List ℕ → Type 0
 HasLines [] text = text ≡ []
 HasLines (line ∷ lines) text = (rest : List ℕ) × FirstLine line rest text × HasLines lines rest
 
--- white space alone
+-- only white space
 abbrev pub White : List ℕ → Type 0
 White bytes = IsTrue (list_all is_white bytes)
 
@@ -52,7 +52,7 @@ abbrev pub is_unended : Opener → List ℕ → Bool
 is_unended opener [] = true
 is_unended opener (b ∷ rest) = not (ends_field opener b) && is_unended (opener_after opener b) rest
 
--- the fields of a line, each with a comma after it, and what stands after the last comma
+-- the fields of a line, each with a comma after it, and the text after the last comma
 abbrev pub HasFields : List (List ℕ) → List ℕ → List ℕ → Type 0
 HasFields [] last line = (line ≡ last) × IsTrue (is_unended Nothing last)
 HasFields (field ∷ fields) last line =
@@ -62,8 +62,8 @@ HasFields (field ∷ fields) last line =
 abbrev pub NoMark : List ℕ → Type 0
 NoMark name = IsTrue (list_all (λ b. not (is_some (mark_of b))) name)
 
--- What a field says: a flag, name#number, name=string, name@ or use=name, or one whose name no capability
--- has. The first mark ends the name.
+-- The meaning of a field: a flag, name#number, name=string, name@ or use=name, or one whose name isn't that of a
+-- capability. The first mark ends the name.
 pub data Means (field : List ℕ) (reading : Reading) : Type 0 where
   IsFlag : (cap : ℕ) → NoMark field → place_in (trim_end field) ≡ Some cap → kind_of cap ≡ kinds.Flag
       → reading ≡ Says (Set cap values.Flag) 0 → Means field reading
@@ -86,8 +86,8 @@ abbrev pub begins_field : List ℕ → Bool
 begins_field [] = false
 begins_field (b ∷ rest) = not (is_white b) && not (b == period)
 
--- What stands before a comma says: nothing where it is white space or, after white space, begins with a
--- period; else what the field after the white space says.
+-- The meaning of the text before a comma: nothing if it is white space or, after white space, begins with a period;
+-- otherwise that of the field after the white space.
 pub data PartSays (part : List ℕ) (reading : Reading) : Type 0 where
   Blank : White part → reading ≡ Skipped → PartSays part reading
   Commented : (white rest : List ℕ) → White white → part ≡ white ++ period ∷ rest → reading ≡ Skipped
@@ -95,13 +95,13 @@ pub data PartSays (part : List ℕ) (reading : Reading) : Type 0 where
   Said : (white field : List ℕ) → White white → part ≡ white ++ field → begins_field field ≡ true → Means field reading
       → PartSays part reading
 
--- an entry with the fields of a line, one after another
+-- an entry with the fields of a line added, one after another
 abbrev pub Grows : ℕ → RawEntry → List (List ℕ) → RawEntry → Type 0
 Grows number raw [] grown = grown ≡ raw
 Grows number raw (part ∷ parts) grown =
     (reading : Reading) × PartSays part reading × Grows number (with_reading number raw reading) parts grown
 
--- a further line: after its last comma stands white space alone
+-- a line that continues an entry: only white space follows its last comma
 pub record FurtherLine (number : ℕ) (raw : RawEntry) (line : List ℕ) (grown : RawEntry) : Type 0 where
   pub fields : List (List ℕ)
   pub last : List ℕ
@@ -109,7 +109,7 @@ pub record FurtherLine (number : ℕ) (raw : RawEntry) (line : List ℕ) (grown 
   pub blank : White last
   pub grows : Grows number raw fields grown
 
--- the line on which an entry begins: its first field is the names
+-- the line on which an entry begins; its first field is the names
 pub record EntryLine (number : ℕ) (line : List ℕ) (entry : RawEntry) : Type 0 where
   pub names : List ℕ
   pub fields : List (List ℕ)
@@ -120,8 +120,8 @@ pub record EntryLine (number : ℕ) (line : List ℕ) (entry : RawEntry) : Type 
   pub short : length names ≤ 4095
   pub grows : Grows number (new_entry number names) fields entry
 
--- A line after an entry that is open, and what the lines after it stand for: comments and lines of white
--- space are passed over, a line that begins with white space goes on with the entry, any other begins one.
+-- A line after an open entry, and the entries of the lines after it. Comments and lines of white space are ignored, a
+-- line that begins with white space continues the entry, and any other begins one.
 pub data LineStands (number : ℕ) (open_entry : Option RawEntry) (line : List ℕ) (entries : List RawEntry)
     (Behind : Option RawEntry → List RawEntry → Type 0) : Type 0 where
   Passed : is_passed line ≡ true → Behind open_entry entries → LineStands number open_entry line entries Behind
@@ -132,7 +132,7 @@ pub data LineStands (number : ℕ) (open_entry : Option RawEntry) (line : List �
       → EntryLine number line entry → entries ≡ option_to_list open_entry ++ others → Behind (Some entry) others
       → LineStands number open_entry line entries Behind
 
--- the lines from this number on, after an entry that is open, stand for these entries
+-- the lines from this number on, after an open entry, have these entries
 abbrev pub Stand : ℕ → List (List ℕ) → Option RawEntry → List RawEntry → Type 0
 Stand number [] open_entry entries = entries ≡ option_to_list open_entry
 Stand number (line ∷ lines) open_entry entries = LineStands number open_entry line entries (Stand (number + 1) lines)
@@ -144,21 +144,21 @@ pub record IsSource (text : List ℕ) (entries : List RawEntry) : Type 0 where
   pub has : HasLines lines text
   pub stand : Stand 1 lines None entries
 
--- what is read is so related to the text
+-- entries that are read are related to the text
 abbrev pub ReadIsRelated : Type 0
 ReadIsRelated = (text : List ℕ) (entries : List RawEntry) → source_of text ≡ Ok entries → IsSource text entries
 
--- and what is so related is read
+-- entries related to the text are read
 abbrev pub RelatedIsRead : Type 0
 RelatedIsRead = (text : List ℕ) (entries : List RawEntry) → IsSource text entries → source_of text ≡ Ok entries
 
--- where there is a fault, no entries are so related to the text
+-- if there is a fault, no entries are related to the text
 abbrev pub FaultHasNone : Type 0
 FaultHasNone =
     (text : List ℕ) (fault : SourceFault) → source_of text ≡ Err fault → (entries : List RawEntry)
     → IsSource text entries → ⊥
 
--- the first line, counted from 1, up to which the lines stand for no entries, where those before it do
+-- the first line, counted from 1, up to which the lines have no entries, though those before it do
 pub record FirstFault (lines : List (List ℕ)) (fault : SourceFault) : Type 0 where
   pub before : List (List ℕ)
   pub line : List ℕ
@@ -169,7 +169,7 @@ pub record FirstFault (lines : List (List ℕ)) (fault : SourceFault) : Type 0 w
   pub fine : Stand 1 before None entries
   pub stuck : (others : List RawEntry) → Stand 1 (before ++ line ∷ []) None others → ⊥
 
--- and the fault is reported for that line
+-- the fault is reported for that line
 abbrev pub FaultIsFirst : Type 0
 FaultIsFirst =
     (text : List ℕ) (fault : SourceFault) (lines : List (List ℕ)) → length text ≤ 16777216 → HasLines lines text

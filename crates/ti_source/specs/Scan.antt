@@ -1,4 +1,4 @@
--- (Serves the code alone.) What scans of a text answer: places in it.
+-- (Serves the code alone.) Places found by scans of a text.
 use Rattle.std.specs.Prelude.{ℕ, ◌+◌, suc, List, [], ◌∷◌, ◌++◌, Option, Some, None, if◌then◌else◌, ◌==◌, option_map}
 use Rattle.ti_caps.specs.declared.fits.Opener.{Opener}
 use Rattle.ti_caps.specs.Fits.{opener_after}
@@ -12,12 +12,12 @@ without_return [] = []
 without_return (b ∷ []) = if b == 13 then [] else b ∷ []
 without_return (b ∷ c ∷ rest) = b ∷ without_return (c ∷ rest)
 
--- where the first line feed stands
+-- the place of the first line feed
 abbrev pub feed_in : List ℕ → Option ℕ
 feed_in [] = None
 feed_in (b ∷ rest) = if b == line_feed then Some 0 else option_map suc (feed_in rest)
 
--- where the first comma stands that ends a field
+-- the place of the first comma that ends a field
 abbrev pub comma_from : Opener → List ℕ → Option ℕ
 comma_from opener [] = None
 comma_from opener (b ∷ rest) =
@@ -31,6 +31,6 @@ abbrev pub shifted : ℕ → Option ℕ → Option ℕ
 shifted n None = None
 shifted n (Some k) = Some (n + k)
 
--- bytes before the name
+-- bytes prepended to the name
 abbrev pub before_name : List ℕ → Marked → Marked
 before_name front marked = marked_with (front ++ marked.name) marked.mark marked.value

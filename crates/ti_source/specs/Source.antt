@@ -1,4 +1,4 @@
--- What a whole terminfo(5) source text says: its entries, or the first fault with its line.
+-- The entries of a whole terminfo(5) source text, or its first fault with the line.
 use Rattle.std.specs.Prelude.{ℕ, ◌+◌, Bool, false, ◌||◌, List, [], ◌∷◌, ◌++◌, length, Option, Some, None, Result, Ok}
 use Rattle.std.specs.Prelude.{Err, if◌then◌else◌, ◌==◌, nat_lt, ◌≡◌, option_to_list}
 use Rattle.std.specs.List.{list_all}
@@ -11,7 +11,7 @@ use Rattle.ti_source.specs.Layout.{lines_of, is_white, cut_of}
 use Rattle.ti_source.specs.Fields.{◌>>=◌, add_cut, entry_on}
 use Rattle.ti_source.specs.Marks.{hash}
 
--- the entries that are whole, and the one that further lines may belong to
+-- the entries that are whole, and the one that further lines may continue
 pub record Progress : Type 0 where
   pub done : List RawEntry
   pub open_entry : Option RawEntry
@@ -19,7 +19,7 @@ pub record Progress : Type 0 where
 abbrev pub all_of : Progress → List RawEntry
 all_of progress = progress.done ++ option_to_list progress.open_entry
 
--- a line of white space alone, and one whose first byte is #
+-- a line whose first byte is #
 abbrev pub is_comment : List ℕ → Bool
 is_comment [] = false
 is_comment (b ∷ rest) = b == hash
@@ -32,7 +32,7 @@ abbrev pub begins_white : List ℕ → Bool
 begins_white [] = false
 begins_white (b ∷ rest) = is_white b
 
--- a further line, of the open entry
+-- a line that continues the open entry
 abbrev pub continued : ℕ → List ℕ → Progress → Option RawEntry → Result Progress FaultKind
 continued number line progress None = Err NoName
 continued number line progress (Some raw) =
@@ -66,12 +66,12 @@ read_lines number (line ∷ lines) progress =
 abbrev pub no_progress : Progress
 no_progress = record { done = []; open_entry = None }
 
--- the entries of a text, or its first fault: a text has at most 16777216 bytes
+-- the entries of a text, or its first fault; a text has at most 16777216 bytes
 unfoldable pub source_of : List ℕ → Result (List RawEntry) SourceFault
 source_of text =
     if nat_lt 16777216 (length text) then Err (fault_at 0 TooLong) else read_lines 1 (lines_of text) no_progress
 
--- the fault that a call answered is the one that reading gives, unless memory ran out
+-- the call's fault is that of reading, unless memory ran out
 abbrev pub FailsBy : {Y E : Type 0} → FaultKind → E → Result Y E → Type 0
 FailsBy NoName fault read = read ≡ Err fault
 FailsBy WrongKind fault read = read ≡ Err fault
@@ -82,7 +82,7 @@ FailsBy BadEscape fault read = read ≡ Err fault
 FailsBy TooLong fault read = read ≡ Err fault
 FailsBy NoMemory fault read = Unit {0}
 
--- what a call answered, seen by view, is what reading gives
+-- the call's result, seen through the view, is that of reading
 abbrev pub Gives : {X Y : Type 0} → (X → Y) → Result X FaultKind → Result Y FaultKind → Type 0
 Gives view (Ok x) read = read ≡ Ok (view x)
 Gives view (Err kind) read = FailsBy kind kind read

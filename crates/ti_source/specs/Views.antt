@@ -1,4 +1,4 @@
--- (Serves the code alone.) Values of the code without where they lie in memory.
+-- (Serves the code alone.) Values of the code as contracts see them.
 use Rattle.ti_source.specs.declared.source.Reader.{Reader}
 use Rattle.ti_source.specs.Source.{Progress}
 

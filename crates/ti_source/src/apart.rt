@@ -19,13 +19,13 @@ use std::alloc::{AllocError, Global};
 /// The entries of a source text, each read by itself.
 #[derive(Debug, Drop)]
 pub struct Apart {
-    /// The entries, in the order of the text. One that can't be read has its names alone.
+    /// The entries, in the order of the text. An entry that can't be read has only its names.
     pub raws: Vec<RawEntry>,
-    /// For each entry why it can't be read; `None` where it can.
+    /// The fault of each entry; `None` if it can be read.
     pub faults: Vec<Option<SourceFault>>,
 }
 
-/// The fault of the first line before any entry that goes on with one.
+/// The fault of the first line before any entry that continues one.
 fn front_fault(text: &[u8]) -> Option<SourceFault>
     requires { length text.now ≤ 16777216 }
     ensures { result ≡ front_fault 1 (stretches_from 1 (lines_of text.now)).ahead }
@@ -48,7 +48,7 @@ fn front_fault(text: &[u8]) -> Option<SourceFault>
     None
 }
 
-/// A line that begins no entry, after those of `draft`.
+/// Adds a line that doesn't begin an entry to `draft`.
 #[tactic(auto, unfolding(crate::specs::Apart::add_line))]
 fn add_line(draft: &mut Draft, alloc: Global, number: u32, line: &[u8]) -> Result<(), SourceFault>
     ensures ok { OnOk result (add_line number line.now draft.old ≡ Ok draft.new) }
@@ -64,8 +64,8 @@ fn add_line(draft: &mut Draft, alloc: Global, number: u32, line: &[u8]) -> Resul
     }
 }
 
-/// The entry of `draft` with the lines of `text`, of which the first is number `first`, up to the one that begins
-/// another entry.
+/// The entry of `draft` with the lines of `text`, the first of which has the number `first`, up to the one that
+/// begins another entry.
 fn further_of(alloc: Global, first: u32, text: &[u8], draft: Draft) -> Result<RawEntry, SourceFault>
     requires { first + length text.now ≤ 4294967295 }
     ensures ok { IfOk result (λ raw. further_of first (stretches_from first (lines_of text.now)).ahead draft ≡ Ok raw) }
@@ -88,7 +88,7 @@ fn further_of(alloc: Global, first: u32, text: &[u8], draft: Draft) -> Result<Ra
     Ok(draft.into_entry())
 }
 
-/// The entry that begins on this line, or the first fault in its stretch.
+/// The entry that begins on `line`, or the first fault in its lines.
 fn entry_alone(
     alloc: Global,
     number: u32,
@@ -118,7 +118,7 @@ fn names_on(line: &[u8]) -> &[u8]
     }
 }
 
-/// An entry that has the names on this line alone.
+/// An entry with only the names on `line`.
 fn unread(alloc: Global, number: u32, line: &[u8]) -> Result<RawEntry, AllocError>
     ensures { IfOk result (λ raw. raw ≡ new_entry number (names_on line.now)) }
 {
@@ -126,7 +126,7 @@ fn unread(alloc: Global, number: u32, line: &[u8]) -> Result<RawEntry, AllocErro
     Ok(draft.into_entry())
 }
 
-/// Fails where the `kind` of a fault is that memory ran out, which says nothing of the text.
+/// Fails if `kind` is that memory ran out, which says nothing of the text.
 fn must_tell(kind: FaultKind) -> Result<(), AllocError>
     ensures { OnOk result (kind ≢ FaultKind.NoMemory) }
 {
@@ -152,7 +152,7 @@ impl Apart {
         Ok(())
     }
 
-    /// Adds the entry that begins on this line.
+    /// Adds the entry that begins on `line`.
     fn add(
         &mut self,
         alloc: Global,
@@ -177,7 +177,7 @@ impl Apart {
     }
 }
 
-/// The entries of `text`, which isn't too long and has no fault before the first of them.
+/// The entries of `text`, which must not be too long or have a fault before the first of them.
 fn entries_of(alloc: Global, text: &[u8]) -> Result<Apart, AllocError>
     requires { length text.now ≤ 16777216 }
     ensures raws { IfOk result (λ apart. apart.raws.items
@@ -202,13 +202,13 @@ fn entries_of(alloc: Global, text: &[u8]) -> Result<Apart, AllocError>
 }
 
 /// The entries of a source text of terminfo(5), each read by itself: from a line that begins in column one up to the
-/// next. An entry that can't be read hides no other; it has its names alone, and its first fault beside them.
+/// next. An entry that can't be read hides no other; it has only its names, and its first fault in `faults`.
 ///
-/// It goes over the text three times at most, and takes the memory that `read` does.
+/// Goes over the text at most three times, and takes as much memory as `read`.
 ///
 /// # Errors
-/// `TooLong` of line 0 for a text of more than 16777216 bytes; `NoName` for a line before the first entry that goes on
-/// with one; out of memory, at any line.
+/// `TooLong` for line 0 if the text has more than 16777216 bytes; `NoName` for a line before the first entry that
+/// continues one; out of memory, for any line.
 #[tactic(auto, unfolding(crate::specs::Apart::apart_of))]
 pub fn read_apart(alloc: Global, text: &[u8]) -> Result<Apart, SourceFault>
     ensures entries { IfOk result (λ apart. IsApart text.now apart.raws.items apart.faults.items) }
@@ -234,7 +234,7 @@ pub fn read_apart(alloc: Global, text: &[u8]) -> Result<Apart, SourceFault>
     }
 }
 
-/// A law: reading a whole text is reading its entries one by one, up to the first fault; so a text without a fault
+/// Law: reading a whole text is reading its entries one by one, up to the first fault; so a text without a fault
 /// gives the same entries either way.
 pub fn whole_is_together()
     ensures whole { WholeIsTogether }

@@ -1,4 +1,4 @@
-//! An entry that is being read.
+//! An entry while it is read.
 
 ghost use Rattle.std.specs.Prelude.{◌≡◌, ◌<◌, ◌∷◌, [], replicate, OnOk, IfOk, nat_lt};
 ghost use Rattle.std.specs.List.{list_any};
@@ -16,7 +16,7 @@ use std::alloc::{AllocError, Global};
 use std::marker::Model;
 use ti_caps::{Bytes, CAPABILITIES, Cap, LONGEST};
 
-/// An entry as far as it has been read, and which capabilities its fields are on.
+/// An entry as far as it has been read, and the capabilities that its fields are about.
 #[derive(Drop)]
 pub(crate) struct Draft {
     entry: RawEntry,
@@ -35,7 +35,7 @@ impl Model for Draft {
     ghost invariant = { λ d. IsSeen d.entry.fields d.seen };
 }
 
-/// The capability that a field is on.
+/// The capability that a field is about.
 fn cap_of(field: &Field) -> Option<Cap>
     ensures { result ≡ cap_of field.now }
 {
@@ -69,7 +69,7 @@ impl Draft {
         self.entry
     }
 
-    /// Whether a field is on this capability.
+    /// Whether a field is about the capability `cap`.
     fn is_told(&self, cap: Cap) -> bool
         ensures { result ≡ is_told self.now.fields cap }
     {
@@ -135,7 +135,7 @@ impl Draft {
         }
     }
 
-    /// A field with a comma after it.
+    /// Adds a field that has a comma after it.
     #[tactic(auto, unfolding(crate::specs::Fields::add_field))]
     fn add_part(&mut self, alloc: Global, line: u32, part: &[u8]) -> Result<(), FaultKind>
         ensures { Gives (λ _. self.new) result (add_field line self.old part.now) }
@@ -145,7 +145,7 @@ impl Draft {
             .map_err(|_| FaultKind::NoMemory)
     }
 
-    /// What stands after the last comma.
+    /// Checks the text after the last comma.
     #[tactic(auto, unfolding(crate::specs::Fields::add_last))]
     fn add_last(&self, alloc: Global, part: &[u8]) -> Result<(), FaultKind>
         ensures { Gives (λ _. self.now) result (add_last self.now part.now) }
@@ -157,7 +157,7 @@ impl Draft {
         Err(FaultKind::OpenField)
     }
 
-    /// The fields of a further line, or of what stands after the names.
+    /// Adds the fields of a further line, or those after the names.
     pub(crate) fn add_parts(
         &mut self,
         alloc: Global,
@@ -184,7 +184,7 @@ fn begins_unnamed(names: &[u8]) -> bool
     }
 }
 
-/// Whether there is a control character.
+/// Whether a control character is among the names.
 fn has_control(names: &[u8]) -> bool
     ensures { result ≡ list_any (λ b. nat_lt b 32) names.now }
 {
@@ -198,7 +198,7 @@ fn is_no_name(names: &[u8]) -> bool
     begins_unnamed(names) || has_control(names)
 }
 
-/// The entry whose names a comma ends.
+/// The entry with `names`, which a comma ends.
 #[tactic(auto, unfolding(crate::specs::Fields::named_entry))]
 fn named_entry(alloc: Global, line: u32, names: &[u8]) -> Result<Draft, FaultKind>
     ensures { Gives (λ draft. draft) result (named_entry line names.now) }
@@ -212,7 +212,7 @@ fn named_entry(alloc: Global, line: u32, names: &[u8]) -> Result<Draft, FaultKin
     Draft::new(alloc, line, names).map_err(|_| FaultKind::NoMemory)
 }
 
-/// Names without a comma after them.
+/// The fault of names without a comma after them.
 fn open_names(names: &[u8]) -> Result<Draft, FaultKind>
     ensures { Gives (λ draft. draft) result (open_names names.now) }
 {
@@ -222,7 +222,7 @@ fn open_names(names: &[u8]) -> Result<Draft, FaultKind>
     Err(FaultKind::OpenField)
 }
 
-/// The entry that begins on a line.
+/// The entry that begins on the line `text`, with the fields on it.
 #[tactic(auto, unfolding(crate::specs::Fields::entry_on))]
 pub(crate) fn entry_on(alloc: Global, line: u32, text: &[u8]) -> Result<Draft, FaultKind>
     ensures { Gives (λ draft. draft) result (entry_on line text.now) }

@@ -1,4 +1,4 @@
-//! The escapes in a string's value.
+//! The escapes in the value of a string.
 
 ghost use Rattle.std.specs.Prelude.{◌≡◌, ℕ, ◌+◌, ◌*◌, ◌-◌, ◌<◌, ◌≤◌, ◌==◌, nat_le, length, drop, map, Some, option_map};
 ghost use Rattle.std.specs.Prelude.{IfOk, IfErr, IfSome, OnOk, List};
@@ -10,7 +10,7 @@ use std::alloc::{AllocError, Global};
 use thiserror::Error;
 use ti_caps::LONGEST;
 
-/// Why a string cannot be taken out of its escapes.
+/// The reason why the value of a string can't be decoded.
 #[derive(Clone, Copy, Debug, PartialEq, Eq, Error)]
 pub enum EscapeFault {
     /// A backslash at the end, or a caret at the end or before a comma.
@@ -19,27 +19,27 @@ pub enum EscapeFault {
     /// The string would have more than 4095 bytes.
     #[error("TooLong")]
     TooLong,
-    /// The allocator refused to grow the string.
+    /// Out of memory.
     #[error("NoMemory")]
     NoMemory,
 }
 
-/// An escape, or one byte that stands for itself.
+/// An escape, or one byte that means itself.
 #[derive(Clone, Copy)]
 pub(crate) struct Piece {
-    /// What it stands for.
+    /// The byte that it means.
     pub(crate) byte: u8,
-    /// How many bytes of the text it takes.
+    /// The number of bytes of the text that it takes.
     pub(crate) used: usize,
-    /// A backslash stands before a byte that has no meaning there.
+    /// Whether it is a backslash before a byte that has no meaning there.
     pub(crate) odd: bool,
 }
 
-/// A string out of its escapes.
+/// A decoded string.
 #[derive(Drop)]
 pub(crate) struct Decoded {
     pub(crate) bytes: Vec<u8>,
-    /// How many odd escapes there were.
+    /// The number of odd escapes.
     pub(crate) odd: usize,
 }
 
@@ -151,7 +151,7 @@ fn control_at(rest: &[u8]) -> Option<Piece>
     }
 }
 
-/// The piece at the front of a text, None where an escape has no end.
+/// The first piece of `text`; `None` if an escape has no end.
 #[tactic(auto, unfolding(crate::specs::Escapes::piece_at))]
 fn piece_at(text: &[u8]) -> Option<Piece>
     ensures { result ≡ piece_at text.now }
@@ -166,7 +166,7 @@ fn piece_at(text: &[u8]) -> Option<Piece>
     }
 }
 
-/// The bytes of a string's value, None where an escape in it has no end.
+/// The bytes of a string's value; `None` if an escape in it has no end.
 pub(crate) fn decode(alloc: Global, text: &[u8]) -> Result<Option<Decoded>, AllocError>
     ensures { IfOk result (λ found. option_map decoding_view found ≡ decoding_of text.now) }
 {
@@ -184,10 +184,10 @@ pub(crate) fn decode(alloc: Global, text: &[u8]) -> Result<Option<Decoded>, Allo
     Ok(Some(Decoded { bytes, odd }))
 }
 
-/// The bytes that the value of a string stands for, by the escapes of terminfo(5). A comma stands for itself.
+/// Decodes the value `text` of a string, by the escapes of terminfo(5). A comma means itself.
 ///
-/// `BadEscape` where an escape has no end, which is reported before `TooLong`, for an answer of more than 4095
-/// bytes.
+/// Fails with `BadEscape` if an escape has no end; otherwise with `TooLong` if the string has more than 4095 bytes;
+/// or when out of memory.
 #[tactic(auto, unfolding(crate::specs::Escapes::unescaped))]
 pub fn unescape(alloc: Global, text: &[u8]) -> Result<Vec<u8>, EscapeFault>
     ensures bytes { IfOk result (λ v. unescaped text.now ≡ Ok v.items) }

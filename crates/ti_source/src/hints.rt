@@ -1,4 +1,4 @@
-//! Where a source text has `%^`.
+//! The places of `%^` in a source text.
 
 ghost use Rattle.std.specs.Prelude.{◌≡◌, ◌++◌, IfOk, OnOk};
 ghost use Rattle.ti_source.specs.Hints.{has_percent_caret, hint_at, hinted, hinted_by, hinted_cap, hints_of};
@@ -20,7 +20,7 @@ pub struct Hint {
     pub cap: Cap,
 }
 
-/// Whether nothing takes this byte, and it is `%`.
+/// Whether `byte` is a `%` that isn't taken by a backslash or caret before it.
 fn is_percent(opener: Opener, byte: u8) -> bool
     ensures { result ≡ is_percent opener byte }
 {
@@ -30,7 +30,7 @@ fn is_percent(opener: Opener, byte: u8) -> bool
     }
 }
 
-/// Whether a value has a caret straight after a `%` that nothing takes.
+/// Whether `value` has a caret right after a `%` that no backslash or caret takes.
 #[tactic(auto, unfolding(crate::specs::Hints::has_percent_caret))]
 fn has_percent_caret(value: &[u8]) -> bool
     ensures { result ≡ has_percent_caret value.now }
@@ -47,7 +47,7 @@ fn has_percent_caret(value: &[u8]) -> bool
     false
 }
 
-/// The capability, if it is a string and the value has `%^`.
+/// The capability `cap`, if it is a string and `value` has `%^`.
 fn hinted_cap(cap: Cap, value: &[u8]) -> Option<Cap>
     ensures { result ≡ hinted_cap cap value.now }
 {
@@ -58,7 +58,7 @@ fn hinted_cap(cap: Cap, value: &[u8]) -> Option<Cap>
     }
 }
 
-/// The string capability that a field with this mark gives such a value.
+/// The string capability whose value has `%^`, in a field with this mark and value.
 fn hinted_by(mark: Mark, found: Option<Cap>, value: &[u8]) -> Option<Cap>
     ensures { result ≡ hinted_by mark found value.now }
 {
@@ -68,7 +68,7 @@ fn hinted_by(mark: Mark, found: Option<Cap>, value: &[u8]) -> Option<Cap>
     }
 }
 
-/// The string capability that a field gives such a value.
+/// The string capability whose value has `%^`, in the field `part`.
 #[tactic(auto, unfolding(crate::specs::Hints::hinted))]
 fn hinted(part: &[u8]) -> Option<Cap>
     ensures { result ≡ hinted part.now }
@@ -83,7 +83,7 @@ fn hinted(part: &[u8]) -> Option<Cap>
     }
 }
 
-/// The hint on one field.
+/// Adds the hint on one field, if it has one.
 fn add_part(hints: &mut Vec<Hint>, line: usize, part: &[u8]) -> Result<(), AllocError>
     ensures { OnOk result (hints.new.items ≡ hints.old.items ++ hint_at line (hinted part.now)) }
 {
@@ -96,7 +96,7 @@ fn add_part(hints: &mut Vec<Hint>, line: usize, part: &[u8]) -> Result<(), Alloc
     }
 }
 
-/// The hints on the fields that commas end.
+/// Adds the hints on the fields that commas end.
 fn add_parts(hints: &mut Vec<Hint>, line: usize, text: &[u8]) -> Result<(), AllocError>
     ensures { OnOk result (hints.new.items ≡ hints.old.items ++ part_hints line (cut_of text.now).ended) }
 {
@@ -108,7 +108,7 @@ fn add_parts(hints: &mut Vec<Hint>, line: usize, text: &[u8]) -> Result<(), Allo
     Ok(())
 }
 
-/// The hints on a line.
+/// Adds the hints on a line.
 #[tactic(auto, unfolding(crate::specs::Hints::line_hints))]
 fn add_line(hints: &mut Vec<Hint>, number: usize, line: &[u8]) -> Result<(), AllocError>
     ensures { OnOk result (hints.new.items ≡ hints.old.items ++ line_hints number line.now) }
@@ -127,11 +127,11 @@ fn add_line(hints: &mut Vec<Hint>, number: usize, line: &[u8]) -> Result<(), All
 
 /// The string capabilities of a source text whose values have `%^`, each with its line, in their order.
 ///
-/// terminfo(5) reads `%^x` as `%` and the control character of `x`; the code for exclusive or is written
-/// `%\^`. Other readers take `%^` for that code, so that a text which has it may mean something else than
-/// what `read` gives. Each field that a comma ends counts, also one that `read` notes as a duplicate.
+/// terminfo(5) reads `%^x` as `%` and the control character of `x`; the code for exclusive or is written `%\^`. Other
+/// readers take `%^` for that code, so a `text` that has it may mean something else to them than to `read`. Each
+/// field that a comma ends counts, even one that `read` notes as a duplicate.
 ///
-/// The error is out of memory.
+/// Fails only when out of memory.
 #[tactic(auto, unfolding(crate::specs::Hints::hints_of))]
 pub fn percent_carets(alloc: Global, text: &[u8]) -> Result<Vec<Hint>, AllocError>
     ensures { IfOk result (λ hints. hints.items ≡ hints_of text.now) }

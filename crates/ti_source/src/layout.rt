@@ -1,4 +1,4 @@
-//! How a source text is cut: into lines, a line into fields, a field into a name and a value.
+//! Cutting a source text: into lines, a line into fields, a field into a name and a value.
 
 ghost use Rattle.std.specs.Prelude.{◌≡◌, ℕ, ◌+◌, ◌<◌, ◌≤◌, ◌==◌, [], ◌∷◌, length, take, drop, IfSome, IfNone};
 ghost use Rattle.std.specs.Prelude.{option_map};
@@ -9,7 +9,7 @@ ghost use Rattle.ti_source.specs.Scan.{comma_in, feed_in, without_return};
 
 use ti_caps::Opener;
 
-/// What stands between a name and a value.
+/// The mark between a name and a value.
 #[derive(Clone, Copy, PartialEq, Eq)]
 pub(crate) enum Mark {
     At,
@@ -17,7 +17,7 @@ pub(crate) enum Mark {
     Equals,
 }
 
-/// Where the first line feed stands.
+/// The place of the first line feed.
 fn line_end(text: &[u8]) -> Option<usize>
     ensures place { result ≡ feed_in text.now }
     ensures range { IfSome result (λ at. at < length text.now) }
@@ -43,7 +43,7 @@ fn without_return(line: &[u8]) -> &[u8]
     }
 }
 
-/// The first line of a text, and what stands after it. None where the text is empty.
+/// The first line of `text`, and the rest; `None` if the text is empty.
 #[tactic(auto, using(std::proofs::lemmas::List::take_rest, crate::proofs::Layouts::line_cut, crate::proofs::Layouts::line_whole, crate::proofs::Tests::filled))]
 pub(crate) fn cut_line(text: &[u8]) -> Option<(&[u8], &[u8])>
     ensures found { IfSome result (λ x. lines_of text.now ≡ x.0.now ∷ lines_of x.1.now) }
@@ -65,14 +65,14 @@ pub(crate) fn is_white(byte: u8) -> bool
     byte == b' ' || byte == b'\t'
 }
 
-/// Whether there is nothing but white space.
+/// Whether all bytes are white space.
 pub(crate) fn is_blank(bytes: &[u8]) -> bool
     ensures { result ≡ list_all is_white bytes.now }
 {
     bytes.iter().all(|byte| is_white(*byte))
 }
 
-/// The bytes from the first that is no white space.
+/// The bytes from the first on that isn't white space.
 pub(crate) fn skip_white(bytes: &[u8]) -> &[u8]
     ensures { result.now ≡ skip_white bytes.now }
 {
@@ -86,7 +86,7 @@ pub(crate) fn skip_white(bytes: &[u8]) -> &[u8]
     rest
 }
 
-/// The bytes up to the last that is no white space.
+/// The bytes up to the last that isn't white space.
 #[tactic(auto, using(crate::proofs::Layouts::trimmed, crate::proofs::Layouts::not_trimmed, crate::proofs::Layouts::empty_trimmed))]
 pub(crate) fn trim_end(bytes: &[u8]) -> &[u8]
     ensures { result.now ≡ trim_end bytes.now }
@@ -101,7 +101,7 @@ pub(crate) fn trim_end(bytes: &[u8]) -> &[u8]
     rest
 }
 
-/// Where the first comma stands that ends a field.
+/// The place of the first comma that ends a field.
 #[tactic(auto, unfolding(crate::specs::Scan::comma_in))]
 fn field_end(line: &[u8]) -> Option<usize>
     ensures place { result ≡ comma_in line.now }
@@ -119,7 +119,7 @@ fn field_end(line: &[u8]) -> Option<usize>
     None
 }
 
-/// The first field of a line that ends with a comma, and what stands after the comma.
+/// The first field of `line` that a comma ends, and the text after the comma; `None` if there is no such field.
 #[tactic(auto, using(std::proofs::lemmas::List::take_rest, crate::proofs::Layouts::field_cut, crate::proofs::Layouts::field_whole))]
 pub(crate) fn cut_field(line: &[u8]) -> Option<(&[u8], &[u8])>
     ensures found { IfSome result (λ x. cut_of line.now ≡ put_field x.0.now (cut_of x.1.now)) }
@@ -143,7 +143,7 @@ fn mark_of(byte: u8) -> Option<Mark>
     }
 }
 
-/// The name in a field, its first mark and what stands after the mark. None where there is no mark.
+/// The name in `field`, its first mark, and the value after the mark; `None` if it has no mark.
 pub(crate) fn marked(field: &[u8]) -> Option<(&[u8], Mark, &[u8])>
     ensures { option_map (λ m. marked_with m.0.now m.1 m.2.now) result ≡ marked_in field.now }
 {

@@ -1,4 +1,4 @@
-//! The lines on which the fields of an entry stand.
+//! The lines of the fields of an entry.
 
 ghost use Rattle.std.specs.Prelude.{◌≡◌, ◌≤◌, ◌+◌, ◌++◌, ◌∷◌, [], Some, None, IfOk, IfSome, IfNone, OnOk, length};
 ghost use Rattle.ti_source.specs.Blocks.{AreFlags, entry_block, fields_from, further_lines, is_held, with_line};
@@ -14,12 +14,12 @@ use std::alloc::{AllocError, Global};
 use std::marker::Model;
 use ti_caps::{CAPABILITIES, Cap, by_name};
 
-/// Where a field of an entry stands.
+/// The line of a field of an entry.
 #[derive(Clone, Copy, Debug, PartialEq, Eq)]
 pub struct FieldLine {
     /// The line of the text, from 1.
     pub line: usize,
-    /// The capability that the field sets or cancels; None where it includes an entry.
+    /// The capability that the field sets or cancels; `None` if it includes an entry.
     pub cap: Option<Cap>,
 }
 
@@ -35,7 +35,7 @@ fn named_line(line: usize, found: Option<Cap>) -> Option<FieldLine>
     }
 }
 
-/// A field with a mark after its name.
+/// A field with a mark after its name; `None` if the name is unknown.
 fn marked_line(line: usize, mark: Mark, name: &[u8]) -> Option<FieldLine>
     ensures { result ≡ marked_line line mark name.now }
 {
@@ -45,7 +45,7 @@ fn marked_line(line: usize, mark: Mark, name: &[u8]) -> Option<FieldLine>
     named_line(line, by_name(name))
 }
 
-/// What stands before a comma, if it is a field whose name is known.
+/// The field before a comma; `None` if there is none whose name is known.
 #[tactic(auto, unfolding(crate::specs::Lines::part_line))]
 fn part_line(line: usize, part: &[u8]) -> Option<FieldLine>
     ensures { result ≡ part_line line part.now }
@@ -72,7 +72,7 @@ fn is_further(line: &[u8]) -> bool
     !is_passed(line) && begins_white(line)
 }
 
-/// The fields of an entry that count so far, and which capabilities they are on.
+/// The fields of an entry that count so far, and the capabilities that they are about.
 #[derive(Drop)]
 struct Block {
     fields: Vec<FieldLine>,
@@ -108,7 +108,7 @@ impl Block {
         self.fields
     }
 
-    /// Whether a field is on this capability.
+    /// Whether a field is about the capability `cap`.
     fn is_held(&self, cap: Option<Cap>) -> bool
         ensures { result ≡ is_held self.now cap }
     {
@@ -129,7 +129,7 @@ impl Block {
         Ok(())
     }
 
-    /// One more field, if it counts.
+    /// Adds a field, if it counts.
     fn add(&mut self, field: FieldLine) -> Result<(), AllocError>
         ensures { OnOk result (self.new ≡ with_line self.old field) }
     {
@@ -140,7 +140,7 @@ impl Block {
         }
     }
 
-    /// What stands before a comma.
+    /// Adds the field before a comma, if it counts.
     fn add_part(&mut self, line: usize, part: &[u8]) -> Result<(), AllocError>
         ensures { OnOk result (self.new ≡ with_part self.old (part_line line part.now)) }
     {
@@ -150,7 +150,7 @@ impl Block {
         }
     }
 
-    /// The fields that commas end.
+    /// Adds the fields that commas end, if they count.
     fn add_parts(&mut self, line: usize, text: &[u8]) -> Result<(), AllocError>
         ensures { OnOk result (self.new ≡ with_lines self.old (part_lines line (cut_of text.now).ended)) }
     {
@@ -162,7 +162,7 @@ impl Block {
         Ok(())
     }
 
-    /// The fields that follow the names.
+    /// Adds the fields after the names, if they count.
     fn add_first(&mut self, line: usize, text: &[u8]) -> Result<(), AllocError>
         ensures { OnOk result (self.new ≡ with_lines self.old (part_lines line (after_names (cut_of text.now).ended))) }
     {
@@ -172,7 +172,7 @@ impl Block {
         }
     }
 
-    /// A line that begins no entry.
+    /// Adds the fields of a line that doesn't begin an entry.
     fn add_further(&mut self, number: usize, line: &[u8]) -> Result<(), AllocError>
         ensures { OnOk result (self.new ≡ with_lines self.old (further_lines number line.now)) }
     {
@@ -183,7 +183,7 @@ impl Block {
         }
     }
 
-    /// The lines from this number on, up to the one that begins another entry.
+    /// Adds the fields of the lines from the number `first` on, up to the one that begins another entry.
     fn add_lines(&mut self, first: usize, text: &[u8]) -> Result<(), AllocError>
         requires { first + length text.now ≤ 18446744073709551615 }
         ensures { OnOk result (self.new ≡ with_lines self.old (blocks_from first (lines_of text.now)).ahead) }
@@ -210,7 +210,7 @@ struct Start<'t> {
     behind: &'t [u8],
 }
 
-/// Where the entry with this number begins.
+/// The first line of the entry with the number `entry`, and the lines after it.
 fn start_of(text: &[u8], entry: usize) -> Option<Start<'_>>
     ensures found { IfSome result (λ s.
         entry_block text.now entry ≡ Some (fields_from s.number s.line.now s.behind.now)) }
@@ -237,7 +237,7 @@ fn start_of(text: &[u8], entry: usize) -> Option<Start<'_>>
     None
 }
 
-/// The fields that count of the entry that begins on this line.
+/// The fields that count of the entry that begins on `line`.
 fn lines_from(
     alloc: Global,
     number: usize,
@@ -253,11 +253,11 @@ fn lines_from(
     Ok(block.into_fields())
 }
 
-/// The lines on which the fields of an entry of a source text stand, in the order of its fields: `entry` is
-/// its place among those that `read` gives for the text, and its fields are those that `read` gives.
+/// The lines of the fields of an entry of a source text, in the order of the fields. `entry` is its place among the
+/// entries that `read` returns for `text`, and its fields are those that `read` returns.
 ///
-/// It reads the text up to the end of that entry, and no values. An entry that is not there has no fields.
-/// The error is out of memory.
+/// Reads the text up to the end of that entry, without its values. An entry that doesn't exist has no fields. Fails
+/// only when out of memory.
 pub fn field_lines(alloc: Global, text: &[u8], entry: usize) -> Result<Vec<FieldLine>, AllocError>
     ensures { IfOk result (λ lines. lines.items ≡ field_lines_of text.now entry) }
 {
@@ -270,7 +270,7 @@ pub fn field_lines(alloc: Global, text: &[u8], entry: usize) -> Result<Vec<Field
     }
 }
 
-/// A law: where a text can be read, its field lines are those of the fields of each entry, one for one.
+/// Law: if a text can be read, its field lines are those of the fields of each entry, one for one.
 #[tactic(auto, using(crate::proofs::FieldLines::lines_are_of_fields))]
 pub fn field_lines_are_of_fields()
     ensures { LinesAreOfFields }

@@ -23,7 +23,7 @@ fn digit_value(byte: u8) -> Option<u8>
     }
 }
 
-/// A digit of this base.
+/// The value of a digit in this base.
 #[tactic(auto, unfolding(crate::specs::Numbers::digit_in))]
 fn digit_in(base: u32, byte: u8) -> Option<u32>
     ensures value { result ≡ digit_in base byte }
@@ -46,7 +46,7 @@ fn capped(number: u64) -> u32
     }
 }
 
-/// The number that these digits spell, or one past the greatest.
+/// The number that these digits spell, at most one above the greatest number.
 fn digits(base: u32, text: &[u8]) -> Option<u32>
     requires least { 1 ≤ base }
     requires most { base ≤ 16 }
@@ -92,7 +92,7 @@ fn spelled_number(text: &[u8]) -> Option<u32>
     }
 }
 
-/// The number that stands after a `#`.
+/// The number after a `#`.
 #[tactic(auto, unfolding(crate::specs::Numbers::number_of))]
 pub(crate) fn number_of(value: &[u8]) -> Result<u32, FaultKind>
     ensures given { Gives (λ n. n) result (number_of value.now) }

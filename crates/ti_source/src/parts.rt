@@ -1,4 +1,4 @@
-//! What a field says.
+//! The meaning of a field.
 
 ghost use Rattle.std.specs.Prelude.{◌≡◌, ◌++◌, ◌∷◌, [], IfOk, option_map, Some};
 ghost use Rattle.ti_source.specs.Fields.{is_use, flag_reading, number_reading, string_reading, known_reading};
@@ -16,14 +16,14 @@ use crate::types::{FaultKind, Field};
 use std::alloc::{AllocError, Global};
 use ti_caps::{Bytes, Cap, Kind, LONGEST, Value, by_name, is_kind};
 
-/// What stands between two commas.
+/// The meaning of the text between two commas.
 #[derive(Drop)]
 pub(crate) enum Reading {
     /// Nothing, or a field that is commented out.
     Skipped,
-    /// A field whose name no capability has.
+    /// A field whose name isn't that of a capability.
     Unknown,
-    /// A field, and how many odd escapes its string has.
+    /// A field, and the number of odd escapes in its string.
     Says(Field, usize),
 }
 
@@ -137,7 +137,7 @@ pub(crate) fn is_skipped(field: &[u8]) -> bool
     }
 }
 
-/// What stands between two commas says.
+/// The meaning of the text between two commas.
 #[tactic(auto, unfolding(crate::specs::Fields::reading_of))]
 pub(crate) fn reading_of(alloc: Global, part: &[u8]) -> Result<Reading, FaultKind>
     ensures { Gives (λ r. r) result (reading_of part.now) }
@@ -158,7 +158,7 @@ fn is_long(reading: &Reading) -> bool
     }
 }
 
-/// What a field says that a comma ends.
+/// The meaning of a field that a comma ends.
 #[tactic(auto, unfolding(crate::specs::Fields::ended_reading))]
 pub(crate) fn ended_reading(alloc: Global, part: &[u8]) -> Result<Reading, FaultKind>
     ensures { Gives (λ r. r) result (ended_reading part.now) }

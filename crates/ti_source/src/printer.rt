@@ -17,7 +17,7 @@ use itoa::Buffer;
 use std::alloc::{AllocError, Global};
 use ti_caps::{CAPABILITIES, Cap, Entry, Kind, Value, at_rank, is_kind, name};
 
-/// What a backslash stands before in place of `byte`, where it has such a letter.
+/// The letter that, after a backslash, means `byte`; `None` if there is no such letter.
 pub fn letter_for(byte: u8) -> Option<u8>
     ensures { result ≡ letter_for byte }
 {
@@ -78,7 +78,7 @@ fn push_string(text: &mut Vec<u8>, bytes: &[u8]) -> Result<(), AllocError>
     Ok(())
 }
 
-/// The range of a byte's type, read at each: nothing of the loop is left in the program.
+/// Proves that each byte is below 256; the compiled program has nothing of the loop.
 fn are_bytes(bytes: &[u8])
     ensures { AllByRecursion (λ b. b < 256) bytes.now }
 {
@@ -87,9 +87,10 @@ fn are_bytes(bytes: &[u8])
     }
 }
 
-/// The value of a string that stands for `bytes`, as `print` writes it: `unescape` gives them back.
+/// The value of a string with these `bytes`, as `print` writes it: `unescape` returns the bytes. They must fit
+/// (`string_fits`).
 ///
-/// The error is out of memory.
+/// Fails only when out of memory.
 #[tactic(auto, using(crate::proofs::StringBack::string_back))]
 pub fn escape(alloc: Global, bytes: &[u8]) -> Result<Vec<u8>, AllocError>
     requires { IsTrue (string_fits bytes.now) }
@@ -109,7 +110,7 @@ fn push_number(text: &mut Vec<u8>, number: u32) -> Result<(), AllocError>
     text.extend_from_slice(digits.format(number).as_bytes())
 }
 
-/// What stands after a name.
+/// Appends a mark and a value, which follow the name.
 fn push_value(text: &mut Vec<u8>, value: &Value) -> Result<(), AllocError>
     ensures { OnOk result (text.new.items ≡ text.old.items ++ value_text value.now) }
 {
@@ -126,7 +127,7 @@ fn push_value(text: &mut Vec<u8>, value: &Value) -> Result<(), AllocError>
     }
 }
 
-/// A field on its line.
+/// Appends a field on its line.
 #[tactic(auto, unfolding(crate::specs::Prints::field_text))]
 fn push_field(text: &mut Vec<u8>, cap: Cap, value: &Value) -> Result<(), AllocError>
     ensures { OnOk result (text.new.items ≡ text.old.items ++ field_text cap value.now) }
@@ -137,7 +138,7 @@ fn push_field(text: &mut Vec<u8>, cap: Cap, value: &Value) -> Result<(), AllocEr
     text.extend_from_slice(b",\n")
 }
 
-/// The field of a capability, if the entry has it.
+/// Appends the field of the capability `cap`, if the entry has it.
 fn push_place(text: &mut Vec<u8>, entry: &Entry, cap: Cap) -> Result<(), AllocError>
     ensures { OnOk result (text.new.items ≡ text.old.items ++ place_text cap (value_at entry.now cap)) }
 {
@@ -147,7 +148,7 @@ fn push_place(text: &mut Vec<u8>, entry: &Entry, cap: Cap) -> Result<(), AllocEr
     }
 }
 
-/// The field of the capability whose name has this rank, if it is of this kind.
+/// Appends the field of the capability whose name has this rank, if it is of this kind.
 #[tactic(auto, unfolding(crate::specs::Prints::rank_text, ti_caps::specs::Table::place_ranked))]
 fn push_rank(text: &mut Vec<u8>, entry: &Entry, kind: Kind, rank: usize) -> Result<(), AllocError>
     requires { rank < 497 }
@@ -159,7 +160,7 @@ fn push_rank(text: &mut Vec<u8>, entry: &Entry, kind: Kind, rank: usize) -> Resu
     }
 }
 
-/// The fields of a kind in the order of their names.
+/// Appends the fields of a kind in the order of their names.
 #[tactic(auto, unfolding(crate::specs::Prints::kind_text))]
 fn push_kind(text: &mut Vec<u8>, entry: &Entry, kind: Kind) -> Result<(), AllocError>
     ensures { OnOk result (text.new.items ≡ text.old.items ++ kind_text entry.now kind) }
@@ -170,7 +171,7 @@ fn push_kind(text: &mut Vec<u8>, entry: &Entry, kind: Kind) -> Result<(), AllocE
     Ok(())
 }
 
-/// The names on a line, and after them flags, numbers and strings.
+/// The names on a line, followed by flags, numbers and strings.
 #[tactic(auto, unfolding(crate::specs::Prints::text_of))]
 fn text(alloc: Global, entry: &Entry) -> Result<Vec<u8>, AllocError>
     ensures value { IfOk result (λ v. v.items ≡ text_of entry.now) }
@@ -184,10 +185,10 @@ fn text(alloc: Global, entry: &Entry) -> Result<Vec<u8>, AllocError>
     Ok(text)
 }
 
-/// The entry as a source text of terminfo(5): its names on a line, then a line for each capability, flags,
-/// numbers and strings, each kind in the order of the names' bytes. Reading it gives the entry back.
+/// A source text of terminfo(5) for `entry`: its names on a line, then a line for each capability, flags, numbers and
+/// strings, each kind in the byte order of the names. Reading it gives the entry back.
 ///
-/// The error is out of memory.
+/// Fails only when out of memory.
 #[tactic(auto, using(crate::proofs::Lengths::reads_back))]
 pub fn print(alloc: Global, entry: &Entry) -> Result<Vec<u8>, AllocError>
     ensures text { IfOk result (λ v. v.items ≡ text_of entry.now) }
@@ -196,7 +197,7 @@ pub fn print(alloc: Global, entry: &Entry) -> Result<Vec<u8>, AllocError>
     text(alloc, entry)
 }
 
-/// A law: the printed text of an entry is read as one raw entry with the entry's names and just its fields.
+/// Law: the printed text of an entry is read as one raw entry with the entry's names and exactly its fields.
 pub fn printing_reads_back()
     ensures read { ReadsBack }
     ensures just { PrintsJust }

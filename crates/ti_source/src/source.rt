@@ -13,10 +13,10 @@ use crate::layout::{cut_line, is_blank, is_white};
 use crate::types::{FaultKind, RawEntry, SourceFault};
 use std::alloc::{AllocError, Global};
 
-/// The most bytes that a source text has.
+/// The greatest size of a source text in bytes.
 pub(crate) const MAX_SOURCE: usize = 16_777_216;
 
-/// The entries that are whole, and the one that further lines may belong to.
+/// The entries that are whole, and the one that further lines may continue.
 #[derive(Drop)]
 struct Reader {
     done: Vec<RawEntry>,
@@ -48,7 +48,7 @@ pub(crate) fn begins_white(line: &[u8]) -> bool
 }
 
 impl Reader {
-    /// Closes the open entry.
+    /// Closes the open entry, if there is one.
     fn close(&mut self) -> Result<(), AllocError>
         ensures done { OnOk result (self.new.done.items ≡ all_of (progress_view self.old)) }
         ensures current { OnOk result (self.new.current ≡ None) }
@@ -59,7 +59,7 @@ impl Reader {
         Ok(())
     }
 
-    /// A further line of the open entry.
+    /// Adds a further line to the open entry.
     fn go_on(&mut self, alloc: Global, number: u32, line: &[u8]) -> Result<(), FaultKind>
         ensures { Gives (λ _. progress_view self.new) result
             (continued number line.now (progress_view self.old) self.old.current) }
@@ -70,7 +70,7 @@ impl Reader {
         }
     }
 
-    /// The first line of an entry.
+    /// Begins an entry with its first line.
     fn begin(&mut self, alloc: Global, number: u32, line: &[u8]) -> Result<(), FaultKind>
         ensures { Gives (λ _. progress_view self.new) result (begun number line.now (progress_view self.old)) }
     {
@@ -95,7 +95,7 @@ impl Reader {
 }
 
 impl Reader {
-    /// A line, with its number where it has a fault.
+    /// Reads a line; a fault gets its number.
     fn take_numbered(&mut self, alloc: Global, number: u32, line: &[u8]) -> Result<(), SourceFault>
         ensures ok { OnOk result (read_line number line.now (progress_view self.old) ≡ Ok (progress_view self.new)) }
         ensures line { IfErr result (λ e. e.line ≡ number) }
@@ -108,10 +108,10 @@ impl Reader {
     }
 }
 
-/// The entries of a source text of terminfo(5), each with notes on what is odd in it.
+/// The entries of a source text of terminfo(5), each with notes on its oddities.
 ///
-/// The error is the first fault of the text. `TooLong` of line 0 means that the text has more than 16777216
-/// bytes; `NoMemory` can come at any line.
+/// Fails with the first fault of `text`: `TooLong` for line 0 if the text has more than 16777216 bytes; `NoMemory`
+/// can come for any line.
 #[tactic(auto, using(crate::proofs::Fitness::entries_fit), unfolding(crate::specs::Source::source_of))]
 pub fn read(alloc: Global, text: &[u8]) -> Result<Vec<RawEntry>, SourceFault>
     ensures entries { IfOk result (λ v. source_of text.now ≡ Ok v.items) }
@@ -147,8 +147,8 @@ pub fn read(alloc: Global, text: &[u8]) -> Result<Vec<RawEntry>, SourceFault>
     }
 }
 
-/// A law: what reading answers is what the relation between texts and entries allows, and nothing else;
-/// and a fault is reported for the first line up to which there are no such entries.
+/// Law: reading returns exactly the entries that the relation between texts and entries allows; a fault is reported
+/// for the first line up to which there are no such entries.
 pub fn reading_is_the_relation()
     ensures read { ReadIsRelated }
     ensures related { RelatedIsRead }

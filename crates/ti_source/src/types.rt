@@ -1,4 +1,4 @@
-//! What reading a source text gives: raw entries with notes, or a fault with its line.
+//! Results of reading a source text: raw entries with notes, or a fault with its line.
 
 ghost use Rattle.std.specs.Prelude.{◌≡◌, ◌++◌, [], ◌∷◌, OnOk, OnErr};
 
@@ -7,16 +7,16 @@ use std::marker::Model;
 use thiserror::Error;
 use ti_caps::{Bytes, Cap, Value};
 
-/// Why a source text cannot be read.
+/// The reason why a source text can't be read.
 #[derive(Clone, Copy, Debug, PartialEq, Eq, Error)]
 pub enum FaultKind {
     /// White space before any entry, an empty first name, or a byte below 32 in the names.
     #[error("NoName")]
     NoName,
-    /// A field whose mark does not fit its capability, as `cols=80`.
+    /// A field whose mark doesn't fit its capability, like `cols=80`.
     #[error("WrongKind")]
     WrongKind,
-    /// A number that is none, as `08`.
+    /// A malformed number, like `08`.
     #[error("BadNumber")]
     BadNumber,
     /// A number above 2147483647.
@@ -25,18 +25,18 @@ pub enum FaultKind {
     /// A field whose line ends before its comma.
     #[error("OpenField")]
     OpenField,
-    /// An escape in a string that has no end.
+    /// An escape without an end in a string.
     #[error("BadEscape")]
     BadEscape,
     /// Names or a string of more than 4095 bytes, or a text of more than 16777216, which is reported for line 0.
     #[error("TooLong")]
     TooLong,
-    /// Out of memory: the allocator refused.
+    /// Out of memory.
     #[error("NoMemory")]
     NoMemory,
 }
 
-/// The first fault of a source text. Lines are counted from 1.
+/// The first fault of a source text. Lines count from 1.
 #[derive(Clone, Copy, Debug, PartialEq, Eq, Error)]
 #[error("line {line}: {kind}")]
 pub struct SourceFault {
@@ -44,16 +44,16 @@ pub struct SourceFault {
     pub kind: FaultKind,
 }
 
-/// What is odd in an entry that can be read all the same.
+/// An oddity in an entry that can be read all the same.
 #[derive(Clone, Copy, Debug, PartialEq, Eq, Error)]
 pub enum NoteKind {
-    /// A name that no capability has: its field is left out.
+    /// A name that isn't that of a capability: its field is left out.
     #[error("UnknownName")]
     UnknownName,
-    /// A name that stood in the entry before: the first one counts.
+    /// A name that the entry had before: the first field counts.
     #[error("Duplicate")]
     Duplicate,
-    /// A backslash before a byte that has no meaning there: it stands for the byte.
+    /// A backslash before a byte that has no meaning there: it means that byte.
     #[error("OddEscape")]
     OddEscape,
 }
@@ -70,13 +70,13 @@ pub struct Note {
 pub enum Field {
     /// A capability with its value.
     Set(Cap, Value),
-    /// `name@`: the capability is not there, whatever an included entry says.
+    /// `name@`: the capability is absent, whatever an included entry says.
     Cancel(Cap),
     /// `use=name`: the fields of another entry.
     Include(Bytes),
 }
 
-/// Items that are owned, in their order. Contracts see the list of them.
+/// Owned items, in their order. Contracts see them as a list.
 #[derive(Debug, Drop)]
 pub struct Items<T> {
     items: Vec<T>,
@@ -91,7 +91,7 @@ impl<T> Model for Items<T> {
 }
 
 impl<T> Items<T> {
-    /// No items yet. It takes no memory.
+    /// No items. Allocates no memory.
     pub fn new(alloc: Global) -> Items<T>
         ensures { result ≡ [] }
     {
@@ -107,14 +107,14 @@ impl<T> Items<T> {
         self.items.as_slice()
     }
 
-    /// The items of a vector. It takes no memory.
+    /// The items of a vector. Allocates no memory.
     pub fn from_vec(items: Vec<T>) -> Items<T>
         ensures { result ≡ items.items }
     {
         Items { items }
     }
 
-    /// The vector of the items. It takes no memory.
+    /// The items as a vector. Allocates no memory.
     pub fn into_vec(self) -> Vec<T>
         ensures { result.items ≡ self }
     {
@@ -124,7 +124,7 @@ impl<T> Items<T> {
 }
 
 impl<T: Drop> Items<T> {
-    /// One more item. The error is out of memory, and then nothing has changed.
+    /// Adds an item. Fails only when out of memory, and then nothing has changed.
     pub fn push(&mut self, item: T) -> Result<(), AllocError>
         ensures ok { OnOk result (self.new ≡ self.old ++ item ∷ []) }
         ensures err { OnErr result (self.new ≡ self.old) }
@@ -140,10 +140,10 @@ pub type Fields = Items<Field>;
 /// The notes of an entry in the order of the text.
 pub type Notes = Items<Note>;
 
-/// An entry as a source text has it, its inclusions not yet resolved.
+/// An entry as a source text has it, with its inclusions not resolved.
 #[derive(Debug, Drop)]
 pub struct RawEntry {
-    /// The line that its names stand on.
+    /// The line of its names.
     pub line: u32,
     /// The names, separated by `|`.
     pub names: Bytes,

@@ -7,7 +7,7 @@ use Rattle.ti_source.proofs.Stretching.{entries_begun, entries_passed}
 use Rattle.ti_source.proofs.apart.entries_of.Goals as goal
 use Rattle.ti_source.proofs.apart.entries_of.Goals.{then-begins_entry+in_ok-add, else-begins_entry}
 
--- an entry more, or a line that begins none
+-- one more entry, or a line that doesn't begin one
 pub loop-line-preserved : goal.loop-line-preserved
 loop-line-preserved c = record {
   number = omega (arith, c.in-Some.ensures.shorter, c.loop-line.invariant.number);

@@ -4,7 +4,7 @@ use Rattle.ti_source.specs.Escapes.{decoding_of}
 use Rattle.ti_source.proofs.Decodings.{put_before}
 use Rattle.ti_source.proofs.escapes.decode.Given as goal
 
--- what was decoded stands before what the rest stands for
+-- the decoding so far, followed by that of the rest, is the whole
 abbrev pub invariant-loop-rest : goal.invariant-loop-rest
 invariant-loop-rest l = record {
   few : l.odd + length l.rest ≤ length l.text;
