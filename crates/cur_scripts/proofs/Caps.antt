@@ -1,4 +1,4 @@
--- Numbers that are capped on the way are capped at the end, and no limit notices.
+-- Numbers capped at each step are capped at the end, and no limit can tell the difference.
 use Rattle.std.proofs.Common.{◌≡◌, ℕ, ◌+◌, ◌*◌, ◌≤◌, List, [], ◌∷◌, Option, Some, None, refl, sym, ap, ◌∙◌, ⊎_elim, arith}
 use Rattle.std.specs.Prelude.{option_map}
 use Rattle.std.proofs.lemmas.Bool.{cases_lt}

@@ -8,7 +8,7 @@ use Rattle.std.proofs.lemmas.List.Sums.{position_or_len_is}
 use Rattle.memchr.specs.Find.{IsFirstByte, is_byte}
 use Rattle.cur_scripts.specs.Cuts.{cut_at, parts_of}
 
--- so many bytes before, and what is after one more
+-- the first `n` bytes, and those after one more
 abbrev pub around : List ℕ → Option ℕ → Option (List ℕ × List ℕ)
 around text o = option_map (λ n. (take n text, drop (n + 1) text)) o
 
@@ -41,7 +41,7 @@ pub cut_found : (c : ℕ) (text : List ℕ) → around text (position (λ b. b =
 cut_found c [] = refl
 cut_found c (b ∷ text) = step b text (position_or_len (λ d. d == c) text) (cut_at c text) (b == c) (cut_found c text)
 
--- cut there, its first part is what stands before, and the other parts are those of what stands after
+-- the first part of a text that is cut is the one before the cut, and the other parts are those of the text after it
 abbrev pub Parts : ℕ → List ℕ → Option (List ℕ × List ℕ) → Type 0
 Parts c text None = parts_of c text ≡ text ∷ []
 Parts c text (Some p) = parts_of c text ≡ p.0 ∷ parts_of c p.1

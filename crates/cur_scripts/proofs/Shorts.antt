@@ -1,4 +1,4 @@
--- Numbers of a few digits, which are read up to their end.
+-- Numbers of a few digits, whose end is found as they are read.
 use Rattle.std.proofs.Common.{◌≡◌, ℕ, ℤ, pos, ◌==◌, Bool, true, false, if◌then◌else◌, List, [], ◌∷◌, Option, None, Some, refl, sym, ap, ◌∙◌, arith}
 use Rattle.std.specs.Prelude.{option_map}
 use Rattle.std.proofs.lemmas.Bool.Decides.{nat_tests}
@@ -17,12 +17,12 @@ without_sign : (b n : ℕ) (rest : List ℕ) (t : Bool) → (b == 45) ≡ t → 
 without_sign b n rest true is e = absurd (no_minus rest n b (grind (arith, nat_tests, is)) e)
 without_sign b n rest false is e = ap (λ (o : Option ℕ). o >>= λ n. Some (pos n)) e
 
--- such a number is one with or without a sign
+-- a number without a sign is also one with or without a sign
 signed : (word : List ℕ) (n : ℕ) → window_in word ≡ Some n → number_in word ≡ Some (pos n)
 signed [] n e = absurd (cc)
 signed (b ∷ rest) n e = without_sign b n rest (b == 45) refl e
 
--- with the words after it
+-- a value, and the words after it
 abbrev with_words : {A : Type 0} → List (List ℕ) → A → Option (A × List (List ℕ))
 with_words words x = Some (x, words)
 
@@ -39,7 +39,7 @@ pub as_number : (words : List (List ℕ)) (n : ℕ) (rest : List (List ℕ)) →
 as_number [] n rest e = absurd (cc)
 as_number (word ∷ words) n rest e = read_some word words n rest (window_in word) refl e
 
--- the first word of what follows a space, read
+-- the first word of a text after a space, read as a number
 pub first_short : (text left : List ℕ) (n : ℕ) → window_in (front_word text) ≡ Some n → left ≡ past_front_word text → first window_in (words_of text) ≡ Some (n, words_behind left)
 first_short text left n is rest =
     ap (first window_in) (words_cut text)

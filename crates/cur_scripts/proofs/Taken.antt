@@ -1,4 +1,4 @@
--- What was handed on, as the calls of a line and as one call.
+-- A call that was taken, as the calls of a line and as a single call.
 use Rattle.std.proofs.Common.{◌≡◌, Bool, false, length, if◌then◌else◌, ℕ, List, [], ◌∷◌, ◌++◌, Option, None, Some, Result, Ok, Err, sym, ap, ◌∙◌}
 use Rattle.std.specs.Prelude.{nat_lt, option_map}
 use Rattle.std.specs.Option.{option_to_list}
@@ -19,7 +19,7 @@ mapped : (before after : List Call) (call : Option Call) → option_map (λ c. b
 mapped before after None e = e
 mapped before after (Some call) e = e
 
--- after the calls before it, as a line's calls
+-- a line's call, after the calls before it
 pub as_line : (line : List ℕ) (before : List Call) (room : Bool) (after : List Call) (result : Result (Unit {0}) ScriptFaultKind) (done : Unit {0}) → is_skipped line ≡ false → result ≡ Ok done → HandsOn before room (call_of line) after result → option_map (λ more. before ++ more) (line_calls line) ≡ Some after
 as_line line before room after result done read e h =
     ap (λ (t : Bool). option_map (λ more. before ++ more) (if t then Some [] else option_map (λ call. call ∷ []) (call_of line))) read
@@ -34,7 +34,7 @@ only None single e = absurd (cc)
 only (Some call) None e = let none = same_Some (call ∷ []) [] e in absurd (cc)
 only (Some call) (Some single) e = sym (ap first_of (same_Some (call ∷ []) (single ∷ []) e))
 
--- where there was no call before it
+-- a single call, with none before it
 pub as_single : (call single : Option Call) (room : Bool) (result : Result (Unit {0}) ScriptFaultKind) (done : Unit {0}) → result ≡ Ok done → HandsOn [] room call (option_to_list single) result → single ≡ call
 as_single call single room result done e h = only call single (handed [] room call (option_to_list single) result done e h)
 

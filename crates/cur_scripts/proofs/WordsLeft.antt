@@ -1,4 +1,4 @@
--- The words that are left, as the line is cut at its spaces.
+-- The remaining words of a line, which is cut at its spaces.
 use Rattle.std.proofs.Common.{◌≡◌, ℕ, ◌≤◌, ◌<◌, ◌==◌, ◌&&◌, Bool, true, false, cond, if◌then◌else◌, List, [], ◌∷◌, None, Some, length, take, drop, refl, sym, ap, subst, ◌∙◌, ◌+◌, arith}
 use Rattle.std.specs.Prelude.{bytes_eq, slice_index}
 use Rattle.std.specs.List.{join_with_byte, onto_first}
@@ -13,12 +13,12 @@ cut_step : (b : ℕ) (text word behind : List ℕ) (t : Bool) → words_of text 
 cut_step b text word behind true h = refl
 cut_step b text word behind false h = ap (onto_first b) h
 
--- the words of a text are its first one and those behind it
+-- the words of a text are its first word and those after it
 pub words_cut : (text : List ℕ) → words_of text ≡ front_word text ∷ words_behind (past_front_word text)
 words_cut [] = refl
 words_cut (b ∷ text) = cut_step b text (front_word text) (past_front_word text) (b == 32) (words_cut text)
 
--- so many bytes are the first word
+-- the first word is this number of bytes long
 abbrev Divides : List ℕ → List ℕ → List ℕ → Type 0
 Divides text word behind = (length word ≤ length text) × (take (length word) text ≡ word) × (drop (length word) text ≡ behind)
 
@@ -48,13 +48,13 @@ shorter_step b c word name true same e h = refl
 shorter_step b c word name false true e h = ap (λ (t : Bool). t && bytes_eq word name) e ∙ h
 shorter_step b c word name false false e h = ap (λ (t : Bool). t && bytes_eq word name) e
 
--- a line that is shorter than a name has another first word
+-- a line shorter than a name has another first word
 pub shorter_line : (name line : List ℕ) → length line < length name → bytes_eq (front_word line) name ≡ false
 shorter_line [] line h = absurd (omega (arith, h))
 shorter_line (c ∷ name) [] h = refl
 shorter_line (c ∷ name) (b ∷ line) h = shorter_step b c (front_word line) name (b == 32) (b == c) refl (shorter_line name line (omega (arith, h)))
 
--- what is left of a name and of a line, where the line has begun as the name does
+-- the rests of a name and of a line that begins as the name does
 abbrev pub Passes : List ℕ → List ℕ → List ℕ → List ℕ → Type 0
 Passes name line name-left left =
     (front_word name-left ≡ name-left) × (bytes_eq (front_word left) name-left ≡ bytes_eq (front_word line) name) × (past_front_word left ≡ past_front_word line)
@@ -70,7 +70,7 @@ pass_one name line more left c false e (one, word, behind) =
       sym (ap (λ (t : Bool). if t then c ∷ left else past_front_word left) e) ∙ behind,
     )
 
--- one byte more that is the same
+-- one more byte that is equal
 pub passes_on : (name line : List ℕ) (at : ℕ) → at < length name → at < length line → slice_index line at ≡ slice_index name at → Passes name line (drop at name) (drop at line) → Passes name line (drop (at + 1) name) (drop (at + 1) line)
 passes_on name line at in-name in-line same h =
     let c = slice_index name at in
@@ -83,7 +83,7 @@ other_byte : (c d : ℕ) (name word : List ℕ) (ends : Bool) → (d == c) ≡ f
 other_byte c d name word true e = refl
 other_byte c d name word false e = ap (λ (t : Bool). t && bytes_eq word name) e
 
--- one byte that is another
+-- a byte that differs
 pub passes_no_more : (name line : List ℕ) (at : ℕ) → at < length name → at < length line → (slice_index line at == slice_index name at) ≡ false → Passes name line (drop at name) (drop at line) → bytes_eq (front_word line) name ≡ false
 passes_no_more name line at in-name in-line other h =
     let c = slice_index name at in

@@ -22,7 +22,7 @@ letter_in b =
     else (if b == 65 then Some (attributes 128)
     else None)))))))
 
--- the attributes of letters, and those of a set before them
+-- the attributes of the letters, and those of a set before them
 abbrev pub letters_after : ℕ → List ℕ → Option Attrs
 letters_after before [] = Some (attributes before)
 letters_after before (b ∷ rest) = letter_in b >>= λ attrs. letters_after (bit_or before attrs.0) rest
@@ -32,7 +32,7 @@ abbrev pub letters_in : List ℕ → Option Attrs
 letters_in [] = None
 letters_in (b ∷ rest) = letters_after 0 (b ∷ rest)
 
--- a dash for none
+-- letters, or a dash for no attributes
 abbrev pub attrs_in : List ℕ → Option Attrs
 attrs_in word = if bytes_eq word (45 ∷ []) then Some (attributes 0) else letters_in word
 
@@ -41,7 +41,7 @@ abbrev pub marks_in : List ℕ → Option Attrs
 marks_in [] = Some (attributes 0)
 marks_in (b ∷ letters) = if b == 47 then letters_in letters else None
 
--- hexadecimal in lower case
+-- the value of a hexadecimal digit in lower case
 abbrev pub hex_digit : ℕ → Option ℕ
 hex_digit b =
     if nat_le 48 b && nat_le b 57 then Some (b - 48)
@@ -54,7 +54,7 @@ byte_in high low = hex_digit high >>= λ h. hex_digit low >>= λ l. Some (h * 16
 abbrev pub put : ℕ → Attrs → ℕ → Put
 put byte attrs pair = record { byte = byte; attrs = attrs; pair = pair }
 
--- after a colon a pair of 0 to 63, else pair 0
+-- the pair after a colon, 0 to 63, or else pair 0
 abbrev pub styled : ℕ → List ℕ → Option (List ℕ × List ℕ) → Option Put
 styled byte text None = marks_in text >>= λ attrs. Some (put byte attrs 0)
 styled byte text (Some p) = marks_in p.0 >>= λ attrs. natural 63 p.1 >>= λ pair. Some (put byte attrs pair)
@@ -67,6 +67,6 @@ abbrev pub cell_in : List ℕ → Option Put
 cell_in (high ∷ low ∷ rest) = byte_in high low >>= λ byte. styled_in byte rest
 cell_in _ = None
 
--- a dash for the default cell
+-- a cell, or a dash for the default one
 abbrev pub cell_or : Put → List ℕ → Option Put
 cell_or default word = if bytes_eq word (45 ∷ []) then Some default else cell_in word

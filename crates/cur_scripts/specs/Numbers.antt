@@ -1,4 +1,4 @@
--- The numbers of a script: decimal digits, leading zeros allowed, perhaps after a minus sign.
+-- The numbers of a script: decimal digits, with leading zeros or without, and perhaps a minus sign.
 use Rattle.std.specs.Prelude.{ℕ, zero, suc, ℤ, pos, negsuc, ◌+◌, ◌*◌, ◌-◌, ◌==◌, ◌&&◌, Bool, true, false, List, [], ◌∷◌}
 use Rattle.std.specs.Prelude.{Option, Some, None, if◌then◌else◌, nat_le}
 use Rattle.cur_scripts.specs.Cuts.{◌>>=◌}
@@ -6,7 +6,7 @@ use Rattle.cur_scripts.specs.Cuts.{◌>>=◌}
 abbrev pub digit_in : ℕ → Option ℕ
 digit_in b = if nat_le 48 b && nat_le b 57 then Some (b - 48) else None
 
--- the number that digits spell after those of a number before them
+-- the number of these digits after those of the number `before`
 abbrev pub spelled_after : ℕ → List ℕ → Option ℕ
 spelled_after before [] = Some before
 spelled_after before (b ∷ rest) = digit_in b >>= λ digit. spelled_after (before * 10 + digit) rest
@@ -27,14 +27,14 @@ abbrev pub negated : ℕ → ℤ
 negated zero = pos 0
 negated (suc n) = negsuc n
 
--- from -2147483648 to 2147483647
+-- a number from -2147483648 to 2147483647
 abbrev pub number_in : List ℕ → Option ℤ
 number_in [] = None
 number_in (b ∷ rest) =
     if b == 45 then (natural 2147483648 rest >>= λ n. Some (negated n))
     else (natural 2147483647 (b ∷ rest) >>= λ n. Some (pos n))
 
--- the number of a window has no sign
+-- the number of a window, which has no sign
 abbrev pub window_in : List ℕ → Option ℕ
 window_in word = natural 2147483647 word
 
@@ -53,6 +53,6 @@ flag_in word = number_in word >>= λ n. as_flag n
 abbrev pub zero_in : List ℕ → Option (Unit {0})
 zero_in word = number_in word >>= λ n. as_zero n
 
--- a number that is too great, whichever it is, as the least of these
+-- a number, or 2147483649 for every greater one than 2147483648
 abbrev pub capped : ℕ → ℕ
 capped n = if nat_le n 2147483648 then n else 2147483649

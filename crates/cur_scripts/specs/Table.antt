@@ -1,5 +1,5 @@
--- The table of calls: a row for each, with its name (X/Open Curses Issue 7) and its arguments, in the order of the
--- alphabet; a part of it has the names that begin with one letter.
+-- The table of calls in alphabetical order: each row has a name (X/Open Curses Issue 7) and its arguments. Each part
+-- of the table has the names that begin with one letter.
 use Rattle.std.specs.Prelude.{ℕ, bytes_eq, codes, List, [], ◌∷◌, ◌++◌, Option, None, if◌then◌else◌}
 use Rattle.cur_calls.specs.declared.calls.Call.{Call}
 use Rattle.cur_calls.specs.declared.groups.AttrsCall.TheVariants.{Attron, Attroff, Attrset}
@@ -21,11 +21,11 @@ use Rattle.cur_scripts.specs.Arguments.{plain, show, show_pad}
 use Rattle.cur_scripts.specs.Cuts.{words_of, ◌>>=◌}
 use Rattle.cur_scripts.specs.Words.{first_word, front_word, words_after}
 
--- a name, and which call of that name has these words as its arguments
+-- a name, and the call with this name that has given words as its arguments
 abbrev pub Row : Type 0
 Row = List ℕ × (List (List ℕ) → Option Call)
 
--- the call of a name with its arguments, by the first row of that name
+-- the call with a name and arguments, by the first row of that name
 abbrev pub call_in : List Row → List ℕ → List (List ℕ) → Option Call
 call_in [] name words = None
 call_in (row ∷ rows) name words = if bytes_eq name row.0 then row.1 words else call_in rows name words
@@ -135,12 +135,12 @@ table =
 abbrev pub call_with : List ℕ → List (List ℕ) → Option Call
 call_with name words = call_in table name words
 
--- the call that a line is
+-- the call of a line
 abbrev pub call_of : List ℕ → Option Call
 call_of line = do
   a ← first_word (words_of line)
   call_with a.0 a.1
 
--- (Serves the code alone.) the call among these rows that a line is, by its first word
+-- (Serves the code alone.) the call of a line, by its first word, among these rows
 abbrev pub call_under : List Row → List ℕ → Option Call
 call_under rows line = call_in rows (front_word line) (words_after line)

@@ -1,4 +1,4 @@
--- Reading the words of a line one after another.
+-- Reading the words of a line, one after another.
 use Rattle.std.specs.Prelude.{ℕ, ℤ, ◌==◌, if◌then◌else◌, List, [], ◌∷◌, Option, None, Some}
 use Rattle.std.specs.List.{join_with_byte}
 use Rattle.cur_scripts.specs.Cuts.{words_of, ◌>>=◌}
@@ -14,7 +14,7 @@ abbrev pub front_word : List ℕ → List ℕ
 front_word [] = []
 front_word (b ∷ text) = if b == 32 then [] else b ∷ front_word text
 
--- (Serves the code alone.) what comes after the first word, from a space on
+-- (Serves the code alone.) the text after the first word, from a space on
 abbrev pub past_front_word : List ℕ → List ℕ
 past_front_word [] = []
 past_front_word (b ∷ text) = if b == 32 then b ∷ text else past_front_word text
@@ -27,17 +27,17 @@ abbrev pub first_word : List (List ℕ) → Option (List ℕ × List (List ℕ))
 first_word [] = None
 first_word (word ∷ words) = Some (word, words)
 
--- no words
+-- there are no more words
 abbrev pub ended : List (List ℕ) → Option (Unit {0})
 ended [] = Some tt
 ended (word ∷ words) = None
 
--- the rest of a line, with its spaces: there is none after the last word
+-- the rest of a line, with its spaces; there is none after the last word
 abbrev pub rest : List (List ℕ) → Option (List ℕ)
 rest [] = None
 rest (word ∷ words) = Some (join_with_byte 32 (word ∷ words))
 
--- what the first word says, and the words after it
+-- the first word as read, and the words after it
 abbrev pub first : {A : Type 0} → (List ℕ → Option A) → List (List ℕ) → Option (A × List (List ℕ))
 first read words = first_word words >>= λ p. read p.0 >>= λ x. Some (x, p.1)
 

@@ -1,6 +1,8 @@
-//! The arguments of each call: a function for each form of them takes a line's words after the name, and no more.
+//! The arguments of each call: for each form of them, a function takes the words of a line after
+//! the name, and no more.
 //!
-//! Each is inlined where its call is handed on: a `Call` is a large value, and is made where it is kept.
+//! Each function is inlined where its call is passed on: a `Call` is a large value, which is then
+//! made in its final place.
 ghost use Rattle.std.specs.Prelude.{◌≡◌};
 ghost use Rattle.cur_scripts.specs.Arguments as spec;
 
@@ -200,7 +202,7 @@ pub(crate) fn draw_border<'a>(words: Words<'a>) -> Option<Call<'a>>
     Some(Call::DrawBorder { window, border })
 }
 
-// The four sides, with the default corners.
+// The four sides of a border, which has the default corners.
 fn sides<'a>(words: Words<'a>) -> Option<(Border, Words<'a>)>
     ensures { result ≡ spec.sides words.entry }
 {

@@ -6,7 +6,7 @@ use crate::cuts::cut;
 use crate::numbers::natural;
 use cur_drawing::{Attrs, Put};
 
-/// A cell of its own: its byte in hexadecimal, its attributes after a slash, its pair after a colon.
+/// A cell: its byte in hexadecimal, its attributes after a slash, its pair after a colon.
 #[inline(always)]
 pub(crate) fn cell_in(word: &[u8]) -> Option<Put>
     ensures { result ≡ spec.cell_in word.now }
@@ -22,7 +22,7 @@ pub(crate) fn cell_in(word: &[u8]) -> Option<Put>
     }
 }
 
-/// A cell, or a dash for this one.
+/// A cell, or a dash for `default`.
 pub(crate) fn cell_or(default: Put, word: &[u8]) -> Option<Put>
     ensures { result ≡ spec.cell_or default word.now }
 {
@@ -63,7 +63,7 @@ fn hex_digit(byte: u8) -> Option<u8>
     }
 }
 
-// The cell of this byte whose attributes and pair follow.
+// A cell of this byte, followed by its attributes and its pair.
 #[inline(never)]
 fn styled_in(byte: u8, text: &[u8]) -> Option<Put>
     ensures { result ≡ spec.styled_in byte text.now }
@@ -82,7 +82,7 @@ fn styled_in(byte: u8, text: &[u8]) -> Option<Put>
     }
 }
 
-// A slash and letters, or nothing.
+// Attributes: a slash and letters, or nothing.
 fn marks_in(text: &[u8]) -> Option<Attrs>
     ensures { result ≡ spec.marks_in text.now }
 {

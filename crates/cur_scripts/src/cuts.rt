@@ -5,7 +5,7 @@ ghost use Rattle.cur_scripts.specs.Cuts.{cut_at, parts_of, parts_left, left_size
 
 use memchr::memchr;
 
-/// What stands before and after the first such byte.
+/// The bytes of `text` before and after its first `byte`, if it has one.
 #[inline(always)]
 #[tactic(auto, using(crate::proofs::CutFacts::cut_found))]
 pub(crate) fn cut(byte: u8, text: &[u8]) -> Option<(&[u8], &[u8])>
@@ -18,7 +18,7 @@ pub(crate) fn cut(byte: u8, text: &[u8]) -> Option<(&[u8], &[u8])>
     }
 }
 
-/// The first of the parts of a text, and what stands after its end.
+/// The first of the parts of `text` between the bytes `byte`, and the text after that part, if any.
 #[inline(always)]
 #[tactic(auto, using(crate::proofs::CutFacts::part_first, crate::proofs::CutFacts::part_alone))]
 pub(crate) fn first_part(byte: u8, text: &[u8]) -> (&[u8], Option<&[u8]>)
@@ -31,7 +31,7 @@ pub(crate) fn first_part(byte: u8, text: &[u8]) -> (&[u8], Option<&[u8]>)
     }
 }
 
-// The place of the first such byte.
+// The place of the first `byte` in `text`.
 #[inline(always)]
 fn place_of(byte: u8, text: &[u8]) -> Option<usize>
     ensures value { result ≡ position (λ b. b == byte) text.now }

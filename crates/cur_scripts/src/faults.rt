@@ -1,7 +1,7 @@
-//! Why a script cannot be read.
+//! Why a script can't be read.
 use thiserror::Error;
 
-/// What is wrong with a script.
+/// The fault of a script.
 #[derive(Clone, Copy, Debug, PartialEq, Eq, Error)]
 pub enum ScriptFaultKind {
     /// A line that is neither a call, nor empty, nor a comment.

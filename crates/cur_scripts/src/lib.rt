@@ -1,4 +1,4 @@
-//! Scripts: texts that list calls of curses, one a line.
+//! Scripts: texts that list calls of curses, one per line.
 #![tactic(auto)]
 
 mod arguments;

@@ -9,7 +9,8 @@ use crate::table::hand_on_named;
 use crate::takers::Taker;
 use cur_calls::Call;
 
-/// The calls of a line, one or none, are added. `BadLine` for a line that is no call.
+/// Adds the call of `line` to `calls`, if the line isn't skipped. Fails with `BadLine` at `number`
+/// if it isn't a call, or with `NoMemory`.
 #[inline(always)]
 #[tactic(auto, unfolding(crate::specs::Takers::HandsOn))]
 pub(crate) fn read_line<'a>(
@@ -42,7 +43,8 @@ pub(crate) fn is_skipped(line: &[u8]) -> bool
     }
 }
 
-/// Hands on the call that a line is. `BadLine` if it is none, `NoMemory` where it isn't taken.
+/// Passes the call of `line` on to `to`. `BadLine` if the line isn't a call, `NoMemory` if the call
+/// isn't taken.
 #[inline(always)]
 #[tactic(auto, using(crate::proofs::WordsLeft::words_cut))]
 pub(crate) fn hand_on_call<'a, T: Taker<'a>>(

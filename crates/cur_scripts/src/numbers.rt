@@ -4,7 +4,7 @@ ghost use Rattle.cur_scripts.specs.Numbers as spec;
 ghost use Rattle.cur_scripts.specs.Words.{front_word, past_front_word};
 ghost use Rattle.cur_scripts.specs.Numbers.{window_in};
 
-// The least number of nine digits: from it on a number may be out of range with one digit more.
+// The least number of nine digits: with one more digit, a number from here on may be out of range.
 const NINE_DIGITS: u32 = 100_000_000;
 
 // The greatest value of a word, whatever its sign.
@@ -21,7 +21,8 @@ fn digit_in(byte: u8) -> Option<u32>
     }
 }
 
-/// The number below 1,000,000,000 that the first word of a text spells without a sign, and what comes after that.
+/// The number below 1,000,000,000 that the first word of `text` spells without a sign, and the text
+/// after that word.
 #[inline(always)]
 #[tactic(auto, using(crate::proofs::WordsLeft::divided, std::proofs::lemmas::List::take_rest))]
 pub(crate) fn short_number(text: &[u8]) -> Option<(u32, &[u8])>
@@ -33,7 +34,8 @@ pub(crate) fn short_number(text: &[u8]) -> Option<(u32, &[u8])>
     Some((number, &text[count..]))
 }
 
-// The number below 1,000,000,000 that the first word of a text spells without a sign, and how many digits it has.
+// The number below 1,000,000,000 that the first word of `text` spells without a sign, and the
+// number of its digits.
 #[inline(always)]
 fn short_digits(text: &[u8]) -> Option<(u32, usize)>
     ensures value { IfSome result (λ x. window_in (front_word text.now) ≡ Some x.0) }
@@ -66,7 +68,7 @@ fn capped(number: u64) -> u32
     }
 }
 
-// The number that these digits spell, or one past the greatest.
+// The number that these digits spell, or one more than the greatest allowed.
 fn digits(text: &[u8]) -> Option<u32>
     ensures { result ≡ option_map spec.capped (spec.spelled_after 0 text.now) }
 {
@@ -87,7 +89,7 @@ fn spelled(text: &[u8]) -> Option<u32>
     }
 }
 
-/// The number that the word spells without a sign, up to a limit.
+/// The number that `word` spells without a sign, if it is at most `limit`, which must be at most 2147483648.
 #[tactic(auto, using(crate::proofs::Caps::limited))]
 pub(crate) fn natural(limit: u32, word: &[u8]) -> Option<u32>
     requires { limit ≤ 2147483648 }
@@ -104,7 +106,7 @@ fn at_most(limit: u32, number: u32) -> Option<u32>
     if number <= limit { Some(number) } else { None }
 }
 
-/// The number that the word spells, perhaps after a minus sign.
+/// The number that `word` spells, with or without a minus sign.
 pub(crate) fn number_in(word: &[u8]) -> Option<i32>
     ensures { result ≡ spec.number_in word.now }
 {
@@ -129,7 +131,7 @@ pub(crate) fn window_in(word: &[u8]) -> Option<usize>
     Some(natural(2_147_483_647, word)? as usize)
 }
 
-/// 0 or 1.
+/// A flag: 0 or 1.
 pub(crate) fn flag_in(word: &[u8]) -> Option<bool>
     ensures { result ≡ spec.flag_in word.now }
 {

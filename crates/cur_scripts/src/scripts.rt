@@ -10,15 +10,17 @@ use crate::takers::OneCall;
 use cur_calls::Call;
 use std::alloc::Global;
 
-// How many bytes a short line has.
+// The expected length of a short line.
 const SHORT_LINE: usize = 8;
 
-/// The most bytes that a script has.
+/// The most bytes of a script.
 pub const LONGEST: usize = 1_048_576;
 
-/// The calls of a script, one a line, without its empty lines and those that begin with `#`. The error is its
-/// first fault: `TooLong` of line 0 means that the text has more than 1048576 bytes, `BadLine` that this line is no
-/// call; `NoMemory` can come at any line.
+/// The calls of a script, one per line, without its empty lines and those that begin with `#`.
+///
+/// # Errors
+/// The first fault: `TooLong`, at line 0, if `text` has more than 1048576 bytes; `BadLine` if the
+/// line isn't a call. `NoMemory` can come at any line.
 #[tactic(auto, unfolding(crate::specs::Texts::script_of))]
 pub fn read_script<'a>(alloc: Global, text: &'a [u8]) -> Result<Vec<Call<'a>>, ScriptFault>
     ensures calls { IfOk result (λ v. script_of text.now ≡ Ok v.items) }
@@ -42,7 +44,7 @@ pub fn read_script<'a>(alloc: Global, text: &'a [u8]) -> Result<Vec<Call<'a>>, S
     Ok(calls)
 }
 
-// Room for the calls of a text, of which a line has some eight bytes or more; more is made where that isn't so.
+// Room for the calls of a text with at least some eight bytes per line; it grows for a text with shorter lines.
 fn room_for_calls<'a>(alloc: Global, text: &[u8]) -> Result<Vec<Call<'a>>, ScriptFault>
     ensures none { IfOk result (λ v. v.items ≡ []) }
     ensures fault { IfErr result (λ e. e.kind ≡ ScriptFaultKind.NoMemory) }
@@ -56,7 +58,7 @@ fn room_for_calls<'a>(alloc: Global, text: &[u8]) -> Result<Vec<Call<'a>>, Scrip
     }
 }
 
-/// The call of a script that has one line, if it is a call. It takes no memory.
+/// The call of a script that has only one line, if that is a call. Takes no memory.
 pub fn read_call<'a>(text: &'a [u8]) -> Option<Call<'a>>
     ensures value { result ≡ only_call text.now }
     ensures script { IfSome result (λ call. script_of text.now ≡ Ok (call ∷ [])) }
@@ -64,7 +66,7 @@ pub fn read_call<'a>(text: &'a [u8]) -> Option<Call<'a>>
     only_call(text)
 }
 
-// The call of a script that has one line, without a clause on the script.
+// The call of a script that has only one line, without the clause about the script.
 #[tactic(auto, unfolding(crate::specs::Takers::HandsOn))]
 fn only_call<'a>(text: &'a [u8]) -> Option<Call<'a>>
     ensures { result ≡ only_call text.now }
@@ -83,7 +85,7 @@ fn only_call<'a>(text: &'a [u8]) -> Option<Call<'a>>
     }
 }
 
-/// The line of a text that has one, perhaps with its line feed.
+/// The line of a text that has only one, with or without its line feed.
 fn only_line(text: &[u8]) -> Option<&[u8]>
     ensures { option_map (λ line. line.now) result ≡ only_line text.now (cut_at 10 text.now) }
 {

@@ -1,5 +1,5 @@
-//! The table of calls: the name of each, and what reads its arguments. A function for each letter has the names that
-//! begin with it.
+//! The table of calls: the name of each, and the function that reads its arguments. For each
+//! letter, a function has the names that begin with it.
 ghost use Rattle.cur_scripts.specs.Table as spec;
 ghost use Rattle.cur_scripts.specs.Takers.{HandsOn};
 
@@ -15,7 +15,8 @@ use cur_calls::{
     PlainCall, ScreenCall, ShowCall,
 };
 
-/// Hands on the call that a line is, by its first word. `BadLine` if it is none, `NoMemory` where it isn't taken.
+/// Passes the call of the line `text` on to `to`, by the line's first word. `BadLine` if the line
+/// isn't a call, `NoMemory` if the call isn't taken.
 #[inline(always)]
 pub(crate) fn hand_on_named<'a, T: Taker<'a>>(
     text: &'a [u8],

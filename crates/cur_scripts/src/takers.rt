@@ -1,14 +1,14 @@
-//! What takes the calls of a script as they are read.
+//! Receivers of the calls of a script, as these are read.
 ghost use Rattle.cur_scripts.specs.Takers.{HandsOn};
 
 use crate::faults::ScriptFaultKind;
 use cur_calls::Call;
 
-/// That a call was not taken: there was no room for it, and no memory.
+/// A call was not taken: there was no room, and no memory to make some.
 #[derive(Clone, Copy)]
 pub(crate) struct NotTaken;
 
-/// Takes calls one after another.
+/// A receiver of calls, one after another.
 pub(crate) trait Taker<'a> {
     ghost use Rattle.std.specs.Prelude.{◌≡◌, ◌++◌, ◌∷◌, [], false, Bool, List, OnErr, OnOk};
     ghost use Rattle.cur_calls.specs.declared.calls.Call.{Call};
@@ -39,7 +39,7 @@ impl<'a> Taker<'a> for Vec<Call<'a>> {
     }
 }
 
-/// One call or none. It takes no memory.
+/// A receiver of one call. It takes no memory.
 #[derive(Drop)]
 pub(crate) struct OneCall<'a> {
     pub call: Option<Call<'a>>,
@@ -62,7 +62,7 @@ impl<'a> Taker<'a> for OneCall<'a> {
     }
 }
 
-/// Hands on what was read, if it is a call. `BadLine` if it is none, `NoMemory` where it isn't taken.
+/// Passes `call` on to `to`. `BadLine` if there is no call, `NoMemory` if it isn't taken.
 #[inline(always)]
 #[tactic(auto, unfolding(crate::specs::Takers::HandsOn))]
 pub(crate) fn hand_on<'a, T: Taker<'a>>(

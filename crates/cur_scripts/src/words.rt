@@ -11,10 +11,11 @@ use cur_calls::Text;
 use cur_drawing::{Attrs, Put};
 use std::marker::Model;
 
-/// The words of a line that are left. What reads them is inlined, so that the slice stays in registers.
+/// The remaining words of a line. The functions that read them are inlined, so that the slice stays
+/// in registers.
 #[derive(Drop)]
 pub(crate) struct Words<'a> {
-    // from the space before the next word to the line's end
+    // the text from the space before the next word to the line's end
     left: &'a [u8],
 }
 
@@ -30,7 +31,7 @@ impl<'a> Model for Words<'a> {
 impl<'a> Words<'a> {
     ghost use Rattle.std.specs.Prelude.{◌≡◌, ◌∷◌, ◌≤◌, bytes_eq, false, true, option_map, IfNone, IfSome, Some};
 
-    /// The words of a line after the first one, where that is this name, which has no space.
+    /// The words of `line` after the first one, if that is `name`, which must have no space.
     #[inline(always)]
     pub(crate) fn after(name: &[u8], line: &'a [u8]) -> Option<Words<'a>>
         requires { spec.front_word name.now ≡ name.now }
@@ -46,7 +47,7 @@ impl<'a> Words<'a> {
         }
     }
 
-    /// The first word of a line, and those after it.
+    /// The first word of a line, and the words after it.
     #[inline(always)]
     #[tactic(auto, using(crate::proofs::WordsLeft::words_cut))]
     pub(crate) fn of(line: &'a [u8]) -> (&'a [u8], Words<'a>)
@@ -56,7 +57,7 @@ impl<'a> Words<'a> {
         (word, Words { left })
     }
 
-    /// The next word, and those after it.
+    /// The next word, and the words after it.
     #[inline(always)]
     pub(crate) fn next(self) -> Option<(&'a [u8], Words<'a>)>
         ensures { option_map (λ p. (p.0.now, p.1)) result ≡ spec.first_word self.entry }
@@ -67,7 +68,7 @@ impl<'a> Words<'a> {
         }
     }
 
-    /// That no word is left.
+    /// `Some` if no word is left.
     #[inline(always)]
     #[tactic(auto, using(crate::proofs::WordsLeft::not_ended))]
     pub(crate) fn end(self) -> Option<()>
@@ -79,7 +80,7 @@ impl<'a> Words<'a> {
         }
     }
 
-    /// What is left, spaces included; it begins after a space.
+    /// The remaining text, spaces included, after the space that it begins with.
     #[inline(always)]
     pub(crate) fn rest(self) -> Option<Text<'a>>
         ensures { result ≡ spec.rest self.entry }
@@ -103,7 +104,8 @@ impl<'a> Words<'a> {
         Some((number_in(word)?, words))
     }
 
-    /// A number of a few digits without a sign, whose end is found as it is read; `None` for any other number too.
+    /// A number of a few digits without a sign, whose end is found as it is read; `None` also for
+    /// longer numbers.
     #[inline(always)]
     fn short_number(&self) -> Option<(u32, Words<'a>)>
         ensures value { IfSome result (λ p. spec.first window_in self.now ≡ Some (p.0, p.1)) }
@@ -115,7 +117,7 @@ impl<'a> Words<'a> {
         }
     }
 
-    /// The same of the first word of a line.
+    /// A number of a few digits without a sign as the first word of a line; `None` also for longer numbers.
     #[inline(always)]
     #[tactic(auto, using(crate::proofs::Shorts::first_short))]
     fn first_short(line: &'a [u8]) -> Option<(u32, Words<'a>)>
@@ -138,7 +140,7 @@ impl<'a> Words<'a> {
         Some((window_in(word)?, words))
     }
 
-    /// 0 or 1.
+    /// A flag: 0 or 1.
     #[inline(always)]
     pub(crate) fn flag(self) -> Option<(bool, Words<'a>)>
         ensures { result ≡ spec.first flag_in self.entry }
@@ -147,7 +149,7 @@ impl<'a> Words<'a> {
         Some((flag_in(word)?, words))
     }
 
-    /// 0.
+    /// The number 0.
     #[inline(always)]
     pub(crate) fn zero(self) -> Option<((), Words<'a>)>
         ensures { result ≡ spec.first zero_in self.entry }
@@ -165,7 +167,7 @@ impl<'a> Words<'a> {
         Some((cell_in(word)?, words))
     }
 
-    /// A cell, or a dash for this one.
+    /// A cell, or a dash for `default`.
     #[inline(always)]
     pub(crate) fn cell_or(self, default: Put) -> Option<(Put, Words<'a>)>
         ensures { result ≡ spec.first (λ word. cell_or default word) self.entry }
@@ -214,7 +216,7 @@ impl<'a> Words<'a> {
     }
 }
 
-// What comes after a name that begins a line.
+// The rest of `line` after `name`, if it begins with it.
 #[inline(always)]
 #[tactic(auto, using(crate::proofs::WordsLeft::shorter_line, crate::proofs::WordsLeft::passes_on, crate::proofs::WordsLeft::passes_no_more, std::proofs::lemmas::List::take_rest))]
 fn past_name<'a>(name: &[u8], line: &'a [u8]) -> Option<&'a [u8]>
@@ -237,7 +239,7 @@ fn past_name<'a>(name: &[u8], line: &'a [u8]) -> Option<&'a [u8]>
     Some(&line[at..])
 }
 
-// The first word of a text, and what comes after it, from a space on.
+// The first word of a text, and the text after it, from a space on.
 #[inline(always)]
 #[tactic(auto, using(crate::proofs::WordsLeft::divided, std::proofs::lemmas::List::take_rest))]
 fn divided(text: &[u8]) -> (&[u8], &[u8])
@@ -248,7 +250,7 @@ fn divided(text: &[u8]) -> (&[u8], &[u8])
     (&text[..at], &text[at..])
 }
 
-// How many bytes the first word of a text has.
+// The length of a text's first word.
 #[inline(always)]
 fn word_length(text: &[u8]) -> usize
     ensures { result ≡ length (spec.front_word text.now) }
