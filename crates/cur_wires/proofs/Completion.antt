@@ -1,4 +1,4 @@
--- The end of a run, said in other words.
+-- The end of a run, under weaker conditions.
 use Rattle.std.proofs.Common.{◌≡◌, ℕ, List, [], sym, subst}
 use Rattle.vt_term.specs.Screen.{State, IsOfSize}
 use Rattle.vt_term.specs.Text.{IsOpen}
@@ -13,6 +13,6 @@ stays s A rest h = record { after = s; runs = runs_nothing s (subst IsOpen (sym 
 pub ends_as : (s : State) (bytes : List ℕ) (A B : State → Type 0) → ((t : State) → A t → B t) → Ends s bytes A → Ends s bytes B
 ends_as s bytes A B f e = record { after = e.after; runs = e.runs; there = f e.after e.there }
 
--- a run keeps the size
+-- a run preserves the size
 pub ends_sized : (rows cols : ℕ) (s : State) (bytes : List ℕ) (A B : State → Type 0) → IsOfSize rows cols s → ((t : State) → IsOfSize rows cols t → A t → B t) → Ends s bytes A → Ends s bytes B
 ends_sized rows cols s bytes A B size f e = record { after = e.after; runs = e.runs; there = f e.after (run_keeps rows cols s e.after bytes size e.runs) e.there }

@@ -1,4 +1,4 @@
--- Bytes that lead from kind to kind, put after one another.
+-- Bytes that lead from kind to kind, one after another.
 use Rattle.std.proofs.Common.{◌≡◌, ℕ, ◌+◌, ◌≤◌, List, [], ◌∷◌, ◌++◌, length, refl, sym, ap, subst, ◌∙◌, arith, append_assoc, length-append}
 use Rattle.std.proofs.lemmas.List.{append-nil}
 use Rattle.std.specs.List.{AllByRecursion, concat}
@@ -31,7 +31,7 @@ meet (y ∷ a) b (z ∷ c) d e =
       | Past x p q ↦ Past x (cc) q
     ]
 
--- one text and then another
+-- one text, and then another
 pub leads_then : (P : List ℕ → Type 0) (m n : ℕ) (D A B C : State → Type 0) (x y : List ℕ) → Leads P m D A x B → Leads P n D B y C → Leads P (m + n) D A (x ++ y) C
 leads_then P m n D A B C x y h k = record {
   pieces = h.pieces ++ k.pieces;
@@ -45,7 +45,7 @@ leads_then P m n D A B C x y h k = record {
   ];
 }
 
--- the same bytes from a narrower kind to a wider one, under a greater limit
+-- bytes from a narrower kind to a wider one, under a greater limit
 pub leads_wider : (P : List ℕ → Type 0) (m n : ℕ) (D A B E F : State → Type 0) (x : List ℕ) → m ≤ n → ((s : State) → E s → A s) → ((s : State) → B s → F s)
     → Leads P m D A x B → Leads P n D E x F
 leads_wider P m n D A B E F x le f g h = record {
@@ -57,7 +57,7 @@ leads_wider P m n D A B E F x le f g h = record {
   cut = λ front back e s a. h.cut front back e s (f s a);
 }
 
--- a front of what runs from a state of a size leaves a state of that size
+-- a prefix of bytes that run from a state of a size leaves a state of that size
 pub cut_sized : (rows cols : ℕ) (B : State → Type 0) (bytes front back : List ℕ) → bytes ≡ front ++ back → (s : State) → IsOfSize rows cols s → Ends s bytes B → Ends s front (IsOfSize rows cols)
 cut_sized rows cols B bytes front back e s h k =
     let r : RunsCut s front back k.after = runs_cut s k.after front back (subst (λ (l : List ℕ). Runs s l k.after) e k.runs) in

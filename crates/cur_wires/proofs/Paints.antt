@@ -1,4 +1,4 @@
--- What goes out in one step of a painter after another.
+-- The bytes sent by one step of a painter after another.
 use Rattle.std.proofs.Common.{ℕ, ◌+◌, ◌≤◌, List, ◌++◌, sym, ap, ◌∙◌, arith, append_assoc, length-append, Result, Ok, Err}
 use Rattle.vt_term.specs.Screen.{State}
 use Rattle.cur_wires.specs.Wire.{IsWire, StopsIn, Sends}
@@ -29,7 +29,7 @@ stops_more went failures a b x y h = record {
   failed = h.failed;
 }
 
--- a step that was done, and then another
+-- a step that succeeded, and then another
 pub paints_then : {W T E U F : Type 0} (went : W → W → List ℕ → Type 0) (failures : W → ℕ) → IsWire went failures → (a b c : W) (v : U) (answer : Result T E)
     (P : List ℕ → Type 0) (m n : ℕ) (D A B C : State → Type 0)
     → Paints {T = U} {E = F} went failures a b (Ok v) P m D A B → Paints went failures b c answer P n D B C → Paints went failures a c answer P (m + n) D A C
@@ -39,7 +39,7 @@ paints_then went failures laws a b c v answer P m n D A B C h k = record {
   sends = sends_then went failures laws a b c h.bytes k.bytes answer h.sends k.sends;
 }
 
--- a step that failed, which more would have followed
+-- a step that failed before more would have followed
 pub paints_cut : {W T E U F : Type 0} (went : W → W → List ℕ → Type 0) (failures : W → ℕ) (a b : W) (v : E) (u : F)
     (P : List ℕ → Type 0) (m n : ℕ) (D A B C : State → Type 0) (more : List ℕ)
     → Paints {T = T} {E = E} went failures a b (Err v) P m D A B → Leads P n D B more C → Paints {T = U} {E = F} went failures a b (Err u) P (m + n) D A C
@@ -49,7 +49,7 @@ paints_cut went failures a b v u P m n D A B C more h k = record {
   sends = stops_more went failures a b h.bytes more h.sends;
 }
 
--- the same step from a narrower kind to a wider one, under a greater limit
+-- a step from a narrower kind to a wider one, under a greater limit
 pub paints_wider : {W T E : Type 0} (went : W → W → List ℕ → Type 0) (failures : W → ℕ) (a b : W) (answer : Result T E)
     (P : List ℕ → Type 0) (m n : ℕ) (D A B E1 F1 : State → Type 0) → m ≤ n → ((s : State) → E1 s → A s) → ((s : State) → B s → F1 s)
     → Paints went failures a b answer P m D A B → Paints went failures a b answer P n D E1 F1

@@ -1,4 +1,4 @@
--- Steps that may fail, after one another.
+-- Steps that may fail, one after another.
 use Rattle.std.proofs.Common.{◌≡◌, ℕ, ◌+◌, ◌≤◌, List, [], ◌∷◌, ◌++◌, length, Result, Ok, Err, refl, sym, ap, subst, ◌∙◌, arith, append_assoc}
 use Rattle.std.proofs.lemmas.List.{append-nil}
 use Rattle.std.specs.Prelude.{OnOk}
@@ -18,7 +18,7 @@ pub all_as : (P Q : List ℕ → Type 0) → ((x : List ℕ) → P x → Q x) �
 all_as P Q f [] h = tt
 all_as P Q f (x ∷ xs) h = (f x h.0, all_as P Q f xs h.1)
 
--- a step that failed ends the whole, whatever would have followed it: no plan of the rest is needed
+-- a step that failed ends the whole; the steps that would have followed don't matter
 pub steps_fail : {W T E U F : Type 0} (went : W → W → List ℕ → Type 0) (failures : W → ℕ) (a b : W) (v : E) (u : F) (P : List ℕ → Type 0) (m n : ℕ) (D A B C : State → Type 0)
     → m ≤ n → Steps {T = T} {E = E} went failures a b (Err v) P m D A B → Steps {T = U} {E = F} went failures a b (Err u) P n D A C
 steps_fail went failures a b v u P m n D A B C le h = record {
@@ -39,7 +39,7 @@ pub steps_then : {W T E U F : Type 0} (went : W → W → List ℕ → Type 0) (
     → Steps {T = U} {E = F} went failures a b (Ok v) P m D A B → Steps went failures b c answer P n D B C → Steps went failures a c answer P (m + n) D A C
 steps_then went failures laws a b c v answer P m n D A B C h k = by_answer went failures laws a b c v answer P m n D A B C h k
 
--- one piece, whose fronts lead to the kind between
+-- one piece, whose prefixes lead to the kind between
 pub leads_line : (P : List ℕ → Type 0) (n : ℕ) (D A B : State → Type 0) (x : List ℕ) → P x → length x ≤ n → ((s : State) → A s → Ends s x B)
     → ((s : State) → A s → (front back : List ℕ) → x ≡ front ++ back → Ends s front D) → Leads P n D A x B
 leads_line P n D A B x p le h k = record { pieces = x ∷ []; made = sym (append-nil x); each = (p, tt); bound = le; ends = h; cut = λ front back e s a. k s a front back e }
@@ -71,7 +71,7 @@ steps_nothing went failures laws a v P n D A B rest f d = record {
     nofront [] back e = refl
     nofront (x ∷ xs) back e = cc
 
--- the same step between other kinds, under a greater limit
+-- a step between other kinds, under a greater limit
 pub steps_wider : {W T E : Type 0} (went : W → W → List ℕ → Type 0) (failures : W → ℕ) (a b : W) (answer : Result T E) (P : List ℕ → Type 0) (m n : ℕ) (D A B F G : State → Type 0)
     → m ≤ n → ((s : State) → F s → A s) → ((s : State) → B s → G s) → Steps went failures a b answer P m D A B → Steps went failures a b answer P n D F G
 steps_wider went failures a b (Ok v) P m n D A B F G le f g h = record { bytes = h.bytes; leads = leads_wider P m n D A B F G h.bytes le f g h.leads; sends = h.sends }
@@ -93,13 +93,13 @@ pub steps_three : {W T E U F V G : Type 0} (went : W → W → List ℕ → Type
 steps_three went failures laws a b c d v w answer P m n k limit D A B C H le f g h =
     steps_next went failures laws a c d w answer P (m + n) k limit D A C H le (steps_then went failures laws a b c v (Ok w) P m n D A B C f g) h
 
--- the third of three steps isn't come to
+-- two steps, the second of which fails, so that a third isn't reached
 pub steps_two_fail : {W T E U F V G : Type 0} (went : W → W → List ℕ → Type 0) (failures : W → ℕ) → IsWire went failures → (a b c : W) (v : U) (x : G) (u : E) (P : List ℕ → Type 0) (m n limit : ℕ) (D A B C H : State → Type 0)
     → m + n ≤ limit → Steps {T = U} {E = F} went failures a b (Ok v) P m D A B → Steps {T = V} {E = G} went failures b c (Err x) P n D B C → Steps {T = T} {E = E} went failures a c (Err u) P limit D A H
 steps_two_fail went failures laws a b c v x u P m n limit D A B C H le f g =
     steps_fail went failures a c x u P (m + n) limit D A C H le (steps_then went failures laws a b c v (Err x) P m n D A B C f g)
 
--- nothing is sent, and nothing is asked of the kinds but that nothing is open
+-- nothing is sent, and the kinds need only say that no sequence is open
 pub steps_none : {W T E : Type 0} (went : W → W → List ℕ → Type 0) (failures : W → ℕ) → IsWire went failures → (a : W) (v : T) (P : List ℕ → Type 0) (n : ℕ) (D A : State → Type 0)
     → ((s : State) → A s → s.rest ≡ []) → ((s : State) → A s → D s) → Steps {T = T} {E = E} went failures a a (Ok v) P n D A A
 steps_none went failures laws a v P n D A rest d = steps_nothing went failures laws a v P n D A A rest (λ s x. x) d
@@ -132,7 +132,7 @@ spells_next went failures laws a b c v (Err e) x y P m n k D A B C le h j = reco
   all = (j.all.0, ap (λ (l : List ℕ). x ++ l) j.all.1 ∙ sym (append_assoc x j.step.bytes j.all.0) ∙ ap (λ (l : List ℕ). (l ++ j.step.bytes) ++ j.all.0) (sym h.all));
 }
 
--- the first of two texts was cut short
+-- the first of two texts is cut short
 pub spells_fail : {W T E U F : Type 0} (went : W → W → List ℕ → Type 0) (failures : W → ℕ) (a b : W) (v : E) (u : F) (x y : List ℕ) (P : List ℕ → Type 0) (m n : ℕ) (D A B C : State → Type 0)
     → m ≤ n → Spells {T = T} {E = E} went failures a b (Err v) x P m D A B → Spells {T = U} {E = F} went failures a b (Err u) (x ++ y) P n D A C
 unfolding steps_fail
@@ -141,7 +141,7 @@ spells_fail went failures a b v u x y P m n D A B C le h = record {
   all = (h.all.0 ++ y, ap (λ (l : List ℕ). l ++ y) h.all.1 ∙ append_assoc h.step.bytes h.all.0 y);
 }
 
--- the same text by another name, under a greater limit
+-- a text equal to the one sent, under a greater limit
 pub spells_as : {W T E : Type 0} (went : W → W → List ℕ → Type 0) (failures : W → ℕ) (a b : W) (answer : Result T E) (x y : List ℕ) (P : List ℕ → Type 0) (m n : ℕ) (D A B : State → Type 0)
     → x ≡ y → m ≤ n → Spells went failures a b answer x P m D A B → Spells went failures a b answer y P n D A B
 unfolding steps_wider

@@ -4,7 +4,7 @@ use Rattle.std.specs.Borrow.{MutBor}
 use Rattle.std.proofs.Common.{◌∙◌, arith, length-append}
 use Rattle.cur_wires.specs.Wire.{IsWire}
 
--- these bytes went out, and they were counted where the count didn't reach its end
+-- these bytes were sent, and were counted unless the count reached its end
 pub record Counts {W : Type 0} (went : W → W → List ℕ → Type 0) (old new : MutBor W) (from to : ℕ)
     (bytes : List ℕ) : Type 0 where
   pub inner : went old.now new.now bytes

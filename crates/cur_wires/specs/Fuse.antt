@@ -1,24 +1,24 @@
--- A wire over memory that fails where it is set to fail.
+-- A wire over memory that fails at given places.
 use Rattle.std.specs.Prelude.{ℕ, ◌-◌, min, zero, suc, List, [], ◌∷◌, Option, Some, None}
 use Rattle.cur_wires.specs.Wire.{IsWire}
 use Rattle.cur_wires.specs.Tape.{Taped, Adds, Adds-lawful}
 
 pub record Fused : Type 0 where
   pub tape : Taped
-  -- for each failure to come the number of bytes that go out between the failure before it and itself
+  -- for each coming failure, the number of bytes sent between the failure before it and itself
   pub cuts : List ℕ
 
--- how many bytes of a piece the next send takes at most
+-- the most bytes of a piece that the next send takes
 abbrev pub until_failure : List ℕ → ℕ → ℕ
 until_failure [] n = n
 until_failure (cut ∷ cuts) n = min n cut
 
--- this many bytes went out
+-- n bytes were sent
 abbrev pub counted_down : ℕ → List ℕ → List ℕ
 counted_down n [] = []
 counted_down n (cut ∷ cuts) = (cut - n) ∷ cuts
 
--- a send failed: where the first failure was due, that was it, else the memory was full
+-- a send failed: if the first failure was due, it has passed; else the memory was full
 abbrev pub passed : List ℕ → List ℕ
 passed [] = []
 passed (zero ∷ cuts) = cuts
@@ -35,7 +35,7 @@ FuseAdds-lawful = record {
   counts = λ a b x p. p.failures;
 }
 
--- the bytes before the next failure, if one is to come
+-- the number of bytes before the next failure, if there is one
 abbrev pub first_of : List ℕ → Option ℕ
 first_of [] = None
 first_of (cut ∷ cuts) = Some cut

@@ -1,4 +1,5 @@
--- What a painter sends: bytes that lead from one kind of state to another, or a front of them where the wire fails.
+-- The bytes that a painter sends: they lead from one kind of state to another; only a prefix of them is sent if the
+-- wire fails.
 use Rattle.std.specs.Prelude.{ℕ, List, Result}
 use Rattle.vt_term.specs.Screen.{State}
 use Rattle.cur_wires.specs.Wire.{Sends}

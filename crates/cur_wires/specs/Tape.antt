@@ -6,7 +6,7 @@ use Rattle.std.proofs.lemmas.List.{append-nil}
 use Rattle.cur_wires.specs.Wire.{IsWire, last_count}
 
 pub record Taped : Type 0 where
-  -- what went out so far
+  -- the bytes sent so far
   pub bytes : List ℕ
   -- the most bytes that it keeps
   pub capacity : ℕ
@@ -18,20 +18,20 @@ pub record Adds (old new : Taped) (more : List ℕ) : Type 0 where
   pub capacity : new.capacity ≡ old.capacity
   pub failures : old.failures ≤ new.failures
 
--- how many further bytes it keeps
+-- the number of further bytes that it can keep
 abbrev pub room : Taped → ℕ
 room t = t.capacity - length t.bytes
 
--- one failure more, up to the last count
+-- one more failure, up to the highest count
 abbrev pub failed_once : Taped → Taped
 failed_once t = record t { failures = min (t.failures + 1) last_count }
 
--- what fits of the piece is kept, or it is one failure
+-- the bytes of the piece that fit are kept, or there is one more failure
 abbrev pub after_send : Taped → List ℕ → Bool → Taped
 after_send t piece true = record t { bytes = t.bytes ++ take (min (length piece) (room t)) piece }
 after_send t piece false = failed_once t
 
--- A tape is a wire. The proof stands here since an impl's law can name nothing of proofs/.
+-- A tape is a wire. The proof is here since an impl's law can name nothing of proofs/.
 pub Adds-lawful : IsWire Adds (λ (t : Taped). t.failures)
 Adds-lawful = record {
   nothing = λ w. record { bytes = sym (append-nil w.bytes); capacity = refl; failures = le_refl w.failures };

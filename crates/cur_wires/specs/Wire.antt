@@ -1,15 +1,15 @@
--- What a wire is: something that bytes are handed to and that may fail (X/Open Curses, refresh: the output device).
+-- A wire: a device that takes bytes and may fail (X/Open Curses, refresh: the output device).
 use Rattle.std.specs.Prelude.{ℕ, ◌-◌, ◌^◌, ◌<◌, ◌≤◌, ◌≡◌, ◌⊎◌, List, [], ◌++◌, length, Result, Ok, Err}
 use Rattle.std.proofs.Math.Nat.{le_refl, le_trans}
 
--- The laws of a wire: over no time nothing went out, what went out one after the other went out together,
--- and failures are never taken back.
+-- The laws of a wire: nothing is sent over no time, bytes sent one after the other are sent together, and failures
+-- are never taken back.
 pub record IsWire {W : Type 0} (went : W → W → List ℕ → Type 0) (failures : W → ℕ) : Type 0 where
   pub nothing : (w : W) → went w w []
   pub joins : (a b c : W) (x y : List ℕ) → went a b x → went b c y → went a c (x ++ y)
   pub counts : (a b : W) (x : List ℕ) → went a b x → failures a ≤ failures b
 
--- A wire may tell nothing of the bytes. The proof stands here since an impl's law can name nothing of proofs/.
+-- A wire may say nothing about its bytes. The proof is here since an impl's law can name nothing of proofs/.
 pub tells_nothing : {W : Type 0} (failures : W → ℕ) → IsWire (λ a b x. failures a ≤ failures b) failures
 tells_nothing failures = record {
   nothing = λ w. le_refl (failures w);
@@ -17,15 +17,15 @@ tells_nothing failures = record {
   counts = λ a b x p. p;
 }
 
--- the last count that is kept
+-- the highest count of failures
 abbrev pub last_count : ℕ
 last_count = 2 ^ 128 - 1
 
--- There is a new failure. At the last count it stays.
+-- There is a new failure. The count stays at its highest value.
 abbrev pub Rose : ℕ → ℕ → Type 0
 Rose old new = (old < new) ⊎ ((old ≡ last_count) × (new ≡ last_count))
 
--- A front of the bytes went out, then the wire failed.
+-- A prefix of the bytes was sent, then the wire failed.
 pub record StopsIn {W : Type 0} (went : W → W → List ℕ → Type 0) (failures : W → ℕ) (old new : W)
     (bytes : List ℕ) : Type 0 where
   pub front : List ℕ

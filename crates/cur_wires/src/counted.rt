@@ -5,13 +5,12 @@ ghost use Rattle.cur_wires.specs.Counted.{Counts};
 
 use crate::wires::{Wire, WireFault};
 
-/// A wire over another one, which counts the bytes that go out. The count is exact until it would pass
-/// 2^128 - 1.
+/// A wire over another one, which counts the bytes sent. The count is exact until it would pass 2^128 - 1.
 #[derive(Drop)]
 pub struct Counted<'a, W> {
-    /// What the bytes go out on.
+    /// The wire that the bytes are sent on.
     pub wire: &'a mut W,
-    /// The bytes that went out so far.
+    /// The number of bytes sent so far.
     pub sent: u128,
 }
 
@@ -25,7 +24,7 @@ impl<'a, W: Wire> Wire for Counted<'a, W> {
 
     ghost failures = { λ a. W.failures a.wire.now };
 
-    /// Sends on the inner wire, and counts what it took.
+    /// Sends on the inner wire, and counts the bytes that it took.
     fn send(&mut self, piece: &[u8]) -> Result<usize, WireFault>
         requires { 0 < length piece.now }
         ensures some { IfOk result (λ n. 0 < n) }

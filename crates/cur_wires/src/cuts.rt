@@ -1,11 +1,11 @@
-//! The failures that a fuse has still to come to.
+//! The coming failures of a fuse.
 ghost use Rattle.std.specs.Prelude.{◌≡◌, Some, IfOk};
 ghost use Rattle.cur_wires.specs.Fuse.{counted_down, passed, first_of};
 
 use std::alloc::{AllocError, Global};
 use std::marker::Model;
 
-/// For each failure to come the number of bytes before it.
+/// For each coming failure, the number of bytes before it.
 #[derive(Drop)]
 pub(crate) struct Cuts {
     bytes: Vec<usize>,
@@ -30,14 +30,14 @@ impl Cuts {
         Ok(Cuts { bytes, passed: 0 })
     }
 
-    /// How many bytes go out before the next failure, if one is to come.
+    /// The number of bytes before the next failure, if there is one.
     pub fn next(&self) -> Option<usize>
         ensures value { result ≡ first_of self.now }
     {
         self.bytes.get(self.passed).copied()
     }
 
-    /// Takes note that `n` bytes went out.
+    /// Records that `n` bytes were sent.
     pub fn count_down(&mut self, n: usize)
         ensures value { self.new ≡ counted_down n self.old }
     {
@@ -46,7 +46,7 @@ impl Cuts {
         }
     }
 
-    /// The next failure, which was due, came.
+    /// Passes the next failure, which must be due.
     pub fn pass(&mut self)
         requires { first_of self.old ≡ Some 0 }
         ensures value { self.new ≡ passed self.old }

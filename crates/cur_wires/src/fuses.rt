@@ -9,7 +9,7 @@ use crate::wires::{Wire, WireFault};
 use std::alloc::{AllocError, Global};
 use std::marker::Model;
 
-/// A wire over memory that fails at given places, to try what a failure at each byte does.
+/// A wire over memory that fails at given places, to test a failure at each byte.
 #[derive(Drop)]
 pub struct Fuse {
     tape: Tape,
@@ -25,8 +25,8 @@ impl Model for Fuse {
 }
 
 impl Fuse {
-    /// An empty fuse with room for this many bytes, or out of memory. After each of the numbers of
-    /// further bytes the next send fails, and the next number counts; after the last it is a `Tape`.
+    /// An empty fuse with room for `capacity` bytes. After each of the numbers `cuts` of further bytes the next
+    /// send fails, and the next number counts; after the last it acts as a [`Tape`]. Fails if memory runs out.
     pub fn new(alloc: Global, capacity: usize, cuts: &[usize]) -> Result<Fuse, AllocError>
         ensures value { IfOk result (λ fuse.
             fuse ≡ record { tape = record { bytes = []; capacity = capacity; failures = 0 }; cuts = cuts.now }) }
@@ -37,14 +37,14 @@ impl Fuse {
         })
     }
 
-    /// What went out so far.
+    /// The bytes sent so far.
     pub fn bytes(&self) -> &[u8]
         ensures value { result.now ≡ self.now.tape.bytes }
     {
         self.tape.bytes()
     }
 
-    /// How often it failed.
+    /// The number of failures.
     pub fn failures(&self) -> u128
         ensures value { result ≡ self.now.tape.failures }
     {
@@ -60,7 +60,7 @@ impl Wire for Fuse {
 
     ghost failures = { λ f. f.tape.failures };
 
-    /// Takes what fits of the piece and goes out before the next failure, and fails where that is nothing.
+    /// Takes the bytes of the piece that fit and that come before the next failure; fails if there are none.
     fn send(&mut self, piece: &[u8]) -> Result<usize, WireFault>
         requires { 0 < length piece.now }
         ensures some { IfOk result (λ n. 0 < n) }

@@ -1,5 +1,5 @@
-//! Output wires: what bytes are handed to, what went out, and where it failed; and what a step that sends on
-//! one promises: bytes that lead each state of one kind to one of another, cut off at any byte.
+//! Output wires, which take bytes and may fail at any of them; and the statement about a step that
+//! sends on a wire: its bytes, cut off anywhere, lead each state of one kind to one of another.
 #![tactic(auto)]
 
 mod counted;

@@ -27,7 +27,7 @@ impl Model for Tape {
 }
 
 impl Tape {
-    /// An empty tape with room for this many bytes, or out of memory.
+    /// An empty tape with room for `capacity` bytes. Fails if memory runs out.
     pub fn new(alloc: Global, capacity: usize) -> Result<Tape, AllocError>
         ensures value { IfOk result (λ tape. tape ≡ record { bytes = []; capacity = capacity; failures = 0 }) }
     {
@@ -38,21 +38,21 @@ impl Tape {
         })
     }
 
-    /// What went out so far.
+    /// The bytes sent so far.
     pub fn bytes(&self) -> &[u8]
         ensures value { result.now ≡ self.now.bytes }
     {
         &self.bytes
     }
 
-    /// How often it failed.
+    /// The number of failures.
     pub fn failures(&self) -> u128
         ensures value { result ≡ self.now.failures }
     {
         self.failures
     }
 
-    /// One failure more.
+    /// Counts one more failure.
     pub(crate) fn fail(&mut self)
         ensures value { self.new ≡ failed_once self.old }
         ensures unsent { Adds self.old self.new [] }
@@ -69,7 +69,7 @@ impl Wire for Tape {
 
     ghost failures = { λ t. t.failures };
 
-    /// Takes what fits of the piece, and fails when nothing does.
+    /// Takes the bytes of the piece that fit, and fails if none do.
     fn send(&mut self, piece: &[u8]) -> Result<usize, WireFault>
         requires { 0 < length piece.now }
         ensures some { IfOk result (λ n. 0 < n) }
