@@ -99,7 +99,7 @@ deleted w g =
 abbrev pub line_cleared : Window → Grid → Grid
 line_cleared w g = filled (cells_of w w.row w.col (w.area.cols - w.col)) w.background g
 
--- and so do all lines below
+-- the cells from the cursor to the window's end become background
 abbrev pub bottom_cleared : Window → Grid → Grid
 bottom_cleared w g = filled (lines_of w (w.row + 1) (w.area.rows - (w.row + 1))) w.background (line_cleared w g)
 
