@@ -41,14 +41,14 @@ off_joined_after from end j x one two = grind (arith, nat_tests)
 off_alone : (from end j : ℕ) (x : Marked) → x.end ≤ x.from → (j < from) ⊎ (end ≤ j) → IsOff (widened from end x) j
 off_alone from end j x none off = grind (arith, nat_tests)
 
--- before the new columns, if none is marked up to there
+-- a column before the new ones stays unmarked if all up to it are
 off_left : (from end j : ℕ) (x : Marked) → ((k : ℕ) → k ≤ j → IsOff x k) → j < from → IsOff (widened from end x) j
 off_left from end j x off lt = elim (cases_lt j x.from) [
   | inl low ↦ off_joined from end j x (low, lt)
   | inr past ↦ off_alone from end j x (off_all x (off x.from past)) (inl lt)
 ]
 
--- after the new columns, if none is marked from there on
+-- a column after the new ones stays unmarked if all from it on are
 off_right : (from end j : ℕ) (x : Marked) → ((k : ℕ) → j ≤ k → IsOff x k) → end ≤ j → IsOff (widened from end x) j
 off_right from end j x off le = elim (cases_lt j x.end) [
   | inl near ↦ off_alone from end j x (off_all x (off x.from (from_on (off j (omega arith)) near))) (inr le)

@@ -80,7 +80,7 @@ low_both from end j x one two = grind (arith, nat_tests)
 high_both : (from end j : ℕ) (x : Marked) → x.end ≤ j → end ≤ j → IsOff (widened from end x) j
 high_both from end j x one two = grind (arith, nat_tests)
 
--- in a line without marks
+-- in a line without marks, a column before the new ones stays unmarked
 low_alone : (from end j : ℕ) (x : Marked) → x.end ≤ x.from → j < from → IsOff (widened from end x) j
 low_alone from end j x none low = grind (arith, nat_tests)
 

@@ -1,4 +1,4 @@
--- There are as many as were made so far.
+-- Each pass so far has added one element.
 use Rattle.std.proofs.Common.{◌≡◌, replicate}
 use Rattle.cur_screens.specs.Marks.{none_marked}
 use Rattle.cur_screens.proofs.touched.unmarked_grids.Given as goal

@@ -1,4 +1,4 @@
--- There are as many as were made so far.
+-- Each pass so far has added one element.
 use Rattle.std.proofs.Common.{◌≡◌, replicate}
 use Rattle.cur_screens.specs.VirtualScreen.{default_colors}
 use Rattle.cur_screens.proofs.virtual_screen.default_pairs.Given as goal
