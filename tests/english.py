@@ -49,7 +49,7 @@ NOT_REWRITTEN = {
     "curses": 20,
 }
 # the fewest paragraphs that must be read of each kind of file, so that the script can't pass by reading nothing
-FEWEST = {"md": 6000, "rt": 3500, "antt": 2300, "py": 850, "sh": 120, "c": 400, "man": 400}
+FEWEST = {"md": 4000, "rt": 3500, "antt": 2300, "py": 850, "sh": 120, "c": 400, "man": 400}
 
 PHRASES = ["told", "be had", "goes over to", "so many bytes", "as it were", "a front of", "colour"]
 BEGINNINGS = re.compile(r"(That|Those|What|The same)\b")
@@ -121,12 +121,14 @@ def blocks(text, mark):
 
 
 def page_texts(text):
-    """The paragraphs, list items and cells of a page."""
+    """The paragraphs and list items of a page, and its cells but those of one word, which is a name."""
     text = re.sub(r"<!--.*?-->", lambda it: "\n" * it[0].count("\n"), text, flags=re.S)
     lines = ["" if line.startswith("    ") else line for line in text.splitlines()]
     for at, part in paragraphs(lines, 1):
-        for cell in part.strip("|").split(" | ") if part.startswith("|") else [part]:
-            yield at, cell
+        cells = [cell.strip() for cell in part.strip("|").split(" | ")] if part.startswith("|") else []
+        yield from ((at, cell) for cell in cells if " " in cell)
+        if not cells:
+            yield at, part
 
 
 def comment_texts(text, mark):
