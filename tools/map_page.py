@@ -1,0 +1,127 @@
+"""docs/MAP.md: the parts of the project, their crates, and the subject of each file."""
+
+import os
+import re
+import sys
+
+from crates import TOP
+from made import MADE, wrapped
+from specs import CRATES, crates_listed, files_of, read
+
+# The parts of the project, each with its crates from the top down.
+PARTS = [
+    (
+        "The program",
+        [
+            "ticurses",
+            "ti_arguments",
+            "ti_requests",
+            "cur_commands",
+            "ti_reports",
+            "ti_surveys",
+            "ti_verdicts",
+            "ti_commands",
+            "ti_hints",
+            "ti_words",
+        ],
+    ),
+    ("For programs", ["curses", "hello", "curses_c"]),
+    ("Descriptions", ["ti_entries", "ti_resolve", "ti_source", "ti_compiled", "ti_caps", "ti_parm", "ti_reach"]),
+    ("The terminal", ["vt_effects", "vt_states", "vt_term", "vt_screen", "grids"]),
+    ("Certificates", ["ti_faults", "ti_checker", "ti_cert", "ti_lines", "ti_conforms", "ti_rows"]),
+    ("Windows", ["cur_laws", "cur_pads", "cur_windows", "cur_screens", "cur_drawing"]),
+    (
+        "Painting",
+        [
+            "cur_play",
+            "cur_scripts",
+            "cur_calls",
+            "cur_update",
+            "cur_paint",
+            "cur_moves",
+            "cur_steps",
+            "cur_wires",
+        ],
+    ),
+    ("Benchmarks", ["bench_parm"]),
+]
+
+WHAT_FOR = (
+    "Use this page to find the crate and the file for a subject. Each part lists its crates from the top down: the crate's "
+    "purpose, the crates that it depends on (without those that it depends on only through another crate), and its files, "
+    "each with the first sentence of the comment at its head. [ARCHITECTURE](ARCHITECTURE.md) says how the parts work "
+    "together, and where a change goes."
+)
+
+
+def head(path, mark):
+    """The first sentence of the comment at a file's head, whose lines begin with `mark`."""
+    words = []
+    for line in read(path).splitlines():
+        if not line.startswith(mark):
+            break
+        words.append(line[len(mark) :].strip())
+    text = re.sub(r"^\(Serves the code alone\.\) ", "", " ".join(words).strip())
+    found = re.match(r"(.*?[.:])(\s|$)", text)
+    return (found.group(1) if found else text).rstrip(":.")
+
+
+def reduced(crates):
+    """For each crate those that it depends on, without those that it depends on only through another one."""
+    below = {}
+
+    def all_below(crate):
+        if crate not in below:
+            below[crate] = set()
+            for other in crates[crate]:
+                below[crate] |= {other} | all_below(other)
+        return below[crate]
+
+    return {c: [d for d in crates[c] if not any(d in all_below(e) for e in crates[c] if e != d)] for c in crates}
+
+
+def from_docs(crate, link):
+    """A link of a crate's README as a link from docs/."""
+    return os.path.relpath(os.path.join(CRATES, crate, link), os.path.join(TOP, "docs"))
+
+
+def subject(crate):
+    """The first sentence of a crate's README."""
+    paragraphs = [part.strip() for part in read(os.path.join(CRATES, crate, "README.md")).split("\n\n")]
+    text = " ".join(next(part for part in paragraphs if part and not part.startswith("#")).split())
+    text = re.sub(r"\]\((?!\w+:)([^)#]+)", lambda found: f"]({from_docs(crate, found[1])}", text)
+    return re.match(r"(.*?[^.][.])(\s|$)", text + " ").group(1)
+
+
+def file_rows(crate):
+    """The rows of a crate's table: its files, each with its first sentence."""
+    root = "lib" if "lib" in files_of(crate, "src", ".rt") else "main"
+    for folder, ending, mark, left_out in (("src", ".rt", "//!", root), ("specs", ".antt", "--", "Lib")):
+        for name in files_of(crate, folder, ending):
+            if name != left_out:
+                text = head(os.path.join(CRATES, crate, folder, name + ending), mark)
+                text = text.replace("|", "\\|")
+                yield f"| {folder}/{name}{ending} | {text} |"
+
+
+def section(crate, below):
+    """The lines about a crate, which depends directly on the crates `below`."""
+    depends = ", ".join(below) or "no other crate"
+    rows = list(file_rows(crate))
+    table = ["| file | what is in it |", "|---|---|", *rows, ""] if rows else []
+    return [f"### {crate}\n", wrapped(f"{subject(crate)} It depends on {depends}.") + "\n", *table]
+
+
+def page():
+    """The text of docs/MAP.md."""
+    crates = crates_listed()
+    below = reduced(crates)
+    left = set(crates) - {crate for _, part in PARTS for crate in part}
+    if left:
+        sys.exit(f"pages: no part has {sorted(left)}")
+    out = ["# The map\n", MADE, wrapped(WHAT_FOR) + "\n"]
+    for part, names in PARTS:
+        out.append(f"## {part}\n")
+        for crate in names:
+            out += section(crate, below[crate]) if crate in crates else []
+    return "\n".join(out).rstrip() + "\n"
