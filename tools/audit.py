@@ -63,7 +63,7 @@ COMMANDS = [
 # functions by which the program answers all commands
 OF_ALL = {"report", "write_reply", "write_text", "usage_error", "refuse_usage"}
 
-# what a reader takes in who looks at each line until it is clear
+# how fast a reader goes who looks at each line until it is clear
 LINES_A_MINUTE = 6
 
 
@@ -80,7 +80,7 @@ def said_by(functions):
 
 
 def commands():
-    """The commands with their functions; a function that the program calls and that is in no row has one of its own."""
+    """The commands with their functions. A function that the program calls and that is in no row gets one of its own."""
     text = read(f"{CRATES}/ticurses/src/run.rt")
     called = [
         (crate, name)
@@ -98,7 +98,7 @@ def lines_of(crate, module, words):
 
 
 def files_in(known, crates):
-    """The files of these words, from the bottom up: each with those of its words that are asked for, in its own order."""
+    """The files of the words `known`, from the bottom up: each with its words that are in `known`, in its own order."""
     found = {}
     for crate in crates:
         for module in files_of(crate, "specs", ".antt"):
@@ -115,7 +115,7 @@ def files_in(known, crates):
         for crate, module, _ in sorted(
             cited("\n".join("\n".join(there.blocks[it]) for it in found[key]), there.words, there.modules)
         ):
-            # of its own crate: the others stand where their crate does
+            # only files of its own crate: files of other crates are placed with their crate
             if (
                 crate == key[0]
                 and (crate, module) in found
@@ -148,7 +148,7 @@ def named(key, words):
 
 
 class Lists:
-    """Tables of words, and the words that they had so far; `wrapped` breaks a text into lines."""
+    """Tables of words, and the words that they have had so far; `wrapped` breaks a text into lines."""
 
     def __init__(self, parts, wrapped):
         self.parts, self.wrapped, self.out = parts, wrapped, []
@@ -201,14 +201,18 @@ class Lists:
 def reading(lists):
     """The order to read: for the main theorem, then `verify`, the library for C, and each command."""
     lists.out += ["### The main theorem", ""]
-    lists.say("The statement, `Ran`, then all that its words mean, from the terminal up to a call's step.")
+    lists.say(
+        "To believe the main theorem, read this table: first the statement, `Ran`, then the words that it names, from the "
+        "terminal up to a call's step."
+    )
     theorem = closure({("cur_play", "Log", "Ran")})
     lists.table("the main theorem", theorem, ("cur_play", "Log"))
     lists.types(theorem)
     lists.out += ["### What `verify` adds", ""]
     lists.say(
         "`run` takes a certificate that `verify` has accepted (the trait `Certificate` of ti_conforms, whose `rows` promises "
-        "`IsChecked`). What an accepted certificate means is `Conforms`; what its text is, `IsTableOf`."
+        "`IsChecked`). To believe a yes of `verify`, read this table too: `Conforms` says what an accepted certificate means, and "
+        "`IsTableOf` what its text is."
     )
     lists.table(
         "verify",
@@ -217,10 +221,10 @@ def reading(lists):
         ),
     )
     lists.out += ["### The library for C", ""]
-    lists.say("The words of the exported functions and of the four laws, but for those above.")
+    lists.say("To believe the library for C, also read these words, of its exported functions and its laws.")
     lists.table("the library for C", closure(roots_of("curses_c")))
     lists.out += ["### The commands", ""]
-    lists.say("For each command the words of the functions that answer it, but for those above it.")
+    lists.say("To believe a command's answer, also read its table: the words of the functions that answer it.")
     for command, functions in commands():
         lists.out += [f"#### {command}", ""]
         lists.table("the commands", closure(said_by(functions)))
@@ -228,8 +232,8 @@ def reading(lists):
 
 
 def others(lists):
-    """A list for each part: what exported clauses name, and all that this names, but for what is in a table above; and
-    the files to which no clause leads."""
+    """A list for each part: the words that exported clauses name, and those that these name, without those of a table;
+    and the files to which no clause leads."""
     known = closure(set().union(*map(roots_of, PUBLISHED)))
     out = []
     for part, names in lists.parts:
@@ -249,7 +253,7 @@ def others(lists):
     out.append("### Not needed\n")
     out.append(
         lists.wrapped(
-            "Files of `specs/` that no exported clause leads to; they serve private functions, the own calls of "
+            "No promise to a user depends on these files of `specs/`. They serve private functions, calls inside "
             "helper crates, or a program: " + ", ".join(rest) + "."
         )
     )
