@@ -55,7 +55,7 @@ pub parts_cut : (c : ℕ) (text : List ℕ) → Parts c text (cut_at c text)
 parts_cut c [] = refl
 parts_cut c (b ∷ text) = parts_step c b text (cut_at c text) (b == c) refl (parts_cut c text)
 
--- from an equation of the cut
+-- the parts of a text, from an equation about its cut
 pub part_alone : (c : ℕ) (text : List ℕ) → cut_at c text ≡ None → parts_of c text ≡ text ∷ []
 part_alone c text e = subst (λ o. Parts c text o) e (parts_cut c text)
 
