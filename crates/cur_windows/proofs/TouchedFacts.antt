@@ -66,7 +66,7 @@ pub record Spares (m n : Marking) (o : Origin) (g h : Grid) : Type 0 where
   pub kept : (i j : ℕ) → IsUnmarked n i j → IsUnmarked m i j
   pub same : (i j : ℕ) → IsUnmarked n (o.top + i) (o.left + j) → cell_at h i j ≡ cell_at g i j
 
--- such a call on the grid of a window, unless it is a pad's; no other grid changes
+-- unmarked places of a window's grid keep their cells, unless it is a pad's; no other grid changes
 pub record SparesGrid (t u : Markings) (d : State) (slot : Slot) (h : Grid) : Type 0 where
   pub grid : (origin_at d slot.root).pad ≡ false → slot.root < length t → Spares (grid_marks t slot.root) (grid_marks u slot.root) (origin_at d slot.root) (grid_at d slot.root) h
   pub none : length t ≤ slot.root → u ≡ t
@@ -81,7 +81,7 @@ same_written d ws slot h m n v lt shape spares shown =
     shown i j (omega (arith, row, shape_of-length (grid_at d slot.root) h shape)) (omega (arith, col, shape_of-line (grid_at d slot.root) h i shape)) (spares.kept _ _ off)
     ∙ sym (spares.same i j off))
 
--- another grid
+-- a grid that wasn't written
 other_written : (d : State) (ws : List (Option Slot)) (slot : Slot) (h : Grid) (m : Marking) (v : Grid) (k : ℕ) → k ≢ slot.root → IsShownBut m (origin_at d k) (grid_at d k) v → IsShownBut m (origin_at d k) (grid_at (with_grid d slot h ws) k) v
 other_written d ws slot h m v k apart shown = subst (λ (x : Grid). IsShownBut m (origin_at d k) x v) (sym (get_or-set_other d.grids slot.root k h [] apart)) shown
 
@@ -219,7 +219,7 @@ in_whole : (o : Origin) (a w : Area) (g : Grid) (i j : ℕ) → a.top ≡ o.top 
 in_whole o a w g i j top left rows cols is row col off =
     let high = is.rows in let wide = is.cols i row in let up = is.top in let first = is.left in grind (arith, nat_tests)
 
--- or in a window as large as the screen
+-- a place of the grid on the screen is in a window as large as the screen
 in_screenful : (o : Origin) (a : Area) (high wide rows cols i j : ℕ) → a.rows ≡ high → a.cols ≡ wide → a.top + a.rows ≤ high → a.left + a.cols ≤ wide → i < rows → j < cols → o.top + rows ≤ high → o.left + cols ≤ wide → is_in a (o.top + i) (o.left + j) ≡ false → ⊥
 in_screenful o a high wide rows cols i j e f low right row col framed framed2 off = grind (arith, nat_tests)
 

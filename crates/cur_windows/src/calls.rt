@@ -131,7 +131,7 @@ impl Desk {
         self.addch_marked(id, put, &mut touched)
     }
 
-    /// Writes as `addch` does, and marks the places of the window's grid that change. It marks only
+    /// Writes `put` as `addch` does, and marks the places of the window's grid that change. It marks only
     /// lines of that grid from the cursor's old one to its new one, or all of it if the region may
     /// have scrolled, and nothing if the call is refused with anything but `NoScroll`. A character
     /// that becomes one cell of the cursor's line, but not in its last column, marks this cell
@@ -173,7 +173,7 @@ impl Desk {
         self.addstr_marked(id, text, &mut touched)
     }
 
-    /// Writes as `addstr` does, and marks the places of the window's grid that change. It marks
+    /// Writes `text` as `addstr` does, and marks the places of the window's grid that change. It marks
     /// only lines of that grid from the cursor's old one to its new one, or all of it if the region
     /// may have scrolled. A string that becomes cells of the cursor's line, none in its last
     /// column, marks these alone, and the places between them and the marks already in their line.

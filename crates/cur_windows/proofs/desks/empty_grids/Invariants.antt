@@ -1,4 +1,4 @@
--- There are as many as were made so far.
+-- Each pass so far has added one element.
 use Rattle.std.proofs.Common.{◌≡◌, replicate, []}
 use Rattle.cur_windows.proofs.desks.empty_grids.Given as goal
 

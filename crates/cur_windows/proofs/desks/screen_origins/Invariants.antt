@@ -1,4 +1,4 @@
--- There are as many as were made so far.
+-- Each pass so far has added one element.
 use Rattle.std.proofs.Common.{◌≡◌, replicate, false}
 use Rattle.cur_windows.specs.Desks.{on_screen}
 use Rattle.cur_windows.proofs.desks.screen_origins.Given as goal
