@@ -35,7 +35,7 @@ pub record StopsIn {W : Type 0} (went : W → W → List ℕ → Type 0) (failur
   pub sent : went old new front
   pub failed : Rose (failures old) (failures new)
 
--- All bytes went out, or the wire failed on the way.
+-- All bytes were sent, or the wire failed on the way.
 abbrev pub Sends : {W T E : Type 0} → (W → W → List ℕ → Type 0) → (W → ℕ) → W → W → List ℕ → Result T E → Type 0
 Sends went failures old new bytes (Ok x) = went old new bytes
 Sends went failures old new bytes (Err e) = StopsIn went failures old new bytes
