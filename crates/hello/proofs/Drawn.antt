@@ -19,7 +19,7 @@ use Rattle.curses.proofs.Additions.{blank_line}
 use Rattle.hello.specs.Calls.{and_then, greeting, written}
 use Rattle.hello.specs.Greeting.{IsGreeting, picture, frame}
 
--- ---- where the window lies
+-- ---- the place of the window
 abbrev IsSpan : Span → Option Span → Type 0
 IsSpan s None = Unit {0}
 IsSpan s (Some t) = t ≡ s
