@@ -18,7 +18,7 @@ use Rattle.ti_conforms.proofs.Leads.{quiet_settles, nothing_settles, settles_the
 use Rattle.ti_conforms.specs.Table.{Table, has, or_nothing, text_of, widening, resync, resync_front, resync_of}
 use Rattle.ti_conforms.specs.Judged.{AskedLine, ChangesSets, NoLine, ByLine, changed, left_of, IsJudged}
 
--- a line of one of the four rows, or none, with what it does to the rendition
+-- a line of one of the four rows, or none, with its change of the rendition
 record SettlesBy (t : Table) (row : Row) (change : Option Sets) : Type 0 where
   render : Rendition → Rendition
   settles : Settles t.rows t.cols (text_of t row) render (changed change)

@@ -51,7 +51,7 @@ pub one_more : (rows cols : ℕ) (string : List ℕ) (line_of : Row → Option (
 one_more rows cols string line_of n row range same sends before = below_more (SendsAt rows cols string line_of n) (rank rows cols row) before
     (λ other o r e. let is : row ≡ other = one_of_rank rows cols row other range r (same ∙ sym o) (sym e) in subst (λ (x : Row). LineSends string (line_of x) x) is sends)
 
--- after the last
+-- after the last list, all are sent
 pub all_send : (rows cols : ℕ) (string : List ℕ) (line_of : Row → Option (List ℕ)) (n : ℕ) (row : Row) → IsSize rows cols → IsInRange rows cols row → order row ≡ n → next rows cols row ≡ None
     → ((k : ℕ) → k < rank rows cols row + 1 → SendsAt rows cols string line_of n k) → AllSend rows cols string line_of n
 all_send rows cols string line_of n row size range same last all other o r =

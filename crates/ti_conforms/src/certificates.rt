@@ -31,7 +31,7 @@ pub trait Certificate {
     fn resync(&self) -> &[u8]
         ensures value { result.now ≡ (table self.now).resync };
 
-    /// The partner that the entry lists for `letter` in `acsc`, or `None` where it lists none or lacks the
+    /// The partner that the entry lists for `letter` in `acsc`, or `None` if it lists none or lacks the
     /// strings for the graphic set.
     fn partner(&self, letter: u8) -> Option<u8>
         ensures value { result ≡ partners self.now letter };
