@@ -153,7 +153,7 @@ sets_written (a ∷ b ∷ c ∷ []) s h =
     option_and_then_some _ (switch_at 48 66 a) s h (λ g0 e1 h. option_and_then_some _ (switch_at 48 66 b) s h (λ g1 e2 h. option_and_then_some _ (switch_at 79 73 c) s h (λ o e3 h.
     rw (switch_written 48 66 a g0 e1, switch_written 48 66 b g1 e2, switch_written 79 73 c o e3) (ap set_letters (same_Some _ s h)))))
 
--- and back
+-- a mark is read from its letter
 mark_reads : (s : Switch) → switch_at 49 48 (switch_letter 49 48 s) ≡ Some s
 mark_reads switches.Kept = refl
 mark_reads switches.On = refl

@@ -26,7 +26,7 @@ progress_start rules limit t left failures r = record {
   rest = λ text answer h. h;
 }
 
--- the last call, where more was taken
+-- the last call, if more was taken
 call_further : {R T F : Type 0} (rules : Rules T F) (limit : ℕ) (start : T) (left : R → List ℕ → Type 0) (failures : R → ℕ) (old a : R) (r : Reading) (number : ℕ) (t : T) (bytes : List ℕ)
     (p : Progress rules limit start left failures old a r number t) → Refills r.unread bytes → LastCall (p.passed ++ (r.unread ++ bytes)) number
 call_further rules limit start left failures old a r number t bytes p (NotAtAll none) =

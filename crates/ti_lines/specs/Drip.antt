@@ -10,7 +10,7 @@ pub record Dripping : Type 0 where
   pub fail_in : Option ℕ
   pub failures : ℕ
 
--- how many bytes are given where there is room for `wanted`
+-- how many bytes are given if there is room for `wanted`
 abbrev pub given_by : ℕ → ℕ → ℕ → Option ℕ → ℕ
 given_by wanted step rest None = min (min wanted step) rest
 given_by wanted step rest (Some n) = min (min (min wanted step) rest) n

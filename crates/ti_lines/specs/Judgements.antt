@@ -1,4 +1,4 @@
--- A text judged line by line: the first fault with its line, or what its lines make.
+-- A text judged line by line: the first fault with its line, or the value that its lines lead to.
 use Rattle.std.specs.Prelude.{ℕ, ◌+◌, ◌-◌, ◌<◌, ◌≤◌, ◌≡◌, ◌⊎◌, List, [], ◌∷◌, ◌++◌, length, Result, Ok, Err, IfErr}
 use Rattle.ti_lines.specs.Reader.{AtEnd, Gave, Rose, piece_limit}
 use Rattle.ti_lines.specs.Text.{Cut, cut_of}
@@ -76,14 +76,14 @@ abbrev pub Gives : {X T F : Type 0} → Rules T F → T → Result X (LineFault 
 Gives rules new (Ok x) Is = Is (Ok new)
 Gives rules new (Err e) Is = FailsBy rules e Is
 
--- the answer where no whole line is next
+-- the answer if no whole line is next
 abbrev pub Closes : {X T F : Type 0} → Rules T F → Next → ℕ → T → T → Result X (LineFault F) → Type 0
 Closes rules (Line n) number old new answer = Unit {0}
 Closes rules End number old new answer = Gives rules new answer (AtLine number (rules.end old))
 Closes rules Unended number old new answer = answer ≡ Err (fault_at number rules.no_line)
 Closes rules Long number old new answer = answer ≡ Err (fault_at number rules.no_line)
 
--- the fault where the next line could not be read
+-- the fault if the next line could not be read
 abbrev pub halted : {T F : Type 0} → Rules T F → ℕ → Halt → LineFault F
 halted rules number ReadFailed = fault_at number rules.read_failed
 halted rules number NoMemory = fault_at number rules.no_memory

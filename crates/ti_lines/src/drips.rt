@@ -93,7 +93,7 @@ fn lowered(fail_in: Option<usize>, count: usize) -> Option<usize>
     }
 }
 
-/// The number of bytes that are given where `wanted` are wanted and `rest` are left.
+/// The number of bytes given if `wanted` are wanted and `rest` are left.
 fn count_of(wanted: usize, step: usize, rest: usize, fail_in: Option<usize>) -> usize
     ensures value { result ≡ given_by wanted step rest fail_in }
     ensures wanted { result ≤ wanted }

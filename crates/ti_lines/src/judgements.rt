@@ -49,7 +49,7 @@ pub trait Judge {
     fn no_memory() -> Self::Fault
         ensures { result ≡ rules.no_memory };
 
-    /// The fault where the reader failed.
+    /// The fault of a failed reader.
     fn read_failed() -> Self::Fault
         ensures { result ≡ rules.read_failed };
 }
@@ -108,7 +108,7 @@ fn finished<J: Judge>(alloc: Global, judge: &mut J, line: u64) -> Result<(), Lin
     }
 }
 
-/// Judges the end, or answers `no_line` where no whole line is next.
+/// Judges the end, or answers `no_line` if no whole line is next.
 fn close<J: Judge>(
     alloc: Global,
     judge: &mut J,

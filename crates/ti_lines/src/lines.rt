@@ -142,7 +142,7 @@ fn line_to(at: usize, budget: u32) -> Next
     }
 }
 
-/// The answer where the text ends after `count` bytes without LF.
+/// The answer if the text ends after `count` bytes without LF.
 fn end_after(count: usize) -> Next
     ensures { result ≡ next_end count }
 {
