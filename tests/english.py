@@ -63,8 +63,8 @@ SILENT = "names no parameter"
 
 
 def sentences(text):
-    """The sentences of a paragraph without its code, each without the marks of a list or of emphasis before it."""
-    plain = re.sub(r"`[^`]*`", "`x`", " ".join(text.split()))
+    """The sentences of a paragraph without code and links, each without the marks of a list or of emphasis before it."""
+    plain = re.sub(r"`[^`]*`|\]\([^)]*\)", "`x`", " ".join(text.split()))
     for sentence in re.split(r"(?<=[.!?:])\s+", plain):
         yield sentence.lstrip("-*_|>( \"'")
 
@@ -267,7 +267,7 @@ EXAMPLES = [
     ("What does it print?", []),
     ("The caller checks that the number is free, and what it means; those are the same.", []),
     ("A row stands for a line; `a front of` is a name, and `colour235` another. `That` too.", []),
-    ("The color is behind the frontier; R stands in for a resize.", []),
+    ("The color is behind the frontier; R stands in for a resize, as in [`Told`](specs/told.antt).", []),
 ]
 
 RATTLE = """/// Writes a line
