@@ -16,17 +16,16 @@
  * ticurses_terminal.h finds the entry and the size, and does the writing. Link with -lticurses. The headers are C99 and
  * C++11.
  *
- * Bytes are handed over as a pointer and a length. Where the length is 0, the pointer may be null. A
- * session is a `ticurses` that begins as {0} (in C++ {}). A program passes its address, and doesn't
- * read, copy or write what is in it. Sessions are independent of each other, and any number may be
- * open. On one session one call is made at a time. The library takes memory by malloc, realloc and
- * free; it opens no file, writes none, and keeps nothing outside of sessions.
+ * Bytes are handed over as a pointer and a length. Where the length is 0, the pointer may be null. A session is a
+ * `ticurses` that must begin as {0} (in C++ {}). A program passes its address, and must not read, copy or write its
+ * fields. Sessions are independent of each other, and any number may be open. On one session one call is made at a
+ * time. The library takes memory by malloc, realloc and free; it opens no file, writes none, and keeps nothing outside
+ * of sessions.
  *
- * A call answers one of the codes below: 0 (TICURSES_OK) where it was done. Null pointers, sessions
- * that aren't open, short buffers and lines that are no call are answers. What is undefined: a pointer
- * that isn't null and doesn't lead to as many bytes as its length says; two pointers of one call to the
- * same bytes; a session that didn't begin as {0} or whose words the program wrote; two calls on one
- * session at the same time. */
+ * A call answers one of the codes below: 0 (TICURSES_OK) where it was done. Null pointers, sessions that aren't open,
+ * short buffers and lines that are no call are answers. These have undefined behavior: a pointer that isn't null and
+ * doesn't lead to as many bytes as its length says; two pointers of one call to the same bytes; a session that didn't
+ * begin as {0} or whose words the program wrote; two calls on one session at the same time. */
 #ifndef TICURSES_H
 #define TICURSES_H
 
@@ -98,7 +97,7 @@ enum { TICURSES_TEXT_MAX = 1048576 };
 
 typedef struct ticurses { void *at; size_t state; } ticurses;
 
-/* What stands in a place of a window: a byte from 32 to 126, attributes, and a color pair from 0 to 63. */
+/* The content of one place of a window: a byte from 32 to 126, attributes, and a color pair from 0 to 63. */
 typedef struct ticurses_cell { uint8_t byte, attrs, pair; } ticurses_cell;
 
 /* The attributes of a cell, with their letters in the language of scripts. */
@@ -133,7 +132,7 @@ typedef struct ticurses_frame {
     ticurses_cell left, right, top, bottom, top_left, top_right, bottom_left, bottom_right;
 } ticurses_frame;
 
-/* A call as numbers, which the functions of ticurses_calls.h fill. What a call has no number for doesn't count. */
+/* A call as numbers, which the functions of ticurses_calls.h fill. Fields that a call doesn't use are ignored. */
 typedef struct ticurses_request {
     uint32_t kind;        /* one of enum ticurses_kind */
     int32_t flag;         /* 0 or 1 */
@@ -144,7 +143,8 @@ typedef struct ticurses_request {
     ticurses_frame frame; /* box has its left and its top */
 } ticurses_request;
 
-/* What the library exports. Pointers may not be null: programs call the functions below, which test them. */
+/* The functions that the library exports. Their pointers must not be null: programs call the functions below, which
+ * test them. */
 int32_t ticurses_raw_check(const uint8_t *entry, size_t entry_len, const uint8_t *name, size_t name_len, uint16_t rows,
                            uint16_t cols, uint8_t *room, size_t room_len, size_t *needed);
 int32_t ticurses_raw_reason(const uint8_t *entry, size_t entry_len, const uint8_t *name, size_t name_len, uint16_t rows,
@@ -215,8 +215,8 @@ static inline int ticurses_verify(const void *entry, size_t entry_len, const voi
                                ticurses_bytes(certificate), certificate_len);
 }
 
-/* Writes the string of an entry's capability, as terminfo names it ("kcuu1"), to the room: its bytes as they stand in
- * the entry, parameters and delays too. *needed is its length, also where that is more than the room has
+/* Writes the string of an entry's capability, as terminfo names it ("kcuu1"), to the room: its bytes as the entry has
+ * them, with parameters and delays. *needed is its length, also where that is more than the room has
  * (TICURSES_NO_ROOM), and 0 where there is none: TICURSES_NO_CAP where the entry has no such string, TICURSES_BAD_NAME
  * where no string capability has the name, TICURSES_BAD_ENTRY, TICURSES_NO_MEMORY (for a source text alone). */
 static inline int ticurses_string(const void *entry, size_t entry_len, const void *name, size_t name_len,
@@ -297,9 +297,9 @@ static inline size_t ticurses_digits(char *at, unsigned number, unsigned base, s
     return count;
 }
 
-/* Writes what printf would, without a zero byte behind it, and gives its length. It is for the formats that calls
- * mostly have, and several times as fast: -1 for any directive but %d, %u, %x, %02x, %c and %s, and where the text
- * may not fit. */
+/* Writes `format` with the arguments `rest` to `line`, as printf would but without a zero byte after it, and returns
+ * the length. It is several times as fast as printf, for the usual formats only: it returns -1 for any directive but
+ * %d, %u, %x, %02x, %c and %s, and where the text may not fit into `room` bytes. */
 static inline int ticurses_format(char *line, size_t room, const char *format, va_list rest) {
     const char *text;
     size_t len = 0;
@@ -344,9 +344,9 @@ static inline int ticurses_format(char *line, size_t room, const char *format, v
     return (int)len;
 }
 
-/* ticurses_call of lines that are made as by printf. A %s whose text has a newline makes two lines of it:
- * text of which a program doesn't know what it holds is for ticurses_addstr. What printf can't write, as
- * a wide character that has no bytes, is TICURSES_BAD_LINE. */
+/* Makes the calls of the lines that printf would write for `format`. A %s whose text has a newline makes two lines of
+ * it, so pass text from elsewhere to ticurses_addstr. TICURSES_BAD_LINE where printf can't write the lines, such as for
+ * a wide character that has no bytes. */
 static inline int ticurses_callf(ticurses *session, const char *format, ...) TICURSES_PRINTF(2, 3);
 static inline int ticurses_callf(ticurses *session, const char *format, ...) {
     char line[512], *text;
@@ -377,56 +377,56 @@ static inline int ticurses_callf(ticurses *session, const char *format, ...) {
     return code;
 }
 
-/* addstr, of any bytes: a newline clears to the end of the line and goes on in the next one, a tab is
- * spaces to the next multiple of 8, other controls are written as ^X, and a byte above 127 is refused
- * (TICURSES_BAD_CELL). What comes before a byte that is refused is written. */
+/* addstr: writes `len` bytes of `text` to `window`. A newline clears to the end of the line and continues in the next
+ * one, a tab writes spaces to the next multiple of 8, other controls are written as ^X, and a byte above 127 is refused
+ * (TICURSES_BAD_CELL). The bytes before a refused one are written. */
 static inline int ticurses_addstr(ticurses *session, size_t window, const void *text, size_t len) {
     return !session || ticurses_is_bad(text, len)
                ? TICURSES_NULL
                : ticurses_raw_addstr(session, window, ticurses_bytes(text), len);
 }
 
-/* Where the cursor of a window is, in the window (getyx). For this and the next two, as for
- * ticurses_failed: where the answer isn't TICURSES_OK, what the pointers lead to stays as it is. */
+/* Gets the place of a window's cursor, in the window (getyx). If this call, one of the next two or ticurses_failed
+ * doesn't answer TICURSES_OK, it writes nothing through its pointers. */
 static inline int ticurses_cursor(ticurses *session, size_t window, uint16_t *row, uint16_t *col) {
     return !session || !row || !col ? TICURSES_NULL : ticurses_raw_cursor(session, window, row, col);
 }
 
-/* How many lines and columns a window or a pad has (getmaxyx). */
+/* Gets the number of rows and columns of a window or a pad (getmaxyx). */
 static inline int ticurses_window_size(ticurses *session, size_t window, uint16_t *rows, uint16_t *cols) {
     return !session || !rows || !cols ? TICURSES_NULL : ticurses_raw_size(session, window, rows, cols);
 }
 
-/* What stands in a place of a window or a pad (mvwinch). */
+/* Gets the cell at a place of a window or a pad (mvwinch). */
 static inline int ticurses_cell_at(ticurses *session, size_t window, uint16_t row, uint16_t col, ticurses_cell *cell) {
     return !session || !cell ? TICURSES_NULL : ticurses_raw_cell(session, window, row, col, cell);
 }
 
-/* How many bytes wait to be written to the terminal. */
+/* The number of bytes that wait to be written to the terminal. */
 static inline size_t ticurses_waiting(ticurses *session) { return session ? ticurses_raw_waiting(session) : 0; }
 
-/* Takes the first of them, as many as there is room for, and gives their number: 0 where none wait. The
- * rest of the room stays as it is. Once a program has written all bytes in this order, the terminal shows
- * the screen of the last refresh. */
+/* Takes the first of the waiting bytes, at most `room_len`, into `room`, and returns their number: 0 if none wait. The
+ * rest of the room stays unchanged. Once a program has written all bytes in this order, the terminal shows the screen
+ * of the last refresh. */
 static inline size_t ticurses_output(ticurses *session, void *room, size_t room_len) {
     return !session || !room || room_len > PTRDIFF_MAX ? 0 : ticurses_raw_output(session, (uint8_t *)room, room_len);
 }
 
-/* For output that was cut off: from some byte on, what was taken did not get to the terminal. What waits
- * is thrown away, and the next refresh begins anew and repairs what the terminal shows, wherever it was
- * cut, also within a sequence. Windows and the screen stay. So too after another session on the same
- * terminal and entry, whose output may have been cut. Where another program wrote to the terminal, or
- * bytes are missing from the middle, the next refresh repairs what is shown only if the terminal still
- * wraps at the end of a line, inserts nothing, and has no other character sets than the entry's. */
+/* For output that was cut off: from some byte on, the bytes that the program took did not get to the terminal. Discards
+ * the waiting bytes; the next refresh begins anew and repairs the screen, wherever the output was cut, even within a
+ * sequence. Windows and the virtual screen stay. Call it also after another session on the same terminal and entry
+ * whose output may have been cut. If another program wrote to the terminal, or bytes are missing from the middle, the
+ * next refresh repairs the screen only if the terminal still wraps at the end of a line, inserts nothing, and has no
+ * other character sets than the entry's. */
 static inline int ticurses_lost(ticurses *session) { return session ? ticurses_raw_lost(session) : TICURSES_NULL; }
 
-/* Frees the session, and what waits in it. Nothing is sent: the call `endwin`, whose bytes are written
- * as any others, leaves the terminal as other programs want it. A session that isn't open stays so. */
+/* Frees the session and its waiting bytes. It sends nothing: to leave the terminal as other programs want it, make the
+ * call `endwin` before, and write its bytes. A session that isn't open stays closed. */
 static inline void ticurses_close(ticurses *session) {
     if (session) ticurses_raw_close(session);
 }
 
-/* What a code says, in words. */
+/* The meaning of a code, in words. */
 static inline const char *ticurses_text(int code) {
     static const char *const texts[] = {
         "done",

@@ -1,9 +1,9 @@
 /* The calls of curses, a function for each, which ticurses.h includes. Windows are numbers from 0, the screen, to 63;
  * rows come before columns, and both begin at 0. Each may answer TICURSES_NULL for a session that is null,
  * TICURSES_CLOSED for one that isn't open, TICURSES_NO_WINDOW for a number without a window, and TICURSES_FULL for a
- * number above 63; which others it answers is said beside it. Memory is taken by those that make windows
- * (TICURSES_NO_MEMORY) and by those that send (TICURSES_OUTPUT_FAILED) alone. None changes what ticurses_failed says.
- * addstr stands in ticurses.h. */
+ * number above 63; the comment of each names its other codes. Only calls that make windows (TICURSES_NO_MEMORY) and
+ * calls that send (TICURSES_OUTPUT_FAILED) take memory. No call changes the answer of ticurses_failed. addstr is in
+ * ticurses.h. */
 #ifndef TICURSES_CALLS_H
 #define TICURSES_CALLS_H
 
@@ -13,19 +13,19 @@
 extern "C" {
 #endif
 
-/* Makes the call that a request is. TICURSES_BAD_CALL, and nothing else, where it is none. */
+/* Makes the call of a request. TICURSES_BAD_CALL if it is no call; then nothing else happens. */
 static inline int ticurses_make(ticurses *session, const ticurses_request *request) {
     return !session || !request ? TICURSES_NULL : ticurses_raw_make(session, request);
 }
 
-/* What a cell is made of, as in ticurses_cell_of('x', TICURSES_BOLD, 0). */
+/* The cell with these parts, as in ticurses_cell_of('x', TICURSES_BOLD, 0). */
 static inline ticurses_cell ticurses_cell_of(uint8_t byte, uint8_t attrs, uint8_t pair) {
     ticurses_cell cell;
     cell.byte = byte, cell.attrs = attrs, cell.pair = pair;
     return cell;
 }
 
-/* A request of this kind; all else of it is 0. */
+/* A request of this kind; all its other fields are 0. */
 static inline ticurses_request ticurses_request_of(uint32_t kind, size_t window, size_t other) {
     ticurses_request request = {
         kind, 0, window, other, 0, 0, 0, 0, 0, 0, 0, {0, 0, 0},

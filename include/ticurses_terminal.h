@@ -1,7 +1,7 @@
-/* What a program over ticurses needs of its terminal, for POSIX, in C99 or C++11: the entry of the terminal,
- * its size, and a descriptor to which the bytes of a session go. Nothing here is needed for ticurses.h; a
- * program may do all of it in its own way. Nothing here keeps anything, so that threads don't disturb each
- * other; of all the calls, a handler of signals may make ticurses_set_cooked alone. */
+/* The terminal of a program that uses ticurses, for POSIX, in C99 or C++11: the entry of the terminal, its size, and a
+ * descriptor to which the bytes of a session go. Nothing here is needed for ticurses.h; a program may do all of it in
+ * its own way. Nothing here keeps any state, so threads don't disturb each other. A signal handler may call
+ * ticurses_set_cooked, and no other function. */
 #ifndef TICURSES_TERMINAL_H
 #define TICURSES_TERMINAL_H
 
@@ -62,8 +62,8 @@ static inline size_t ticurses_read(const char *path, unsigned char *room, size_t
     return now == 0 ? got : 0;
 }
 
-/* Reads FOLDER/x/TERM or FOLDER/78/TERM, x being the first letter of TERM and 78 its code. What is no entry
- * counts as not there. */
+/* Reads FOLDER/x/TERM or FOLDER/78/TERM, x being the first letter of TERM and 78 its code. A file that is no entry
+ * counts as absent. */
 static inline size_t ticurses_entry_in(const char *folder, size_t folder_len, const char *term, void *room,
                                        size_t room_len) {
     for (int kind = 0; kind < 2; kind++) {
@@ -77,16 +77,17 @@ static inline size_t ticurses_entry_in(const char *folder, size_t folder_len, co
     return 0;
 }
 
-/* The value of a variable; null where the program has rights that its user lacks, who could have it read files. */
+/* The value of a variable; null where the program has rights that its user lacks, since that user could make it read
+ * files. */
 static inline const char *ticurses_variable(const char *name) {
     return geteuid() == getuid() && getegid() == getgid() ? getenv(name) : NULL;
 }
 
-/* Finds the compiled entry of a terminal, by name or by the variable TERM where TERM is null, and gives
- * its length; 0 if there is none. It is sought where ncurses seeks: $TERMINFO, ~/.terminfo, the folders
- * of $TERMINFO_DIRS, /etc/terminfo, /lib/terminfo, /usr/share/terminfo. A file that can't be read or is no
- * entry doesn't end the search. Where the program has rights that its user lacks (set-user-id), the three
- * places that are the user's to choose are left out. */
+/* Reads the compiled entry of the terminal `term`, or of the variable TERM if `term` is null, into `room`, and returns
+ * its length; 0 if there is none. It searches where ncurses does: $TERMINFO, ~/.terminfo, the folders of
+ * $TERMINFO_DIRS, /etc/terminfo, /lib/terminfo, /usr/share/terminfo. A file that can't be read or is no entry doesn't
+ * end the search. If the program has rights that its user lacks (set-user-id), it skips the three places that the user
+ * can choose. */
 static inline size_t ticurses_entry(const char *term, void *room, size_t room_len) {
     static const char known[] = "/etc/terminfo:/lib/terminfo:/usr/share/terminfo:/usr/lib/terminfo";
     const char *own = ticurses_variable("TERMINFO"), *home = ticurses_variable("HOME");
@@ -156,7 +157,7 @@ static inline int ticurses_set_cooked(int fd, const struct termios *before) {
     return ticurses_set(fd, before);
 }
 
-/* Whether an error says that a descriptor takes nothing now. */
+/* Whether an error means that a descriptor takes no bytes now. */
 static inline int ticurses_is_full(int error) {
 #if EAGAIN != EWOULDBLOCK
     if (error == EWOULDBLOCK) return 1;
@@ -164,9 +165,9 @@ static inline int ticurses_is_full(int error) {
     return error == EAGAIN;
 }
 
-/* Writes what waits in a session to a descriptor, also one that doesn't block, and returns when all of
- * it is written: 0, or -1 with errno if a write failed. What had been written then may be cut anywhere,
- * and the next refresh repairs it. Signals don't end it; where SIGPIPE isn't ignored, it ends the program. */
+/* Writes the waiting bytes of a session to a descriptor, also one that doesn't block, and returns when all of them are
+ * written: 0, or -1 with errno if a write failed. The output may then be cut anywhere, and the next refresh repairs it.
+ * Signals don't end it; if SIGPIPE isn't ignored, it ends the program. */
 static inline int ticurses_send(ticurses *session, int fd) {
     char piece[4096];
     size_t taken, sent;

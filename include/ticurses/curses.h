@@ -4,8 +4,8 @@
  *     cc game.c $(pkg-config --cflags --libs ticurses-curses)
  *
  * docs/CURSES.md has a table of all functions of the standard: which are here, which differ, and which are not there.
- * What is drawn goes through the proved calls of libticurses; keys, modes of the terminal and whatever else is sent
- * to it are outside the theorem. The header is C99 and C++11. */
+ * Drawing goes through the proved calls of libticurses; keys, modes of the terminal and all other output to it are
+ * outside the theorem. The header is C99 and C++11. */
 #ifndef TICURSES_CURSES_H
 #define TICURSES_CURSES_H
 
@@ -342,7 +342,7 @@ int leaveok(WINDOW *window, bool is_on);
 int scrollok(WINDOW *window, bool is_on);
 int syncok(WINDOW *window, bool is_on);
 
-/* What windows hold. */
+/* The content of windows. */
 chtype inch(void);
 chtype winch(WINDOW *window);
 chtype mvinch(int y, int x);

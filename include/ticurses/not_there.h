@@ -1,4 +1,4 @@
-/* What <curses.h> of this library leaves out: each use is an error of the compiler that says so. */
+/* The functions that <curses.h> of this library leaves out: the compiler reports each use as an error. */
 #ifndef TICURSES_CURSES_H
 #error "not_there.h is a part of <curses.h>"
 #endif
