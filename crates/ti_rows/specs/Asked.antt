@@ -23,7 +23,7 @@ use Rattle.ti_rows.specs.Rows.{Marks, Looks, Row, Clear, Cup, Home, Cr, Hpa, Vpa
 use Rattle.ti_rows.specs.Rows.{Cud, El, El1, Ed, Ech, Sgr, Sgr0, Setaf, Setab, Op, Smul, Rev, Blink, Dim, Bold, Invis}
 use Rattle.ti_rows.specs.Rows.{Smso, Enacs, Smacs, Rmacs, Csr, Ind, Ri, Civis, Cnorm, Cvvis, Smcup, Rmcup, Bel}
 
--- all cursors, with these margins
+-- the states with any cursor and these margins, and with a pending wrap only if `pending`
 abbrev pub starting : ℕ → ℕ → Bool → Margins → Start
 starting rows cols pending m =
     record { row_min = 0; row_max = rows - 1; col_min = 0; col_max = cols - 1; pending = pending; margins = m }
@@ -31,7 +31,7 @@ starting rows cols pending m =
 abbrev pub calm : ℕ → ℕ → Start
 calm rows cols = starting rows cols false margins.Whole
 
--- this many columns or rows are left on one side of the cursor
+-- the states with at least n columns or rows on one side of the cursor
 abbrev pub room_left : ℕ → Start → Start
 room_left n s = record s { col_min = n }
 

@@ -29,7 +29,7 @@ impl Row {
     }
 }
 
-/// All cursors, with these margins.
+/// The states with any cursor and these margins, and with a pending wrap only if `pending`.
 fn starting(size: Size, pending: bool, margins: Margins) -> Start
     ensures { result ≡ spec.starting size.rows size.cols pending margins }
 {
@@ -43,7 +43,7 @@ fn starting(size: Size, pending: bool, margins: Margins) -> Start
     }
 }
 
-/// All cursors, the last column not just printed, and the whole screen as margins.
+/// The states with any cursor, no pending wrap, and the whole screen as margins.
 fn calm(size: Size) -> Start
     ensures { result ≡ spec.calm size.rows size.cols }
 {
