@@ -1,5 +1,6 @@
-//! `hello SOURCE NAME ROWS COLS CERTIFICATE` shows a greeting in a window, with the strings of an entry of
-//! a source file for which the certificate is; waits for a line on standard input; and ends the screen.
+//! `hello SOURCE NAME ROWS COLS CERTIFICATE` shows a greeting in a window, with the strings of the
+//! entry NAME of the file SOURCE, which the certificate must be for; waits for a line on standard
+//! input; and ends the screen.
 #![tactic(auto)]
 
 mod console;
