@@ -14,7 +14,7 @@ use ti_words::{Remarks, explain_length};
 pub const LONGEST_FILE: u32 = 16_777_216;
 
 /// The bytes of the file at `path`. A file of more than `limit` bytes is refused as one that can't
-/// be read; of such a file only one byte past the limit is read.
+/// be read; at most one byte past the limit is read.
 pub fn read_whole<F: Files>(
     alloc: Global,
     files: &mut F,
