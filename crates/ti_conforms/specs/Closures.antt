@@ -9,7 +9,7 @@ use Rattle.ti_conforms.specs.Charsets.{IsAmong, can_have}
 use Rattle.ti_conforms.specs.declared.reach.Reach.{Reach}
 use Rattle.ti_conforms.specs.declared.closures.Charsets.{Charsets}
 
--- The least set that has each `IsFirst` charset, and with each charset all to which it leads.
+-- The least set that has each `IsFirst` charset, and all charsets to which a member `Leads`.
 pub data Settled (IsFirst : Charset → Type 0) (Leads : Charset → Charset → Type 0) : Charset → Type 0 where
   First : (c : Charset) → IsFirst c → Settled IsFirst Leads c
   After : (c d : Charset) → Settled IsFirst Leads c → Leads c d → Settled IsFirst Leads d

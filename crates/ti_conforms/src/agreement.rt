@@ -66,7 +66,7 @@ fn row_agrees<L: LinesByRow>(
 /// parameter list that `size` allows. `first` must be the first of these lists.
 ///
 /// # Errors
-/// `Disagree` with a row whose line hasn't, or `NoMemory`.
+/// `Disagree` with a row for which this isn't true, or `NoMemory`.
 pub fn all_agree<L: LinesByRow>(
     alloc: Global,
     size: Size,
