@@ -151,7 +151,7 @@ no_position test i (row ∷ rows) none =
     (λ f. cond-false _ _ _ f ∙ no_position test (i + 1) rows (λ k less. none (suc k) (omega arith)))
     (cases_Bool (test row))
 
--- a text that is no name has no place
+-- a text that isn't a name has no place
 pub place_in_none : (text : List ℕ) → ((place : ℕ) → place < 497 → name_at place ≢ text) → place_in text ≡ None
 unfolding place_in name_at row_at
 place_in_none text none =

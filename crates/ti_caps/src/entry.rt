@@ -87,7 +87,7 @@ impl Entry {
         self.names.as_slice()
     }
 
-    /// The value of a capability, if the entry has it.
+    /// The value of the capability `cap`, if the entry has it.
     #[tactic(auto, unfolding(crate::specs::Entry::value_at))]
     pub fn value(&self, cap: Cap) -> Option<&Value>
         ensures value { option_copied result ≡ value_at self.now cap }

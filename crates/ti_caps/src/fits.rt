@@ -1,4 +1,4 @@
-//! Tests for callers of what an entry can hold.
+//! Tests, for callers, of whether an entry can hold given names or a given string.
 
 ghost use Rattle.std.specs.Prelude.{◌≡◌, ◌&&◌, ◌==◌, not, false, nat_le};
 ghost use Rattle.std.specs.List.{list_all};

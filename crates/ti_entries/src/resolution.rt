@@ -103,8 +103,8 @@ pub fn resolve_apart(
     }
 }
 
-/// Law: if each entry can be read, an entry is what resolving it in the whole text gives, and it is refused only if
-/// resolving refuses it.
+/// Law: if each entry can be read, an entry is the one that resolving it in the whole text gives, and it is refused
+/// only if resolving refuses it.
 pub fn faultless_are_resolved()
     ensures { FaultlessAreResolved }
 {}

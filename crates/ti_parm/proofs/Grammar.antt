@@ -29,7 +29,7 @@ at_false : {A : Type 0} (d : Bool) (x y : A) → d ≡ false → cond d x y ≡ 
 at_false true x y e = cc
 at_false false x y e = refl
 
--- reading what is written
+-- reading a code that was spelled
 
 flags_on-all : (f : Flags) (flags rest : List ℕ) → AreFlags flags → NoFlag rest → flags_on f (flags ++ rest) ≡ flags_on f flags
 flags_on-all f [] [] p q = refl
@@ -310,7 +310,7 @@ code-read _ _ (number b digits ds small) more = number-read b digits more ds sma
 code-read _ _ (format text f h) more = format-read text f h more
 code-read _ _ (bare text f h begins) more = format-opens text f more h begins ∙ format-read text f h more
 
--- what is read is written so
+-- spelling a code that was read
 
 when : {A : Type 0} (P : A → Type 0) (b : Bool) (x y : Result A ParmFault) → (b ≡ true → IfOk x P) → (b ≡ false → IfOk y P) → IfOk (cond b x y) P
 when P true x y p q = p refl

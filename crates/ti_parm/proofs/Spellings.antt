@@ -20,7 +20,7 @@ use Rattle.ti_parm.specs.Value.{Value}
 use Rattle.ti_parm.proofs.Grammar.{IsRead, code-read, code-written}
 use Rattle.ti_parm.proofs.Trees.{ahead-code, ahead-nothing}
 
--- reading what is written
+-- reading a tree that was spelled
 
 abbrev join : Parts → Parts → Parts
 join Done q = q
@@ -119,7 +119,7 @@ syntax-read string parts h =
     ap ahead (sym (append-nil string)) ∙ parts-read string parts h [] ∙ ap (with_parts parts) (ahead-nothing [] refl) ∙ ap (λ p. record { parts = p; behind = Ends }) (join-Done parts) in
     ap (λ a. whole a.parts a.behind) all
 
--- what is read is written so
+-- spelling a tree that was read
 
 -- the text ahead spells this tree; after a fault any text may follow
 data Trails : List ℕ → Behind → Type 0 where

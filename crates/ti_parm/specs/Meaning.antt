@@ -80,7 +80,7 @@ act Increment s = do
 act Character s = writing character s
 act (Show format) s = writing (shown format) s
 
--- takes the top of the stack; whether it is a number other than 0
+-- pops a number, and tells whether it is other than 0
 abbrev pub pop_test : Values → State → Result (Bool × State) ParmFault
 pop_test stack s = pop_number stack >>= λ x. Ok (is_true x.0, record s { stack = x.1 })
 

@@ -94,7 +94,7 @@ fn after_delay(bytes: &[u8], at: usize) -> Option<usize>
     }
 }
 
-/// Removes the delays from the bytes from the place `start` on, which must be in them. Allocates no memory.
+/// Removes the delays from `bytes` from the place `start` on, which must not be past the end. Allocates no memory.
 pub fn strip_from(bytes: &mut Vec<u8>, start: usize)
     requires { start ≤ length bytes.old.items }
     ensures { bytes.new.items ≡ take start bytes.old.items ++ strip (drop start bytes.old.items) }

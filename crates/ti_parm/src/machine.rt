@@ -147,7 +147,7 @@ impl<'a> Machine<'a> {
         }
     }
 
-    /// Takes the top of the stack; whether it is a number other than 0.
+    /// Pops a number, and returns whether it is other than 0.
     fn pop_test(&mut self) -> Result<bool, ParmFault>
         ensures { (output : List ℕ) →
             Gives (λ holds. (holds, state_of self.new output)) result

@@ -1,4 +1,4 @@
-//! The conditionals in which a place of a string is.
+//! The conditionals around a place of a string.
 ghost use Rattle.std.specs.Prelude.{◌≡◌};
 ghost use Rattle.ti_parm.specs.Conditionals.{branch_behind};
 
@@ -28,7 +28,7 @@ impl Default for Branch {
     }
 }
 
-/// The conditionals in which a place is. Contracts see the list of their branches, the innermost first.
+/// The conditionals around a place. Contracts see the list of their branches, the innermost first.
 #[derive(Drop)]
 pub struct Nest {
     branches: SmallVec<Branch, 16>,

@@ -169,7 +169,7 @@ pub fn plain_text_is_itself()
 {}
 
 /// Law: the bytes sent don't depend on static variables that the string doesn't read before it sets them. With other
-/// variables that agree on those it does read so, it has no fault either, and sends the same bytes.
+/// static variables that agree on those that it reads first, it has no fault either, and sends the same bytes.
 pub fn unread_statics_have_no_say()
     ensures { (string : List ℕ) (given : List Value) (one other : List ℤ) (end : State) → length one ≡ 26 →
         length other ≡ 26 → meaning string given one ≡ Ok end → Agree end one other →

@@ -10,7 +10,7 @@ use crate::fault::ParmFault;
 use crate::nest::Nest;
 
 /// The number of open conditionals after `code`; `None` if the skipping ends there: at the `%;` of the conditional
-/// that it began in or, if `to_else`, at its `%e`.
+/// in which it began or, if `to_else`, at its `%e`.
 #[inline(always)]
 fn depth_behind(code: Code, depth: usize, to_else: bool) -> Option<usize>
     requires { depth < 2 ^ 63 }

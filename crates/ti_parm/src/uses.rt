@@ -14,7 +14,7 @@ pub enum FirstUse {
     SetFirst,
 }
 
-/// The first use after another use `now`.
+/// The first use of a variable whose first use was `so_far`, after one more use `now`.
 fn further(so_far: FirstUse, now: FirstUse) -> FirstUse
     ensures { result ≡ further so_far now }
 {

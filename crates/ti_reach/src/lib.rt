@@ -44,7 +44,7 @@ pub struct Miss {
 /// Ok is proved: for each row and column the string expands to whole tokens, and from every state at rest they leave
 /// the cursor there. The errors `Parm`, `Token` and `Misses` are proved too, each for its place, and all places
 /// before that one are reached. `Undecided` says that the tokens have no effect record from all states at rest, and
-/// that the last one is no CUP.
+/// that the last one isn't CUP.
 pub fn reach_cup(alloc: Global, string: &[u8], size: Size) -> Result<(), Miss>
     ensures reached { OnOk result (spec.ServesAsCup string.now size.rows size.cols) }
     ensures row { IfErr result (λ miss. miss.row < size.rows) }

@@ -186,7 +186,7 @@ enter_law (suc depth) raws chain name place before after closed is =
     closed_grows raws before place q (closed q (entered_parts before place q there parts.1) parts.0) in
     went_from raws chain place before after (follow_law raws longer (enter depth raws longer) (enter_law depth raws longer) (uses_in (fields_at raws place)) (before ++ place ∷ []) after still is)
 
--- no test finds first, in what the walk entered, another entry than in the whole list
+-- each test finds the same first entry among the entered ones as in the whole list
 pub walk_is_whole : (raws : List RawEntry) (depth root : ℕ) (name after : List ℕ) → enter depth raws [] name root [] ≡ Ok after → (places : List ℕ) × IsWhole raws root places × ((q : ℕ → Bool) → find q after ≡ find q places)
 walk_is_whole raws depth root name after is =
     let none : IsClosed raws [] [] = λ q there apart. absurd (both_ways false refl there) in

@@ -1,4 +1,4 @@
--- The field that gives a capability its value gives that of the resolved entry.
+-- The origin of a capability's value has the value of the resolved entry.
 use Rattle.std.proofs.Common.{◌≡◌, ℕ, ◌<◌, ◌≤◌, Bool, true, false, List, [], ◌∷◌, Option, Some, None, Ok, refl, sym, ap, subst, ◌∙◌, length, get_or, drop, ◌+◌, arith}
 use Rattle.std.specs.Prelude.{⊤, if◌then◌else◌, nat_lt, option_map, slice_get}
 use Rattle.std.specs.List.{find, position, position_or_len}

@@ -64,7 +64,7 @@ fn take_field(entry: &mut Entry, decided: &mut [bool], field: &Field) -> Result<
     Ok(())
 }
 
-/// Copies these fields into the entry, one after another.
+/// Copies these fields into the entry, one after another, except those about whose capability an earlier one was.
 fn take_each(entry: &mut Entry, decided: &mut [bool], fields: &[Field]) -> Result<(), AllocError>
     requires sized { length decided.old ≡ 497 }
     requires fits { AllByRecursion FitsField fields.now }

@@ -158,10 +158,10 @@ pub fn resolve_at(alloc: Global, raws: &[RawEntry], place: usize) -> Result<Entr
 /// The field that gives `cap` its value in the first entry of `raws` named `name`, with all that it uses: the first
 /// field about `cap`, in the order of `resolve`. `None` if the entry has no value for it.
 ///
-/// This takes as long as `resolve`, but passes over fields only up to that one.
+/// This takes as long as `resolve`, but goes through the fields only up to that one.
 ///
 /// # Errors
-/// Like those of `resolve`.
+/// As for `resolve`.
 pub fn origin(
     alloc: Global,
     raws: &[RawEntry],
@@ -181,7 +181,7 @@ pub fn origin(
 /// matter, as in `resolve_at`.
 ///
 /// # Errors
-/// Like those of `resolve_at`.
+/// As for `resolve_at`.
 pub fn origin_at(
     alloc: Global,
     raws: &[RawEntry],

@@ -1,4 +1,4 @@
--- An entry can be made from what reading returns.
+-- An entry can be made from each raw entry that reading returns.
 use Rattle.std.proofs.Common.{◌≡◌, ℕ, ◌+◌, ◌*◌, ◌-◌, ◌^◌, ◌<◌, zero, suc, Bool, true, false, not, ◌&&◌, List, [], ◌∷◌, ◌++◌, length, Option, Some, None, Result, Ok, Err, refl, ap, ◌∙◌, subst, arith}
 use Rattle.std.specs.Prelude.{if◌then◌else◌, ◌==◌, nat_le, nat_lt, option_map, option_and_then, option_to_list}
 use Rattle.std.specs.List.{AllByRecursion, list_all, list_any}

@@ -83,7 +83,7 @@ alone s = alone_by s (entry_alone s)
 
 -- ---- a text
 
--- a line before the first entry that continues one is a fault
+-- a line that would continue an entry before the first one is a fault
 abbrev pub front_fault : ℕ → List (List ℕ) → Option SourceFault
 front_fault number [] = None
 front_fault number (line ∷ lines) =

@@ -27,7 +27,7 @@ abbrev pub ◌>>=◌ : {A B : Type 0} → Result A FaultKind → (A → Result B
 (Ok x) >>= f = f x
 (Err e) >>= f = Err e
 
--- the name of an inclusion, use=name
+-- whether a name is that of an inclusion, use=name
 abbrev pub is_use : List ℕ → Bool
 is_use [] = false
 is_use (a ∷ []) = false
@@ -83,11 +83,11 @@ is_skipped (b ∷ rest) = b == period
 abbrev pub trimmed_reading : List ℕ → Result Reading FaultKind
 trimmed_reading field = if is_skipped field then Ok Skipped else split_reading field (marked_in field)
 
--- the text between two commas; faults here come before that of a field without a comma after it
+-- the meaning of the text between two commas; its faults come before that of a missing comma
 unfoldable pub reading_of : List ℕ → Result Reading FaultKind
 reading_of part = trimmed_reading (skip_white part)
 
--- the fault that comes after that one: a string has at most 4095 bytes
+-- a string of more than 4095 bytes; only a field that a comma ends has this fault
 abbrev pub is_long : Reading → Bool
 is_long (Says (Set cap (values.String bytes)) odd) = nat_lt 4095 (length bytes)
 is_long _ = false
@@ -95,7 +95,7 @@ is_long _ = false
 abbrev pub bounded_reading : Reading → Result Reading FaultKind
 bounded_reading reading = if is_long reading then Err faults.TooLong else Ok reading
 
--- the text before a comma
+-- the meaning of the text before a comma
 unfoldable pub ended_reading : List ℕ → Result Reading FaultKind
 ended_reading part = reading_of part >>= bounded_reading
 
@@ -113,7 +113,7 @@ is_cap cap (Some other) = other == cap
 unfoldable pub is_told : List Field → ℕ → Bool
 is_told fields cap = list_any (λ field. is_cap cap (cap_of field)) fields
 
--- a name that is in an entry already; inclusions may repeat
+-- whether the entry has a field about this capability already; inclusions may repeat
 abbrev pub repeats : List Field → Option ℕ → Bool
 repeats fields None = false
 repeats fields (Some cap) = is_told fields cap

@@ -82,7 +82,7 @@ abbrev pub is_same : Option ℕ → Option ℕ → Bool
 is_same None other = false
 is_same (Some cap) other = is_cap cap other
 
--- of the fields about one capability the first, and every inclusion
+-- the first of the fields about each capability, and every inclusion
 abbrev pub firsts : List FieldLine → List FieldLine
 firsts [] = []
 firsts (field ∷ fields) = field ∷ filter (λ other. not (is_same field.cap other.cap)) (firsts fields)

@@ -1,4 +1,4 @@
--- An entry can be made from what reading returns.
+-- An entry can be made from each raw entry that reading returns.
 use Rattle.std.specs.Prelude.{Some, IsTrue}
 use Rattle.std.specs.List.{AllByRecursion}
 use Rattle.ti_caps.specs.Entry.{FitsPlace}

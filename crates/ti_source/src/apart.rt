@@ -25,7 +25,7 @@ pub struct Apart {
     pub faults: Vec<Option<SourceFault>>,
 }
 
-/// The fault of the first line before any entry that continues one.
+/// The fault of the first line that would continue an entry before there is one.
 fn front_fault(text: &[u8]) -> Option<SourceFault>
     requires { length text.now ≤ 16777216 }
     ensures { result ≡ front_fault 1 (stretches_from 1 (lines_of text.now)).ahead }
@@ -126,7 +126,7 @@ fn unread(alloc: Global, number: u32, line: &[u8]) -> Result<RawEntry, AllocErro
     Ok(draft.into_entry())
 }
 
-/// Fails if `kind` is that memory ran out, which says nothing of the text.
+/// Fails if `kind` is `NoMemory`, which says nothing of the text.
 fn must_tell(kind: FaultKind) -> Result<(), AllocError>
     ensures { OnOk result (kind ≢ FaultKind.NoMemory) }
 {
@@ -201,14 +201,14 @@ fn entries_of(alloc: Global, text: &[u8]) -> Result<Apart, AllocError>
     Ok(apart)
 }
 
-/// The entries of a source text of terminfo(5), each read by itself: from a line that begins in column one up to the
-/// next. An entry that can't be read hides no other; it has only its names, and its first fault in `faults`.
+/// The entries of the source text `text` of terminfo(5), each read by itself: from a line that begins in column one
+/// up to the next. An entry that can't be read hides no other; it has only its names, and its first fault in `faults`.
 ///
 /// Goes over the text at most three times, and takes as much memory as `read`.
 ///
 /// # Errors
-/// `TooLong` for line 0 if the text has more than 16777216 bytes; `NoName` for a line before the first entry that
-/// continues one; out of memory, for any line.
+/// `TooLong` for line 0 if the text has more than 16777216 bytes; `NoName` for a line that would continue
+/// an entry before the first one; out of memory, for any line.
 #[tactic(auto, unfolding(crate::specs::Apart::apart_of))]
 pub fn read_apart(alloc: Global, text: &[u8]) -> Result<Apart, SourceFault>
     ensures entries { IfOk result (λ apart. IsApart text.now apart.raws.items apart.faults.items) }

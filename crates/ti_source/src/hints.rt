@@ -58,7 +58,7 @@ fn hinted_cap(cap: Cap, value: &[u8]) -> Option<Cap>
     }
 }
 
-/// The string capability whose value has `%^`, in a field with this mark and value.
+/// The capability of a field with this mark and value, if it is a string whose value has `%^`.
 fn hinted_by(mark: Mark, found: Option<Cap>, value: &[u8]) -> Option<Cap>
     ensures { result ≡ hinted_by mark found value.now }
 {
@@ -68,7 +68,7 @@ fn hinted_by(mark: Mark, found: Option<Cap>, value: &[u8]) -> Option<Cap>
     }
 }
 
-/// The string capability whose value has `%^`, in the field `part`.
+/// The capability of the field `part`, if it is a string whose value has `%^`.
 #[tactic(auto, unfolding(crate::specs::Hints::hinted))]
 fn hinted(part: &[u8]) -> Option<Cap>
     ensures { result ≡ hinted part.now }

@@ -72,7 +72,7 @@ pub(crate) fn is_blank(bytes: &[u8]) -> bool
     bytes.iter().all(|byte| is_white(*byte))
 }
 
-/// The bytes from the first on that isn't white space.
+/// `bytes` without the white space at its start.
 pub(crate) fn skip_white(bytes: &[u8]) -> &[u8]
     ensures { result.now ≡ skip_white bytes.now }
 {
@@ -86,7 +86,7 @@ pub(crate) fn skip_white(bytes: &[u8]) -> &[u8]
     rest
 }
 
-/// The bytes up to the last that isn't white space.
+/// `bytes` without the white space at its end.
 #[tactic(auto, using(crate::proofs::Layouts::trimmed, crate::proofs::Layouts::not_trimmed, crate::proofs::Layouts::empty_trimmed))]
 pub(crate) fn trim_end(bytes: &[u8]) -> &[u8]
     ensures { result.now ≡ trim_end bytes.now }

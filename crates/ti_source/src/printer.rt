@@ -87,7 +87,7 @@ fn are_bytes(bytes: &[u8])
     }
 }
 
-/// The value of a string with these `bytes`, as `print` writes it: `unescape` returns the bytes. They must fit
+/// The value of a string with these `bytes`, as `print` writes it: `unescape` gives them back. They must fit
 /// (`string_fits`).
 ///
 /// Fails only when out of memory.

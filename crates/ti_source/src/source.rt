@@ -110,8 +110,8 @@ impl Reader {
 
 /// The entries of a source text of terminfo(5), each with notes on its oddities.
 ///
-/// Fails with the first fault of `text`: `TooLong` for line 0 if the text has more than 16777216 bytes; `NoMemory`
-/// can come for any line.
+/// The error is the first fault of `text`. `TooLong` for line 0 means that the text has more than 16777216 bytes;
+/// `NoMemory` can be reported for any line.
 #[tactic(auto, using(crate::proofs::Fitness::entries_fit), unfolding(crate::specs::Source::source_of))]
 pub fn read(alloc: Global, text: &[u8]) -> Result<Vec<RawEntry>, SourceFault>
     ensures entries { IfOk result (λ v. source_of text.now ≡ Ok v.items) }

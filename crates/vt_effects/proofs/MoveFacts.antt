@@ -93,7 +93,7 @@ forward_leads m m' n low high last x e g l h = chosen (nat_le (moved m high + n)
     }))
     (λ c i. not_found m' i))
 
--- the new move passes the first row or column from no start
+-- the new move, if back, never passes the first row or column
 pub back_kept : (m m' : Move) (n low high : ℕ) → back_by n low high m ≡ Some m' → IsBack m low → IsBack m' low
 back_kept m m' n low high e g = chosen (nat_le n (moved m low)) (Some (and_back m n)) _ m' e
     (λ b k. given (λ w. IsBack w low) _ m' k (one_back m n low low g (omega arith) b).back)

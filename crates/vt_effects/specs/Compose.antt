@@ -21,7 +21,7 @@ use Rattle.vt_effects.specs.Effect.{applied, Applies}
 use Rattle.vt_effects.specs.Record.{and_back, and_forward, cells_erased, screen_erased, display_erased, keeps_margins}
 use Rattle.vt_effects.specs.Record.{is_still, keeps_background}
 
--- whether the move can be followed by one back, or forward, by n: none may lead above the first row or left of the
+-- whether a move back, or forward, by n can follow the move: it must not lead above the first row or left of the
 -- first column, and its number must be at most 65535
 abbrev pub goes_back : Move → ℕ → Bool
 goes_back (moves.To k) n = nat_le n k

@@ -113,7 +113,7 @@ impl Switch {
 }
 
 impl Rendering {
-    /// Changes nothing.
+    /// The rendering that changes nothing.
     pub fn kept() -> Rendering
         ensures { result ≡ spec.nothing_rendered }
     {
@@ -129,7 +129,7 @@ impl Rendering {
         }
     }
 
-    /// Turns all marks off and sets the default colors.
+    /// The rendering that turns all marks off and sets the default colors.
     pub fn all_off() -> Rendering
         ensures { result ≡ records.all_off }
     {

@@ -61,7 +61,7 @@ pub(crate) fn and_forward(way: Move, n: u16) -> Move
 }
 
 /// Up or left by `n` after `way`, if either no start from `low` to `high` is cut at the first row or column, or all
-/// are.
+/// are; otherwise `None`.
 pub(crate) fn back_by(n: u16, low: u16, high: u16, way: Move) -> Option<Move>
     ensures { result ≡ spec.back_by n low high way }
 {
@@ -74,7 +74,8 @@ pub(crate) fn back_by(n: u16, low: u16, high: u16, way: Move) -> Option<Move>
     }
 }
 
-/// Down or right by `n` after `way`, if either no start from `low` to `high` is cut at `last`, or all are.
+/// Down or right by `n` after `way`, if either no start from `low` to `high` is cut at `last`, or all are;
+/// otherwise `None`.
 pub(crate) fn forward_by(n: u16, low: u16, high: u16, last: u16, way: Move) -> Option<Move>
     ensures { result ≡ spec.forward_by n low high last way }
 {

@@ -26,7 +26,7 @@ pub fn effect_of(tokens: &[Token], size: Size, start: &Start) -> Option<Effect>
     Some(effect)
 }
 
-/// The effect of `text` from every state that `start` allows: what `effect_of` returns for its tokens. The scanner
+/// The effect of `text` from every state that `start` allows: the result of `effect_of` for its tokens. The scanner
 /// reads them in place, so this allocates no memory.
 ///
 /// # Errors
@@ -245,7 +245,7 @@ fn scrolling(effect: Effect, scroll: Scroll) -> Effect
     }
 }
 
-/// One line down, if either no start scrolls or all do.
+/// One line down, if either no start scrolls or all do; otherwise `None`.
 fn line_fed(effect: Effect, size: Size, start: &Start) -> Option<Effect>
     ensures { result ≡ spec.line_fed size.rows start.now effect }
 {
@@ -260,7 +260,7 @@ fn line_fed(effect: Effect, size: Size, start: &Start) -> Option<Effect>
     }
 }
 
-/// One line up, if either no start scrolls or all do.
+/// One line up, if either no start scrolls or all do; otherwise `None`.
 fn line_reversed(effect: Effect, size: Size, start: &Start) -> Option<Effect>
     ensures { result ≡ spec.line_reversed size.rows start.now effect }
 {

@@ -48,7 +48,7 @@ either_printed : (b : Bool) (x y : Look) → IsPrinted x.byte → IsPrinted y.by
 either_printed true x y h k = h
 either_printed false x y h k = k
 
--- a cell of the screen is printable, as is the default x
+-- a cell of the screen is printable, if the default x is
 cell_printed : (s : Screen) → IsScreen s → (i j : ℕ) (x : Look) → IsPrinted x.byte → IsPrinted (cell_at x s.grid i j).byte
 cell_printed s h i j x p = elim (cases_lt j (length (line_at s.grid i))) [
   | inl near ↦ subst (λ (y : Look). IsPrinted y.byte) (get_or_default (line_at s.grid i) j space x near) (h.characters i j)

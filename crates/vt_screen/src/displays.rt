@@ -22,7 +22,7 @@ use std::marker::Model;
 pub struct Charset {
     pub g0_graphic: bool,
     pub g1_graphic: bool,
-    /// G1 is active.
+    /// Whether G1 is active.
     pub shifted_out: bool,
 }
 
@@ -41,13 +41,13 @@ impl Charset {
     }
 }
 
-/// All of a display but its size, its cells, autowrap and insertion. Rows and columns count from 0.
+/// The state of a display except its size, cells, autowrap and insertion. Rows and columns count from 0.
 #[derive(Clone, Copy, Debug, PartialEq, Eq)]
 pub struct Settings {
     /// The cursor's row and column.
     pub row: usize,
     pub col: usize,
-    /// The last column was printed, so the next character goes to the next line.
+    /// Whether the last column was printed, so the next character goes to the next line.
     pub pending: bool,
     pub rendition: Rendition,
     pub charset: Charset,
@@ -118,7 +118,7 @@ impl Display {
         })
     }
 
-    /// The size. The screen always has it.
+    /// The size, which the screen always has.
     pub fn size(&self) -> Size
         ensures rows { result.rows ≡ self.now.rows }
         ensures cols { result.cols ≡ self.now.cols }
@@ -165,7 +165,7 @@ impl Display {
         self.visible
     }
 
-    /// All of the display but its size, cells, autowrap and insertion.
+    /// The state of the display except its size, cells, autowrap and insertion.
     pub fn settings(&self) -> Settings
         ensures { result ≡ settings_of self.now }
     {
@@ -181,8 +181,8 @@ impl Display {
         }
     }
 
-    /// Sets all of the display but its size, cells, autowrap and insertion. The cursor and the margins must be on the
-    /// screen, and the margins in order.
+    /// Replaces the state of the display by `settings`, except its size, cells, autowrap and insertion. The cursor and
+    /// the margins must be on the screen, and the margins in order.
     pub fn set(&mut self, settings: Settings)
         requires row_within { settings.row < self.old.rows }
         requires col_within { settings.col < self.old.cols }

@@ -45,7 +45,8 @@ impl Pen {
         self.plain.rendition()
     }
 
-    /// The cell that a place gets when `byte` is printed there while the active set is the graphic one or not.
+    /// The cell that a place gets when `byte` is printed there; `graphic` says whether the active set is the graphic
+    /// one.
     #[inline(always)]
     pub fn cell(&self, byte: u8, graphic: bool) -> Cell
         ensures { result ≡ shown_by self.now graphic byte }

@@ -156,7 +156,7 @@ told stage ns bytes seen f t e h =
     let whole : t.0 ++ last_byte seen ∷ [] ≡ bytes = ap (λ (x : ℕ). t.0 ++ x ∷ []) b ∙ sym t.2 in
     h t.0 t.3 (subst IsWhole (sym whole) t.4) ∙ ap function_of whole
 
--- one byte more
+-- one more byte
 pub list_all_push : (front : List ℕ) (b : ℕ) (c : Bool) → is_numeral b ≡ c → list_all is_numeral front ≡ true → list_all is_numeral (front ++ b ∷ []) ≡ c
 list_all_push [] b c e h = grind (arith, e)
 list_all_push (d ∷ front) b c e h = behind_true (is_numeral d) (list_all is_numeral front) (list_all is_numeral (front ++ b ∷ [])) c h (λ k. list_all_push front b c e k)

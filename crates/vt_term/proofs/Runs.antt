@@ -32,7 +32,7 @@ runs_nothing s h = record { tokens = []; splits = (append-nil s.rest, h); screen
 same_state : (t u : State) → u.screen ≡ t.screen → u.rest ≡ t.rest → u ≡ t
 same_state t u e f = ap (λ (x : Screen). record { screen = x; rest = u.rest }) e ∙ ap (λ (x : List ℕ). record { screen = t.screen; rest = x }) f
 
--- a text has one run
+-- a text has at most one run
 pub runs_once : (s t u : State) (a : List ℕ) → Runs s a t → Runs s a u → u ≡ t
 runs_once s t u a h k =
     let o : (k.tokens ≡ h.tokens) × (u.rest ≡ t.rest) = one_splitting (s.rest ++ a) h.tokens k.tokens t.rest u.rest h.splits k.splits in
@@ -159,7 +159,7 @@ whole_text_first s t a b ts e h k =
     let c : RunsCut s a b t = runs_cut s t a b k in
     subst (λ (x : State). Runs x b t) (runs_once s (record { screen = steps ts s.screen; rest = [] }) c.between a (text_runs s a ts e h) c.runs_first) c.runs_second
 
--- ESC drops what is open
+-- ESC drops an open sequence
 from_open : (x : Screen) (r : List ℕ) (t : State) (bytes : List ℕ) → IsOpen r → Runs (record { screen = x; rest = [] }) (27 ∷ bytes) t → Runs (record { screen = x; rest = r }) (27 ∷ bytes) t
 from_open x [] t bytes o h = h
 from_open x (y ∷ ys) t bytes o h = record {

@@ -14,13 +14,13 @@ pub fn one_splitting()
         (us ≡ ts) × (q ≡ r) }
 {}
 
-/// Bytes after a text split together with its rest.
+/// If a text splits, and its rest followed by more bytes does, both splits together are that of the joined text.
 pub fn splits_join()
     ensures { (a b : List ℕ) (ts us : List (List ℕ)) (r q : List ℕ) → Splits a ts r → Splits (r ++ b) us q →
         Splits (a ++ b) (ts ++ us) q }
 {}
 
-/// Every prefix of a text that splits splits too.
+/// If a text splits, so does each of its prefixes.
 pub fn front_splits()
     ensures { (a b : List ℕ) → IsSplit (a ++ b) → IsSplit a }
 {}

@@ -85,7 +85,7 @@ impl Model for Parser {
 }
 
 impl Parser {
-    /// A parser with nothing open. It allocates all the memory that it will need.
+    /// A parser with nothing open. It allocates all the memory that it will need; fails only when out of memory.
     pub(crate) fn new(alloc: Global) -> Result<Parser, AllocError>
         ensures { IfOk result (λ parser. parser ≡ []) }
     {

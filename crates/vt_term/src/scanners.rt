@@ -71,7 +71,7 @@ struct Ending {
 }
 
 impl Scanner {
-    /// A scanner that has read nothing. It allocates all the memory that it will need.
+    /// A scanner that has read nothing. It allocates all the memory that it will need; fails only when out of memory.
     pub fn new(alloc: Global) -> Result<Scanner, AllocError>
         ensures { IfOk result (λ scanner. scanner ≡ []) }
     {

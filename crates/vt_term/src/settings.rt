@@ -17,15 +17,15 @@ impl Terminal {
         self.display.act(function);
     }
 
-    /// All of the display but its size, cells, autowrap and insertion.
+    /// The state of the display except its size, cells, autowrap and insertion.
     pub fn settings(&self) -> Settings
         ensures { result ≡ settings_of self.now.screen }
     {
         self.display.settings()
     }
 
-    /// Sets all of the display but its size, cells, autowrap and insertion. The cursor and the margins must be on the
-    /// screen, and the margins in order.
+    /// Replaces the state of the display by `settings`, except its size, cells, autowrap and insertion. The cursor and
+    /// the margins must be on the screen, and the margins in order.
     pub fn set(&mut self, settings: Settings)
         requires row_within { settings.row < self.old.screen.rows }
         requires col_within { settings.col < self.old.screen.cols }

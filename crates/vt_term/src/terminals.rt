@@ -187,7 +187,7 @@ impl Terminal {
         }
     }
 
-    /// The size. The state always has it.
+    /// The size, which the state always has.
     pub fn size(&self) -> Size
         ensures rows { result.rows ≡ self.now.screen.rows }
         ensures cols { result.cols ≡ self.now.screen.cols }

@@ -1,4 +1,4 @@
--- The remaining tokens applied to the effect now give what all of them applied to no change do.
+-- Applying the remaining tokens now gives the same effect as applying all of them at the start.
 use Rattle.std.proofs.Common.{◌≡◌, drop}
 use Rattle.vt_effects.specs.Effect.{unchanged}
 use Rattle.vt_effects.specs.Record.{all_extended}

@@ -1,4 +1,4 @@
--- The remaining numbers applied to the effect now give what all of them applied to the first do.
+-- Applying the remaining numbers now gives the same effect as applying all of them at the start.
 use Rattle.std.proofs.Common.{◌≡◌, drop}
 use Rattle.vt_effects.specs.Record.{modes_set}
 use Rattle.vt_effects.proofs.records.modes_set.Given as goal

@@ -1,4 +1,4 @@
--- The remaining numbers applied to the rendering now give what all of them applied to the first do.
+-- Applying the remaining numbers now gives the same rendering as applying all of them at the start.
 use Rattle.std.proofs.Common.{◌≡◌, drop}
 use Rattle.vt_effects.specs.Record.{all_renderings}
 use Rattle.vt_effects.proofs.renditions.all_renderings.Given as goal

@@ -1,4 +1,4 @@
--- The remaining numbers applied now give what all of them applied at first do.
+-- Applying the remaining numbers now gives the same rendition as applying all of them at the start.
 use Rattle.std.proofs.Common.{◌≡◌, drop}
 use Rattle.vt_screen.specs.Step.{all_rendered}
 use Rattle.vt_screen.proofs.displays.all_rendered.Given as goal

@@ -1,4 +1,5 @@
--- The runs that end before this column are written, and `start` is where the run of the column before begins.
+-- The runs that end before this column are written, and `start` is the column where the run of the preceding column
+-- begins.
 use Rattle.std.proofs.Common.{◌≡◌, ℕ, ◌+◌, ◌++◌}
 use Rattle.vt_screen.specs.Printed as spec
 use Rattle.vt_screen.proofs.printer.push_runs.Given as goal

@@ -1,4 +1,5 @@
--- The runs that end before this column are there, and `start` is where the run of the column before begins.
+-- The runs that end before this column are there, and `start` is the column where the run of the preceding column
+-- begins.
 use Rattle.std.proofs.Common.{◌≡◌, ℕ, ◌+◌}
 use Rattle.vt_term.specs.Printed.{run_start}
 use Rattle.vt_states.specs.Json.{runs_behind}

@@ -1,4 +1,4 @@
--- Setting the remaining modes now gives what setting all of them at first does.
+-- Setting the remaining modes now gives the same screen as setting all of them at the start.
 use Rattle.std.proofs.Common.{◌≡◌, drop}
 use Rattle.vt_screen.specs.Step.{all_modes_set}
 use Rattle.vt_screen.proofs.displays.Display.set_modes.Given as goal
