@@ -20,8 +20,8 @@ pub trait Wire {
     /// The number of failures so far. The count stops at 2^128 - 1.
     ghost failures: { Self → ℕ };
 
-    /// Sends a first part of `piece`, which must not be empty, and returns its length: at least one
-    /// byte. At `WireFault` no byte was sent, and the count of failures rose.
+    /// Takes and sends a first part of `piece`, which must not be empty, and returns its length: at
+    /// least one byte. At `WireFault` no byte was sent, and the count of failures rose.
     fn send(&mut self, piece: &[u8]) -> Result<usize, WireFault>
         requires { 0 < length piece.now }
         ensures some { IfOk result (λ n. 0 < n) }
