@@ -1,4 +1,4 @@
--- A wire: a device that takes bytes and may fail (X/Open Curses, refresh: the output device).
+-- A wire, which takes bytes and may fail (the output device of refresh in X/Open Curses).
 use Rattle.std.specs.Prelude.{ℕ, ◌-◌, ◌^◌, ◌<◌, ◌≤◌, ◌≡◌, ◌⊎◌, List, [], ◌++◌, length, Result, Ok, Err}
 use Rattle.std.proofs.Math.Nat.{le_refl, le_trans}
 
