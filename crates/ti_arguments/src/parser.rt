@@ -1,4 +1,4 @@
-//! The parser: from words to a request.
+//! The parser of the command line, from words to a request.
 
 ghost use Rattle.std.specs.Prelude.{◌≡◌, IfOk, codes, map, option_map};
 ghost use Rattle.std.specs.String.{string_bytes};
