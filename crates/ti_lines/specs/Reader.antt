@@ -1,4 +1,4 @@
--- A reader: a source that gives bytes until its end, and may fail.
+-- A source that gives bytes until its end, and may fail.
 use Rattle.std.specs.Prelude.{ℕ, ◌-◌, ◌^◌, ◌<◌, ◌≤◌, ◌≡◌, ◌⊎◌, List, [], ◌++◌}
 
 -- the highest count of failures
