@@ -168,8 +168,8 @@ pub fn windows_are_shown_by_place()
         → (noutrefresh d v n).2 ≡ Ok tt → IsWindowShown d s v (noutrefresh d v n).1 }
 {}
 
-/// `overlay`, `overwrite` and `copywin` give each place copied to the source's cell as it was
-/// before the call, and keep all other places. `copywin` refuses every negative number.
+/// `overlay`, `overwrite` and `copywin` write the source's cells, as they were before the call, to the
+/// copied places of the target, and keep all its other places. `copywin` refuses every negative number.
 pub fn copies_are_made_by_place()
     ensures overlay { (d : State) (skip : Bool) (n m : ℕ) (s t : Slot) → IsDesk d → slot_of d n ≡ Ok s
         → slot_of d m ≡ Ok t → (copying.common_part skip d n m).1 ≡ Ok tt
