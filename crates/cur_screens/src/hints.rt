@@ -78,7 +78,7 @@ fn remember_scroll(
     *scrolled = later_of(kept, later);
 }
 
-// The scroll to remember on the screen: the later one, if there was one.
+// The scroll to remember on the screen: the later one, if there was one, else `before`.
 fn later_of(before: Option<Scroll>, later: Option<Scroll>) -> Option<Scroll> {
     match later {
         Some(later) => Some(later),
