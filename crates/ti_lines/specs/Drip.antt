@@ -15,7 +15,7 @@ abbrev pub given_by : ℕ → ℕ → ℕ → Option ℕ → ℕ
 given_by wanted step rest None = min (min wanted step) rest
 given_by wanted step rest (Some n) = min (min (min wanted step) rest) n
 
--- no failure is left, or it is this many bytes nearer
+-- the number of bytes before the failure, once n more were given
 abbrev pub nearer : Option ℕ → ℕ → Option ℕ
 nearer None n = None
 nearer (Some m) n = Some (m - n)

@@ -30,8 +30,8 @@ fn digits_value(digits: &[u8]) -> Option<u16>
     Some(number)
 }
 
-/// The number that these decimal digits are. `None` for none, for leading zeros, for a number above
-/// 65535, and for any other byte.
+/// The number that these decimal digits spell. `None` if there are none, for a leading zero, a
+/// number above 65535, or any other byte.
 #[tactic(auto, unfolding(crate::specs::EffectReader::number_at))]
 pub fn number_at(digits: &[u8]) -> Option<u16>
     ensures { result ≡ spec.number_at digits.now }
@@ -44,7 +44,7 @@ pub fn number_at(digits: &[u8]) -> Option<u16>
     }
 }
 
-/// The number above 0 that the digits are, if they are one.
+/// The number that `digits` spell, if it is above 0.
 pub(crate) fn positive_at(digits: &[u8]) -> Option<u16>
     ensures { result ≡ spec.positive (spec.number_at digits.now) }
 {
