@@ -35,7 +35,7 @@ pub fn activates_from()
     ensures { ActivatesFrom }
 {}
 
-/// The names of the checked capabilities rise, byte by byte.
+/// The names of the checked capabilities are in ascending byte order.
 pub fn names_rise()
     ensures { NamesRise }
 {}
