@@ -1,5 +1,5 @@
 #!/bin/sh
-# What `ticurses check` takes of processor time and of memory, with `tic -c` of the same entries in the same run as context:
+# The processor time and the memory of `ticurses check`, with `tic -c` of the same entries in the same run as context:
 # it looks for other faults, at no size, and of samples.ti it reads all entries. Checked are the system's xterm-256color and
 # `xc` at 24 by 80, `mini` at growing sizes, and, where the program has the command `survey`, all of the system's compiled
 # descriptions at 24 by 80. Times are the best of five, in turn, of `survey` the best of two, less those of

@@ -1,10 +1,10 @@
 #!/bin/sh
-# What a refresh takes of processor time, and how many bytes it sends, for a C program that is compiled against this
+# The processor time of a refresh, and how many bytes it sends, for a C program that is compiled against this
 # library and against ncurses (curses_scenes.c): the same calls, with the same entry, into a file; both by turns, the best
 # of five. A refresh is counted with the calls that draw what it shows. The line `open` is opening a session, with the
 # check of the entry in it. `chars` and `lines` write each cell by a call of its own, which in ticurses is a function of
 # numbers and a line of text. The entry is without `rep`, which ticurses doesn't use. Where the two leave other characters
-# on the screen, a line says so; colours of blanks and the cursor of a pad are not compared.
+# on the screen, a line says so; colors of blanks and the cursor of a pad are not compared.
 # curses.sh [ROWSxCOLS..]: 24x80 50x132 200x500 if none is given. ENTRY is the terminal, xterm-256color if it isn't set.
 set -eu
 cd -- "$(dirname -- "$0")"

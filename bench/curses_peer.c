@@ -1,6 +1,7 @@
 /* Plays a script of curses calls with the system's ncurses, as `ticurses play` does: curses_peer TERM ROWS COLS SCRIPT.
-   The bytes go to standard output, without padding. Only the calls that scripts.awk makes are known. Colours are used from
-   the first call about them on; as in ticurses, the default pair has the terminal's own colours, and `attrset` keeps the pair. */
+   The bytes go to standard output, without padding. Only the calls that scripts.awk makes are known. Colors are used
+   from the first call about them on; as in ticurses, the default pair has the terminal's own colors, and `attrset`
+   keeps the pair. */
 /* else `box` would read its last cell twice */
 #define NCURSES_NOMACROS
 #include <curses.h>

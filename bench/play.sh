@@ -1,5 +1,5 @@
 #!/bin/sh
-# What `ticurses play` takes of processor time, beside ncurses for the same calls with the same entry in the same run: the
+# The processor time of `ticurses play`, beside ncurses for the same calls with the same entry in the same run: the
 # long scripts of scripts.awk with `xt` and `vt` of samples.ti, the output to a file; calls and texts at 24 by 80, cells,
 # typing and log at the sizes that are given as ROWSxCOLS, or 24x80 50x132 200x500. Times are the best of twenty, in turn, less
 # those of an empty script (the certificate, which ncurses has none of, is verified there too). Where the

@@ -26,7 +26,7 @@ while read -r name; do
     infocmp -1 "$name" 2>/dev/null | grep -v '^#' >>"$work/base" || :
 done <"$work/names"
 
-# make BYTES: entries under other names until there are so many bytes
+# make BYTES: entries under other names until they have this many bytes
 make() {
     awk -v most="$1" '
         /^[^ \t]/ { count++; names[count] = $0; next }

@@ -1,11 +1,11 @@
 #!/usr/bin/env python3
-"""Proves and builds the program and the crates that it stands on, as many side by side as there are processors.
-With the word `library` it does so for the library for C.
+"""Proves and builds the program and the crates that it depends on, as many side by side as there are processors. With
+the word `library` it does so for the library for C.
 
 Each crate is built in a room of its own: a folder with links to its files and to the built libraries below it. The
-toolchain lets no two runs work in one folder, and most crates stand on the same few. What was proved goes back to the
-crate's out/ whenever a run ends, so that an interrupted build goes on where it was. What an earlier build of the same
-sources made, in any checkout of this user, is taken from where it is kept.
+toolchain lets no two runs work in one folder, and most crates depend on the same few. Whenever a run ends, its proofs
+go back to the crate's out/, so that an interrupted build can continue. If an earlier build of the same sources is kept,
+from any checkout of this user, its files are taken.
 
 Standard error gets what is built, how far it is and how long it took. The status is 0, 125 if the toolchain refused a
 crate or the checkout can't be written, 127 without the toolchain, and 128 and the number of a signal that ended it."""
@@ -26,7 +26,7 @@ from ending import Ended, heed, held, say, started, stop, why
 from linking import Failed, link
 from sources import LIBRARY, PROVED, size_of
 
-# a check of one crate takes about so many bytes of memory
+# the memory that a check of one crate takes, in bytes
 NEEDS = 3_000_000_000
 SHOWN = 20
 
@@ -186,7 +186,7 @@ class Build:
             say(f"\r\033[K{text}", ending)
 
     def stop(self):
-        """Ends the runs that are going. What they have proved so far is kept."""
+        """Ends the running builds. Their proofs so far are kept."""
         stop(self.going.values())
         for room in self.rooms.values():
             room.leave()

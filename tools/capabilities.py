@@ -97,7 +97,7 @@ def start_words(answer):
 
 
 def wanted_words(text):
-    """What is wanted of each capability, in the words of a refusal."""
+    """The wanted effect of each capability, in the words of a refusal."""
     string = r'b"([^"]*)"'
     moves = re.search(r"const LIKE_MOVES: &\[u8\] = " + string, text).group(1)
     wanted = {}

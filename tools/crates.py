@@ -1,6 +1,6 @@
-"""What crates.txt says: the crates of this repository, and what each stands on.
+"""The content of crates.txt: the crates of this repository, and those that each depends on.
 
-    python3 -B tools/crates.py NAME..     prints these crates and those that they stand on, each after those below it"""
+    python3 -B tools/crates.py NAME..     prints these crates and those that they depend on, each after those below it"""
 
 import os
 import sys
@@ -9,7 +9,7 @@ TOP = os.path.dirname(os.path.dirname(os.path.abspath(__file__)))
 
 
 def rows(top):
-    """What is before the colon of each line, and what is after it."""
+    """For each line the text before the colon, and the text after it."""
     with open(f"{top}/crates.txt", encoding="utf-8") as file:
         lines = [line.partition("#")[0] for line in file]
     return [line.partition(":")[::2] for line in lines if line.strip()]
@@ -21,12 +21,12 @@ def listed(top=TOP):
 
 
 def heads(top=TOP):
-    """What each crate's line has before the colon: its name, and perhaps its kind."""
+    """The text before the colon of each crate's line: its name, and perhaps its kind."""
     return {head.split()[0]: head.strip() for head, _ in rows(top)}
 
 
 def below(names, uses=None):
-    """The crates of the repository that these stand on, and these, each after those that it stands on."""
+    """The crates of the repository that `names` depend on, and `names`, each after those that it depends on."""
     uses, found = uses or listed(), []
 
     def visit(name):

@@ -96,7 +96,7 @@ def causes_table(verdicts):
 
 
 def known_table(verdicts):
-    """What the well-known terminals get."""
+    """The verdicts on well-known terminals."""
     by_path = dict(verdicts)
     yes, no = [], []
     for name in KNOWN:

@@ -43,7 +43,7 @@ def heed():
 
 @contextlib.contextmanager
 def held():
-    """What is done here is done whole; a signal that comes meanwhile raises `Ended` after it."""
+    """Code in this block runs to its end; a signal that comes meanwhile raises `Ended` after it."""
     _SIGNALS.is_held = True
     try:
         yield
@@ -82,5 +82,5 @@ def say(text, ending="\n"):
 
 
 def why(error):
-    """What an error of the system says, in one line."""
+    """The text of an error of the system, in one line."""
     return f"{error.filename}: {error.strerror}" if error.filename else str(error)

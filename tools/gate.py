@@ -3,10 +3,10 @@
 
     ./test [--library] [--anew]
 
-Scripts that run the program come last, since `rt ci` proves and builds it. Those of the library for C take it as it was
-built or kept from the same sources; with `--library` it is built first where it is neither. With `--anew` nothing that
-`rt ci` has passed before counts. Before each script and each crate it says what comes, and after it how long that took,
-and at the end what was left out. If all passed, the last line is that of `rt ci`."""
+Scripts that run the program come last, since `rt ci` proves and builds it. Tests of the library for C use the library
+that was built or kept from the same sources; with `--library` it is built first where there is none. With `--anew`
+nothing that `rt ci` has passed before counts. The gate announces each script and each crate, says afterwards how long
+it took, and at the end what was left out. If all passed, the last line is that of `rt ci`."""
 
 import os
 import re
@@ -42,7 +42,7 @@ def say(text):
 
 
 def subject(script):
-    """What a script is about: the first sentence of its second line."""
+    """The subject of a script: the first sentence of its second line."""
     with open(script, encoding="utf-8") as file:
         text = "".join(line[2:].replace("\n", " ") for line in file.readlines()[1:4] if line.startswith("# "))
     return re.split(r"(?<=[^.])[.:](?: |$)", text)[0].strip()
@@ -91,7 +91,7 @@ class Scripts:
 
 
 class Crates:
-    """What `rt ci` has done so far, by what it prints."""
+    """The progress of `rt ci`, by its output."""
 
     def __init__(self):
         self.uses = listed()
@@ -106,7 +106,7 @@ class Crates:
         return f"; next: {', '.join(names)}" if names else ""
 
     def after(self, line, began):
-        """What is said after a line of `rt ci`, if anything is."""
+        """The words to print after a line of `rt ci`, if any."""
         proved = re.match(r"rt: (\w+) proved$", line)
         edits = re.match(r"rt: (\w+): trying its must-fail edits \((\d+)\)$", line)
         if proved:

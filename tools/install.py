@@ -40,7 +40,7 @@ Version: {version}
 Cflags: -I${{includedir}}
 Libs: -L${{libdir}}{found} -lticurses
 """
-# where programs find shared libraries by themselves; elsewhere a program is told where
+# where programs find shared libraries by themselves; elsewhere a program gets the path
 KNOWN = ("/lib", "/usr/lib")
 HEADERS = ("ticurses.h", "ticurses_calls.h", "ticurses_terminal.h")
 PAGES = ("ticurses.1", "ticurses.3", "ticurses-calls.3", "ticurses-curses.3", "ticurses-script.5")
@@ -189,7 +189,7 @@ def install(where):
 
 
 def uninstall(where):
-    """Removes what `install` places. What isn't there is no error."""
+    """Removes the files that `install` places. A missing file is no error."""
     package = f"{where.destination}{where.python}/ticurses"
     for at in [*(it.at for it in files(where) + curses_files(where)), program(where).at, *links(where)]:
         if os.path.lexists(at):

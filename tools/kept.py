@@ -1,4 +1,4 @@
-"""What was built is kept, by the checksum of its sources and the toolchain, for other checkouts of the same sources.
+"""Keeps what was built, by the checksum of its sources and the toolchain, for other checkouts of the same sources.
 
 It is in $XDG_CACHE_HOME/ticurses, or ~/.cache/ticurses, in folders of the user alone; others are not read. The last few
 that were used are kept."""

@@ -1,4 +1,4 @@
-"""What pages name and link: the files of crates, other pages and headings that must be there."""
+"""The names and links of pages: the files of crates, other pages and headings must exist."""
 
 import os
 import re
@@ -50,7 +50,7 @@ def written_pages():
 
 
 def faults():
-    """What the pages of the repository name or link that isn't there, each in a sentence."""
+    """The missing files and headings that pages of the repository name or link, each in a sentence."""
     for path in written_pages():
         for name in [*lacking(path), *dead_links(path)]:
             yield f"{os.path.relpath(path, TOP)} names {name}, which isn't there"

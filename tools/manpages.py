@@ -14,7 +14,7 @@ FIRST_CALLS = "A script has a call on each line"
 
 
 def escaped(text):
-    """A line of text as roff reads it; what stands in backquotes is bold."""
+    """A line of text as roff reads it; text in backquotes is bold."""
     text = text.replace("\\", "\\e").replace("-", "\\-").replace("^", "\\(ha").replace("~", "\\(ti")
     text = re.sub(r"`([^`]*)`", r"\\fB\1\\fR", text)
     return f"\\&{text}" if text[:1] in (".", "'") else text
@@ -155,7 +155,7 @@ def printed(name):
 
 
 def box():
-    """The script that stands in the manual as an example."""
+    """The script that is the manual's example."""
     with open(f"{TOP}/examples/box.script", encoding="utf-8") as file:
         return file.read()
 

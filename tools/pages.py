@@ -57,7 +57,7 @@ PAGES = {
 
 
 def faults():
-    """What is wrong with the pages, each in a sentence."""
+    """The faults of the pages, each in a sentence."""
     for name, page in PAGES.items():
         if not os.path.exists(page_at(name)) or read(page_at(name)) != page():
             yield f"docs/{name} isn't what the sources say: run tools/pages.py"

@@ -35,7 +35,7 @@ DARK, GLASS, GOOD, BAD = "#d7dde4", "#0d1117", "#1a7f37", "#cf222e"
 
 
 def run(*words, data=None, fails=False):
-    """What a command of the program prints."""
+    """The output of a command of the program."""
     ran = subprocess.run(
         [f"{TOP}/ticurses", *words], cwd=TOP, input=data, stdout=subprocess.PIPE, stderr=subprocess.PIPE
     )
@@ -103,7 +103,7 @@ def small_screen(picture, x, y, given, fill):
 
 
 def sample(picture, x, y, given):
-    """What a program prints next: a word in the rendition."""
+    """The next word that a program prints, in the rendition."""
     fore, back = COLORS[given["fore"]] or DARK, COLORS[given["back"]] or GLASS
     if "reverse" in given["marks"]:
         fore, back = back, fore
@@ -172,7 +172,7 @@ def fault():
 
 
 def line_state(words):
-    """What a line says of the effect: the cursor's place, whether all cells are blank, and what it sets."""
+    """The effect in a line: the cursor's place, whether all cells are blank, and what it sets."""
     told = dict(it.split("=", 1) for it in words if "=" in it)
     return (
         (int(told["row"]), int(told["col"])) if "row" in told else None,

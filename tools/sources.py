@@ -1,8 +1,8 @@
-"""What the program and the library for C are made from, and whether what was built was made from what is there now.
+"""The sources of the program and of the library for C, and whether the built files were made from the present sources.
 
 Beside what is built lies its record: the checksum of each source and of each file that was made, as sha256sum prints
-them. What is current has the record that would be written now. Times say nothing: a source may be replaced by an older
-one, or go away."""
+them. Built files are current if their record is the one that would be written now. Times don't show that: a source may
+be replaced by an older one, or removed."""
 
 import hashlib
 import os
@@ -53,7 +53,7 @@ def lines_of(files):
 
 
 class Made:
-    """What is made from a crate and those below it: files of the crate's out/."""
+    """Files of a crate's out/, which are made from the crate and those below it."""
 
     def __init__(self, name, crate, paths):
         self.name, self.crate = name, crate
@@ -69,7 +69,7 @@ class Made:
         return lines_of([f"{TOP}/crates.txt", *files])
 
     def is_current(self):
-        """Whether it was made from what is there now. What can't be decided is not current."""
+        """Whether it was made from the present sources; no, if that can't be decided."""
         try:
             with open(self.record, encoding="utf-8", errors="surrogateescape") as file:
                 return file.read() == self.sources() + lines_of(self.files)

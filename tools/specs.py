@@ -17,7 +17,7 @@ def read(path):
 
 
 def crates_listed():
-    """The crates of crates.txt, each with those of them that it stands on."""
+    """The crates of crates.txt, each with those of them that it depends on."""
     crates = {}
     for line in read(os.path.join(TOP, "crates.txt")).splitlines():
         line = line.split("#")[0].strip()

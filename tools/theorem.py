@@ -1,4 +1,4 @@
-"""docs/THEOREM.md: the statement as it stands in the sources, and whether the page explains each of its words."""
+"""docs/THEOREM.md: the statement as the sources have it, and whether the page explains each of its words."""
 
 import os
 import re

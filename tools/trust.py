@@ -34,7 +34,7 @@ def row(part, size, why):
 
 
 def what_is_read(totals):
-    """What a reader has to understand, by the tables of docs/AUDIT.md."""
+    """The definitions that a reader has to understand, by the tables of docs/AUDIT.md."""
     why = {
         "the main theorem": "they say what a run promises, and what T, windows and calls are",
         "verify": "they say what a certificate's yes means",
@@ -50,7 +50,7 @@ def what_is_read(totals):
 
 
 def what_is_proved():
-    """What needs no reading."""
+    """The parts that need no reading."""
     totals = [sum(column) for column in zip(*([code, proofs, edits] for _, _, code, _, proofs, edits in sizes.sizes()))]
     crates = len(list(sizes.sizes()))
     rows = [

@@ -26,7 +26,8 @@ def _said(log):
 
 
 def note(crate):
-    """Takes the verdict on a crate from the log of its build. What was built before has the verdict of that build."""
+    """Takes the verdict on a crate from the log of its build. A crate that was built before has the verdict of that
+    build."""
     lines = _said(f"{TOP}/crates/{crate}/out/build.log")
     if lines:
         with open(_own(crate), "w", encoding="utf-8") as file:

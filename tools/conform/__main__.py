@@ -35,7 +35,7 @@ def reach(name, start):
 
 
 class Told:
-    """What an emulator was asked, and where it differed."""
+    """The cases that an emulator was given, and where it differed."""
 
     def __init__(self):
         self.asked, self.differ, self.first = {}, {}, {}

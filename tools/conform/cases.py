@@ -1,5 +1,5 @@
-"""What an emulator is asked: the vectors, random sessions, and the lines of a certificate. The states that are wanted are
-those of the vectors' files, and those of the model that made them."""
+"""The cases for an emulator: the vectors, random sessions, and the lines of a certificate. The states that are wanted
+are those of the vectors' files, and those of the model that made them."""
 
 import json
 import random
@@ -28,8 +28,8 @@ def state_after(data, rows, cols):
 
 
 def vectors(most=None):
-    """The cases of the vectors by size. Those that are stuck on T have no state, and those that leave a sequence open
-    can't be asked for their screen."""
+    """The cases of the vectors by size. A case that is stuck on T has no state, and one that leaves a sequence open
+    can't be asked for its screen."""
     sizes = {}
     for path in sorted(VECTORS.glob("*.cases")):
         stem, size = path.stem.rsplit("-", 1)

@@ -1,4 +1,4 @@
-"""What all adapters have: an emulator in which the relay runs, and which is driven over the relay's socket."""
+"""The common part of all adapters: an emulator in which the relay runs, and which is driven over the relay's socket."""
 
 import os
 import re
@@ -179,7 +179,7 @@ class Emulator:
         return self.screen()
 
     def file_of(self, path, seconds=15):
-        """What the emulator writes to a file, which appears at once as a whole."""
+        """The content of a file that the emulator writes, which appears at once as a whole."""
         end = time.monotonic() + seconds
         while not os.path.exists(path):
             if time.monotonic() > end:

@@ -136,8 +136,8 @@ class Kitty(Windowed):
         return ["kitty", "--config", "NONE", "--listen-on", f"unix:{self.room}/rc", *flags, *words]
 
     def asked(self):
-        """What the window answers to get-text: what is shown, and behind it how the cursor is set. A process of `kitty @`
-        for each case would take most of the time."""
+        """The window's answer to get-text: the text that is shown, and after it how the cursor is set. A process of
+        `kitty @` for each case would take most of the time."""
         payload = {"extent": "screen", "ansi": True, "cursor": True, "wrap_markers": True}
         request = {"cmd": "get-text", "version": [0, 14, 2], "no_response": False, "payload": payload}
         answer = b""
@@ -242,7 +242,7 @@ class Tmux(Emulator):
 
 
 class GnuScreen(Emulator):
-    """GNU screen's hardcopy: the text alone. What it draws goes to a pseudo-terminal that throws it away."""
+    """GNU screen's hardcopy: the text alone. Its drawing goes to a pseudo-terminal that discards it."""
 
     name, package, reads, answers_mode = "screen", "screen", "", False
 

@@ -47,7 +47,8 @@ def of_state(state):
 
 
 def differences(wanted, seen, reads):
-    """What differs, in words. `reads` are the marks that the emulator can be asked for; marks that are None aren't known."""
+    """The differences, in words. `reads` are the marks that the emulator can be asked for; marks that are None aren't
+    known."""
     found = []
     for row, (one, two) in enumerate(zip(wanted.cells, seen.cells)):
         for col, ((char, marks), (other, others)) in enumerate(zip(one, two)):
@@ -97,7 +98,7 @@ def read_sgr(text, rows, cols, once=False):
 
 
 def change(marks, code):
-    """What an SGR of these numbers makes of a set of marks."""
+    """The set of marks after an SGR of these numbers."""
     fields = code.split(";")
     numbers = [int(field.split(":")[0] or 0) for field in fields]
     at = 0

@@ -13,7 +13,7 @@ PALETTE = ["000000", "C00000", "00C000", "C0C000", "0000C0", "C000C0", "00C0C0",
 
 
 class Vte(Emulator):
-    # bold, underline and blink; faint, negative and concealed are told as colors, and colors as they look
+    # bold, underline and blink; faint, negative and concealed are reported as colors, and colors as they look
     name, package, reads = "vte", "libvte-2.91-0", "BUK"
     wants_display = True
 
