@@ -1,7 +1,7 @@
 #!/bin/sh
-# What `decode` returns borrows from the file: a program that keeps it, or its names, for longer than the
+# The result of `decode` borrows from the file: a program that keeps it, or its names, for longer than the
 # file must not compile. The compiler refuses that before any proof, so no must-fail edit can show it.
-# The same program with a file that lives long enough is taken, and runs.
+# With a file that lives long enough, that program compiles and runs.
 set -eu
 cd -- "$(dirname -- "$0")/.."
 . tests/probing

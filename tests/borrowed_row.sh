@@ -1,7 +1,7 @@
 #!/bin/sh
 # A row that `row_mut` returns borrows the desk: a program that makes another call on the desk while the row is still used
 # must not compile. The compiler refuses that before any proof, so no must-fail edit can show it.
-# The same program with the call after the last use of the row compiles, and runs.
+# With the call after the last use of the row, that program compiles and runs.
 set -eu
 cd -- "$(dirname -- "$0")/.."
 . tests/probing

@@ -49,7 +49,7 @@ def names_of_codes():
 
 
 def check_formats(work):
-    """What ticurses_callf makes of formats is what printf does. The library isn't needed for it."""
+    """ticurses_callf makes of formats what printf does. The library isn't needed for it."""
     words = ["cc", "-O1", "-std=c99", *STRICT, *SANITIZED, f"-I{TOP}/include", f"{TOP}/tests/c/formats.c"]
     if subprocess.run([*words, "-o", f"{work}/formats"]).returncode or subprocess.run([f"{work}/formats"]).returncode:
         sys.exit("ticurses_callf makes something else of a format than printf")
@@ -108,7 +108,7 @@ def check_manual(prefix, work):
 
 
 def play(player, work, entry, rows, cols, script, piece):
-    """What the player sends for a script, and which calls it says were refused."""
+    """The bytes that the player sends for a script, and the calls that it reports as refused."""
     write(f"{work}/script", script)
     words = [player, TERMINALS, entry, str(rows), str(cols), "-", f"{work}/script", str(piece)]
     ran = subprocess.run(words, stdout=subprocess.PIPE, stderr=subprocess.PIPE)
@@ -118,7 +118,7 @@ def play(player, work, entry, rows, cols, script, piece):
 
 
 def check_scripts(player, work):
-    """The same calls by the library and by the program: the same bytes, the same refusals."""
+    """Calls by the library and by the program send the same bytes, and have the same refusals."""
     cases = [(*given, held_in(f"{TOP}/examples/{name}.script")) for name, given in STORED.items()]
     cases += [(entry, rows, cols, "".join(f"{it}\n" for it in lines).encode()) for entry, rows, cols, lines, _ in SHOWN]
     if shutil.which("awk"):
@@ -280,7 +280,7 @@ def check_refused(words, work):
 
 
 def check_panes(work, words, variables, hello=None):
-    """The same in tmux, as the entry of its terminal drives it."""
+    """The monitor in tmux, as the entry of its terminal drives it."""
     pane = Multiplexer(work, 20, 60, words, {**variables, "TERM": "screen-256color"})
     pane.shows(monitored(20, 60, "poem.txt", TEXT, LOGGED).lines())
     pane.press("Down", "Down", "PageDown", "Right", "?")

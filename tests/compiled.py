@@ -84,7 +84,7 @@ def table_of(folder, name):
 
 
 def theirs(folder, name):
-    """What the system reads of an entry: the text of `infocmp -1`, its names, and its values by capability."""
+    """An entry as the system reads it: the text of `infocmp -1`, its names, and its values by capability."""
     text = standard(infocmp("-1", folder, name))
     names, found = fields_of(text) or ("", {})
     return text, (names, {**found, **table_of(folder, name)[1]})

@@ -68,7 +68,7 @@ def are_names(names):
 
 
 def line_of(file):
-    """What the program is to print of a file."""
+    """The line that the program has to print for a file."""
     try:
         names, flags, numbers, strings = read(file)
     except Fault as fault:

@@ -107,7 +107,7 @@ def unknown_looks():
 
 
 def refused():
-    """What can't be run is named, with its last words."""
+    """An emulator that can't be run is named, with its last words."""
     for words in (["nobody"], ["--command", "true"]):
         if run(*words).returncode != 2:
             fail(f"{words} isn't refused")

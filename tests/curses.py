@@ -226,7 +226,7 @@ class Pane:
         return re.sub(r"\b(ticurses-curses|ncurses)( \d[\d.]*\d)?", "curses", text), cursor
 
     def quiet(self):
-        """What is seen once it doesn't change any more."""
+        """The screen once it doesn't change any more."""
         end, last, since = time.monotonic() + LONGEST, self.seen(), time.monotonic()
         while time.monotonic() < min(end, since + QUIET):
             time.sleep(0.05)
@@ -246,7 +246,7 @@ class Pane:
             self.run("send-keys", key)
 
     def shots(self, keys):
-        """What is seen at the beginning and after each key."""
+        """The screens at the beginning and after each key."""
         time.sleep(0.5)
         found = [("", "") if keys[0].startswith("~") else self.quiet()]
         for key in keys:

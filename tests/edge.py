@@ -1,5 +1,5 @@
-"""What isn't proved. Much of it runs over a library that only pretends (c/stub.c), so that it is tried also where the
-library isn't built; random calls want the real one."""
+"""Tests of code that isn't proved. Many run over a library that only pretends (c/stub.c), so that they also run where
+the library isn't built; random calls need the real one."""
 
 import errno
 import os
@@ -68,7 +68,7 @@ def entry(names=4, table=3):
 
 
 def check_entries(work, linked):
-    """What is no entry, can't be read or is too long doesn't end the search; by C as by Python."""
+    """A file that is no entry, can't be read or is too long doesn't end the search, in C and in Python."""
     program = f"{work}/entries"
     build(["cc", "-std=c99", *WARNED, f"{TOP}/tests/c/entries.c", *linked, "-o", program])
     good, home = entry(), f"{work}/home"
@@ -221,8 +221,8 @@ def check_programs(work, linked):
 
 
 def check_cuts(work, linked):
-    """What is sent to a terminal that is slow, while signals interrupt it, arrives whole; one that goes away in the
-    middle, after any number of bytes, is an error, and the next refresh begins anew. So in Python."""
+    """Output to a slow terminal arrives whole while signals interrupt it. A terminal that goes away in the middle,
+    after any number of bytes, is an error, and the next refresh begins anew. So in Python."""
     build(["cc", "-std=c99", *WARNED, *SANITIZED, f"{TOP}/tests/c/sends.c", *linked, "-o", f"{work}/sends"])
     for taken in (0, 1, 4095, 4096, 4097, 70_000, 200_009, 200_017, 333_333):
         senders = [[f"{work}/sends", "200000"], edge_python.sender(work)]
@@ -242,7 +242,7 @@ def check_cuts(work, linked):
 
 
 def taken_slowly(outer, most):
-    """So many bytes of what is sent to a terminal, in pieces, once something is."""
+    """The first bytes that are sent to a terminal, `most` of them, taken in pieces once some are there."""
     sent = b""
     select.select([outer], [], [], 60)
     while len(sent) < most:
@@ -351,7 +351,7 @@ def check_said(work, hello, environment):
 
 
 def check_formats(work):
-    """What ticurses_callf makes of random formats is what snprintf makes."""
+    """ticurses_callf makes of random formats what snprintf does."""
     words = ["-O1", "-std=c99", *STRICT, f"-I{TOP}/include", f"{TOP}/tests/c/random_formats.c"]
     build(["cc", *words, *SANITIZED, "-o", f"{work}/formats"])
     build(["cc", *words, "-g", "-o", f"{work}/formats_plain"])

@@ -1,6 +1,6 @@
 #!/bin/sh
-# What isn't proved: headers, examples and the Python package on terminals, with signals, sizes, errors and broken entries;
-# random formats beside snprintf, and random calls with the sanitizers of the compiler and valgrind.
+# Code that isn't proved: headers, examples and the Python package on terminals, with signals, sizes, errors and broken
+# entries; random formats beside snprintf, and random calls with the sanitizers of the compiler and valgrind.
 set -eu
 cd -- "$(dirname -- "$0")"
 for tool in cc python3; do

@@ -254,13 +254,13 @@ def sender(work):
 
 
 def variables(work):
-    """What a program needs to find the package, and the library that only pretends."""
+    """The variables by which a program finds the package, and the library that only pretends."""
     package = f"{TOP}/bindings/python"
     return {"TICURSES_LIBRARY": f"{work}/libstub.so", "PYTHONPATH": package, "PYTHONDONTWRITEBYTECODE": "1"}
 
 
 def run(work, program, environment):
-    """What a program prints, which has to end well."""
+    """The output of a program, which has to end well."""
     write(f"{work}/program.py", (BEGINNING + program).encode())
     how = {"env": {**environment, **variables(work)}, "stdin": subprocess.DEVNULL, "timeout": 120}
     words = [sys.executable, "-X", "dev", f"{work}/program.py"]
@@ -297,7 +297,7 @@ def check_import(work):
 
 
 def printed(work, line, library):
-    """What a line prints that imports the copy of the package."""
+    """The output of a line that imports the copy of the package."""
     environment = {"PYTHONPATH": f"{work}/a/b", "PYTHONDONTWRITEBYTECODE": "1", "TICURSES_LIBRARY": library}
     ran = subprocess.run([sys.executable, "-c", line], env=environment, stdout=subprocess.PIPE, check=True)
     return ran.stdout.decode()

@@ -73,7 +73,7 @@ def table():
 
 
 def uses():
-    """What the certificate's capabilities are for: name, parameters, start, the words that are wanted, as a regular
+    """The purpose of the certificate's capabilities: name, parameters, start, the words that are wanted, as a regular
     expression, and the beginnings of words that may be there or not. Parameters are a few of those in range."""
     last_row, last_col = ROWS - 1, COLS - 1
     yield "clear", (), "free", "row=0 col=0 nopend all", ()
@@ -115,7 +115,7 @@ def uses():
 
 
 def uses_of_looks():
-    """The same of those that turn renditions on and off, and of colors."""
+    """The purpose of those that turn renditions on and off, and of those that set colors."""
     # standout may be any, and the others are their own rendition or nothing
     alone = ["[01]{6}", "00[01]000", "0000[01]0", "000[01]00", "0[01]0000", "[01]00000", "00000[01]"]
     none = [0] * 9

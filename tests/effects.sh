@@ -1,5 +1,5 @@
 #!/bin/sh
-# What strings do, as records: a table worked out by hand, texts of effects and back, and the strings of real
+# The effects of strings, as records: a table worked out by hand, texts of effects and back, and the strings of real
 # terminals. One build serves all of them, without proof: that a record is right is proved, that there is one is not.
 set -eu
 cd -- "$(dirname -- "$0")"

@@ -263,7 +263,7 @@ CHECKED = [
     ("smacs=\\E(0, rmacs=\\E(B, sgr0=\\E(0\\E[m,", "mini", "2", "2", "acsc: BadLook"),
     # before the way out of an unknown state
     ("enacs=^N, sgr0=\\E)0\\E[m,", "mini", "2", "2", "acsc: BadLook"),
-    # two faults: that of the first line is told
+    # two faults: the one of the first line is reported
     ("bel=^N, el=%+,", "mini", "2", "2", "bel: WrongEffect"),
     ("sgr0=^O\\E[m, vpa=%+,", "mini", "2", "2", "vpa 0: Underflow"),
     # longer than a certificate may be, by lines of 6 KB and more
@@ -274,7 +274,7 @@ CHECKED = [
 # entries of the system's own database, and why each has its certificate at 24 by 80, worked out by hand from what infocmp prints of it.
 # In all: `clear` and `cup` are absolute; `ed`, `el`, `el1`, `ech` erase from the cursor alone; `cub1`, `cuf1`, `cuu1`, `cud1`, `cr`, `ind`, `ri` are BS or CUB, CUF,
 # CUU or RI, LF, CR, LF and RI, which do on the screen and on a margin what is wanted; setaf and setab with 0 to 7 send SGR 30 to 37 and 40 to 47, op SGR 39 and 49; a set of
-# attributes sends SGR 0 and the number of each. What the terminal ignores changes nothing.
+# attributes sends SGR 0 and the number of each. Sequences that the terminal ignores change nothing.
 SYSTEM = {
     # smacs and rmacs designate G0, and sgr0 begins with that
     "xterm": None,
@@ -591,8 +591,8 @@ WRITTEN = [
 
 
 def judge(words, told, status, out, err):
-    """Ends the script where a run told something else; what is None was not known before. Below the lines of standard
-    error that are known stands at most one more, in plain words, and two below that of a file."""
+    """Ends the script where a run printed something else; None was not known before. After the known lines of standard
+    error at most one more may come, in plain words, and two after that of a file."""
     right = told.status == status and (out is None or told.out == out.encode())
     if err is not None:
         further = told.err.removeprefix(err.encode())
@@ -606,8 +606,8 @@ def judge(words, told, status, out, err):
 
 
 def judge_checked(words, told, no, notes):
-    """Ends the script where `check` told something else: the notes, and a certificate of the size, or the line of its no
-    (what follows `refused: no `), and below it in plain words why."""
+    """Ends the script where `check` printed something else: the notes, and a certificate of the size, or the line of
+    its no (what follows `refused: no `), and below it in plain words why."""
     front, behind = b"ticert 2 %s %s\n" % tuple(word.encode() for word in words[2:4]), b"\nend\n"
     noted = "".join(f"note {note}\n" for note in notes).encode()
     err, right = told.err.removeprefix(noted), told.err.startswith(noted)
@@ -685,7 +685,7 @@ def judge_explained(words, told, line):
 
 
 def judge_advice():
-    """What a run advises and hints at: just these lines, and no verdict or status changes for them."""
+    """The advice and the hints of a run: exactly these lines, and no verdict or status changes for them."""
     cases = [Case(words) for words, _, _ in ADVISED]
     for (words, status, wanted), told in zip(ADVISED, run_cases(f"{TOP}/crates/ticurses", cases, FILES)):
         lines = [line for line in told.err.decode().splitlines() if line.startswith(("advice ", "hint "))]

@@ -62,7 +62,7 @@ def named(field):
 
 
 def order(fault):
-    """What an entry as a whole has or lacks comes first, then the capabilities in the order of their names."""
+    """The faults of an entry as a whole come first, then those of capabilities in the order of their names."""
     field, _, cause = fault
     whole = cause in ("FlagOut", "Absent", "AcsByte")
     return (0, WHOLE.index(named(field)), "") if whole else (1, 0, named(field))
@@ -123,7 +123,7 @@ def all_entries():
 
 
 def listing(source, faults):
-    """What `check --all` is to print of an entry but for the lines that begin with two spaces."""
+    """The output of `check --all` for an entry, without the lines that begin with two spaces."""
     if not faults:
         return ["yes"]
     lines = []
@@ -136,7 +136,7 @@ def listing(source, faults):
 
 
 def places(source, wanted):
-    """What `survey --all` is to print on standard error: where each fault stands, and its line."""
+    """The output of `survey --all` on standard error: the place of each fault, and its line."""
     lines = []
     for name, faults in wanted.items():
         for fault, owner in faults:

@@ -49,7 +49,7 @@ STORED = (
 
 
 def certificate(entry, rows, cols):
-    """What `check` writes for an entry of the examples."""
+    """The certificate that `check` writes for an entry of the examples."""
     words = ["check", f"terminals.ti:{entry}", str(rows), str(cols)]
     [told] = run_cases(PROGRAM, [Case(words)], {"terminals.ti": SOURCE})
     if told.status:

@@ -1,6 +1,7 @@
 #!/bin/sh
-# Tests of the libraries' public calls (libraries/): worked examples, texts, screens and refusals, worked out by hand. What they call
-# is proved. As tests of a crate they would be proved too, which takes many minutes and shows no more; so they are run without.
+# Tests of the libraries' public calls (libraries/): worked examples, texts, screens and refusals, worked out by hand.
+# The calls are proved. As tests of a crate the examples would be proved too, which takes many minutes and shows no
+# more; so they run without proof.
 set -eu
 cd -- "$(dirname -- "$0")/.."
 . tests/probing

@@ -74,7 +74,7 @@ def compiled(prefix, source, program, *words, language="c"):
 
 
 def ticurses(words, given=b""):
-    """What the program prints, which has to be done."""
+    """The output of the program, which has to succeed."""
     [told] = run_cases(PROGRAM, [Case(words, given)], {"terminals.ti": held_in(f"{TOP}/examples/terminals.ti")})
     if told.status:
         sys.exit(f"ticurses {' '.join(map(str, words))}: status {told.status}, {told.err!r}")

@@ -39,7 +39,7 @@ def source(path):
 
 
 def helps():
-    """What `--help` prints of the program and of each command."""
+    """The output of `--help` of the program and of each command."""
     top = run_cases(PROGRAM, [Case(["--help"])])[0].out.decode()
     names = Help(top).commands()
     told = run_cases(PROGRAM, [Case([name, "--help"]) for name in names])
@@ -69,7 +69,7 @@ READS = {
 
 
 def read_calls():
-    """What the reader of scripts takes: the classes of the arguments of each call."""
+    """The classes of the arguments of each call, as the reader of scripts takes them."""
     forms = {}
     for name, body in re.findall(r"^(?:pub\(crate\) )?fn (\w+)[^{]*?\{.*?^\{(.*?)^\}", source("cur_scripts/src/arguments.rt"), re.M | re.S):
         reads = re.findall(r"words\s*\.(\w+)\(|(?<=\W)(sides|corners)\(", body)
@@ -80,7 +80,7 @@ def read_calls():
 
 
 def told_calls(text):
-    """What `play --help` tells: the same of each call."""
+    """The classes of the arguments of each call, as `play --help` lists them."""
     block = next(it for it in Help(text).body if it[0].startswith("The calls are"))
     calls = [term.split() for term, _ in items_of(block[1:])]
     return {name: "".join(CLASSES.get(it, "N") for it in words) for name, *words in calls}
@@ -178,7 +178,7 @@ def in_folder(room, words, given):
 
 
 def judge_hints():
-    """What to write in place of an entry's name, and of a folder in a survey."""
+    """Hints on what to write in place of an entry's name, and of a folder in a survey."""
     with tempfile.TemporaryDirectory() as room:
         os.mkdir(f"{room}/tree")
         named, missing = in_folder(room, ["check", "xterm", "24", "80"], b""), in_folder(room, ["infocmp", "none"], b"")

@@ -176,7 +176,7 @@ def check_c(bare, words, libdir, program, work):
 
 
 def found(bare, **environment):
-    """What pkg-config says of the package; None where it isn't installed."""
+    """The words of pkg-config for the package; None where it isn't installed."""
     if not shutil.which("pkg-config", path="/usr/bin:/bin"):
         return None
     words = bare.run(["pkg-config", "--cflags", "--libs", "ticurses"], **environment).decode().split()
@@ -198,7 +198,7 @@ def check_debian(bare, package, work):
     words = found(bare, PKG_CONFIG_SYSROOT_DIR=root, PKG_CONFIG_LIBDIR=f"{libdir}/pkgconfig")
     words = words or [f"-I{root}/usr/include", f"-L{libdir}", "-lticurses"]
     check_c(bare, [*words, f"-L{libdir}"], libdir, f"{root}/usr/bin/ticurses", work)
-    # the package is made for /, so that its Python package is told where the library is
+    # the package is made for /, so its Python package gets the path of the library
     check_python(
         bare,
         f"{root}/usr/lib/python3/dist-packages",

@@ -46,7 +46,8 @@ def methods(kind, body, form):
 
 
 def module_items(text, names, prefix):
-    """What a module has of these names (all where there is a prefix): each call with its clauses, each type with None."""
+    """The items of a module with these names (all where there is a prefix): each call with its clauses, each type with
+    None."""
     found = {}
     for one in re.finditer(ITEM, text, re.M):
         kind, name = one.groups()
@@ -74,7 +75,8 @@ def functions(crate):
 
 
 def public(crate):
-    """What a library exports of its own: each name with its clauses; and what it passes on: each name with its crate."""
+    """The names that a library exports of its own, each with its clauses; and those that it passes on, each with its
+    crate."""
     text = read(f"{CRATES}/{crate}/src/lib.rt")
     own, passed, laws = exported(crate)
     own |= {name for _, name in re.findall(ITEM, text, re.M)}
@@ -206,7 +208,7 @@ def words_of_sources():
 
 
 def faults(crate, sources):
-    """What is wrong with the README of a crate."""
+    """The faults of a crate's README."""
     path = f"{CRATES}/{crate}/README.md"
     if not os.path.isfile(path):
         return [f"{crate}: no README.md"]
@@ -251,7 +253,7 @@ def write_callers(folder):
 
 
 def print_rows(crate):
-    """The rows of a table of contracts: calls of one type that have clauses of the same names stand in one row."""
+    """The rows of a table of contracts: calls of one type that have clauses of the same names share one row."""
     print(f"{HEAD}\n|---|---|---|")
     known, given = public(crate)
     grouped = {}

@@ -19,7 +19,7 @@ ROWS, COLS, SCRIPTS = 12, 40, 50
 
 
 def ticurses(*words):
-    """What the program prints, which has to be its whole answer."""
+    """The output of the program, which has to be its whole answer."""
     ran = subprocess.run([f"{TOP}/ticurses", *words], stdout=subprocess.PIPE, stderr=subprocess.PIPE)
     if ran.returncode != 0:
         sys.exit(f"reality: ticurses {' '.join(words)}: status {ran.returncode}\n{ran.stderr.decode()}")

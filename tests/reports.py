@@ -1,4 +1,4 @@
-"""What --json reports, field by field beside what the plain form prints of the same entries."""
+"""The reports of --json, compared field by field with the output of the plain form for the same entries."""
 
 import json
 import re
@@ -63,7 +63,7 @@ def said(one):
 
 
 def sent(line):
-    """What a line says that a string sends, in hexadecimal; None where it is cut, or no string is sent."""
+    """The bytes that a line says a string sends, in hexadecimal; None where it is cut, or no string is sent."""
     found = re.search(r" sends '(.*)'$", line)
     if not found or found[1].endswith(" .."):
         return None
@@ -215,7 +215,7 @@ NO_OUT = b"error: check writes a certificate, or with --json reports on the entr
 
 
 def judge_refused():
-    """What can't be reported on is refused as in the plain form."""
+    """An entry that can't be reported on is refused as in the plain form."""
     refused = [["five.ti:six", *SIZE], ["six.ti:six", *SIZE], ["five.ti:five", "1", "6"], ["five.ti:five", "x", "6"]]
     cases = [Case(["check", *form, *words]) for words in refused for form in ([], ["--json"])]
     cases += [Case(["check", "--json", "--out", "cert", "five.ti:five", *SIZE])]

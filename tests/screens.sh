@@ -1,5 +1,5 @@
 #!/bin/sh
-# The streams of screens.txt, fed to the terminal, leave the screens that stand there. Where libvterm and a C
+# The streams of screens.txt, fed to the terminal, leave the screens that the file has. Where libvterm and a C
 # compiler are there, the screens that are said to be libvterm's are compared with what it shows.
 set -eu
 cd -- "$(dirname -- "$0")/.."

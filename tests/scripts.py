@@ -207,7 +207,7 @@ def judge_shown(runs, files):
 
 
 def judge_lengths(played):
-    """What single refreshes send: nothing where all is shown, and no more than the bound; and what ends a screen."""
+    """The output of single refreshes: nothing where all is shown, and no more than the bound; and of a screen's end."""
     full, more, again = (played[[run[3] for run in SHOWN].index(it)] for it in (FULL, [*FULL, "addch 0 58", "refresh 0"], [*FULL, "refresh 0"]))
     left = played[[run[3] for run in SHOWN].index(["refresh 0", "endwin"])]
     if not 0 < len(full) <= 100 or not more.startswith(full) or not 0 < len(more) - len(full) <= 20 or again != full:
@@ -237,7 +237,7 @@ def laid(room, files):
 
 
 def judge_closed(files):
-    """A full disk and a closed pipe: status 3, told after the run."""
+    """A full disk and a closed pipe: status 3, reported after the run."""
     line = words("play", "mini", 2, 4, "script000")
     with tempfile.TemporaryDirectory() as room:
         run = laid(room, files)

@@ -1,6 +1,6 @@
 #!/bin/sh
-# Scripts of curses calls through the program: what `show` shows of each is what the definitions say, and what `play` sends, fed to
-# the terminal by `feed`, leaves the same screen. A closed or full output is told after the run.
+# # Scripts of curses calls through the program: `show` shows of each what the definitions say, and the output of
+# `play`, fed to the terminal by `feed`, leaves that screen too. A closed or full output is reported after the run.
 set -eu
 cd -- "$(dirname -- "$0")"
 exec python3 -B scripts.py

@@ -57,7 +57,7 @@ def script(seed):
 
 
 def ticurses(words, given):
-    """What the program prints for each of these files."""
+    """The output of the program for each of these files."""
     data = {"terminals.ti": held_in(SOURCE)}
     told = run_cases(PROGRAM, [Case([str(word) for word in words], it) for it in given], data)
     for it in told:
@@ -67,7 +67,7 @@ def ticurses(words, given):
 
 
 class Session:
-    """What is sent, and T's screen then, in the form in which the emulators' screens are read."""
+    """The bytes of a session, and T's screen after them, in the form in which the emulators' screens are read."""
 
     def __init__(self, name, data, state):
         self.name, self.data, self.screen = name, data, of_state(json.loads(state))
@@ -91,7 +91,7 @@ def places_of(data, seed):
 
 
 def cut_at(loser, places, lines, work):
-    """What went out of a session that loses output at these places."""
+    """The output of a session that loses bytes at these places."""
     Path(f"{work}/script").write_bytes(lines)
     words = [loser, SOURCE, ENTRY, ROWS, COLS, f"{work}/script", *places]
     ran = subprocess.run([str(word) for word in words], stdout=subprocess.PIPE)

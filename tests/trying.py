@@ -2,9 +2,10 @@
 
     python3 -B tests/trying.py FOLDER [NAME=FILE..]
 
-runs ticurses for each case of the folder: its words stand in NAME.args, one a line, its standard input in NAME, what it has
-to print in NAME.stdout, and its status in NAME.status (0 where that file is not there). Without NAME.stdout the output is printed
-below a line `== NAME`. Each run begins in an empty folder with copies of the files that are given by name."""
+runs ticurses for each case of the folder: its words are in NAME.args, one a line, its standard input in NAME, what it
+has to print in NAME.stdout, and its status in NAME.status (0 where that file is not there). Without NAME.stdout the
+output is printed below a line `== NAME`. Each run begins in an empty folder with copies of the files that are given by
+name."""
 
 import os
 import re
@@ -28,8 +29,8 @@ class Case:
 
 
 class Told:
-    """What a run told: its status, standard output and standard error. Of a case of `rt try` whose output was wanted,
-    and came, only the status is known."""
+    """The results of a run: its status, standard output and standard error. For a case of `rt try` that printed the
+    wanted output, only the status is known."""
 
     def __init__(self, status, out, err):
         self.status, self.out, self.err = status, out, err
@@ -65,7 +66,7 @@ def run_in_room(case, data):
 
 
 def run_unproved(crate, cases, data):
-    """The same for the program of a test, by `rt try --cases`."""
+    """The results of the cases for the program of a test, by `rt try --cases`."""
     with tempfile.TemporaryDirectory() as work:
         os.mkdir(f"{work}/cases")
         os.mkdir(f"{work}/data")
@@ -97,8 +98,8 @@ def write_case(path, case):
 
 
 def probe(work, source):
-    """Makes a program of the source text, a file of this folder, over copies of the crates that it uses and those that they
-    stand on, and returns the folder of its crate. Nothing of it stands in the repository, so that no check reads it."""
+    """Makes a program of the source text, a file of this folder, over copies of the crates that it uses and those that
+    they depend on, and returns the folder of its crate. The folder is outside the repository, so no check reads it."""
     uses = listing.listed()
     named = re.findall(rb"^ *use (\w+)::", held_in(f"{TOP}/tests/{source}"), re.M)
     laid = listing.below(sorted({it.decode() for it in named} & set(uses)), uses)
@@ -119,7 +120,7 @@ def write(path, held):
 
 
 def held_in(path, otherwise=None):
-    """What a file holds, or this where it is not there."""
+    """The content of a file, or `otherwise` if there is none."""
     if not os.path.isfile(path):
         return otherwise
     with open(path, "rb") as file:

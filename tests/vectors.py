@@ -82,7 +82,7 @@ def beside_vectors():
 
 
 def state_lines(state):
-    """What `--state` prints."""
+    """The output of `--state`."""
     yield from state["rows"]
     yield f"cursor {state['cursor'][0]} {state['cursor'][1]}{'' if state['visible'] else ' hidden'}"
     for row, first, last, look in state["looks"]:

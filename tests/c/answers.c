@@ -65,8 +65,7 @@ static size_t drain(ticurses *session, char *to) {
     return all;
 }
 
-/* What stands in a place, as 65536 times the pair and 256 times the attributes and the byte; -1 if
- * there is nothing. */
+/* The cell in a place, as 65536 times the pair and 256 times the attributes and the byte; -1 if there is nothing. */
 static long cell(ticurses *session, size_t window, int row, int col) {
     ticurses_cell found = {0, 0, 0};
     if (ticurses_cell_at(session, window, (uint16_t)row, (uint16_t)col, &found)) return -1;
@@ -392,7 +391,7 @@ static void lines(void) {
     ticurses_close(&session);
 }
 
-/* What is asked of windows: it is as drawn. */
+/* Queries of windows return what was drawn. */
 static void questions(void) {
     ticurses session = {0, 0};
     uint16_t rows = 0, cols = 0;
@@ -448,7 +447,7 @@ static void strings(void) {
     ticurses_close(&session);
 }
 
-/* What functions of numbers answer where no line says so; numbers.c tries all else. */
+/* Answers of functions of numbers that no line has; numbers.c tries all others. */
 static void numbers(void) {
     static const uint32_t kinds[] = {0, TICURSES_ENDWIN + 1, UINT32_MAX};
     const ticurses_cell none = ticurses_cell_of(0, 0, 0), plus = ticurses_cell_of('+', TICURSES_BOLD, 0);

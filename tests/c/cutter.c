@@ -1,8 +1,7 @@
-/* cutter SOURCE NAME ROWS COLS REFRESHES: cuts what three refreshes send at each of its bytes, and has
- * the next refresh repair it. The file REFRESHES has the lines of a script, of which those that begin
- * with `refresh` are the refreshes. For each place it prints `cut PLACE REFRESH LENGTH`, and on the
- * lines below so many bytes: those that went out before the cut and those of the repair, and a newline.
- * Output is taken seven bytes at a time. */
+/* cutter SOURCE NAME ROWS COLS REFRESHES: cuts what three refreshes send at each of its bytes, and has the next refresh
+ * repair it. The file REFRESHES has the lines of a script, of which those that begin with `refresh` are the refreshes.
+ * For each place it prints `cut PLACE REFRESH LENGTH`, and on the lines below these bytes: those that went out before
+ * the cut and those of the repair, and a newline. Output is taken seven bytes at a time. */
 #include <ticurses.h>
 
 #include <string.h>
@@ -21,7 +20,7 @@ static size_t read_file(const char *path, char *room) {
     return len;
 }
 
-/* Takes what waits; gives 1 as soon as so many bytes have gone out in all. */
+/* Takes the waiting bytes; returns 1 as soon as `most` bytes have gone out in all. */
 static int drain(ticurses *session, size_t most) {
     char piece[7];
     size_t count;
@@ -34,7 +33,7 @@ static int drain(ticurses *session, size_t most) {
     return 0;
 }
 
-/* Makes the calls until a cut after so many bytes. Gives the number of the refresh that was cut, 0 for
+/* Makes the calls until a cut after the given number of bytes. Returns the number of the refresh that was cut, 0 for
  * none, and -1 if a call was refused. */
 static int play(ticurses *session, size_t most) {
     int refreshes = 0;

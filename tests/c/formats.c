@@ -122,8 +122,8 @@ static void lengths(void) {
     }
 }
 
-/* What printf refuses or what is too long gets no line to the library, and no memory is taken for it. The formats are
- * wrong or never ending, so that the compiler may not see them. */
+/* A format that printf refuses, or that makes too long a text, gets no line to the library and takes no memory. The
+ * formats are wrong or never ending, so that the compiler may not see them. */
 static void refused(void) {
     int (*volatile call)(ticurses *, const char *, ...) = ticurses_callf;
     static const wchar_t wide[] = {0x20ac, 0};

@@ -1,5 +1,5 @@
-/* loser SOURCE NAME ROWS COLS SCRIPT PLACE..: plays the lines of SCRIPT, and loses what waits each time that as many
- * bytes as the next PLACE have gone out. What went out is on standard output. PLACEs rise. */
+/* loser SOURCE NAME ROWS COLS SCRIPT PLACE..: plays the lines of SCRIPT, and loses the waiting bytes each time that as
+ * many bytes as the next PLACE have gone out. Standard output has the bytes that went out. PLACEs rise. */
 #include <ticurses.h>
 
 #include <string.h>

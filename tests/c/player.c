@@ -1,6 +1,6 @@
-/* player SOURCE NAME ROWS COLS CERTIFICATE SCRIPT PIECE: makes the calls of a script, one line at a
- * time, and writes what they send in pieces of so many bytes. Of a line that isn't done it prints `call
- * NUMBER: CODE` on standard error. A name `-` means a compiled entry, and a certificate `-` none. */
+/* player SOURCE NAME ROWS COLS CERTIFICATE SCRIPT PIECE: makes the calls of a script, one line at a time, and writes
+ * their output in pieces of PIECE bytes. For a line that isn't done it prints `call NUMBER: CODE` on standard error. A
+ * name `-` means a compiled entry, and a certificate `-` none. */
 #include <ticurses.h>
 
 #include <string.h>

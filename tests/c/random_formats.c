@@ -25,7 +25,7 @@ int32_t ticurses_raw_call(ticurses *session, const uint8_t *text, size_t len) {
     return TICURSES_OK;
 }
 
-/* What the header writes by itself to a room of so many bytes. */
+/* The text that the header writes by itself to a room of `len` bytes. */
 static int own(char *room, size_t len, const char *format, ...) {
     va_list rest;
     int result;

@@ -1,7 +1,7 @@
-/* A library that only pretends, for tests of what is over it: the headers, the Python package and the examples. What
- * waits in a session is a text: `refresh N` adds N bytes and `doupdate` one, the first of them after the session's
- * opening with its size before, as in <24x80>; `endwin` adds <endwin>; after `lost` the next of them begins with
- * <again>; a line that begins with `bad` is no call, and others do nothing. An entry that has the word `wrong` has
+/* A library that only pretends, for tests of what is over it: the headers, the Python package and the examples. A
+ * session's waiting bytes are a text: `refresh N` adds N bytes and `doupdate` one, the first of them after the
+ * session's opening with its size before, as in <24x80>; `endwin` adds <endwin>; after `lost` the next of them begins
+ * with <again>; a line that begins with `bad` is no call, and others do nothing. An entry that has the word `wrong` has
  * no certificate above 31 rows. */
 #include <stdint.h>
 #include <stdio.h>

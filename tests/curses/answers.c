@@ -1,5 +1,5 @@
 /* answers LOG: makes calls of curses, and writes what each answers to a file. Compiled for two libraries it compares
- * them. What the standard leaves open isn't asked. */
+ * them. It doesn't ask where the standard leaves the answer open. */
 #include <curses.h>
 
 #include <stdlib.h>
@@ -264,7 +264,7 @@ static void options(void) {
     SAY(COLS);
 }
 
-/* What is typed, by the keys that the test sends. */
+/* Typed input, by the keys that the test sends. */
 static void keys(void) {
     char text[40];
     int number, other;

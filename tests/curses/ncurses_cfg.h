@@ -1,4 +1,4 @@
-/* What ncurses' test programs are told of the library that they are compiled for: the same of both. */
+/* The settings of ncurses' test programs for the library that they are compiled for: equal for both. */
 #define DECL_ENVIRON 0
 #define GCC_NORETURN __attribute__((noreturn))
 #define GCC_PRINTFLIKE(at, rest)

@@ -1,5 +1,5 @@
-/* random SEED COUNT: makes so many calls of curses with arguments of all kinds, on a terminal that isn't there, for the
- * sanitizers and valgrind. What the calls answer isn't looked at, but for what must hold of any window. */
+/* random SEED COUNT: makes COUNT calls of curses with arguments of all kinds, on a terminal that isn't there, for the
+ * sanitizers and valgrind. It ignores the answers of the calls, except where something must hold of any window. */
 #include <curses.h>
 
 #include <stdlib.h>
