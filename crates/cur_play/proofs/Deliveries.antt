@@ -1,4 +1,4 @@
--- From what a call puts on the wire to what that does to the terminal.
+-- From the bytes that a call puts on the wire to their effect on the terminal.
 use Rattle.std.proofs.Common.{◌≡◌, ℕ, ◌+◌, ◌*◌, ◌<◌, ◌≤◌, ◌^◌, Bool, true, false, List, [], ◌∷◌, ◌++◌, length, Option, Some, refl, sym, ap, subst, ◌∙◌, arith}
 use Rattle.std.proofs.Math.Nat.{le_refl}
 use Rattle.vt_term.specs.Screen.{State}
@@ -57,7 +57,7 @@ only_nothing : (front back : List ℕ) → [] ≡ front ++ back → front ≡ []
 only_nothing [] back e = refl
 only_nothing (x ∷ front) back e = absurd (cc)
 
--- of nothing only nothing is a front
+-- the only prefix of no bytes is no bytes
 cut_nothing : {C : Type 0} (t : Table) → IsChecked t → (partners : ℕ → Option ℕ) (before : Painted C) (front back : List ℕ) → [] ≡ front ++ back → (s : State) → FitsIn t partners before s → Ends s front (IsLost t)
 cut_nothing t checked partners before front back e s f =
     let g = ink_at t partners before.shown in
@@ -71,7 +71,7 @@ stays t partners before after e f s p =
     let Q : Screen → Type 0 = λ d. Fits t (ink_at t partners d) before.session.status before.session.cursor s in
     record { after = s; runs = runs_nothing s (fits_open t (ink_at t partners before.shown) before.session.status before.session.cursor s p); there = subst P (sym e) (subst Q (sym f) p) }
 
--- the screen shown last where nothing was shown
+-- nothing was shown: the screen shown last stays
 keeps_last : {C : Type 0} (t : Table) (partners : ℕ → Option ℕ) (before after : Painted C) (last : Screen) → (after.session.status ≡ Known → before.session.status ≡ Known) → after.shown ≡ before.shown
     → IsLast t partners before last → IsLast t partners after last
 keeps_last t partners before after last known same_screen h e = ap (ink_at t partners) same_screen ∙ h (known e)
@@ -145,7 +145,7 @@ quietly {W} went failures laws old new t checked partners v o answer bytes befor
   few = omega arith;
 }
 
--- all went out, or a front of it, without showing the screen
+-- all bytes or a prefix of them went out, without showing the screen
 otherwise : {W C : Type 0} (went : W → W → List ℕ → Type 0) (failures : W → ℕ) (old new : W) (t : Table) (partners : ℕ → Option ℕ) (v : Screen) (o : Emission) (answer : Answer) (before after : Painted C) (bytes : List ℕ)
     → is_shown o answer ≡ false → ((last : Screen) → last_after o answer last v ≡ last) → (o ≡ Update → ⊥) → (o ≡ Nothing → ⊥)
     → went old new bytes → ((s : State) → FitsIn t partners before s → Ends s bytes (FitsIn t partners after)) → ((front back : List ℕ) → bytes ≡ front ++ back → (s : State) → FitsIn t partners before s → Ends s front (IsLost t)) → (after.session.status ≡ Known → after.session ≡ before.session) → after.shown ≡ before.shown → length bytes < 2 ^ 60

@@ -1,4 +1,4 @@
--- Calls that leave the grids of a desk as they are, and where they lie.
+-- Calls that keep the grids of a desk and their positions.
 use Rattle.std.proofs.Common.{◌≡◌, ℕ, Bool, List, [], Result, Ok, Err, get_or, refl, sym, ap, ◌∙◌, subst, false}
 use Rattle.cur_drawing.specs.declared.refusals.Refusal.{Refusal}
 use Rattle.cur_drawing.specs.declared.windows.Window.{Window}
@@ -15,7 +15,7 @@ use Rattle.cur_calls.specs.declared.groups.FlagCall.{FlagCall}
 use Rattle.cur_calls.specs.declared.groups.FlagCall.TheVariants.{Scrollok, Leaveok, Clearok, Idlok}
 use Rattle.cur_play.specs.Windows.{attributes_step, flag_step}
 
--- the grids, and where they lie
+-- the grids and their positions
 abbrev Ground : Type 0
 Ground = List Grid × List Origin
 
@@ -29,7 +29,7 @@ after_same : {A : Type 0} (x : Result A Refusal) (d : State) (next : A → DeskS
 after_same (Ok a) d next same = same a
 after_same (Err e) d next same = refl
 
--- what isn't marked is the same in a desk of the same grids
+-- unmarked cells stay in a desk with the same grids
 keeps_ground : (t : Markings) (d e : State) → ground e ≡ ground d → KeepsShown t d t e
 keeps_ground t d e is v shown =
     subst (λ (x : Ground). (k : ℕ) → (get_or x.1 k (on_screen 0 0 false)).pad ≡ false → IsShownBut (grid_marks t k) (get_or x.1 k (on_screen 0 0 false)) (get_or x.0 k []) v) (sym is) shown

@@ -86,7 +86,7 @@ shows_after t partners d a s e h =
 abbrev pub moment : {W : Type 0} → W → List ℕ → Scene → Screen → Mode → Moment W
 moment wire bytes scene last last_mode = record { wire = wire; bytes = bytes; scene = scene; last = last; last_mode = last_mode }
 
--- whatever is played from here on: the whole is played from the start
+-- the calls so far: whatever is played after them, the whole is played from the start
 pub record Logged {W C : Type 0} (about : Subject W) (old new : MutBor W) (count : ℕ) (calls : List Call) (i : ℕ) (stage : Stage C) (log : List LogEntry) : Type 0 where
   pub bytes : List ℕ
   pub out : Counts about.went old new 0 count bytes
@@ -133,7 +133,7 @@ last_same t partners Nothing answer p last d a e h = h
 last_same t partners Bell answer p last d a e h = h
 last_same t partners End answer p last d a e h = h
 
--- the same of the cursor's mode
+-- the cursor's last mode likewise
 settled_same : {C : Type 0} (o : Emission) (answer : Answer) (p : Painted C) (last_mode : Mode) (d a : Scene) → (is_shown o answer ≡ true → a ≡ shown_scene d)
     → IsSettled p (mode_after o answer last_mode d.mode) → IsSettled p (mode_after o answer last_mode a.mode)
 settled_same Update Done p last_mode d a e h =
@@ -146,13 +146,13 @@ settled_same Nothing answer p last_mode d a e h = h
 settled_same Bell answer p last_mode d a e h = h
 settled_same End answer p last_mode d a e h = h
 
--- ---- one call more
+-- ---- one more call
 
 empty_list : {X : Type 0} (xs : List X) → length xs ≡ 0 → xs ≡ []
 empty_list [] e = refl
 empty_list (x ∷ xs) e = absurd (omega (arith, e))
 
--- what a call on counted wires promises of the bytes
+-- the promise of a call on counted wires about the bytes
 abbrev pub CarriesOn : {W V C : Type 0} → Subject W → (V → MutBor W) → (V → ℕ) → V → V → Call → Answer → Stage C → Painted C → Type 0
 CarriesOn {W} {V} {C} about wire count old new call answer before after =
     Carries {W = V} (λ x y b. Counts about.went (wire x) (wire y) (count x) (count y) b) (λ x. about.failures (wire x).now) old new about.table about.partners
@@ -298,7 +298,7 @@ log_whole {W} about laws a z to calls i stage log all l = record {
   same = l.out.same;
 }
 
--- the same, of what the certificates in the session say
+-- `log_more`, stated with the tables of the session's certificates
 pub log_call : {W V C : Type 0} (went : W → W → List ℕ → Type 0) (failures : W → ℕ) (rests : W → Type 0) → IsWire went failures → (wire : V → MutBor W) (count : V → ℕ) (a : MutBor W) (m n z : V) (table : C → Table) (partners : C → ℕ → Option ℕ) (given : C) (calls : List Call) (i : ℕ) (call : Call) (before after : Stage C) (log : List LogEntry) (answer : Answer)
     → Logged (subject_at went failures rests (table given) (partners given)) a (wire m) (count m) calls i before log → i < 2 ^ 64 → drop i calls ≡ call ∷ drop (i + 1) calls
     → before.painter.checked ≡ given → after.painter.checked ≡ before.painter.checked

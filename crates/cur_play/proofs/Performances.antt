@@ -1,4 +1,4 @@
--- From what the groups of calls do to what a call draws.
+-- From the effects of the groups of calls to the drawing of a call.
 use Rattle.std.proofs.Common.{◌≡◌, ◌==◌, ℕ, Bool, true, false, Option, Some, None, Result, Ok, Err, refl, sym, ◌∙◌, ap, subst, inl, inr}
 use Rattle.std.specs.Prelude.{ℤ, pos, if◌then◌else◌}
 use Rattle.cur_drawing.specs.declared.refusals.Refusal.{Refusal}
@@ -171,7 +171,7 @@ performed_sizes takes x s answer a h (Short k done r same) =
 pub draws_sizes : (t : Table) (s : Scene) (call : Call) (answer : Answer) (a : Scene) → Draws t s call answer a → SameSizes s.desk s.screen a.desk a.screen
 draws_sizes t s call answer a h = performed_sizes (takes_memory call) (grouped t s call) s answer a (grouped_sizes t s call) (to_performs t s call answer a h)
 
--- ---- what is answered
+-- ---- answers
 
 done_not_wire : Done ≡ WireFailed → ⊥
 done_not_wire e = cc

@@ -1,4 +1,4 @@
--- From what a call draws and what is sent to the whole call.
+-- From a call's drawing and its sending to the whole call.
 use Rattle.std.proofs.Common.{◌≡◌, ℕ, List, [], true, false, Option, refl, sym, ◌∙◌, ap, subst}
 use Rattle.cur_drawing.specs.declared.refusals.Refusal.{Refusal}
 use Rattle.cur_drawing.specs.declared.refusals.Refusal.TheVariants.{NoMemory}
@@ -106,7 +106,7 @@ call_refused t s call a mid h (NoSpace takes done r same) =
     let P : Emission → Type 0 = λ o. (then_sent t o (drawn t s call)).1 ≡ Done in
     NoRoom takes (subst P (sym (makers_send_nothing call takes)) (nothing_sent t (drawn t s call) done)) r same
 
--- ---- what goes out
+-- ---- the bytes that go out
 
 pub poised_is : {C : Type 0} (t : Table) (p : Stage C) (call : Call) (mid : Scene) (q : Painted C) → q ≡ record p.painter { mode = q.mode } → mid ≡ (drawn t (scene_of p) call).0 → q.mode ≡ mid.mode → q ≡ poised t p call
 poised_is t p call mid q e f g = e ∙ ap (λ (m : Mode). record p.painter { mode = m }) (g ∙ ap (λ (y : Scene). y.mode) f)

@@ -1,4 +1,4 @@
--- The same run, of another wire that tells as much: what it is about, its end, and what follows of its log.
+-- A run stated over another wire that tells as much: its subject, its end, and the consequences of its log.
 use Rattle.std.proofs.Common.{◌≡◌, ℕ, List, [], ◌∷◌, Option, sym, subst}
 use Rattle.std.specs.List.{AllByRecursion}
 use Rattle.std.proofs.lemmas.List.{append-nil}
@@ -34,7 +34,7 @@ ran_further about laws old mid new calls log r k =
 
 -- ---- from one wire to another
 
--- What one wire tells the other does too, where all is well with it at the end.
+-- One wire tells everything that another one does, if all is well with the other at the end.
 pub record Follows {V W : Type 0} (went : V → V → List ℕ → Type 0) (failures : V → ℕ) (tells : W → W → List ℕ → Type 0) (fails : W → ℕ) (f : V → W) (IsWell : V → Type 0) : Type 0 where
   pub sooner : (a b : V) (x : List ℕ) → went a b x → IsWell b → IsWell a
   pub goes : (a b : V) (x : List ℕ) → went a b x → IsWell b → tells (f a) (f b) x
@@ -92,7 +92,7 @@ ran_over went failures rests tells fails f IsWell k t partners old new calls log
   plays = plays_over went failures rests tells fails f IsWell k t partners (first_moment (subject_at went failures rests t partners) old) calls log new r.bytes r.plays w;
 }
 
--- ---- what follows of the whole run
+-- ---- consequences of the whole run
 
 plays_taken : {W : Type 0} (about : Subject W) (before : Moment W) (calls : List Call) (log : List LogEntry) (new : W) (all : List ℕ) → Plays about before calls log new all
     → ((s : State) → IsFresh about.table s → Ends s before.bytes (IsLost about.table)) → (s : State) → IsFresh about.table s → Ends s all (IsLost about.table)
@@ -112,7 +112,7 @@ plays_through about never before [] (e ∷ log) new all h = absurd h
 plays_through about never before (call ∷ calls) [] new all h = absurd h
 plays_through about never before (call ∷ calls) (e ∷ log) new all h = (λ a. never before.wire h.0.wire (h.1.failed a), plays_through about never h.0 calls log new all h.2)
 
--- where no failure is counted no call was cut short
+-- if no failure is counted, no call was cut short
 pub ran_through : {W : Type 0} (about : Subject W) → ((a b : W) → Rose (about.failures a) (about.failures b) → ⊥) → (old new : W) (calls : List Call) (log : List LogEntry) → Ran about old new calls log
     → AllByRecursion (λ (e : LogEntry). e.answer ≡ WireFailed → ⊥) log
 ran_through about never old new calls log r = plays_through about never (first_moment about old) calls log new r.bytes r.plays

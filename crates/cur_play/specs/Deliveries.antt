@@ -1,4 +1,4 @@
--- What a call's bytes do to the terminal, whatever of its states it is in, and how many they are.
+-- The effect of a call's bytes on the terminal, in whichever of its states it is, and their number.
 use Rattle.std.specs.Prelude.{ℕ, ◌<◌, ◌≤◌, ◌^◌, ◌≡◌, true, false, List, ◌++◌, length, Option, Some}
 use Rattle.vt_term.specs.Screen.{State}
 use Rattle.cur_screens.specs.VirtualScreen.{Screen}
@@ -21,11 +21,11 @@ use Rattle.cur_play.specs.declared.sends.Emission.TheVariants.{Nothing, Update}
 abbrev pub FitsIn : {C : Type 0} → Table → (ℕ → Option ℕ) → Painted C → State → Type 0
 FitsIn t partners p s = Fits t (ink_at t partners p.shown) p.session.status p.session.cursor s
 
--- where the terminal is known, this screen was shown last
+-- if the terminal is known, this screen was shown last
 abbrev pub IsLast : {C : Type 0} → Table → (ℕ → Option ℕ) → Painted C → Screen → Type 0
 IsLast t partners p last = p.session.status ≡ Known → ink_at t partners p.shown ≡ ink_at t partners last
 
--- where the terminal is known, the cursor was shown last in this mode
+-- if the terminal is known, the cursor was shown last in this mode
 abbrev pub IsSettled : {C : Type 0} → Painted C → Mode → Type 0
 IsSettled p last_mode = p.session.status ≡ Known → p.session.cursor.mode ≡ Some last_mode
 
@@ -45,20 +45,20 @@ pub record Carries {W C : Type 0} (went : W → W → List ℕ → Type 0) (fail
     (partners : ℕ → Option ℕ) (v : Screen) (o : Emission) (answer : Answer) (before after : Painted C) : Type 0 where
   pub bytes : List ℕ
   pub sent : went old new bytes
-  -- they are what the call sends, by its answer
+  -- the bytes are those that the call sends, by its answer
   pub puts : Puts went failures old new t partners v o answer bytes before after
   -- every state that fits before, run over the bytes, fits after
   pub fits : (s : State) → FitsIn t partners before s → Ends s bytes (FitsIn t partners after)
-  -- run over a front of the bytes, it is one that fits a lost session
+  -- run over a prefix of the bytes, it fits a lost session
   pub cut : (front back : List ℕ) → bytes ≡ front ++ back → (s : State) → FitsIn t partners before s
       → Ends s front (IsLost t)
-  -- and after a refresh that was done it shows the virtual screen
+  -- after a refresh that was done, it shows the virtual screen
   pub shows : is_shown o answer ≡ true → (s : State) → FitsIn t partners before s
       → Ends s bytes (Shows t (ink_at t partners v) (wanted_of v before.mode))
   pub last : (last : Screen) → IsLast t partners before last → IsLast t partners after (last_after o answer last v)
   pub settled : (last_mode : Mode) → IsSettled before last_mode
       → IsSettled after (mode_after o answer last_mode before.mode)
-  -- a refresh keeps its bound, done or cut short, and sends nothing where all is shown in a state that fits
+  -- a refresh keeps its bound, done or cut short, and sends nothing if all is shown in a state that fits
   pub bound : o ≡ Update → (last : Screen) → last.rows ≡ t.rows → last.cols ≡ t.cols → IsLast t partners before last
       → length bytes ≤ most t before.session.status v.clearok last v
   pub idle : o ≡ Update → (last : Screen) → last.rows ≡ t.rows → last.cols ≡ t.cols → IsLast t partners before last

@@ -1,4 +1,4 @@
--- (Serves the code alone.) What a call does before anything is sent, and that sizes stay.
+-- (Serves the code alone.) The effect of a call before anything is sent, which keeps the sizes.
 use Rattle.std.specs.Prelude.{◌≡◌, true}
 use Rattle.cur_drawing.specs.declared.refusals.Refusal.TheVariants.{NoMemory}
 use Rattle.cur_windows.specs.Desks.{State}

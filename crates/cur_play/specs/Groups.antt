@@ -1,5 +1,5 @@
 -- (Serves the code alone.) The calls in groups, as the code goes through them: the answer to a call of a group, or none
--- for a call of another one. What each call means is in `Steps.drawn`.
+-- for a call of another one. `Steps.drawn` has the meaning of each call.
 use Rattle.std.specs.Prelude.{◌≡◌, ◌⊎◌, Bool, true, Option, Some, None, Result, Ok, Err}
 use Rattle.cur_drawing.specs.Calls as call
 use Rattle.cur_screens.specs.VirtualScreen as screens
@@ -36,7 +36,7 @@ pub record NoRoomFor (d e : State) (r : Result (Unit {0}) Refusal) (needs : Bool
   pub takes : needs ≡ true
   pub done : x.1 ≡ Ok tt
 
--- the same, where the call may be refused for lack of memory
+-- as `Does`, for a call that may also be refused for lack of memory
 abbrev pub Makes : State → State → Option (Result (Unit {0}) Refusal) → Bool → Option DeskStep → Type 0
 Makes d e (Some r) takes (Some x) = NoRoomFor d e r takes x ⊎ (step e r ≡ x)
 Makes d e (Some r) takes None = ⊥

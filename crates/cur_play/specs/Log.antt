@@ -1,5 +1,5 @@
--- What the log of a run says, wherever the wire failed: what each call did and sent, what the terminal then shows, and
--- the most that a refresh sends (X/Open Curses Issue 7, refresh, doupdate, beep, endwin).
+-- The meaning of a run's log, wherever the wire failed: the effect and the bytes of each call, the terminal's screen
+-- after it, and the most that a refresh sends (X/Open Curses Issue 7, refresh, doupdate, beep, endwin).
 use Rattle.std.specs.Prelude.{ℕ, ◌+◌, ◌*◌, ◌<◌, ◌≤◌, ◌≡◌, Bool, true, false, List, [], ◌∷◌, ◌++◌, length, Option, Some}
 use Rattle.vt_term.specs.Screen.{State}
 use Rattle.vt_term.specs.Run.{Runs}
@@ -33,7 +33,7 @@ use Rattle.cur_play.specs.declared.sends.Emission.TheVariants.{Nothing, Update, 
 pub record Subject (W : Type 0) : Type 1 where
   pub went : W → W → List ℕ → Type 0
   pub failures : W → ℕ
-  -- what is so of the wire after each call
+  -- holds of the wire after each call
   pub rests : W → Type 0
   pub table : Table
   pub partners : ℕ → Option ℕ
@@ -70,7 +70,7 @@ first_moment about wire = record {
   last_mode = (first about.table).mode;
 }
 
--- a terminal in a first state becomes this one over the bytes
+-- the bytes take a terminal from a first state to this one
 pub record IsAfter (t : Table) (bytes : List ℕ) (s : State) : Type 0 where
   pub begun : State
   pub fresh : IsFresh t begun
@@ -78,9 +78,9 @@ pub record IsAfter (t : Table) (bytes : List ℕ) (s : State) : Type 0 where
 
 -- ---- what a call sends
 
--- What it is to send where nothing fails. The terminal is in a state of the kind, the session has this status, and the
--- cursor is shown in the mode now, where that is known; the virtual screen and the cursor's mode are those when the
--- sending begins.
+-- The bytes that a call must send if nothing fails. The terminal is in a state of the kind, the session has this
+-- status, and the cursor is shown in the mode `now`, if that is known; the virtual screen and the cursor's mode are
+-- those when the sending begins.
 abbrev pub Says : Table → (ℕ → Option ℕ) → (State → Type 0) → Status → Option Mode → Screen → Mode → Emission
     → List ℕ → Type 0
 Says t partners kind status now v m Nothing bytes = bytes ≡ []
@@ -88,13 +88,13 @@ Says t partners kind status now v m Update bytes = Lawful t kind status now byte
 Says t partners kind status now v m Bell bytes = t.line_of Bel ≡ Some bytes
 Says t partners kind status now v m End bytes = bytes ≡ finish_text t status
 
--- the first bytes of something that is so, and not all of them
+-- a proper prefix of bytes for which `whole` holds
 pub record IsFront (whole : List ℕ → Type 0) (bytes : List ℕ) : Type 0 where
   pub back : List ℕ
   pub is : whole (bytes ++ back)
   pub some_left : 0 < length back
 
--- by the answer: all of it, or a front of it, and nothing where the call was refused
+-- by the answer: all of it, a proper prefix if the wire failed, and nothing if the call was refused
 abbrev pub Emits : (List ℕ → Type 0) → Answer → List ℕ → Type 0
 Emits says Done bytes = says bytes
 Emits says WireFailed bytes = IsFront says bytes
@@ -117,15 +117,15 @@ abbrev pub mode_after : Emission → Answer → Mode → Mode → Mode
 mode_after Update Done last m = m
 mode_after _ _ last m = last
 
--- where the terminal is known and isn't to be cleared: once more than there are cells that differ from the screen that
--- was shown last, times the bytes of a cell; else all anew
+-- if the terminal is known and isn't to be cleared: one more than the number of cells that differ from the screen shown
+-- last, times the bytes of a cell; otherwise the bytes of a full repaint
 abbrev pub most : Table → Status → Bool → Screen → Screen → ℕ
 most t Known false last v = (in_lines last v t.cols t.rows + 1) * cell_limit t
 most t Known true last v = fresh_limit t
 most t _ clear last v = fresh_limit t
 
 -- No cell of the virtual screen differs from what was shown last, nor does the cursor's mode, and the terminal, in this
--- state, has its cursor where it is wanted, or it is wanted nowhere. Nothing is to be cleared.
+-- state, has its cursor where it is wanted, or the cursor may be anywhere. Nothing is to be cleared.
 pub record IsUnchanged (t : Table) (last : Screen) (last_mode : Mode) (s : State) (v : Screen) (m : Mode) : Type 0 where
   pub same : in_lines last v t.cols t.rows ≡ 0
   pub cursor : IsCursor (place_of v.cursor) s.screen.row s.screen.col
@@ -138,7 +138,7 @@ pub record IsUnchanged (t : Table) (last : Screen) (last_mode : Mode) (s : State
 abbrev pub scene_at : {W : Type 0} → Subject W → Moment W → Call → Scene
 scene_at about before call = (drawn about.table before.scene call).0
 
--- what the call is to send, whichever state the terminal is in after all that went out before
+-- the bytes that the call must send, whichever state the terminal is in after all that went out before
 abbrev pub Due : {W : Type 0} → Subject W → Moment W → Call → List ℕ → Type 0
 Due about before call =
     let t = about.table in
@@ -152,13 +152,13 @@ most_at about before call =
     let v = (scene_at about before call).screen in
     most about.table before.scene.status v.clearok before.last v
 
--- nothing differs from what was shown last, where the terminal is in this state
+-- nothing differs from what was shown last, and the terminal is in this state
 abbrev pub IsUnchangedAt : {W : Type 0} → Subject W → Moment W → State → Call → Type 0
 IsUnchangedAt about before s call =
     let d = scene_at about before call in
     IsUnchanged about.table before.last before.last_mode s d.screen d.mode
 
--- every terminal that begins in a first state is so after the bytes, and takes all of them
+-- every terminal that begins in a first state takes all the bytes and is then in such a state
 abbrev pub FromFresh : {W : Type 0} → Subject W → List ℕ → (State → Type 0) → Type 0
 FromFresh about bytes kind = (s : State) → IsFresh about.table s → Ends s bytes kind
 
@@ -173,33 +173,34 @@ pub record Tells {W : Type 0} (about : Subject W) (before : Moment W) (call : Ca
     (after : Moment W) : Type 0 where
   -- the call was done as it is defined, with the answer of the log
   pub step : CallStep about.table before.scene call e.answer after.scene
-  -- what went out in it; the log's number is that of all bytes since the run began
+  -- the bytes that went out in it; the log counts all bytes since the run began
   pub piece : List ℕ
   pub went : about.went before.wire after.wire piece
   pub bytes : after.bytes ≡ before.bytes ++ piece
   pub counted : e.sent ≡ length after.bytes
-  -- that is what the call is to send, a front of it where it was cut short, and nothing where it was refused
+  -- the piece is all that the call must send, a proper prefix of it if the call was cut short, and nothing if it was
+  -- refused
   pub emits : Emits (Due about before call) e.answer piece
-  -- nothing is held back after it, where that is promised
+  -- nothing is held back after it, if the subject promises that
   pub rests : about.rests after.wire
   -- no call is cut short but by a wire that failed in it
   pub failed : e.answer ≡ WireFailed → Rose (about.failures before.wire) (about.failures after.wire)
   -- the terminal takes all that went out so far, and is one from which the next refresh can go on
   pub takes : FromFresh about after.bytes (IsLost about.table)
-  -- after a refresh that was done it shows the virtual screen
+  -- after a refresh that was done, the terminal shows the virtual screen
   pub shows : is_shown (output_of call) e.answer ≡ true → FromFresh about after.bytes (ShowsScene about after.scene)
   -- a refresh keeps its bound, done or cut short
   pub bound : output_of call ≡ Update → length piece ≤ most_at about before call
-  -- it sends nothing where the terminal is known and nothing differs from what was shown last, with the cursor that the
-  -- terminal has after all that went out before
+  -- a refresh sends nothing if the terminal is known and nothing differs from what was shown last, with the cursor
+  -- where the bytes sent before have left it
   pub idle : output_of call ≡ Update → before.scene.status ≡ Known → (s : State) → IsAfter about.table before.bytes s
       → IsUnchangedAt about before s call → piece ≡ []
   -- what was shown last
   pub last : after.last ≡ last_after (output_of call) e.answer before.last after.scene.screen
   pub last_mode : after.last_mode ≡ mode_after (output_of call) e.answer before.last_mode after.scene.mode
 
--- Each call in turn, with one entry for each, from this moment on. After the last one nothing more goes out up to the
--- wire `new`, and these are all the bytes.
+-- The calls are played in turn from this moment on, with one entry for each. After the last one, nothing more goes out
+-- up to the wire `new`; `bytes` are all the bytes.
 abbrev pub Plays : {W : Type 0} → Subject W → Moment W → List Call → List LogEntry → W → List ℕ → Type 0
 Plays about before [] [] new bytes = about.went before.wire new [] × (bytes ≡ before.bytes)
 Plays about before [] (e ∷ log) new bytes = ⊥

@@ -10,7 +10,7 @@ pub record RanOn {W : Type 0} (about : Subject W) (old new : MutBor W) (calls : 
   pub ran : Ran about old.now new.now calls log
   pub same : new.ghost_name ≡ old.ghost_name
 
--- the same, whose log isn't kept
+-- a run whose log isn't kept, on a wire behind a reference
 pub record HasRunOn {W : Type 0} (about : Subject W) (old new : MutBor W) (calls : List Call) : Type 0 where
   pub ran : HasRun about old.now new.now calls
   pub same : new.ghost_name ≡ old.ghost_name

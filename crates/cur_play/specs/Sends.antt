@@ -1,4 +1,4 @@
--- (Serves the code alone.) What sending leaves, done or cut short.
+-- (Serves the code alone.) The virtual screen and the status after a sending, done or cut short.
 use Rattle.std.specs.Prelude.{◌≡◌}
 use Rattle.ti_rows.specs.declared.rows.Row.TheVariants.{Bel}
 use Rattle.cur_screens.specs.VirtualScreen.{Screen, refreshed}
@@ -16,7 +16,7 @@ pub record Leaves (v : Screen) (left : Status) (w : Screen) (after : Status) : T
   pub screen : w ≡ v
   pub status : after ≡ left
 
--- the same, of a bell that answers so
+-- as `Leaves`, after a bell with this answer
 pub record LeavesRung (t : Table) (v : Screen) (before : Status) (a : Answer) (status : Status) (w : Screen)
     (after : Status) : Type 0 where
   pub answers : rung (has t Bel) before ≡ a

@@ -1,4 +1,4 @@
--- (Serves the code alone.) Where what was copied may differ from what it is a copy of.
+-- (Serves the code alone.) The places where a copy may differ from its original.
 use Rattle.cur_drawing.specs.Grids.{Grid}
 use Rattle.cur_screens.specs.Marks.{AreSame}
 use Rattle.cur_windows.specs.Desks.{State}

@@ -1,5 +1,5 @@
--- What the calls on windows alone do (X/Open Curses Issue 7, the reference pages of the calls named): each is the
--- equation of the window library.
+-- The effects of the calls on windows alone (X/Open Curses Issue 7, the reference pages of the calls named): each is
+-- the equation of the window library.
 use Rattle.std.specs.Prelude.{ℕ, ℤ, ◌-◌, Bool, true, false, bit_and, bit_or}
 use Rattle.cur_drawing.specs.declared.cells.Attrs.{Attrs}
 use Rattle.cur_drawing.specs.declared.puts.Put.{Put}

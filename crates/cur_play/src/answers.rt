@@ -1,15 +1,15 @@
-//! What a call answers.
+//! The answers to calls.
 ghost use Rattle.std.specs.Prelude.{◌≡◌};
 ghost use Rattle.cur_play.specs.Steps.{answer_of, mode_answer};
 
 use cur_windows::Refusal;
 
-/// What a call answers.
+/// The answer to a call.
 #[derive(Clone, Copy)]
 pub enum Answer {
     /// The call was done.
     Done,
-    /// The call was done, and this is what was set before (`curs_set`).
+    /// The call was done, and this mode was set before (`curs_set`).
     Was(u8),
     /// The call was refused, and nothing was sent.
     Refused(Refusal),

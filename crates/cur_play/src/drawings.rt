@@ -1,4 +1,4 @@
-//! What calls do before anything is sent.
+//! The part of each call that is done before anything is sent.
 ghost use Rattle.std.specs.Prelude.{◌≡◌};
 ghost use Rattle.cur_screens.specs.Marks.{Keeps};
 ghost use Rattle.cur_windows.specs.TouchedWindows.{ShowsBut};
@@ -16,7 +16,7 @@ use cur_update::Painter;
 use cur_windows::Desk;
 use ti_conforms::Certificate;
 
-/// Does all of a call but what it sends.
+/// Does everything that a call does, except sending.
 pub(crate) fn draw<C: Certificate>(
     desk: &mut Desk,
     screen: &mut Virtual,
@@ -59,7 +59,7 @@ pub(crate) fn draw<C: Certificate>(
     show(desk, screen, stale, painter, call)
 }
 
-/// A call on more than windows; those that only send do nothing here.
+/// Does a call on more than windows; a call that only sends does nothing here.
 fn show<C: Certificate>(
     desk: &mut Desk,
     screen: &mut Virtual,

@@ -14,24 +14,24 @@ use cur_wires::Counted;
 use std::alloc::{AllocError, Global};
 use ti_conforms::Certificate;
 
-/// What a call of a run answered, and how many bytes the wire had got since the run began.
+/// The answer to a call of a run, and the number of bytes that the wire has taken since the run began.
 #[derive(Clone, Copy)]
 pub struct LogEntry {
     pub answer: Answer,
     pub sent: u128,
 }
 
-/// What was answered and sent in a run: one entry for each call.
+/// The log of a run: one entry for each call.
 #[derive(Drop)]
 pub struct Log {
     pub entries: Vec<LogEntry>,
 }
 
-/// Plays `calls`, one after another, on `wire`, in a session of their own on the terminal of `checked`. Whatever they
-/// are, and wherever the wire fails: each call is done as it is defined and sends what it is to send, or a front of
-/// that where the wire failed in it; the terminal takes all of it; and each refresh that was done has made a terminal
-/// in its first state show the virtual screen, fed with the first bytes of the run, as many as its entry says. An
-/// error where there was no memory for the session or the log; then nothing was sent.
+/// Plays `calls`, one after another, on `wire`, in a session of their own on the terminal of `checked`. For all calls,
+/// and wherever the wire fails: each call is done as it is defined and sends all its bytes, or a proper prefix of them
+/// if the wire failed in it; the terminal takes all of them; and after each refresh that was done, a terminal in its
+/// first state shows the virtual screen once it is fed the first `sent` bytes of the run, as the refresh's entry counts
+/// them. Fails if there was no memory for the session or the log; then nothing was sent.
 pub fn run<C: Certificate + Drop, W: Wire>(
     alloc: Global,
     checked: C,
@@ -78,8 +78,8 @@ fn play_logged<C: Certificate + Drop, W: Wire>(
     log
 }
 
-/// Plays calls as `run` does, without a log, on a wire that may hold back what it took: what a call has sent is passed
-/// on before the next call, and after the last one, so that nothing is held back after any call. An error where there
+/// Plays calls as `run` does, without a log, on a `wire` that may hold back the bytes it took: the bytes of a call are
+/// passed on before the next call, and after the last one, so that nothing is held back after any call. Fails if there
 /// was no memory for the session; then nothing was sent.
 pub fn run_paced<C: Certificate + Drop, W: Paced>(
     alloc: Global,
@@ -98,7 +98,7 @@ pub fn run_paced<C: Certificate + Drop, W: Paced>(
     Ok(())
 }
 
-/// Plays the calls. What each has sent is passed on before the next one.
+/// Plays the calls. The bytes of each are passed on before the next one.
 fn play_paced<C: Certificate + Drop, W: Paced>(
     session: Session<C>,
     calls: &[Call<'_>],
@@ -117,7 +117,7 @@ fn play_paced<C: Certificate + Drop, W: Paced>(
     }
 }
 
-/// Passes on what a counted wire holds back.
+/// Passes on the bytes that a counted wire holds back.
 fn pass_on<W: Paced>(wire: &mut Counted<'_, W>)
     ensures none_more { Counts W.went wire.old.wire wire.new.wire wire.old.sent wire.new.sent [] }
     ensures emptied { W.held wire.new.wire.now ≡ [] }

@@ -1,4 +1,4 @@
-//! What calls send.
+//! The bytes that calls send.
 ghost use Rattle.std.specs.Prelude.{◌≡◌, ℕ, List};
 ghost use Rattle.cur_screens.specs.Marks.{AreSame};
 ghost use Rattle.cur_screens.specs.VirtualScreen.{Screen};
@@ -13,12 +13,12 @@ use cur_update::{Painter, Unsent, Wire};
 use cur_windows::Marks;
 use ti_conforms::Certificate;
 
-/// What a call sends.
+/// The kind of bytes that a call sends.
 #[derive(Clone, Copy)]
 pub enum Emission {
     /// Nothing.
     Nothing,
-    /// What makes the terminal show the virtual screen.
+    /// The bytes that make the terminal show the virtual screen.
     Update,
     /// The bell.
     Bell,
@@ -26,7 +26,7 @@ pub enum Emission {
     End,
 }
 
-/// What a call sends, if it isn't refused.
+/// The kind of bytes that `call` sends, if it isn't refused.
 pub(crate) fn output_of(call: &Call<'_>) -> Emission
     ensures { result ≡ spec.output_of call.now }
 {
@@ -83,7 +83,7 @@ fn screen_output(call: ScreenCall) -> Emission
     }
 }
 
-/// Sends it. The marks are where the screen may differ from what was shown last.
+/// Sends `output`. `marks` has the places where `screen` may differ from what was shown last.
 pub(crate) fn send<C: Certificate, W: Wire>(
     screen: &mut Virtual,
     marks: &mut Marks,

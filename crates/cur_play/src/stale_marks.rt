@@ -1,4 +1,4 @@
-//! Where what was copied may differ from what it is a copy of.
+//! The places where a copy may differ from its original.
 ghost use Rattle.std.specs.Prelude.{IfOk};
 ghost use Rattle.cur_screens.specs.Touched.{AreFull};
 
@@ -6,7 +6,7 @@ use cur_screens::Touched;
 use cur_windows::Marks;
 use std::alloc::{AllocError, Global};
 
-/// Marks at the places where the virtual screen may differ from each grid, and at those where it may differ from what
+/// Marks of the places where the virtual screen may differ from each grid, and of those where it may differ from what
 /// the painter has shown last.
 #[derive(Drop)]
 pub struct StaleMarks {
@@ -15,8 +15,8 @@ pub struct StaleMarks {
 }
 
 impl StaleMarks {
-    /// For a screen of `rows` lines: all is marked of each grid, and nothing of the screen. An error where a growth was
-    /// refused.
+    /// The marks of a screen of `rows` lines: every place of each grid is marked, and none of the screen. Fails if
+    /// memory runs out.
     pub(crate) fn new(alloc: Global, rows: u16) -> Result<StaleMarks, AllocError>
         ensures { IfOk result (λ stale. AreFull stale.window) }
     {

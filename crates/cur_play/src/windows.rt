@@ -13,8 +13,8 @@ use cur_calls::{
 use cur_screens::Touched;
 use cur_windows::{Desk, Refusal};
 
-/// Changes windows; `None` for a call that doesn't, or that does more. Where a grid may have changed, or where it lies,
-/// it is marked as well.
+/// Does a call that changes windows; `None` for a call that doesn't, or that does more. Marks in `touched` the places
+/// where a grid or its position may have changed.
 pub(crate) fn change(
     desk: &mut Desk,
     touched: &mut Touched,
@@ -52,7 +52,7 @@ pub(crate) fn change(
     }
 }
 
-/// As `shape`; what a call may change is marked.
+/// As `shape`; also marks in `touched` every place that the call may change.
 fn shape_marked(
     desk: &mut Desk,
     touched: &mut Touched,
@@ -86,7 +86,7 @@ fn shape_marked(
     }
 }
 
-/// Draws lines, or copies from one window to another; `None` for any other call.
+/// Does a call that draws lines or copies from one window to another; `None` for any other call.
 fn shape(desk: &mut Desk, call: &Call<'_>) -> Option<Result<(), Refusal>>
     ensures { Does desk.old desk.new result (shaping desk.old call.now) }
 {
@@ -127,7 +127,7 @@ fn shape(desk: &mut Desk, call: &Call<'_>) -> Option<Result<(), Refusal>>
     }
 }
 
-/// As `plain`; what a call may change is marked.
+/// As `plain`; also marks in `touched` every place that the call may change.
 fn plain_marked(
     desk: &mut Desk,
     touched: &mut Touched,
