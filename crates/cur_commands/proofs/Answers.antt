@@ -4,7 +4,7 @@ use Rattle.std.proofs.Math.Seq.{drop-cons}
 use Rattle.cur_play.specs.declared.runs.LogEntry.{LogEntry}
 use Rattle.cur_commands.specs.Shows.{answer_line, refusals_text}
 
--- the lines so far, and then those of the entries that are left
+-- the lines so far, followed by those of the remaining entries
 pub lines_more : (log : List LogEntry) (i : ℕ) (d : LogEntry) (lines all : List ℕ) → i < length log → lines ++ refusals_text i (drop i log) ≡ all
     → (lines ++ answer_line (i + 1) (get_or log i d).answer) ++ refusals_text (i + 1) (drop (i + 1) log) ≡ all
 lines_more log i d lines all lt h =

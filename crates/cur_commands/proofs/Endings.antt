@@ -69,7 +69,7 @@ shown_at t partners rows cols height width calls text high wide h =
     let Q : ℕ → Type 0 = λ n. ShowsRun t partners height n calls text in
     subst Q wide (subst P high h)
 
--- what is taken doesn't stick
+-- a text that the terminal takes doesn't get stuck
 pub taken_ok : (s u : State) (bytes : List ℕ) (fed : Result (Unit {0}) Stuck) (rows cols : ℕ) → s ≡ reset rows cols → IsTaken rows cols bytes → IfErr fed (λ e. Sticks s bytes e.at u) → IsOk fed
 taken_ok s u bytes (Ok x) rows cols e h k = refl
 taken_ok s u bytes (Err x) rows cols e h k = let P : State → Type 0 = λ y. Runs y bytes h.after in absurd (runs_or_sticks s h.after u bytes x.at (subst P (sym e) h.runs) k)

@@ -34,7 +34,7 @@ held_follows contents has_failed output held failures = record {
   rises = λ a b none rose. absurd (none_rose (failures a) (failures b) none rose);
 }
 
--- a run, and then what is left is handed on, where nothing failed
+-- after a run without a failure, the bytes that are left are handed on
 pub held_over : {O C : Type 0} (contents : O → Option (List ℕ)) (has_failed : O → Bool) (output : C → MutBor O) (held : C → List ℕ) (failures : C → ℕ) (t : Table) (partners : ℕ → Option ℕ) (a b c : C) (calls : List Call) (log : List LogEntry)
     → Ran (paced_subject_of (HoldsOf contents has_failed output held failures) failures held t partners) a b calls log → Holds contents has_failed (output b) (output c) (held b) (held c) (failures b) (failures c) []
     → failures c ≡ 0 → held a ≡ [] → held c ≡ [] → Ran (unfailing t partners) (contents (output a).now) (contents (output c).now) calls log

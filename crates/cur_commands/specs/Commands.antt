@@ -1,5 +1,5 @@
--- What `play` and `show` reply, by what their files hold. `table` and `partners` are what a painter may know of the
--- strings of a verified entry.
+-- The replies of `play` and `show`, by the contents of their files. `table` and `partners` are the facts that a painter
+-- may use about the strings of a verified entry.
 use Rattle.std.specs.Prelude.{◌≡◌, ◌⊎◌, ℕ, Bool, List, Option, Ok}
 use Rattle.ti_cert.specs.Table.{CheckedTable}
 use Rattle.ti_commands.specs.Contents.{Held}
@@ -23,7 +23,7 @@ pub record IsReady (held : Held) (words : ScriptWords) (height width : ℕ) (che
   pub prepared : Prepared held words height width checked text
   pub reads : script_of text ≡ Ok calls
 
--- The output got what a run of the script's calls sends, and no call was cut short.
+-- The output received the bytes of a run of the script's calls, and no call was cut short.
 pub record IsPlayed (table : CheckedTable → Table) (partners : CheckedTable → ℕ → Option ℕ) (held : Held)
     (words : ScriptWords) (old new : Option (List ℕ)) : Type 0 where
   pub height : ℕ
@@ -45,7 +45,7 @@ pub record IsShown (table : CheckedTable → Table) (partners : CheckedTable →
   pub shows : ShowsRun (table checked) (partners checked) height width calls text
   pub says : IsText text reply
 
--- the script's text is none, where all that comes before it is right
+-- the file's text is no script, and everything before it is right
 pub record FailsAtScript (held : Held) (words : ScriptWords) (failure : Failure) : Type 0 where
   pub height : ℕ
   pub width : ℕ
@@ -54,7 +54,7 @@ pub record FailsAtScript (held : Held) (words : ScriptWords) (failure : Failure)
   pub prepared : Prepared held words height width checked text
   pub refused : IsScriptFailure text failure
 
--- all is right, and the run has no end: there is no memory, or the output has failed
+-- everything is right, but the run fails: there is no memory, or the output has failed
 pub record FailsInRun {O : Type 0} (held : Held) (words : ScriptWords) (has_failed : O → Bool) (old new : O)
     (failure : Failure) : Type 0 where
   pub height : ℕ
@@ -64,7 +64,7 @@ pub record FailsInRun {O : Type 0} (held : Held) (words : ScriptWords) (has_fail
   pub ready : IsReady held words height width checked calls
   pub unplayed : IsUnplayed has_failed old new failure
 
--- all is right, and there is no memory for the run or its reply
+-- everything is right, but there is no memory for the run or its reply
 pub record FailsForMemory (held : Held) (words : ScriptWords) (failure : Failure) : Type 0 where
   pub height : ℕ
   pub width : ℕ
@@ -79,7 +79,7 @@ FailsToPlay held words has_failed old new failure =
     FailsToPrepare held words failure ⊎ FailsAtScript held words failure
     ⊎ FailsInRun held words has_failed old new failure
 
--- whatever the terminal is sent, it gets stuck in none of it
+-- no failure is about the terminal: it never gets stuck in the bytes it is sent
 abbrev pub FailsToShow : Held → ScriptWords → Failure → Type 0
 FailsToShow held words failure =
     FailsToPrepare held words failure ⊎ FailsAtScript held words failure ⊎ FailsForMemory held words failure

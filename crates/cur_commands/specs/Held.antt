@@ -7,7 +7,7 @@ use Rattle.std.proofs.Math.Nat.{le_refl, le_trans}
 use Rattle.std.proofs.lemmas.List.{append-nil}
 use Rattle.cur_wires.specs.Wire.{IsWire}
 
--- where there was a failure, the output has failed
+-- if there was a failure, the output has failed
 abbrev pub IsTold : {O : Type 0} → (O → Bool) → O → ℕ → Type 0
 IsTold has_failed out failures = 0 < failures → has_failed out ≡ true
 
@@ -49,7 +49,7 @@ abbrev pub HoldsOf : {O C : Type 0} → (O → Option (List ℕ)) → (O → Boo
 HoldsOf contents has_failed output held failures a b x =
     Holds contents has_failed (output a) (output b) (held a) (held b) (failures a) (failures b) x
 
--- An output with what is held back is a wire. The proof stands here since an impl's law can name nothing of proofs/.
+-- An output with its held-back bytes is a wire. The proof is here because an impl's law can't name anything of proofs/.
 pub holds_lawful : {O C : Type 0} (contents : O → Option (List ℕ)) (has_failed : O → Bool) (output : C → MutBor O)
     (held : C → List ℕ) (failures : C → ℕ) → IsWire (HoldsOf contents has_failed output held failures) failures
 holds_lawful contents has_failed output held failures = record {

@@ -1,4 +1,4 @@
--- What a run of a script needs: a size, an entry that was verified for it, and the script's text.
+-- The needs of a run of a script: a size, an entry that was verified for it, and the script's text.
 use Rattle.std.specs.Prelude.{◌≤◌, ◌⊎◌, ℕ, List, length}
 use Rattle.ti_caps.specs.Entry.{Content}
 use Rattle.ti_cert.specs.Table.{CheckedTable}
@@ -28,7 +28,7 @@ pub record Prepared (held : Held) (words : ScriptWords) (height width : ℕ) (ch
   pub whole : AreBytesOf (held words.script.now) text
   pub short : length text ≤ 1048576
 
--- the script's file can't be had, where all that comes before it is right
+-- the script's file can't be read, and everything before it is right
 pub record FailsAtFile (held : Held) (words : ScriptWords) (failure : Failure) : Type 0 where
   pub conforming : GivesConforming held (verify_words_of words)
   pub file : IsFileFailure words.script.now failure

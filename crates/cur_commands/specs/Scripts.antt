@@ -1,4 +1,4 @@
--- How a text is refused that is no script.
+-- The refusal of a text that is no script.
 use Rattle.std.specs.Prelude.{◌≡◌, List, ℕ, ◌++◌, Err, codes}
 use Rattle.std.specs.Fmt.{decimal}
 use Rattle.ti_commands.specs.declared.failure.Failure.{Failure}

@@ -1,4 +1,4 @@
--- What `show` prints: a line for each call that was refused, and then the screen of the terminal.
+-- The text that `show` prints: a line for each refused call, then the screen of the terminal.
 use Rattle.std.specs.Prelude.{◌≡◌, ℕ, ◌+◌, List, [], ◌∷◌, ◌++◌, Option, Some, codes}
 use Rattle.std.specs.Fmt.{decimal}
 use Rattle.vt_term.specs.Printed.{screen_text}
@@ -46,7 +46,7 @@ abbrev pub refusals_text : ℕ → List LogEntry → List ℕ
 refusals_text n [] = []
 refusals_text n (e ∷ log) = answer_line (n + 1) e.answer ++ refusals_text (n + 1) log
 
--- A run of these calls, of which none was cut short, and the bytes that it sent in all.
+-- A run of these calls in which none was cut short, and all the bytes that it sent.
 pub record RanWhole (t : Table) (partners : ℕ → Option ℕ) (calls : List Call) (bytes : List ℕ) : Type 0 where
   pub log : List LogEntry
   pub ran : Ran (unfailing t partners) (Some []) (Some bytes) calls log

@@ -13,7 +13,7 @@ pub record Stores (old new : List ℕ) (failed failures : ℕ) (bytes : List ℕ
 abbrev pub StoresOf : {C : Type 0} → (C → List ℕ) → (C → ℕ) → C → C → List ℕ → Type 0
 StoresOf taken failures a b x = Stores (taken a) (taken b) (failures a) (failures b) x
 
--- The proof stands here since an impl's law can name nothing of proofs/.
+-- The proof is here because an impl's law can't name anything of proofs/.
 pub stores_lawful : {C : Type 0} (taken : C → List ℕ) (failures : C → ℕ) → IsWire (StoresOf taken failures) failures
 stores_lawful taken failures = record {
   nothing = λ w. record { grows = sym (append-nil (taken w)); risen = le_refl (failures w) };

@@ -10,7 +10,7 @@ use Rattle.cur_play.specs.Log.{Ran, Subject, subject_of}
 use Rattle.cur_play.specs.declared.answers.Answer.TheVariants.{WireFailed}
 use Rattle.cur_play.specs.declared.runs.LogEntry.{LogEntry}
 
--- what a run is about over an output that didn't fail, where its bytes are known
+-- the subject of a run over an output that didn't fail, whose bytes are known
 abbrev pub unfailing : Table → (ℕ → Option ℕ) → Subject (Option (List ℕ))
 unfailing t partners = subject_of Appends (λ output. 0) t partners
 

@@ -7,7 +7,7 @@ use std::marker::Model;
 /// The most bytes that a buffer holds.
 const CAPACITY: usize = 65_536;
 
-/// Bytes in memory that was reserved for them.
+/// A buffer of bytes, whose memory is reserved when it is made.
 #[derive(Drop)]
 pub struct Buffer {
     bytes: Vec<u8>,
@@ -24,7 +24,7 @@ impl Model for Buffer {
 }
 
 impl Buffer {
-    /// An empty buffer, or out of memory.
+    /// An empty buffer. Fails if memory runs out.
     pub fn new(alloc: Global) -> Result<Buffer, AllocError>
         ensures value { IfOk result (λ buffer. buffer ≡ []) }
     {
@@ -33,21 +33,21 @@ impl Buffer {
         })
     }
 
-    /// Whether there is no room.
+    /// Whether the buffer has no room left.
     pub fn is_full(&self) -> bool
         ensures value { IsTrue result ↔ (65536 ≤ length self.now) }
     {
         self.bytes.len() >= CAPACITY
     }
 
-    /// Whether there is nothing in it.
+    /// Whether the buffer holds no bytes.
     pub fn is_empty(&self) -> bool
         ensures value { IsTrue result ↔ (self.now ≡ []) }
     {
         self.bytes.is_empty()
     }
 
-    /// Takes what fits of a piece, and returns how many bytes that is.
+    /// Takes as much of `piece` as fits, and returns the number of bytes taken.
     pub fn hold(&mut self, piece: &[u8]) -> usize
         ensures count { result ≡ min (length piece.now) (65536 - length self.old) }
         ensures value { self.new ≡ self.old ++ take result piece.now }
@@ -60,7 +60,7 @@ impl Buffer {
         held
     }
 
-    /// Takes a byte where there is room, and returns how many bytes that is.
+    /// Takes `byte` if there is room, and returns the number of bytes taken, 0 or 1.
     fn hold_byte(&mut self, byte: u8) -> usize
         ensures count { result ≡ min 1 (65536 - length self.old) }
         ensures value { self.new ≡ self.old ++ take result (byte ∷ []) }
@@ -72,14 +72,14 @@ impl Buffer {
         1
     }
 
-    /// What it holds.
+    /// The bytes that the buffer holds.
     pub fn as_slice(&self) -> &[u8]
         ensures value { result.now ≡ self.now }
     {
         self.bytes.as_slice()
     }
 
-    /// Lets go of all of it.
+    /// Empties the buffer.
     pub fn clear(&mut self)
         ensures value { self.new ≡ [] }
     {

@@ -13,7 +13,7 @@ use ti_conforms::Certificate;
 use ti_requests::ScriptWords;
 use ti_words::Remarks;
 
-/// Plays the script on a terminal that the entry drives, and writes what its calls send.
+/// Plays the script on a terminal that the entry drives, and writes the bytes that its calls send.
 pub fn play_script<F: Files, O: Output>(
     alloc: Global,
     words: &ScriptWords<'_>,

@@ -12,16 +12,16 @@ use ti_commands::Output;
 /// output has failed, so does each further send.
 #[derive(Drop)]
 pub struct Held<'a, O> {
-    /// Where the bytes go.
+    /// The output that receives the bytes.
     pub output: &'a mut O,
-    /// What is held back.
+    /// The bytes that are held back.
     pub buffer: &'a mut Buffer,
     /// How often a send or the output failed.
     pub failures: u128,
 }
 
 impl<'a, O: Output> Held<'a, O> {
-    /// Hands the output all that is held back. Once the output has failed, it gets nothing any more.
+    /// Hands the held-back bytes to the output. Once the output has failed, it receives nothing more.
     #[inline(always)]
     pub fn flush(&mut self)
         ensures holds { Holds O.contents O.has_failed self.old.output self.new.output self.old.buffer.now
@@ -33,7 +33,7 @@ impl<'a, O: Output> Held<'a, O> {
         }
     }
 
-    /// The same, also of nothing.
+    /// Hands the buffer to the output, even if it is empty, unless the output has failed; empties it in any case.
     #[inline(never)]
     fn hand_over(&mut self)
         ensures holds { Holds O.contents O.has_failed self.old.output self.new.output self.old.buffer.now
@@ -50,7 +50,7 @@ impl<'a, O: Output> Held<'a, O> {
         self.buffer.clear();
     }
 
-    /// Takes what fits of a piece, unless the output has failed.
+    /// Takes as much of `piece` as fits, unless the output has failed.
     fn hold(&mut self, piece: &[u8]) -> Result<usize, WireFault>
         requires some { 0 < length piece.now }
         requires room { self.old.failures ≡ 0 → length self.old.buffer.now < 65536 }
@@ -79,7 +79,7 @@ impl<'a, O: Output> Wire for Held<'a, O> {
 
     ghost failures = { λ a. a.failures };
 
-    /// Takes what fits of a piece; what is held back is passed on first where there is no room.
+    /// Takes as much of `piece` as fits; if there is no room, first passes on the bytes that are held back.
     fn send(&mut self, piece: &[u8]) -> Result<usize, WireFault> {
         if self.buffer.is_full() {
             self.flush();

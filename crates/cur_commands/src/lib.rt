@@ -1,4 +1,4 @@
-//! What the program's commands about scripts of curses calls reply.
+//! The replies of the program's commands about scripts of curses calls.
 #![tactic(auto)]
 
 mod buffers;

@@ -1,4 +1,4 @@
-//! What a run of a script needs, in the order of the line's words.
+//! Reading what a run of a script needs, in the order of the line's words.
 ghost use Rattle.std.specs.Prelude.{◌≡◌, IfErr, IfOk};
 ghost use Rattle.cur_commands.specs.Preparations.{FailsToPrepare, Prepared};
 
@@ -19,7 +19,7 @@ pub struct Ready {
     pub text: Vec<u8>,
 }
 
-/// What the words give: the size comes first, then the entry, then the certificate, then the script's text.
+/// Reads what the words name: the size first, then the entry, then the certificate, then the script's text.
 pub fn prepare<F: Files>(
     alloc: Global,
     words: &ScriptWords<'_>,

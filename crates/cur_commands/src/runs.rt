@@ -10,12 +10,12 @@ use std::alloc::Global;
 use ti_commands::{Failure, Output};
 use ti_conforms::Certificate;
 
-/// Plays `calls`, one after another, in a session of their own on the terminal of `checked`, and writes what they send
-/// to `out`: what a call has sent is passed on before the next call, in one piece where it is no more than 65536 bytes.
+/// Plays `calls`, one after another, in a session of their own on the terminal of `checked`, and writes the bytes that
+/// they send to `out`: the bytes of a call are passed on before the next call, in one piece if there are at most 65536.
 ///
 /// # Errors
-/// `NoMemory` where there is none for the session; then nothing was written. `Output` after the run where
-/// the output has failed.
+/// `NoMemory` if there is none for the session; then nothing was written. `Output`, after the run, if the output has
+/// failed.
 pub fn play_calls<C: Certificate + Drop, O: Output>(
     alloc: Global,
     checked: C,
@@ -35,7 +35,7 @@ pub fn play_calls<C: Certificate + Drop, O: Output>(
     play_held(alloc, checked, calls, &mut held)
 }
 
-/// Plays the calls on an output, of which nothing is held back before or after.
+/// Plays the calls on an output for which nothing is held back, before or after.
 fn play_held<C: Certificate + Drop, O: Output>(
     alloc: Global,
     checked: C,

@@ -1,4 +1,4 @@
-//! The calls of a script, or the line that is none.
+//! The calls of a script, or the first line that is no call.
 ghost use Rattle.std.specs.Prelude.{◌≡◌, ◌++◌, ℕ, List, IfErr, IfOk};
 ghost use Rattle.cur_scripts.specs.Texts.{FailsBy, script_of};
 ghost use Rattle.cur_commands.specs.Scripts as spec;
@@ -9,10 +9,10 @@ use std::alloc::{AllocError, Global};
 use ti_commands::{CommandRefusal, Failure};
 use ti_words::Remarks;
 
-/// How much of a line is shown.
+/// The most bytes of a line that are shown.
 const SHOWN: usize = 200;
 
-/// The calls of the script at a path, which has this text.
+/// The calls of the script at `path`, whose text is `text`.
 pub fn calls_of<'a>(
     alloc: Global,
     path: &str,
@@ -31,7 +31,7 @@ pub fn calls_of<'a>(
     }
 }
 
-/// The failure that a fault of a script is.
+/// The failure to report for a fault of a script.
 fn failure_of(alloc: Global, fault: ScriptFault) -> Failure
     ensures { (text : List ℕ) → FailsBy fault.kind fault (script_of text) → spec.IsScriptFailure text result }
 {

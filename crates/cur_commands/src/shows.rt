@@ -14,8 +14,7 @@ use ti_conforms::Certificate;
 use vt_term::{Size, Terminal};
 
 /// Plays `calls` on a terminal in its reset state, of the size of `checked`: a line for each call that was refused, and
-/// then the terminal's screen. The terminal takes all that is sent, so that there is an answer but where there is no
-/// memory.
+/// then the terminal's screen. The terminal takes all that is sent, so this fails only if memory runs out.
 pub fn show_calls<C: Certificate + Drop>(
     alloc: Global,
     checked: C,
@@ -33,7 +32,7 @@ pub fn show_calls<C: Certificate + Drop>(
     Ok(text)
 }
 
-/// Plays calls, and keeps what they send; an error also where there was no memory to keep it.
+/// Plays `calls`, and keeps the bytes that they send. Fails also if there was no memory to keep them.
 fn play_in_memory<C: Certificate + Drop>(
     alloc: Global,
     checked: C,
@@ -51,7 +50,7 @@ fn play_in_memory<C: Certificate + Drop>(
     Ok(log)
 }
 
-/// The screen of a terminal after these bytes, which it takes.
+/// The screen of a terminal after `bytes`; the terminal must take them.
 fn screen_after(alloc: Global, size: Size, bytes: &[u8]) -> Result<Vec<u8>, AllocError>
     requires { IsTaken size.rows size.cols bytes.now }
     ensures { IfOk result (λ text. ShowsAfter size.rows size.cols bytes.now text.items) }

@@ -6,17 +6,17 @@ ghost use Rattle.cur_commands.specs.Stores.{Stores};
 use cur_wires::{Wire, WireFault};
 use std::alloc::Global;
 
-/// A wire that keeps its bytes in memory, and fails where there is none.
+/// A wire that keeps its bytes in memory, and fails if memory runs out.
 #[derive(Drop)]
 pub struct Taken {
-    /// What it has taken.
+    /// The bytes taken so far.
     pub bytes: Vec<u8>,
-    /// How often there was no memory.
+    /// The number of times that memory ran out.
     pub failures: u128,
 }
 
 impl Taken {
-    /// It has taken nothing yet.
+    /// A wire that has taken nothing yet.
     pub fn new(alloc: Global) -> Taken
         ensures bytes { result.bytes.items ≡ [] }
         ensures failures { result.failures ≡ 0 }
@@ -35,7 +35,7 @@ impl Wire for Taken {
 
     ghost failures = { λ a. a.failures };
 
-    /// Takes the whole piece, or nothing where there is no memory.
+    /// Takes the whole of `piece`, or nothing if memory runs out.
     fn send(&mut self, piece: &[u8]) -> Result<usize, WireFault>
         requires { 0 < length piece.now }
         ensures some { IfOk result (λ n. 0 < n) }
