@@ -12,7 +12,7 @@ use crate::routes::is_alike;
 use crate::targets::Target;
 use cur_steps::{
     Belief, Brush, Ink, Picture, Place, attributes_as, background_as, colors_off, erase_tail,
-    foreground_as, print_at, same_attributes, same_brush, set_as, stands, strip,
+    foreground_as, look_alike, print_at, same_attributes, set_as, stands, strip,
 };
 use cur_wires::{Wire, WireFault};
 use ti_conforms::Certificate;
@@ -107,12 +107,12 @@ pub fn brush_as<C: Certificate, W: Wire>(
     colors_as(checked, belief, wire, wanted)
 }
 
-/// Whether `brush` is the plain one.
-#[tactic(auto, using(cur_steps::proofs::Sameness::brush_equal))]
-fn is_plain(brush: Brush) -> bool
-    ensures plain { result ≡ true → brush ≡ plain_brush }
+/// Whether what is printed in `brush` is known to look as in the plain one. Nothing is promised of it.
+fn looks_plain<C: Certificate>(checked: &C, brush: Brush) -> bool
+    requires checked { IsChecked (C.table checked.now) }
 {
-    same_brush(brush, Brush::plain())
+    let plain = Brush::plain();
+    needs_no_defaults(brush, plain) && look_alike(checked, brush.attributes, plain.attributes)
 }
 
 /// Whether `sgr0` has no more bytes than the string that `sgr` sends for no attributes, or than those of all single
@@ -128,7 +128,8 @@ fn has_short_plain<C: Certificate>(checked: &C) -> bool
     }
 }
 
-/// Makes the brush the plain one, if it isn't: by `sgr0`, unless the other strings for that have fewer bytes.
+/// Makes the brush the plain one: by nothing if it looks so, else by `sgr0`, unless the other strings for that have
+/// fewer bytes.
 pub fn make_plain<C: Certificate, W: Wire>(
     checked: &C,
     belief: &mut Belief,
@@ -141,13 +142,10 @@ pub fn make_plain<C: Certificate, W: Wire>(
         (plain_limit (C.table checked.now)) belief.old belief.new }
     ensures mode { OnOk result (belief.new.mode ≡ belief.old.mode) }
 {
-    if is_plain(belief.brush) {
-        return Ok(());
+    if looks_plain(checked, belief.brush) || !has_short_plain(checked) {
+        return plainly_as(checked, belief, wire, Brush::plain().attributes);
     }
-    if has_short_plain(checked) {
-        return strip(checked, belief, wire);
-    }
-    plainly_as(checked, belief, wire, Brush::plain().attributes)
+    strip(checked, belief, wire)
 }
 
 /// Moves the cursor to `at`, in a line that is shown as far as that place, and makes the brush `wanted`.

@@ -1,9 +1,9 @@
 //! Lines that move within a region of the screen.
 ghost use Rattle.std.specs.Prelude.{◌≡◌, ◌-◌, ◌≤◌, ℕ, true};
-ghost use Rattle.ti_conforms.specs.Certified as certified;
 ghost use Rattle.cur_steps.specs.declared.inks.Ink.{Ink};
 ghost use Rattle.cur_moves.specs.Scrolls.{CanScroll, cell_of, edge, scroll_row, shifted};
 
+use cur_steps::has_line;
 use ti_conforms::Certificate;
 use ti_rows::Row;
 
@@ -68,13 +68,6 @@ pub fn line_before(scroll: Scroll, row: usize) -> Option<usize>
     }
 }
 
-/// Whether the entry has the string for `row`.
-fn has<C: Certificate>(checked: &C, row: Row) -> bool
-    ensures { result ≡ certified.has (C.table checked.now) row }
-{
-    checked.line(row).is_some()
-}
-
 /// Whether the terminal can scroll so: `scroll` names two lines of the screen or more, and the entry has the strings
 /// for these margins, for those of the whole screen, and for a scroll that way.
 pub fn can_scroll<C: Certificate>(checked: &C, scroll: Scroll) -> bool
@@ -84,7 +77,7 @@ pub fn can_scroll<C: Certificate>(checked: &C, scroll: Scroll) -> bool
     let rows = checked.rows();
     scroll.top < scroll.bottom
         && usize::from(scroll.bottom) < rows
-        && has(checked, Row::Csr(scroll.top, scroll.bottom))
-        && has(checked, Row::Csr(0, (rows - 1) as u16))
-        && has(checked, scroll_row(scroll))
+        && has_line(checked, Row::Csr(scroll.top, scroll.bottom))
+        && has_line(checked, Row::Csr(0, (rows - 1) as u16))
+        && has_line(checked, scroll_row(scroll))
 }

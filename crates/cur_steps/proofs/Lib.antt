@@ -1,5 +1,6 @@
 pub mod Actions
 pub mod Answers
+pub mod LookFacts
 pub mod Prints
 pub mod Sameness
 pub mod SetFacts

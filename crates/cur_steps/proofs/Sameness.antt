@@ -1,5 +1,5 @@
 -- What is the same by the tests is the same.
-use Rattle.std.proofs.Common.{◌≡◌, ℕ, ◌==◌, ◌&&◌, Bool, true, false, Option, Some, None, IfSome, if◌then◌else◌, refl, sym, ap, subst, ◌∙◌, arith}
+use Rattle.std.proofs.Common.{◌≡◌, ℕ, ◌==◌, ◌&&◌, Bool, true, false, Option, Some, None, if◌then◌else◌, refl, sym, ap, subst, ◌∙◌, arith}
 use Rattle.std.proofs.lemmas.Bool.Decides.{nat_tests}
 use Rattle.vt_term.specs.Color.{Color, color_number, Black, Red, Green, Yellow, Blue, Magenta, Cyan, White, color}
 use Rattle.ti_rows.specs.declared.rows.Attributes.{Attributes}

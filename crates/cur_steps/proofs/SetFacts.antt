@@ -1,8 +1,8 @@
 -- Which set is active behind a string of attributes.
-use Rattle.std.proofs.Common.{◌≡◌, ℕ, ◌≤◌, ◌==◌, ◌&&◌, ◌||◌, Bool, true, false, nat_le, List, [], ◌∷◌, ◌++◌, length, Option, Some, None, Result, if◌then◌else◌, refl, sym, ap, subst, ◌∙◌, inl, inr, arith}
+use Rattle.std.proofs.Common.{◌≡◌, ℕ, ◌≤◌, ◌==◌, ◌||◌, Bool, true, false, nat_le, List, [], ◌∷◌, Option, Some, None, Result, if◌then◌else◌, refl, sym, ap, subst, ◌∙◌, inl, inr, arith}
 use Rattle.std.proofs.lemmas.Bool.Decides.{nat_tests}
 use Rattle.std.specs.List.{AllByRecursion, list_all}
-use Rattle.vt_term.specs.Function.{Function, SelectRendition, function_of, named, marked}
+use Rattle.vt_term.specs.Function.{Function, SelectRendition, function_of, marked}
 use Rattle.vt_term.specs.Parameters.{is_numeral}
 use Rattle.vt_term.specs.Parameters as parameters
 use Rattle.vt_term.specs.Run.{Runs}
@@ -18,7 +18,7 @@ use Rattle.cur_wires.specs.Wire.{Sends}
 use Rattle.cur_wires.proofs.Stops.{leads_line, steps_sent}
 use Rattle.ti_rows.specs.declared.rows.Row.{Row}
 use Rattle.ti_rows.specs.declared.rows.Row.TheVariants.{Rmacs}
-use Rattle.ti_conforms.specs.Certified.{Table, IsLost, IsReady, IsChecked, IsCheckedLine, Ended, limit_of}
+use Rattle.ti_conforms.specs.Certified.{Table, IsLost, IsReady, IsChecked, IsCheckedLine, limit_of}
 use Rattle.cur_steps.specs.Beliefs.{Agrees, Belief, IsSo, Turns}
 use Rattle.cur_steps.specs.Pieces.{IsPaint, Stroke, paints}
 use Rattle.cur_steps.specs.Sets.{IsBeside, Before, Behind, IsRendition, LeavesSet}

@@ -87,7 +87,12 @@ abbrev pub same_mode : Mode → Mode → Bool
 same_mode Hidden Hidden = true
 same_mode Normal Normal = true
 same_mode Prominent Prominent = true
-same_mode _ _ = false
+same_mode Hidden Normal = false
+same_mode Hidden Prominent = false
+same_mode Normal Hidden = false
+same_mode Normal Prominent = false
+same_mode Prominent Hidden = false
+same_mode Prominent Normal = false
 
 -- how often the mode changes: never or once
 abbrev pub changes : Option Mode → Mode → ℕ
@@ -97,7 +102,8 @@ changes (Some n) m = if same_mode n m then 0 else 1
 -- a hidden cursor can be shown again
 abbrev pub CanHide : Table → Mode → Type 0
 CanHide t Hidden = (has t Civis ≡ true) × (has t Cnorm ≡ true)
-CanHide t _ = Unit {0}
+CanHide t Normal = Unit {0}
+CanHide t Prominent = Unit {0}
 
 -- What shows the cursor in a mode: for a very visible one the string for the normal mode, and then its own. A string
 -- that the entry lacks is nothing (X/Open Curses Issue 7, curs_set; terminfo(5), "Highlighting, Underlining, and

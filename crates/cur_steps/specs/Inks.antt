@@ -44,7 +44,8 @@ same_attributes a b = same_few a b && same_others a b
 abbrev pub same_color : Option Color → Option Color → Bool
 same_color None None = true
 same_color (Some c) (Some d) = color_number c == color_number d
-same_color _ _ = false
+same_color (Some c) None = false
+same_color None (Some d) = false
 
 abbrev pub same_brush : Brush → Brush → Bool
 same_brush a b = same_attributes a.attributes b.attributes

@@ -212,6 +212,6 @@ pub(crate) fn same_color(a: Option<Color>, b: Option<Color>) -> bool
     match (a, b) {
         (None, None) => true,
         (Some(a), Some(b)) => a.number() == b.number(),
-        _ => false,
+        (Some(_), None) | (None, Some(_)) => false,
     }
 }

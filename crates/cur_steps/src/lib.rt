@@ -4,6 +4,7 @@
 mod beliefs;
 mod inks;
 mod lines;
+mod looks;
 mod modes;
 mod sets;
 mod singles;
@@ -14,7 +15,8 @@ pub use beliefs::{Belief, Mode, Place};
 pub use inks::{
     Blank, Brush, Cells, Ink, Picture, byte_as, is_plain_ink, is_same, same_attributes, same_brush,
 };
-pub use lines::send_line;
+pub use lines::{has_line, send_line};
+pub use looks::look_alike;
 pub use modes::{is_mode, show_as};
 pub use singles::strip;
 pub use steps::{

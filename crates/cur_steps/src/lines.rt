@@ -1,6 +1,6 @@
-//! The sending of one line.
+//! The lines of a certificate: whether there is one, and the sending of it.
 ghost use Rattle.std.specs.Prelude.{◌≡◌, ◌≤◌, ℕ, length, Bool, Option, Some, true};
-ghost use Rattle.ti_conforms.specs.Certified.{IsChecked, limit_of, text_of};
+ghost use Rattle.ti_conforms.specs.Certified.{IsChecked, has, limit_of, text_of};
 ghost use Rattle.cur_steps.specs.Beliefs.{Belief, Turns};
 ghost use Rattle.cur_steps.specs.Pieces.{paints};
 ghost use Rattle.cur_steps.specs.Sets.{LeavesSet};
@@ -10,6 +10,13 @@ ghost use Rattle.cur_steps.specs.declared.inks.Ink.{Ink};
 use cur_wires::{Wire, WireFault, send_all};
 use ti_conforms::Certificate;
 use ti_rows::Row;
+
+/// Whether the entry has a line for `row`.
+pub fn has_line<C: Certificate>(checked: &C, row: Row) -> bool
+    ensures value { result ≡ has (C.table checked.now) row }
+{
+    checked.line(row).is_some()
+}
 
 /// Sends `bytes`, which is the line of `row`. It leads from whatever belief the row starts from to what the row makes
 /// of it, and is a step of a painter if the row paints.

@@ -15,38 +15,90 @@ use cur_wires::{Wire, WireFault};
 use ti_conforms::Certificate;
 use ti_rows::{Attributes, Row};
 
+/// An attribute that a string of its own turns on.
+#[derive(Clone, Copy)]
+enum Single {
+    Standout,
+    Underline,
+    Reverse,
+    Blink,
+    Dim,
+    Bold,
+    Invisible,
+}
+
+/// The attribute that the string of `row` turns on, if it turns on one alone.
+fn single_of(row: Row) -> Option<Single>
+    ensures { result ≡ spec.single_of row }
+{
+    match row {
+        Row::Smso => Some(Single::Standout),
+        Row::Smul => Some(Single::Underline),
+        Row::Rev => Some(Single::Reverse),
+        Row::Blink => Some(Single::Blink),
+        Row::Dim => Some(Single::Dim),
+        Row::Bold => Some(Single::Bold),
+        Row::Invis => Some(Single::Invisible),
+        Row::Clear | Row::Cup(_, _) | Row::Home | Row::Cr | Row::Hpa(_) | Row::Vpa(_) => None,
+        Row::Cub1 | Row::Cuf1 | Row::Cuu1 | Row::Cud1 => None,
+        Row::Cub(_) | Row::Cuf(_) | Row::Cuu(_) | Row::Cud(_) => None,
+        Row::El | Row::El1 | Row::Ed | Row::Ech(_) => None,
+        Row::Sgr(_) | Row::Sgr0 | Row::Setaf(_) | Row::Setab(_) | Row::Op => None,
+        Row::Enacs | Row::Smacs | Row::Rmacs | Row::Csr(_, _) | Row::Ind | Row::Ri => None,
+        Row::Civis | Row::Cnorm | Row::Cvvis | Row::Smcup | Row::Rmcup | Row::Bel => None,
+    }
+}
+
+/// Whether `single` is among `attributes`.
+fn is_among(single: Single, attributes: Attributes) -> bool
+    ensures { result ≡ spec.is_among single attributes }
+{
+    match single {
+        Single::Standout => attributes.standout,
+        Single::Underline => attributes.underline,
+        Single::Reverse => attributes.reverse,
+        Single::Blink => attributes.blink,
+        Single::Dim => attributes.dim,
+        Single::Bold => attributes.bold,
+        Single::Invisible => attributes.invisible,
+    }
+}
+
 /// Whether the attribute of the string of `row` is among `attributes`.
 fn has_single(attributes: Attributes, row: Row) -> bool
     ensures { result ≡ spec.has_single row attributes }
 {
-    match row {
-        Row::Smul => attributes.underline,
-        Row::Rev => attributes.reverse,
-        Row::Blink => attributes.blink,
-        Row::Dim => attributes.dim,
-        Row::Bold => attributes.bold,
-        Row::Invis => attributes.invisible,
-        Row::Smso => attributes.standout,
-        _ => false,
+    match single_of(row) {
+        Some(single) => is_among(single, attributes),
+        None => false,
     }
+}
+
+/// The `attributes` and `single`.
+fn with_one(attributes: Attributes, single: Single) -> Attributes
+    ensures { result ≡ spec.with_one single attributes }
+{
+    let mut attributes = attributes;
+    match single {
+        Single::Standout => attributes.standout = true,
+        Single::Underline => attributes.underline = true,
+        Single::Reverse => attributes.reverse = true,
+        Single::Blink => attributes.blink = true,
+        Single::Dim => attributes.dim = true,
+        Single::Bold => attributes.bold = true,
+        Single::Invisible => attributes.invisible = true,
+    }
+    attributes
 }
 
 /// The `attributes` and that of the string of `row`.
 fn turned_on(attributes: Attributes, row: Row) -> Attributes
     ensures { result ≡ spec.turned_on row attributes }
 {
-    let mut attributes = attributes;
-    match row {
-        Row::Smul => attributes.underline = true,
-        Row::Rev => attributes.reverse = true,
-        Row::Blink => attributes.blink = true,
-        Row::Dim => attributes.dim = true,
-        Row::Bold => attributes.bold = true,
-        Row::Invis => attributes.invisible = true,
-        Row::Smso => attributes.standout = true,
-        _ => {}
+    match single_of(row) {
+        Some(single) => with_one(attributes, single),
+        None => attributes,
     }
-    attributes
 }
 
 /// Makes attributes and colours plain by `sgr0`.

@@ -10,8 +10,9 @@ ghost use Rattle.cur_steps.specs.declared.inks.Brush.{Brush};
 ghost use Rattle.cur_steps.specs.Steps.{IsGoal, Keeps, Makes};
 
 use crate::beliefs::{Belief, Place};
-use crate::inks::{Brush, Ink, same_attributes, same_color};
+use crate::inks::{Brush, Ink, same_color};
 use crate::lines::send_line;
+use crate::looks::look_alike;
 use crate::sets::set_behind;
 use crate::singles::attributes_singly;
 use cur_wires::{Wire, WireFault, send_all};
@@ -60,7 +61,8 @@ fn is_uncolored(brush: Brush) -> bool
     matches!((brush.foreground, brush.background), (None, None))
 }
 
-/// Makes the attributes `wanted`; the colours are the default ones before and after.
+/// Makes the attributes `wanted`, by nothing if they look as those do that are believed; the colours are the default
+/// ones before and after.
 pub fn attributes_as<C: Certificate, W: Wire>(
     checked: &C,
     belief: &mut Belief,
@@ -77,7 +79,7 @@ pub fn attributes_as<C: Certificate, W: Wire>(
         (C.table checked.now).longest.sgr belief.old belief.new }
     ensures mode { OnOk result (belief.new.mode ≡ belief.old.mode) }
 {
-    if same_attributes(belief.brush.attributes, wanted) {
+    if look_alike(checked, belief.brush.attributes, wanted) {
         belief.brush.attributes = wanted;
         return Ok(());
     }

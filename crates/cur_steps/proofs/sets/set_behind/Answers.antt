@@ -1,5 +1,4 @@
-use Rattle.std.proofs.Common.{sym}
-use Rattle.cur_steps.proofs.SetFacts.{leaves_any, leaves_kept, leaves_plain}
+use Rattle.cur_steps.proofs.SetFacts.{leaves_kept, leaves_plain}
 use Rattle.cur_steps.proofs.sets.set_behind.Goals as goal
 
 pub returns-then-is_rendition : goal.returns-then-is_rendition
