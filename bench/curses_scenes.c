@@ -269,7 +269,10 @@ static void lines(int step) {
 }
 
 static void one_cell(int step) {
-    go(0, number(rows), number(cols - 1));
+    /* the column is drawn first */
+    int col = number(cols - 1);
+    int row = number(rows);
+    go(0, row, col);
     put(0, 'A' + step % 26);
     show(0);
 }
@@ -290,7 +293,10 @@ static void logged(int step) {
     (void)step;
     scroll_up(0);
     go(0, rows - 1, 0);
-    text(0, words(cols - 1), cols - 1 - number(cols / 2));
+    /* the length is drawn before the place of the words */
+    int len = cols - 1 - number(cols / 2);
+    const char *bytes = words(cols - 1);
+    text(0, bytes, len);
     show(0);
 }
 
