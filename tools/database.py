@@ -11,6 +11,7 @@ import subprocess
 import sys
 import textwrap
 
+from causes import MEANING
 from crates import TOP
 
 ROWS, COLS = "24", "80"
@@ -20,19 +21,6 @@ KNOWN = (
     "kitty alacritty foot iTerm2.app nsterm st st-256color terminology Eterm cygwin cons25 wsvt25 hurd sun eterm-color "
     "teraterm wy50 wy60 tvi925 hp2392 ibm3151"
 ).split()
-MEANING = {
-    "FlagOut": "the flag or number rules a certificate out: T isn't such a terminal",
-    "Absent": "a required string isn't there",
-    "AcsByte": "a partner of `acsc` isn't 32 to 126 (code page 437)",
-    "Underflow": "a code of the string finds no value",
-    "BadCode": "a `%` begins no code",
-    "Unfinished": "what is sent ends within a sequence",
-    "Stuck": "a byte on which terminals differ",
-    "NotTame": "not judged: no single effect describes what is sent",
-    "NotShown": "not judged: no state was found from which it goes wrong",
-    "BadLook": "an attribute has another one's look",
-    "WrongEffect": "what is sent does something else on T",
-}
 
 
 def wrapped(text, indent=""):

@@ -14,11 +14,11 @@ import subprocess
 import sys
 import tempfile
 
+import states
 from crates import TOP
 from svg import FAINT, FRAME, INK, MONO, Picture
 
 FOLDER = f"{TOP}/docs/pictures"
-MARKS = ["bold", "dim", "underlined", "blinking", "reverse", "invisible"]
 COLORS = {
     "black": "#24292f",
     "red": "#cf222e",
@@ -44,40 +44,13 @@ def run(*words, data=None, fails=False):
     return ran.stdout
 
 
-# ---- the words of a report
-
-
-def state(words):
-    """The state that the words behind `start: ` or `seen: ` name: what they leave out is as after a reset."""
-    found = {"marks": [], "fore": None, "back": None, "sets": [], "hidden": False}
-    for part in words.replace(", column", " column").split(", "):
-        place = re.fullmatch(r"the cursor is at row (\d+) column (\d+)", part)
-        pen = re.fullmatch(r"the rendition is ((?:\w+ ?)*?)(?: ?in (\w+))?(?: on (\w+))?", part)
-        if place:
-            found["cursor"] = int(place[1]), int(place[2])
-        elif pen:
-            found["marks"] = [] if pen[1] == "plain" else pen[1].split()
-            found["fore"], found["back"] = pen[2], pen[3]
-        elif re.fullmatch(r"G[01] is (the line drawing set|ASCII|active)", part):
-            found["sets"].append(part)
-        elif part == "the cursor is hidden":
-            found["hidden"] = True
-        elif part != "no cell has changed" and not re.fullmatch("every cell shows '.'", part):
-            sys.exit(f"pictures: words without a picture: {part}")
-    return found
-
-
-def wanted_of(words, start):
-    """The state that is wanted after a start."""
-    if words != "both colors are default, and nothing else changes":
-        sys.exit(f"pictures: words without a picture: {words}")
-    return {**start, "fore": None, "back": None}
+# ---- one fault
 
 
 def pen_of(given):
     """The parts of a rendition, each with whether it is on."""
     return [
-        *((mark, mark in given["marks"]) for mark in MARKS),
+        *((mark, mark in given["marks"]) for mark in states.MARKS),
         (f"in {given['fore'] or 'the default color'}", bool(given["fore"])),
         (f"on {given['back'] or 'the default color'}", bool(given["back"])),
     ]
@@ -145,8 +118,9 @@ def fault():
     """One fault as T's screens: its start, what is wanted, and what is seen."""
     text = run("check", "--json", "docs/pictures/color.ti:xterm-color", "24", "80", fails=True)
     report = json.loads(text.splitlines()[0])
-    start, seen = state(report["start"]), state(report["seen"])
-    wanted = wanted_of(report["wanted"], start)
+    size = report["size"]
+    start = states.state(report["start"], size)
+    wanted, seen = states.wanted(report["wanted"], start, size), states.seen(report["seen"], start, size)
     sent = bytes.fromhex(report["bytes"]).decode("ascii").replace("\x1b", "\\E")
     picture = Picture(800, f"{report['entry']}: no {report['capability']}: {report['cause']}")
     picture.text(20, 30, f"{report['capability']} of {report['entry']} sends {sent}", 17, font_weight="bold")
