@@ -1,76 +1,152 @@
 #!/bin/sh
-# How fast `ticurses feed` is beside libvterm (Debian: libvterm-dev) and the vt100 crate (Debian: librust-vt100-dev,
-# cargo): 16 MiB of each kind of stream that stream.awk writes, at 24 by 80 and at 200 by 500, in megabytes a second of
-# processor time over the whole run of each program, the best of five, in turn. All read the file and print the screen,
-# and libvterm's must be the same. At 200 by 500 libvterm, which moves every cell to scroll, gets one of the 16 MiB.
+# How fast `ticurses feed` is beside libvterm (Debian: libvterm-dev), libtsm (libtsm-dev), GNOME's libvte (libvte-2.91-dev)
+# and the crates vt100 and alacritty_terminal (librust-vt100-dev, librust-alacritty-terminal-dev, cargo): 16 MiB of each kind
+# of stream that stream.awk writes, at 24 by 80 and at 200 by 500, in megabytes a second of processor time over the whole run
+# of each program, the best of five, in turn. A ratio is the peer's time to that of ticurses. All read the file and print the
+# screen, and libvterm's must be the same. At 200 by 500 libvterm and libtsm, which move every cell to scroll, get one of the
+# 16 MiB. libvte wants a display (xvfb-run -a sh bench/feed.sh); what GTK takes to start is not counted. At 24 by 80 a second
+# line has the instructions for each byte of 64 KiB and their ratios, by valgrind's callgrind, which doesn't depend on the
+# machine's load; libvte isn't among them.
 # feed.sh KIND..: those kinds alone. A peer that can't be built is left out, with a line.
 set -eu
 cd -- "$(dirname -- "$0")"
+here=$PWD
 work=$(mktemp -d)
 trap 'rm -rf "$work"' EXIT
 trap 'exit 130' HUP INT TERM
 [ $# -gt 0 ] || set -- text mixed scrolling painting sequences colours
+. ./instructions.sh
+# the programs that there are, each in $work
+peers=ticurses
 
-peer=$work/peer
-if ! cc -O2 -o "$peer" peer.c -lvterm 2>"$work/log"; then
-    peer=
-    echo "feed: libvterm is left out, since it or a C compiler is missing"
+# left_out NAME
+left_out() {
+    echo "feed: $1 is left out, since it or what builds it is missing"
+}
+
+# has NAME WORD..: compiles a peer in C
+has() {
+    name=$1
+    shift
+    if cc -O2 -o "$work/$name" "$@" 2>"$work/log"; then
+        peers="$peers $name"
+    else
+        left_out "$name"
+    fi
+}
+
+# has_crate NAME CRATE VERSION: compiles a peer over a crate; Debian's are folders that cargo reads without a network
+has_crate() {
+    crate=$work/crate_$1
+    mkdir -p "$crate/src" "$crate/.cargo"
+    cp "$1_peer.rs" "$crate/src/main.rs"
+    printf '[package]\nname = "peer"\nversion = "0.0.0"\nedition = "2021"\n[dependencies]\n%s = "%s"\n' "$2" "$3" >"$crate/Cargo.toml"
+    printf '[source.crates-io]\nreplace-with = "debian"\n[source.debian]\ndirectory = "/usr/share/cargo/registry"\n' >"$crate/.cargo/config.toml"
+    if (cd "$crate" && cargo build --release --offline) >"$work/log" 2>&1; then
+        mv "$crate/target/release/peer" "$work/$1"
+        peers="$peers $1"
+    else
+        left_out "the crate $2"
+    fi
+}
+
+has libvterm peer.c -lvterm
+has libtsm tsm_peer.c -ltsm
+if [ -z "${DISPLAY:-}" ]; then
+    echo "feed: libvte is left out, since there is no display: xvfb-run -a sh bench/feed.sh has one"
+elif flags=$(pkg-config --cflags --libs vte-2.91 2>"$work/log"); then
+    # shellcheck disable=SC2086 # these are words
+    has libvte vte_peer.c $flags
+else
+    left_out libvte
 fi
-# Debian's crates are folders that cargo reads without a network
-crate=$work/vt100
-mkdir -p "$crate/src" "$crate/.cargo"
-cp vt100_peer.rs "$crate/src/main.rs"
-printf '[package]\nname = "peer"\nversion = "0.0.0"\nedition = "2021"\n[dependencies]\nvt100 = "0.15"\n' >"$crate/Cargo.toml"
-printf '[source.crates-io]\nreplace-with = "debian"\n[source.debian]\ndirectory = "/usr/share/cargo/registry"\n' >"$crate/.cargo/config.toml"
-other=$crate/target/release/peer
-if ! (cd "$crate" && cargo build --release --offline) >"$work/log" 2>&1; then
-    other=
-    echo "feed: the vt100 crate is left out, since it or cargo is missing"
-fi
+has_crate vt100 vt100 0.15
+has_crate alacritty alacritty_terminal 0.17
+can_count || echo "feed: instructions are left out, since valgrind is missing"
 # builds it where it has to be, and leaves that out of the time
 ../build
-ours=../crates/ticurses/out/ticurses
+ln -s "$here/../crates/ticurses/out/ticurses" "$work/ticurses"
+cd "$work"
+printf x >one
 
-# seconds PROGRAM..: the processor time of one run
+# words PEER: the words of its run before the size
+words() {
+    case $1 in
+    ticurses) echo "./ticurses feed" ;;
+    *) echo "./$1" ;;
+    esac
+}
+
+# seconds WORD..: the processor time of one run
 seconds() {
     { LC_ALL=C bash -c 'TIMEFORMAT="%U %S"; time "$@" >/dev/null 2>&1' bash "$@"; } 2>&1 | awk '{ print $1 + $2 }'
 }
 
+# share PEER ROWS: the stream that it gets
+share() {
+    case $1-$2 in
+    libvterm-200 | libtsm-200) echo part ;;
+    *) echo stream ;;
+    esac
+}
+
+# timed ROWS COLS: lines of a peer, the mebibytes that it got, and its seconds
+timed() {
+    for peer in $peers; do
+        file=$(share "$peer" "$1")
+        mebibytes=$([ "$file" = part ] && echo 1 || echo 16)
+        took=$(seconds $(words "$peer") "$1" "$2" "$file")
+        start=0
+        [ "$peer" != libvte ] || start=$(seconds $(words "$peer") "$1" "$2" one)
+        echo "$peer $mebibytes $took $start"
+    done
+}
+
+# counted ROWS COLS: lines of a peer and its instructions for each byte
+counted() {
+    for peer in $peers; do
+        [ "$peer" != libvte ] || continue
+        few=$(instructions $(words "$peer") "$1" "$2" one)
+        many=$(instructions $(words "$peer") "$1" "$2" little)
+        echo "$peer $few $many"
+    done | awk '{ printf "%s %.1f\n", $1, ($3 - $2) / 65535 }'
+}
+
+# same KIND ROWS COLS: libvterm's screen is that of ticurses
+same() {
+    case " $peers " in *" libvterm "*) ;; *) return ;; esac
+    for peer in ticurses libvterm; do
+        $(words "$peer") "$2" "$3" "$(share libvterm "$2")" >"$peer.screen"
+    done
+    cmp -s ticurses.screen libvterm.screen || {
+        echo "feed: the screens of the stream $1 differ at $2 by $3" >&2
+        exit 1
+    }
+}
+
 # measure KIND ROWS COLS
 measure() {
-    awk -v kind="$1" -v rows="$2" -v cols="$3" -v bytes=1048576 -f stream.awk >"$work/part"
-    for part in 1 2 3 4 5 6 7 8 9 10 11 12 13 14 15 16; do
-        cat "$work/part"
-    done >"$work/stream"
-    share=stream
-    [ "$2" = 24 ] || share=part
-    "$ours" feed "$2" "$3" "$work/$share" >"$work/ours"
-    if [ -n "$peer" ]; then
-        "$peer" "$2" "$3" "$work/$share" >"$work/theirs"
-        if ! cmp -s "$work/ours" "$work/theirs"; then
-            echo "feed: the screens of the stream $1 differ at $2 by $3" >&2
-            exit 1
-        fi
-    fi
-    for turn in 1 2 3 4 5; do
-        echo "ticurses $(seconds "$ours" feed "$2" "$3" "$work/stream")"
-        [ -z "$peer" ] || echo "libvterm $(seconds "$peer" "$2" "$3" "$work/$share")"
-        [ -z "$other" ] || echo "vt100 $(seconds "$other" "$2" "$3" "$work/stream")"
-    done | awk -v kind="$1" -v rows="$2" -v cols="$3" -v parts="$([ $share = part ] && echo 1 || echo 16)" '
-        !($1 in best) || $2 < best[$1] { best[$1] = $2 }
+    awk -v kind="$1" -v rows="$2" -v cols="$3" -v bytes=1048576 -f "$here/stream.awk" >part
+    head -c 65536 part >little
+    for _ in 1 2 3 4 5 6 7 8 9 10 11 12 13 14 15 16; do cat part; done >stream
+    same "$@"
+    for _ in 1 2 3 4 5; do timed "$2" "$3"; done | awk -v what="$(printf '%-10s %3d by %-4d' "$@")" '
+        {
+            speed = $2 * 1.048576 / ($3 > $4 ? $3 - $4 : 0.001)
+            if (!($1 in best)) order[++count] = $1
+            if (speed > best[$1]) best[$1] = speed
+        }
         END {
-            ours = 16 * 1.048576 / best["ticurses"]
-            printf "%-10s %3d by %-4d ticurses %4.0f MB/s", kind, rows, cols, ours
-            if ("libvterm" in best) {
-                theirs = parts * 1.048576 / best["libvterm"]
-                printf ", libvterm %5.1f MB/s, ratio %.1f", theirs, ours / theirs
-            }
-            if ("vt100" in best) {
-                other = 16 * 1.048576 / best["vt100"]
-                printf ", vt100 %5.1f MB/s, ratio %.1f", other, ours / other
-            }
+            printf "%s ticurses %4.0f MB/s", what, best["ticurses"]
+            for (at = 2; at <= count; at++)
+                printf ", %s %5.1f MB/s, ratio %.2f", order[at], best[order[at]], best["ticurses"] / best[order[at]]
             printf "\n"
         }'
+    [ "$2" = 24 ] && can_count || return 0
+    counted "$2" "$3" | awk -v what="$(printf '%-10s %3d by %-4d' "$@")" '
+        NR == 1 { ours = $2; printf "%s ticurses %s instructions a byte", what, $2 }
+        NR > 1 { printf ", %s %s, ratio %.2f", $1, $2, $2 / ours }
+        END { printf "\n" }'
 }
 
 for kind; do

@@ -1,6 +1,8 @@
 #!/bin/sh
-# How many expansions a second `expand` does, and ncurses' tparm beside it in the same run; and how the time
-# grows with a string's length. Each is the least processor time of five runs. Wants bash, a C compiler and ncurses' headers.
+# How many expansions a second `expand` does, and ncurses' tparm and unibilium (Debian: libunibilium-dev) beside it in the
+# same run; and how the time grows with a string's length. Each is the least processor time of five runs. A ratio is the
+# peer's time to that of ticurses. Behind them are the instructions of one expansion, by valgrind's callgrind, which doesn't
+# depend on the machine's load. Wants bash; a peer that can't be built is left out, with a line.
 set -eu
 cd -- "$(dirname -- "$0")/.."
 
@@ -12,12 +14,20 @@ if ! (cd crates/bench_parm && rt run -- 0 '' >"$work/log" 2>&1); then
     exit 1
 fi
 ours=crates/bench_parm/out/bench_parm
-theirs=
-if command -v cc >/dev/null 2>&1 && { cc -O2 -o "$work/peer" bench/parm_peer.c -ltinfo || cc -O2 -o "$work/peer" bench/parm_peer.c -lncurses; } >"$work/log" 2>&1; then
-    theirs=$work/peer
+. bench/instructions.sh
+# the programs that there are
+peers=
+if cc -O2 -o "$work/tparm" bench/parm_peer.c -ltinfo 2>"$work/log" || cc -O2 -o "$work/tparm" bench/parm_peer.c -lncurses 2>"$work/log"; then
+    peers="$peers tparm"
 else
-    echo "bench: tparm is not measured, since cc or ncurses' headers are missing"
+    echo "bench: tparm is left out, since cc or ncurses' headers are missing"
 fi
+if cc -O2 -o "$work/unibilium" bench/unibilium_peer.c -lunibilium 2>"$work/log"; then
+    peers="$peers unibilium"
+else
+    echo "bench: unibilium is left out, since it or cc is missing"
+fi
+can_count || echo "bench: instructions are left out, since valgrind is missing"
 
 # least PROGRAM WORD..: the least processor time of five runs, in nanoseconds
 least() {
@@ -26,24 +36,45 @@ least() {
     done | awk '{ spent = $1 + $2; if (NR == 1 || spent < best) best = spent } END { printf "%d\n", best * 1000000000 }'
 }
 
+# of_one PROGRAM COUNT STRING PARAM..: the instructions of one expansion
+of_one() {
+    program=$1
+    shift 2
+    few=$(instructions "$program" 1000 "$@")
+    many=$(instructions "$program" 3000 "$@")
+    echo $(((many - few) / 2000))
+}
+
+# ratio A B
+ratio() {
+    awk -v a="$1" -v b="$2" 'BEGIN { printf "%.2f", a / b }'
+}
+
 # beside NAME COUNT STRING PARAM..
 beside() {
     name=$1
     shift
     "$ours" "$@" >"$work/ours"
     mine=$(least "$ours" "$@")
-    if [ -z "$theirs" ]; then
-        printf '%-22s %12s\n' "$name" $(($1 * 1000000000 / mine))
-        return
-    fi
-    "$theirs" "$@" >"$work/theirs"
-    cmp -s "$work/ours" "$work/theirs" || {
-        echo "bench: $name: not as many bytes as tparm" >&2
-        exit 1
-    }
-    other=$(least "$theirs" "$@")
-    printf '%-22s %12s %12s %8s\n' "$name" $(($1 * 1000000000 / mine)) $(($1 * 1000000000 / other)) \
-        "$(awk "BEGIN { printf \"%.2f\", $other / $mine }")"
+    printf '%-22s ticurses %9d a second' "$name" $(($1 * 1000000000 / mine))
+    for peer in $peers; do
+        "$work/$peer" "$@" >"$work/theirs"
+        cmp -s "$work/ours" "$work/theirs" || {
+            echo "bench: $name: not as many bytes as $peer" >&2
+            exit 1
+        }
+        other=$(least "$work/$peer" "$@")
+        printf ', %s %9d, ratio %s' "$peer" $(($1 * 1000000000 / other)) "$(ratio "$other" "$mine")"
+    done
+    printf '\n'
+    can_count || return 0
+    mine=$(of_one "$ours" "$@")
+    printf '%-22s ticurses %9d instructions' "$name" "$mine"
+    for peer in $peers; do
+        other=$(of_one "$work/$peer" "$@")
+        printf ', %s %9d, ratio %s' "$peer" "$other" "$(ratio "$other" "$mine")"
+    done
+    printf '\n'
 }
 
 # grows NAME STRING HALF PARAM: nanoseconds a byte, of the whole string and of one half as long
@@ -71,7 +102,6 @@ others() {
 escape=$(printf '\033')
 in=$(printf '\016')
 out=$(printf '\017')
-echo "expansions a second         ticurses        tparm    ratio"
 beside 'cup 23 79' 1000000 "${escape}[%i%p1%d;%p2%dH" 23 79
 beside 'sgr, nine parameters' 500000 "${escape}[0;10%?%p1%t;7%;%?%p2%t;4%;%?%p3%t;7%;%?%p4%t;5%;%?%p5%t;2%;%?%p6%t;1%;m%?%p9%t$in%e$out%;" 0 1 0 1 0 1 0 0 1
 beside 'setaf 200' 1000000 "${escape}[%?%p1%{8}%<%t3%p1%d%e%p1%{16}%<%t9%p1%{8}%-%d%e38;5;%p1%d%;m" 200
