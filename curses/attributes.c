@@ -3,11 +3,8 @@
 
 #include "calls.h"
 
-/* the attributes that cells have */
-#define KNOWN (A_STANDOUT | A_UNDERLINE | A_REVERSE | A_BLINK | A_DIM | A_BOLD | A_INVIS | A_ALTCHARSET)
-
 static int set(WINDOW *window, chtype attrs) {
-    attrs &= KNOWN | A_COLOR;
+    attrs &= TCU_SHOWN | A_COLOR;
     if (!tcu_is_own(window)) return ERR;
     if (attrs == window->attrs) return OK;
     if (session_attrset(window->number, attrs) != OK) return ERR;
@@ -76,7 +73,7 @@ attr_t getattrs(const WINDOW *window) {
 
 /* A background without a character is of spaces. */
 static chtype background_of(chtype ch) {
-    return (ch & (KNOWN | A_COLOR)) | (TCU_BYTE(ch) ? TCU_BYTE(ch) : ' ');
+    return (ch & (TCU_SHOWN | A_COLOR)) | (TCU_BYTE(ch) ? TCU_BYTE(ch) : ' ');
 }
 
 void wbkgdset(WINDOW *window, chtype ch) {

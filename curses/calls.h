@@ -1,5 +1,6 @@
-/* The proved session: a function for each call that this library makes of it, by numbers. calls.c alone knows how they
- * get there. Each answers OK, or ERR where the call was refused; what a refused call changes is in docs/LIBRARY.md. */
+/* The proved session: a function for each call that this library makes of it. session.c, run.c and calls.c alone know how
+ * they get there. Each answers OK, or ERR where the call was refused; what a refused call changes is in
+ * docs/LIBRARY.md. */
 #ifndef TICURSES_CURSES_CALLS_H
 #define TICURSES_CURSES_CALLS_H
 
@@ -23,8 +24,19 @@ int session_send_beside(int fd, const char *bytes, size_t count);
 /* What the terminal shows isn't known: the next refresh repairs it. */
 void session_lost(void);
 
-int session_cursor(int window, int *y, int *x);
 int session_cell(int window, int y, int x, chtype *cell);
+
+/* Text waits, with the cursor and the attributes that it is written with, and goes to the session when another call is
+ * made (run.c). */
+int session_cursor(int window, int *y, int *x);
+int session_move(int window, int y, int x);
+int session_addch(int window, chtype cell);
+int session_addstr(int window, const char *text, size_t len);
+/* attributes and pair at once */
+int session_attrset(int window, chtype attrs);
+/* Writes printable characters that end before the cursor's line does, with these attributes besides, and gives their
+ * place; false where they are others, and nothing is written. */
+bool session_write(int window, const char *text, size_t len, chtype marks, int *y, int *x);
 
 int session_newwin(int number, int lines, int columns, int y, int x);
 int session_newpad(int number, int lines, int columns);
@@ -34,9 +46,6 @@ int session_dupwin(int number, int window);
 int session_delwin(int window);
 int session_mvwin(int window, int y, int x);
 
-int session_move(int window, int y, int x);
-int session_addch(int window, chtype cell);
-int session_addstr(int window, const char *text, size_t len);
 int session_insch(int window, chtype cell);
 int session_delch(int window);
 int session_insertln(int window);
@@ -51,8 +60,6 @@ int session_border(int window, const chtype cells[8]);
 int session_scroll(int window, int count);
 int session_setscrreg(int window, int top, int bottom);
 
-/* attributes and pair at once */
-int session_attrset(int window, chtype attrs);
 int session_bkgdset(int window, chtype cell);
 int session_bkgd(int window, chtype cell);
 int session_init_pair(int pair, int foreground, int background);
@@ -65,8 +72,7 @@ int session_scrollok(int window, bool is_on);
 int session_leaveok(int window, bool is_on);
 int session_clearok(int window, bool is_on);
 
-int session_noutrefresh(int window);
-int session_doupdate(void);
+int session_refresh(int window);
 int session_curs_set(int visibility);
 int session_beep(void);
 int session_endwin(void);

@@ -7,8 +7,8 @@
 /* What can't stand in a cell is a space where it is nothing, and else a question mark. */
 static chtype drawable(chtype cell) {
     unsigned byte = TCU_BYTE(cell);
-    chtype known = cell & (TCU_MARKS & 0x00ff0000u);
-    if (PAIR_NUMBER(cell) < 64) known |= cell & A_COLOR;
+    chtype known = cell & TCU_SHOWN;
+    if (PAIR_NUMBER(cell) < TCU_PAIRS) known |= cell & A_COLOR;
     return known | (byte == 0 ? ' ' : byte < 32 || byte > 126 ? '?' : byte);
 }
 
@@ -43,12 +43,12 @@ int waddchstr(WINDOW *window, const chtype *cells) {
 int wchgat(WINDOW *window, int count, attr_t attrs, short pair, const void *options) {
     chtype cells[TCU_PAD_MAX];
     int y, x;
-    if (!tcu_is_own(window) || options || pair < 0 || pair > 63) return ERR;
+    if (!tcu_is_own(window) || options || pair < 0 || pair >= TCU_PAIRS) return ERR;
     if (session_cursor(window->number, &y, &x) != OK) return ERR;
     if (count < 0 || count > window->columns - x) count = window->columns - x;
     for (int at = 0; at < count; at++) {
         if (session_cell(window->number, y, x + at, &cells[at]) != OK) return ERR;
-        cells[at] = (cells[at] & (A_CHARTEXT | A_ALTCHARSET)) | (attrs & TCU_MARKS) | COLOR_PAIR(pair);
+        cells[at] = (cells[at] & (A_CHARTEXT | A_ALTCHARSET)) | (attrs & TCU_SHOWN) | COLOR_PAIR(pair);
     }
     return tcu_changed(window, tcu_put_cells(window, y, x, cells, count));
 }

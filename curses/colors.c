@@ -3,10 +3,10 @@
 
 #include "calls.h"
 
-enum { PAIRS = 64, SHADES = 8 };
+enum { SHADES = 8 };
 
-static short pairs[PAIRS][2];
-static bool has_pair[PAIRS];
+static short pairs[TCU_PAIRS][2];
+static bool has_pair[TCU_PAIRS];
 
 /* Whether the program has said what the pair is. */
 bool tcu_has_pair(int pair) {
@@ -29,8 +29,8 @@ int start_color(void) {
     if (!has_colors()) return ERR;
     tcu.has_colors = true;
     COLORS = SHADES;
-    COLOR_PAIRS = PAIRS;
-    for (int pair = 0; pair < PAIRS; pair++) {
+    COLOR_PAIRS = TCU_PAIRS;
+    for (int pair = 0; pair < TCU_PAIRS; pair++) {
         pairs[pair][0] = pair == 0 ? COLOR_WHITE : 0;
         pairs[pair][1] = 0;
         has_pair[pair] = false;
@@ -43,7 +43,7 @@ static bool is_color(short color) {
 }
 
 int init_pair(short pair, short foreground, short background) {
-    if (!tcu.has_colors || pair < 1 || pair >= PAIRS || !is_color(foreground) || !is_color(background)) return ERR;
+    if (!tcu.has_colors || pair < 1 || pair >= TCU_PAIRS || !is_color(foreground) || !is_color(background)) return ERR;
     if (session_init_pair(pair, foreground, background) != OK) return ERR;
     pairs[pair][0] = foreground;
     pairs[pair][1] = background;
@@ -52,7 +52,7 @@ int init_pair(short pair, short foreground, short background) {
 }
 
 int pair_content(short pair, short *foreground, short *background) {
-    if (!tcu.has_colors || pair < 0 || pair >= PAIRS) return ERR;
+    if (!tcu.has_colors || pair < 0 || pair >= TCU_PAIRS) return ERR;
     if (foreground) *foreground = pairs[pair][0];
     if (background) *background = pairs[pair][1];
     return OK;

@@ -39,10 +39,10 @@ static void touch_written(WINDOW *window, struct written text, int code) {
 
 /* One character as it is drawn: a byte above 126 as unctrl has it. */
 static int add(WINDOW *window, chtype ch) {
-    const char *text = unctrl(ch);
+    const char *text;
     int code = OK;
     if (TCU_BYTE(ch) < 128) return session_addch(window->number, ch);
-    for (; *text && code == OK; text++) code = session_addch(window->number, (unsigned char)*text | (ch & ~A_CHARTEXT));
+    for (text = unctrl(ch); *text && code == OK; text++) code = session_addch(window->number, (unsigned char)*text | (ch & ~A_CHARTEXT));
     return code;
 }
 
@@ -59,11 +59,22 @@ static int add_tab(WINDOW *window, chtype marks) {
     return code;
 }
 
+/* Writes printable characters within the cursor's line, which is the usual case; whether they are so. */
+static bool is_written(WINDOW *window, const char *text, size_t len, chtype marks) {
+    int y, x;
+    if (!session_write(window->number, text, len, marks, &y, &x)) return false;
+    tcu_touch(window, y, x, x + (int)len - 1);
+    return true;
+}
+
 int waddch(WINDOW *window, chtype ch) {
     struct written text = {0, 0, 1, false};
     int code;
     unsigned byte = TCU_BYTE(ch);
-    if (!tcu_is_own(window) || session_cursor(window->number, &text.y, &text.x) != OK) return ERR;
+    const char letter = (char)byte;
+    if (!tcu_is_own(window)) return ERR;
+    if (is_written(window, &letter, 1, ch & ~A_CHARTEXT)) return tcu_changed(window, OK);
+    if (session_cursor(window->number, &text.y, &text.x) != OK) return ERR;
     code = byte == '\t' ? add_tab(window, ch & ~A_CHARTEXT) : add(window, ch);
     if (byte == '\r' || byte == '\b') return code;
     text.has_moves = byte == '\n';
@@ -104,8 +115,10 @@ static int add_text(WINDOW *window, const char *text, size_t len) {
 int waddnstr(WINDOW *window, const char *text, int count) {
     struct written what = {0, 0, 0, false};
     int code;
-    if (!tcu_is_own(window) || !text || session_cursor(window->number, &what.y, &what.x) != OK) return ERR;
+    if (!tcu_is_own(window) || !text) return ERR;
     what.count = count < 0 ? strlen(text) : strnlen(text, (size_t)count);
+    if (is_written(window, text, what.count, 0)) return tcu_changed(window, OK);
+    if (session_cursor(window->number, &what.y, &what.x) != OK) return ERR;
     for (size_t at = 0; at < what.count && !what.has_moves; at++)
         what.has_moves = (unsigned char)text[at] < 32 || (unsigned char)text[at] > 126;
     code = add_text(window, text, what.count);

@@ -13,10 +13,10 @@ enum {
     TCU_SCRATCH = 62, /* a pad of one line, from which cells are copied as they are */
     TCU_WINDOWS = 62  /* so many are the program's, with stdscr */
 };
-/* a pad has at most so many lines and columns */
-enum { TCU_PAD_MAX = 1000 };
-/* attributes and pair of a chtype */
-#define TCU_MARKS (A_ATTRIBUTES & ~A_COLOR)
+/* a pad has at most so many lines and columns, and cells have so many pairs */
+enum { TCU_PAD_MAX = 1000, TCU_PAIRS = 64 };
+/* the attributes that cells have */
+#define TCU_SHOWN (A_STANDOUT | A_UNDERLINE | A_REVERSE | A_BLINK | A_DIM | A_BOLD | A_INVIS | A_ALTCHARSET)
 #define TCU_BYTE(ch) ((unsigned)((ch) & A_CHARTEXT))
 
 /* The touched columns of a line; none where `first` is above `last`. */

@@ -56,7 +56,7 @@ int wnoutrefresh(WINDOW *window) {
     tcu_resume();
     if (window == curscr || window == newscr) return OK;
     wsyncdown(window);
-    if (copy_touched(window) != OK || session_cursor(window->number, &y, &x) != OK) return ERR;
+    if (session_cursor(window->number, &y, &x) != OK || copy_touched(window) != OK) return ERR;
     window->is_moved = false;
     pass_on_clearing(window);
     place_cursor(window, window->y + y, window->x + x);
@@ -70,8 +70,7 @@ int doupdate(void) {
     tcu_resume();
     pass_on_clearing(curscr);
     pass_on_clearing(newscr);
-    code = session_noutrefresh(TCU_NEWSCR);
-    if (code == OK) code = session_doupdate();
+    code = session_refresh(TCU_NEWSCR);
     if (session_send(tcu.output) != OK) code = ERR;
     tcu.is_current = code == OK;
     return code;

@@ -1,0 +1,192 @@
+/* Text that waits. Printable characters that are written one after the other in a line go to the session together, and
+ * the cursor's place and the attributes that they have go there with them, once another call is made. None of this can
+ * be refused: the place is in the window, the text ends before the line's last column, and its pair is one. */
+#include <string.h>
+
+#include "session.h"
+
+enum { NONE = -1 };
+
+/* The window of which the cursor is known, and what is to become of it. */
+static struct {
+    int window;
+    int y, x;        /* where the text begins */
+    bool is_moved;   /* the session has the cursor elsewhere */
+    chtype wanted;   /* the attributes and the pair that the window has for the program */
+    chtype marks;    /* those of the text */
+    size_t count;
+    char text[TCU_PAD_MAX];
+} run = {NONE, 0, 0, false, 0, 0, 0, {0}};
+
+/* What each window has in the session; a size of no lines hasn't been asked for. */
+static struct {
+    int lines, columns;
+    chtype marks;
+} known[TCU_NEWSCR + 1];
+
+void run_begin(void) {
+    memset(known, 0, sizeof known);
+    run.window = NONE;
+}
+
+void run_made(int window) {
+    known[window].lines = 0;
+    known[window].marks = 0;
+}
+
+void run_copied(int window, int source) {
+    known[window] = known[source];
+}
+
+/* Has the session's window write with these attributes and this pair. */
+static void set_marks(chtype marks) {
+    chtype *now = &known[run.window].marks;
+    if ((marks ^ *now) & A_COLOR) ticurses_color_set(&tcu_session, (size_t)run.window, PAIR_NUMBER(marks));
+    if ((marks ^ *now) & ~A_COLOR) ticurses_attrset(&tcu_session, (size_t)run.window, (int)(marks >> 16));
+    *now = marks;
+}
+
+/* Whether a cell of the text can be written without that: the window's own attributes and its pair join a cell's. */
+static bool is_joined(void) {
+    chtype now = known[run.window].marks;
+    return !(now & TCU_SHOWN & ~run.marks) && (run.marks & A_COLOR || !(now & A_COLOR));
+}
+
+void run_flush(void) {
+    if (run.window == NONE) return;
+    if (run.is_moved) ticurses_move(&tcu_session, (size_t)run.window, run.y, run.x);
+    run.is_moved = false;
+    if (run.count == 0) return;
+    if (run.count == 1 && is_joined()) {
+        chtype cell = run.marks | (unsigned char)run.text[0];
+        ticurses_addch(&tcu_session, (size_t)run.window, session_cell_of(cell));
+    } else {
+        set_marks(run.marks);
+        ticurses_addstr(&tcu_session, (size_t)run.window, run.text, run.count);
+    }
+    run.x += (int)run.count;
+    run.count = 0;
+}
+
+void run_end(void) {
+    if (run.window == NONE) return;
+    run_flush();
+    set_marks(run.wanted);
+    run.window = NONE;
+}
+
+/* Whether the window is the one of which all is known, now. */
+static bool is_current(int window) {
+    uint16_t one, other;
+    if (run.window == window) return true;
+    run_end();
+    if (known[window].lines == 0) {
+        if (ticurses_window_size(&tcu_session, (size_t)window, &one, &other) != TICURSES_OK) return false;
+        known[window].lines = one;
+        known[window].columns = other;
+    }
+    if (ticurses_cursor(&tcu_session, (size_t)window, &one, &other) != TICURSES_OK) return false;
+    run.window = window;
+    run.y = one;
+    run.x = other;
+    run.is_moved = false;
+    run.wanted = known[window].marks;
+    run.count = 0;
+    return true;
+}
+
+static bool is_printable(const char *text, size_t len) {
+    for (size_t at = 0; at < len; at++)
+        if (text[at] < 32 || text[at] > 126) return false;
+    return true;
+}
+
+/* Whether a text fits into the line of the cursor, so that this stays in it. */
+static bool has_room(size_t len) {
+    size_t column = (size_t)run.x + run.count;
+    return len < (size_t)known[run.window].columns - column;
+}
+
+/* Adds text to what waits. */
+static void add(const char *text, size_t len, chtype marks) {
+    chtype pair = marks & A_COLOR ? marks & A_COLOR : run.wanted & A_COLOR;
+    marks = ((run.wanted | marks) & TCU_SHOWN) | pair;
+    if (marks != run.marks) {
+        if (run.count > 0) run_flush();
+        run.marks = marks;
+    }
+    for (size_t at = 0; at < len; at++) run.text[run.count++] = text[at];
+}
+
+bool session_write(int window, const char *text, size_t len, chtype marks, int *y, int *x) {
+    bool is_written;
+    if (tcu_is_busy) return false;
+    tcu_is_busy = 1;
+    is_written = PAIR_NUMBER(marks) < TCU_PAIRS && is_current(window) && has_room(len) && is_printable(text, len);
+    if (is_written) {
+        *y = run.y;
+        *x = run.x + (int)run.count;
+        add(text, len, marks);
+    }
+    tcu_is_busy = 0;
+    return is_written;
+}
+
+int session_addch(int window, chtype cell) {
+    char byte = (char)TCU_BYTE(cell);
+    int y, x;
+    if (session_write(window, &byte, 1, cell & ~A_CHARTEXT, &y, &x)) return OK;
+    if (!session_begins()) return ERR;
+    return session_done(ticurses_addch(&tcu_session, (size_t)window, session_cell_of(cell)));
+}
+
+int session_addstr(int window, const char *text, size_t len) {
+    int y, x;
+    if (session_write(window, text, len, 0, &y, &x)) return OK;
+    return session_begins() ? session_done(ticurses_addstr(&tcu_session, (size_t)window, text, len)) : ERR;
+}
+
+static int moved(int window, int y, int x) {
+    if (!is_current(window)) return ERR;
+    if (y < 0 || x < 0 || y >= known[window].lines || x >= known[window].columns) return ERR;
+    if (y == run.y && x == run.x + (int)run.count) return OK;
+    if (run.count > 0) run_flush();
+    run.y = y;
+    run.x = x;
+    run.is_moved = true;
+    return OK;
+}
+
+int session_move(int window, int y, int x) {
+    int code;
+    if (tcu_is_busy) return ERR;
+    tcu_is_busy = 1;
+    code = moved(window, y, x);
+    tcu_is_busy = 0;
+    return code;
+}
+
+int session_cursor(int window, int *y, int *x) {
+    int code = ERR;
+    if (tcu_is_busy) return ERR;
+    tcu_is_busy = 1;
+    if (is_current(window)) {
+        *y = run.y;
+        *x = run.x + (int)run.count;
+        code = OK;
+    }
+    tcu_is_busy = 0;
+    return code;
+}
+
+int session_attrset(int window, chtype attrs) {
+    int code = ERR;
+    if (tcu_is_busy || PAIR_NUMBER(attrs) >= TCU_PAIRS) return ERR;
+    tcu_is_busy = 1;
+    if (is_current(window)) {
+        run.wanted = attrs & (TCU_SHOWN | A_COLOR);
+        code = OK;
+    }
+    tcu_is_busy = 0;
+    return code;
+}
