@@ -26,11 +26,17 @@ static size_t known_count;
 void tcu_learn_keys(void) {
     known_count = 0;
     for (size_t at = 0; at < tcu_key_count && known_count < sizeof known / sizeof *known; at++) {
-        const char *text = entry_string(tcu_keys[at].name);
+        const char *text = entry_learn(tcu_keys[at].name);
         if (!text || !*text) continue;
         known[known_count].text = text;
         known[known_count++].key = tcu_keys[at].key;
     }
+}
+
+int has_key(int key) {
+    for (size_t at = 0; tcu.is_open && at < known_count; at++)
+        if (known[at].key == key) return TRUE;
+    return FALSE;
 }
 
 /* Sends the string that has the keypad send keys, or the one that ends it. */

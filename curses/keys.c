@@ -83,9 +83,3 @@ const char *keyname(int key) {
     snprintf(at, sizeof rooms[0], "M-%s", unctrl((chtype)key & 127));
     return at;
 }
-
-int has_key(int key) {
-    for (size_t at = 0; tcu.is_open && at < tcu_key_count; at++)
-        if (tcu_keys[at].key == key && entry_string(tcu_keys[at].name)) return TRUE;
-    return FALSE;
-}

@@ -82,7 +82,11 @@ bool tcu_has_pair(int pair);
 /* entry.c */
 bool entry_find(const char *type);
 const void *entry_bytes(size_t *len);
+/* A string, or null where the entry has none of this name: for keys, and for all others that this library asks for. The
+ * first one reads it, and it stays until another entry is found. */
+const char *entry_learn(const char *name);
 const char *entry_string(const char *name);
+/* A number, -1 where the entry has none of this name. */
 int entry_number(const char *name);
 const char *entry_long_name(void);
 
