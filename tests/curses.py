@@ -358,21 +358,28 @@ def judge_signals(made):
 
 
 def judge_random(work, prefix):
-    """Random calls on a terminal that isn't there, with the sanitizers and under valgrind."""
-    made, tries = f"{work}/random", []
+    """Random calls on a terminal that isn't there, with the sanitizers and under valgrind. Texts that wait for other
+    calls answer and leave what they do where each is sent at once."""
+    made, seeds = f"{work}/random", range(4)
     sources = [f"{curses_library.SOURCES}/{it}" for it in curses_library.sources()]
     words = ["cc", "-std=c99", "-O1", "-w", f"-I{curses_library.INCLUDE}", f"{HERE}/random.c"]
     for name, own in ((f"{made}_sanitized", SANITIZED), (made, ["-g"])):
         if subprocess.run([*words, *own, *sources, f"{prefix}/lib/libticurses.a", "-o", name]).returncode:
             fail("random.c doesn't compile")
-    tries += [[f"{made}_sanitized", str(seed), "60000"] for seed in range(4)]
+    tries = [[f"{made}_sanitized", str(seed), "30000"] for seed in seeds]
+    tries += [[made, str(seed), "30000", "once"] for seed in seeds]
     if not missing("curses", "valgrind"):
         tries.append(["valgrind", "-q", "--error-exitcode=9", "--leak-check=full", made, "5", "6000"])
+    told = []
     with ThreadPoolExecutor(len(os.sched_getaffinity(0))) as pool:
         for ran in pool.map(lambda it: subprocess.run(it, capture_output=True, text=True, errors="replace"), tries):
             if ran.returncode:
                 fail(f"{' '.join(ran.args)} ends with status {ran.returncode}: {ran.stderr[-4000:]}")
-    print(f"curses: random calls, {len(tries)} runs with the sanitizers and valgrind, find nothing wrong")
+            told.append(ran.stdout)
+    for seed in seeds:
+        if not told[seed] or told[seed] != told[seed + len(seeds)]:
+            fail(f"random {seed} gives {told[seed]!r}, and {told[seed + len(seeds)]!r} where each text is sent at once")
+    print(f"curses: random calls, {len(tries)} runs, some with the sanitizers and valgrind, find nothing wrong")
 
 
 def main():

@@ -1,5 +1,6 @@
-/* random SEED COUNT: makes COUNT calls of curses with arguments of all kinds, on a terminal that isn't there, for the
- * sanitizers and valgrind. It ignores the answers of the calls, except where something must hold of any window. */
+/* random SEED COUNT [once]: makes so many calls of curses with arguments of all kinds, on a terminal that isn't there,
+ * for the sanitizers and valgrind, and prints a number for what texts answered and what all windows hold at the end.
+ * With `once` each text reaches the session before the next one, and the number has to be the same. */
 #include <curses.h>
 
 #include <stdlib.h>
@@ -8,6 +9,12 @@ enum { WINDOWS = 24 };
 
 static WINDOW *windows[WINDOWS];
 static unsigned state;
+static unsigned long seen = 5381;
+static bool is_at_once;
+
+static void see(unsigned long number) {
+    seen = (seen * 33 + number) & 0xffffffff;
+}
 
 static int below(int count) {
     state = state * 1103515245u + 12345u;
@@ -80,6 +87,26 @@ static void write_something(WINDOW *w) {
     }
 }
 
+/* Texts one after the other in one window, with other calls between that concern the cursor and the attributes. */
+static void write_on(WINDOW *w) {
+    for (int left = below(60); left > 0; left--) {
+        int code;
+        switch (below(14)) {
+        case 0: code = wmove(w, number(), number()); break;
+        case 1: code = wattrset(w, (int)(character() & A_ATTRIBUTES)); break;
+        case 2: code = waddch(w, character()); break;
+        case 3: code = waddnstr(w, text(), below(9)); break;
+        case 4: code = (int)winch(w); break;
+        case 5: code = getcurx(w); break;
+        case 6: code = waddch(w, (chtype)(32 + below(95)) | A_BOLD); break;
+        default: code = waddch(w, (chtype)(32 + below(95)));
+        }
+        see((unsigned long)code);
+        /* a call of the session that changes nothing that is seen here */
+        if (is_at_once) init_pair(63, 7, 0);
+    }
+}
+
 static void change_something(WINDOW *w) {
     switch (below(16)) {
     case 0: wattrset(w, (int)(character() & A_ATTRIBUTES)); break;
@@ -130,6 +157,15 @@ static void seldom(void) {
     }
 }
 
+static void see_window(WINDOW *w) {
+    chtype cells[1001];
+    see((unsigned long)getcury(w) * 1000 + (unsigned long)getcurx(w));
+    for (int line = 0; line < getmaxy(w); line++) {
+        if (mvwinchnstr(w, line, 0, cells, 1000) != OK) continue;
+        for (int at = 0; at < getmaxx(w); at++) see(cells[at]);
+    }
+}
+
 /* The cursor of each window is in it. */
 static bool is_well(void) {
     for (int at = 0; at < WINDOWS; at++) {
@@ -145,18 +181,24 @@ int main(int count, char **words) {
     long left = count > 2 ? atol(words[2]) : 1000;
     SCREEN *screen;
     state = count > 1 ? (unsigned)atol(words[1]) : 1;
+    is_at_once = count > 3;
     screen = nowhere ? newterm("screen", nowhere, nowhere) : NULL;
     if (!screen) return 2;
     start_color();
     for (; left > 0; left--) {
         int kind = below(100);
         if (kind < 12) make();
-        else if (kind < 55) write_something(any());
+        else if (kind < 40) write_something(any());
+        else if (kind < 55) write_on(any());
         else if (kind < 80) change_something(any());
         else if (kind < 97) show_something(any());
         else seldom();
         if (left % 256 == 0 && !is_well()) return 3;
     }
+    see_window(stdscr);
+    for (int at = 0; at < WINDOWS; at++)
+        if (windows[at]) see_window(windows[at]);
+    printf("%lu\n", seen);
     delscreen(screen);
     fclose(nowhere);
     return 0;
