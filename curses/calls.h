@@ -34,9 +34,10 @@ int session_addch(int window, chtype cell);
 int session_addstr(int window, const char *text, size_t len);
 /* attributes and pair at once */
 int session_attrset(int window, chtype attrs);
-/* Writes printable characters that end before the cursor's line does, with these attributes besides, and gives their
- * place; false where they are others, and nothing is written. */
-bool session_write(int window, const char *text, size_t len, chtype marks, int *y, int *x);
+/* Write printable characters that end before the cursor's line does, and give their place; false where they are others,
+ * and nothing is written. */
+bool session_put(int window, chtype cell, int *y, int *x);
+bool session_write(int window, const char *text, size_t len, int *y, int *x);
 
 int session_newwin(int number, int lines, int columns, int y, int x);
 int session_newpad(int number, int lines, int columns);

@@ -59,21 +59,11 @@ static int add_tab(WINDOW *window, chtype marks) {
     return code;
 }
 
-/* Writes printable characters within the cursor's line, which is the usual case; whether they are so. */
-static bool is_written(WINDOW *window, const char *text, size_t len, chtype marks) {
-    int y, x;
-    if (!session_write(window->number, text, len, marks, &y, &x)) return false;
-    tcu_touch(window, y, x, x + (int)len - 1);
-    return true;
-}
-
-int waddch(WINDOW *window, chtype ch) {
+/* A character that may leave the cursor's line. */
+static int add_and_go(WINDOW *window, chtype ch) {
     struct written text = {0, 0, 1, false};
     int code;
     unsigned byte = TCU_BYTE(ch);
-    const char letter = (char)byte;
-    if (!tcu_is_own(window)) return ERR;
-    if (is_written(window, &letter, 1, ch & ~A_CHARTEXT)) return tcu_changed(window, OK);
     if (session_cursor(window->number, &text.y, &text.x) != OK) return ERR;
     code = byte == '\t' ? add_tab(window, ch & ~A_CHARTEXT) : add(window, ch);
     if (byte == '\r' || byte == '\b') return code;
@@ -82,6 +72,14 @@ int waddch(WINDOW *window, chtype ch) {
     if (byte < 32 || byte > 126) text.count = (size_t)TABSIZE + 4;
     touch_written(window, text, code);
     return tcu_changed(window, code);
+}
+
+int waddch(WINDOW *window, chtype ch) {
+    int y, x;
+    if (!tcu_is_own(window)) return ERR;
+    if (!session_put(window->number, ch, &y, &x)) return add_and_go(window, ch);
+    tcu_touch(window, y, x, x);
+    return tcu_changed(window, OK);
 }
 
 int wechochar(WINDOW *window, chtype ch) {
@@ -114,10 +112,13 @@ static int add_text(WINDOW *window, const char *text, size_t len) {
 
 int waddnstr(WINDOW *window, const char *text, int count) {
     struct written what = {0, 0, 0, false};
-    int code;
+    int code, y, x;
     if (!tcu_is_own(window) || !text) return ERR;
     what.count = count < 0 ? strlen(text) : strnlen(text, (size_t)count);
-    if (is_written(window, text, what.count, 0)) return tcu_changed(window, OK);
+    if (session_write(window->number, text, what.count, &y, &x)) {
+        tcu_touch(window, y, x, x + (int)what.count - 1);
+        return tcu_changed(window, OK);
+    }
     if (session_cursor(window->number, &what.y, &what.x) != OK) return ERR;
     for (size_t at = 0; at < what.count && !what.has_moves; at++)
         what.has_moves = (unsigned char)text[at] < 32 || (unsigned char)text[at] > 126;

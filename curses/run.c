@@ -10,13 +10,14 @@ enum { NONE = -1 };
 /* The window of which the cursor is known, and what is to become of it. */
 static struct {
     int window;
-    int y, x;        /* where the text begins */
-    bool is_moved;   /* the session has the cursor elsewhere */
+    int y, x;        /* its cursor, behind the text */
+    int last_x;      /* its last column */
+    bool is_moved;   /* the session has the cursor elsewhere than before the text */
     chtype wanted;   /* the attributes and the pair that the window has for the program */
     chtype marks;    /* those of the text */
-    size_t count;
+    int count;
     char text[TCU_PAD_MAX];
-} run = {NONE, 0, 0, false, 0, 0, 0, {0}};
+} run = {NONE, 0, 0, 0, false, 0, 0, 0, {0}};
 
 /* What each window has in the session; a size of no lines hasn't been asked for. */
 static struct {
@@ -54,7 +55,7 @@ static bool is_joined(void) {
 
 void run_flush(void) {
     if (run.window == NONE) return;
-    if (run.is_moved) ticurses_move(&tcu_session, (size_t)run.window, run.y, run.x);
+    if (run.is_moved) ticurses_move(&tcu_session, (size_t)run.window, run.y, run.x - run.count);
     run.is_moved = false;
     if (run.count == 0) return;
     if (run.count == 1 && is_joined()) {
@@ -62,9 +63,8 @@ void run_flush(void) {
         ticurses_addch(&tcu_session, (size_t)run.window, session_cell_of(cell));
     } else {
         set_marks(run.marks);
-        ticurses_addstr(&tcu_session, (size_t)run.window, run.text, run.count);
+        ticurses_addstr(&tcu_session, (size_t)run.window, run.text, (size_t)run.count);
     }
-    run.x += (int)run.count;
     run.count = 0;
 }
 
@@ -89,10 +89,40 @@ static bool is_current(int window) {
     run.window = window;
     run.y = one;
     run.x = other;
+    run.last_x = known[window].columns - 1;
     run.is_moved = false;
     run.wanted = known[window].marks;
-    run.count = 0;
     return true;
+}
+
+/* The marks of a character with some of its own: they join the window's, but for the pair. */
+static chtype joined(chtype marks) {
+    chtype pair = marks & A_COLOR ? marks & A_COLOR : run.wanted & A_COLOR;
+    return ((run.wanted | marks) & TCU_SHOWN) | pair;
+}
+
+/* From here on the text has these. */
+static void turn_to(chtype marks) {
+    if (run.count > 0) run_flush();
+    run.marks = marks;
+}
+
+/* A text that ends before the line's last column leaves the cursor in that line. */
+bool session_put(int window, chtype cell, int *y, int *x) {
+    chtype marks = cell & ~A_CHARTEXT;
+    bool is_put = false;
+    if (tcu_is_busy || TCU_BYTE(cell) < 32 || TCU_BYTE(cell) > 126 || PAIR_NUMBER(cell) >= TCU_PAIRS) return false;
+    tcu_is_busy = 1;
+    if (is_current(window) && run.x < run.last_x) {
+        marks = marks ? joined(marks) : run.wanted;
+        if (marks != run.marks) turn_to(marks);
+        *y = run.y;
+        *x = run.x++;
+        run.text[run.count++] = (char)TCU_BYTE(cell);
+        is_put = true;
+    }
+    tcu_is_busy = 0;
+    return is_put;
 }
 
 static bool is_printable(const char *text, size_t len) {
@@ -101,55 +131,40 @@ static bool is_printable(const char *text, size_t len) {
     return true;
 }
 
-/* Whether a text fits into the line of the cursor, so that this stays in it. */
-static bool has_room(size_t len) {
-    size_t column = (size_t)run.x + run.count;
-    return len < (size_t)known[run.window].columns - column;
-}
-
-/* Adds text to what waits. */
-static void add(const char *text, size_t len, chtype marks) {
-    chtype pair = marks & A_COLOR ? marks & A_COLOR : run.wanted & A_COLOR;
-    marks = ((run.wanted | marks) & TCU_SHOWN) | pair;
-    if (marks != run.marks) {
-        if (run.count > 0) run_flush();
-        run.marks = marks;
-    }
-    for (size_t at = 0; at < len; at++) run.text[run.count++] = text[at];
-}
-
-bool session_write(int window, const char *text, size_t len, chtype marks, int *y, int *x) {
-    bool is_written;
+bool session_write(int window, const char *text, size_t len, int *y, int *x) {
+    bool is_written = false;
     if (tcu_is_busy) return false;
     tcu_is_busy = 1;
-    is_written = PAIR_NUMBER(marks) < TCU_PAIRS && is_current(window) && has_room(len) && is_printable(text, len);
-    if (is_written) {
+    if (is_current(window) && len <= (size_t)(run.last_x - run.x) && is_printable(text, len)) {
+        if (run.wanted != run.marks) turn_to(run.wanted);
         *y = run.y;
-        *x = run.x + (int)run.count;
-        add(text, len, marks);
+        *x = run.x;
+        memcpy(run.text + run.count, text, len);
+        run.count += (int)len;
+        run.x += (int)len;
+        is_written = true;
     }
     tcu_is_busy = 0;
     return is_written;
 }
 
 int session_addch(int window, chtype cell) {
-    char byte = (char)TCU_BYTE(cell);
     int y, x;
-    if (session_write(window, &byte, 1, cell & ~A_CHARTEXT, &y, &x)) return OK;
+    if (session_put(window, cell, &y, &x)) return OK;
     if (!session_begins()) return ERR;
     return session_done(ticurses_addch(&tcu_session, (size_t)window, session_cell_of(cell)));
 }
 
 int session_addstr(int window, const char *text, size_t len) {
     int y, x;
-    if (session_write(window, text, len, 0, &y, &x)) return OK;
+    if (session_write(window, text, len, &y, &x)) return OK;
     return session_begins() ? session_done(ticurses_addstr(&tcu_session, (size_t)window, text, len)) : ERR;
 }
 
 static int moved(int window, int y, int x) {
     if (!is_current(window)) return ERR;
     if (y < 0 || x < 0 || y >= known[window].lines || x >= known[window].columns) return ERR;
-    if (y == run.y && x == run.x + (int)run.count) return OK;
+    if (y == run.y && x == run.x) return OK;
     if (run.count > 0) run_flush();
     run.y = y;
     run.x = x;
@@ -172,7 +187,7 @@ int session_cursor(int window, int *y, int *x) {
     tcu_is_busy = 1;
     if (is_current(window)) {
         *y = run.y;
-        *x = run.x + (int)run.count;
+        *x = run.x;
         code = OK;
     }
     tcu_is_busy = 0;

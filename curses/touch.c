@@ -2,7 +2,7 @@
  * its own, though it has its parent's characters. */
 #include "private.h"
 
-static const struct tcu_line untouched = {1, 0};
+static const struct tcu_line untouched = {TCU_PAD_MAX, -1};
 
 static bool is_touched(const struct tcu_line *line) {
     return line->first <= line->last;
@@ -15,11 +15,6 @@ void tcu_touch(WINDOW *window, int line, int first, int last) {
     if (last >= window->columns) last = window->columns - 1;
     if (first > last) return;
     at = &window->touched[line];
-    if (!is_touched(at)) {
-        at->first = first;
-        at->last = last;
-        return;
-    }
     if (first < at->first) at->first = first;
     if (last > at->last) at->last = last;
 }
