@@ -1,24 +1,33 @@
 #!/bin/sh
-# The processor time of a refresh, and how many bytes it sends, for a C program that is compiled against this
-# library and against ncurses (curses_scenes.c): the same calls, with the same entry, into a file; both by turns, the best
-# of five. A refresh is counted with the calls that draw what it shows. The line `open` is opening a session, with the
-# check of the entry in it. `chars` and `lines` write each cell by a call of its own, which in ticurses is a function of
-# numbers and a line of text. The entry is without `rep`, which ticurses doesn't use. Where the two leave other characters
-# on the screen, a line says so; colors of blanks and the cursor of a pad are not compared.
+# The processor time of a refresh, and how many bytes it sends, for a C program (curses_scenes.c) over three libraries:
+# ncurses, the library of ticurses for programs that were written for curses ("curses.h"), and the sessions of ticurses.
+# The same calls with the same entry go into a file, by turns, and the best of five counts. A refresh is counted with the
+# calls that draw what it shows. The line `open` is opening a session, with the check of the entry in it. `chars` and
+# `lines` write each cell by a call of its own, which with sessions is a function of numbers and a line of text. The entry
+# is without `rep`, which ticurses doesn't use. Where ticurses leaves other characters on the screen than ncurses, a line
+# says so; colors of blanks and the cursor of a pad are not compared.
 # curses.sh [ROWSxCOLS..]: 24x80 50x132 200x500 if none is given. ENTRY is the terminal, xterm-256color if it isn't set.
+# With INSTRUCTIONS=1 it counts the instructions of a refresh by callgrind in place of the time.
 set -eu
 cd -- "$(dirname -- "$0")"
 work=$(mktemp -d)
 trap 'rm -rf "$work"' EXIT
 trap 'exit 130' HUP INT TERM
 entry=${ENTRY:-xterm-256color}
+count=${INSTRUCTIONS:-}
 
 ../install PREFIX="$work/prefix" >"$work/log"
-if ! cc -O2 -DNCURSES -o "$work/ncurses" curses_scenes.c -lncurses 2>"$work/log"; then
+lib=$work/prefix/lib include=$work/prefix/include
+if ! cc -O2 -DCURSES -o "$work/ncurses" curses_scenes.c -lncurses 2>"$work/log"; then
     echo "curses: a C compiler, ncurses or its headers are missing" >&2
     exit 1
 fi
-cc -O2 -I"$work/prefix/include" -o "$work/ticurses" curses_scenes.c "$work/prefix/lib/libticurses.a"
+if [ "$count" ] && ! command -v valgrind >/dev/null; then
+    echo "curses: valgrind is missing, which counts instructions" >&2
+    exit 1
+fi
+cc -O2 -DCURSES -I"$include/ticurses" -o "$work/curses" curses_scenes.c "$lib/libticurses_curses.a" "$lib/libticurses.a"
+cc -O2 -I"$include" -o "$work/session" curses_scenes.c "$lib/libticurses.a"
 mkdir "$work/terminfo"
 # the terminal of `feed` has no `rep`
 infocmp -1 -x "$entry" | grep -v '^.rep=' >"$work/source"
@@ -28,37 +37,60 @@ export TERMINFO
 compiled=$(find "$work/terminfo" -name "$entry" -type f)
 program=../crates/ticurses/out/ticurses
 
-# runs ROWS COLS SCENE
-runs() {
-    turns=5
-    while [ "$turns" -gt 0 ]; do
-        echo "ticurses $("$work/ticurses" "$compiled" "$1" "$2" "$3" "$work/ticurses.out")"
-        echo "ncurses $("$work/ncurses" "$entry" "$1" "$2" "$3" "$work/ncurses.out")"
-        turns=$((turns - 1))
+# draws LIBRARY ROWS COLS SCENE [WORDS BEFORE THE PROGRAM]
+draws() {
+    library=$1 rows=$2 cols=$3 scene=$4
+    shift 4
+    named=$entry
+    [ "$library" != session ] || named=$compiled
+    "$@" "$work/$library" "$named" "$rows" "$cols" "$scene" "$work/$library.out"
+}
+
+# timed ROWS COLS SCENE: a line for each run, with its nanoseconds and bytes
+timed() {
+    for turn in 1 2 3 4 5; do
+        for one in ncurses curses session; do
+            echo "$one $(draws "$one" "$@") $turn"
+        done
+    done
+}
+
+# instructions ROWS COLS SCENE: the same with instructions, times 1,000 as the times are
+instructions() {
+    for one in ncurses curses session; do
+        counted=$(draws "$one" "$@" valgrind --tool=callgrind --callgrind-out-file=/dev/null \
+            --toggle-collect=repeat 2>"$work/log")
+        sed -n 's/.*Collected : //p' "$work/log" |
+            awk -v one="$one" -v sent="$counted" '{ split(sent, at); print one, $1 / at[3] * 1000, at[2] }'
     done
 }
 
 # table ROWS COLS
 table() {
-    printf '%-10s %12s %12s %7s %10s %10s\n' "$1 by $2" "ticurses, us" "ncurses, us" "ratio" "bytes" "bytes"
+    printf '%-10s %12s %12s %7s %12s %7s %9s %9s %9s\n' "$1 by $2" "ncurses" "curses.h" "ratio" "session" "ratio" \
+        "ncurses" "curses.h" "session"
     for scene in full chars lines cell typing log windows pad colours open; do
-        runs "$1" "$2" "$scene" >"$work/times"
+        if [ "$count" ]; then instructions "$1" "$2" "$scene"; else timed "$1" "$2" "$scene"; fi >"$work/runs"
         awk -v scene="$scene" '
             !($1 in best) || $2 < best[$1] { best[$1] = $2; sent[$1] = $3 }
             END {
-                ratio = best["ticurses"] / best["ncurses"]
-                printf "%-10s %12.1f %12.1f", scene, best["ticurses"] / 1000, best["ncurses"] / 1000
-                printf " %7.2f %10d %10d\n", ratio, sent["ticurses"], sent["ncurses"]
-            }' "$work/times"
+                peer = best["ncurses"]
+                printf "%-10s %12.1f %12.1f", scene, peer / 1000, best["curses"] / 1000
+                printf " %7.2f %12.1f %7.2f", best["curses"] / peer, best["session"] / 1000, best["session"] / peer
+                printf " %9d %9d %9d\n", sent["ncurses"], sent["curses"], sent["session"]
+            }' "$work/runs"
         [ "$scene" != open ] && [ -x "$program" ] || continue
-        for one in ticurses ncurses; do
+        for one in ncurses curses session; do
             "$program" feed "$1" "$2" "$work/$one.out" 2>&1 | head -n "$1" >"$work/$one.screen"
+            cmp -s "$work/$one.screen" "$work/ncurses.screen" ||
+                echo "curses: $scene: the screens of ncurses and $one differ at $1 by $2" >&2
         done
-        cmp -s "$work/ticurses.screen" "$work/ncurses.screen" ||
-            echo "curses: $scene: the screens differ at $1 by $2" >&2
     done
 }
 
+unit=microseconds
+[ -z "$count" ] || unit=instructions
+echo "$unit of a refresh, and its bytes"
 [ $# -gt 0 ] || set -- 24x80 50x132 200x500
 for size in "$@"; do
     table "${size%x*}" "${size#*x}"

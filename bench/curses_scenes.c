@@ -1,8 +1,9 @@
 /* curses_scenes ENTRY ROWS COLS SCENE OUTPUT: draws a scene some hundred times on a terminal of this
  * size, into a file, and prints the processor time and the bytes of a refresh, with the calls before
- * it: `NANOSECONDS BYTES REFRESHES`. Built with -DNCURSES it draws with ncurses, where ENTRY is a
- * terminal's name, and else with ticurses, where it is a compiled file. The scene `open` opens a
- * session instead, which for ticurses has the check of the entry in it. */
+ * it: `NANOSECONDS BYTES REFRESHES`. Built with -DCURSES it draws by the calls of curses.h, with ncurses
+ * or with the library of ticurses for such programs, and ENTRY is a terminal's name. Else it draws with
+ * the sessions of ticurses, and ENTRY is a compiled file. The scene `open` opens a session instead,
+ * which for ticurses has the check of the entry in it. */
 #define _XOPEN_SOURCE 700
 #include <fcntl.h>
 #include <stdarg.h>
@@ -15,18 +16,21 @@
 
 static int rows, cols;
 
-#ifdef NCURSES
+#ifdef CURSES
 
 #define NCURSES_NOMACROS
 #include <curses.h>
 
 static WINDOW *windows[8];
-static FILE *stream;
+static FILE *stream, *input;
 static const char *terminal;
 
 static void begin(void) {
-    FILE *input = fopen("/dev/null", "r");
     if (!newterm(terminal, stream, input)) exit(3);
+#ifdef TICURSES_CURSES
+    /* a session has the size of its terminal, which a file doesn't have */
+    if ((LINES != rows || COLS != cols) && resize_term(rows, cols) != OK) exit(3);
+#endif
     nonl();
     typeahead(-1);
     start_color();
@@ -35,6 +39,10 @@ static void begin(void) {
 }
 static void finish(void) {
     endwin();
+#ifdef TICURSES_CURSES
+    /* there is one terminal at a time */
+    delscreen(set_term(NULL));
+#endif
 }
 static void make_window(int w, int l, int c, int y, int x) {
     windows[w] = newwin(l, c, y, x);
@@ -54,7 +62,7 @@ static void go(int w, int y, int x) {
 static void put(int w, int byte) {
     waddch(windows[w], (chtype)byte);
 }
-/* the same, where ticurses has a line of text for it and a function */
+/* the same, where a session has a line of text for it and a function */
 static void put_by_function(int w, int byte) {
     put(w, byte);
 }
@@ -103,7 +111,8 @@ static void prepare(const char *entry, const char *output) {
     setenv("NCURSES_NO_PADDING", "1", 1);
     terminal = entry;
     stream = fopen(output, "w");
-    if (!stream) exit(3);
+    input = fopen("/dev/null", "r");
+    if (!stream || !input) exit(3);
 }
 
 #else
@@ -380,6 +389,15 @@ static const struct scene {
     {"open", none, opened, 20, 0},
 };
 
+/* What callgrind counts. */
+#ifdef __GNUC__
+__attribute__((__noinline__))
+#endif
+void repeat(void (*step)(int), int count);
+void repeat(void (*step)(int), int count) {
+    for (int each = 0; each < count; each++) step(each);
+}
+
 static long now(void) {
     struct timespec time;
     clock_gettime(CLOCK_PROCESS_CPUTIME_ID, &time);
@@ -400,7 +418,7 @@ int main(int argc, char **argv) {
     scene->set();
     int count = scene->by_size ? scene->count * 1920 / (rows * cols) + 8 : scene->count;
     long from = position(), began = now();
-    for (int step = 0; step < count; step++) scene->step(step);
+    repeat(scene->step, count);
     long took = now() - began;
     printf("%ld %ld %d\n", took / count, (position() - from) / count, count);
     return 0;
