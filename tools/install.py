@@ -53,6 +53,15 @@ LIBRARY: str = {path!r}
 '''
 
 
+def package_files():
+    """The files of the Python package, as paths in it; not the one that ./install writes."""
+    found = []
+    for at, folders, names in os.walk(BINDING):
+        folders[:] = sorted(set(folders) - {"__pycache__"})
+        found += [os.path.relpath(f"{at}/{it}", BINDING) for it in sorted(names) if it.endswith((".py", "py.typed"))]
+    return [it for it in found if it != "_installed.py"]
+
+
 class Where:
     """The folders, by the words and the environment."""
 
@@ -139,8 +148,7 @@ def files(where):
     found.append(File(f"{libdir}/pkgconfig/ticurses.pc", text=where.pkgconfig(PKGCONFIG)))
     for page in PAGES:
         found.append(File(f"{top}/share/man/man{page[-1]}/{page}", f"{TOP}/man/{page}"))
-    names = sorted(it for it in os.listdir(BINDING) if it.endswith((".py", "py.typed")) and it != "_installed.py")
-    found += [File(f"{package}/{it}", f"{BINDING}/{it}") for it in names]
+    found += [File(f"{package}/{it}", f"{BINDING}/{it}") for it in package_files()]
     found.append(File(f"{package}/_installed.py", text=INSTALLED.format(path=f"{where.libdir}/{SONAME}")))
     return found
 
@@ -191,13 +199,15 @@ def install(where):
 def uninstall(where):
     """Removes the files that `install` places. A missing file is no error."""
     package = f"{where.destination}{where.python}/ticurses"
+    modules = sorted({os.path.dirname(f"{package}/{it}") for it in package_files()}, key=len, reverse=True)
     for at in [*(it.at for it in files(where) + curses_files(where)), program(where).at, *links(where)]:
         if os.path.lexists(at):
             os.remove(at)
             print(f"install: {at} is removed")
-    shutil.rmtree(f"{package}/__pycache__", ignore_errors=True)
+    for folder in modules:
+        shutil.rmtree(f"{folder}/__pycache__", ignore_errors=True)
     # a folder that has files of others stays
-    for folder in (package, f"{where.destination}{where.prefix}/include/ticurses"):
+    for folder in (*modules, f"{where.destination}{where.prefix}/include/ticurses"):
         with contextlib.suppress(OSError):
             os.rmdir(folder)
 

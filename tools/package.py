@@ -29,7 +29,7 @@ import kept
 import verdicts
 from crates import TOP
 from ending import Ended, heed, say, why
-from install import BINDING, HEADERS, INSTALLED, PKGCONFIG
+from install import BINDING, HEADERS, INSTALLED, PKGCONFIG, package_files
 from linking import Failed, run
 from sources import LIBRARY, PROVED
 from version import SONAME, VERSION
@@ -166,9 +166,8 @@ def add_common(tree, proved, prefix, libdir, python, pages_zipped):
     tree.add(f"{libdir}/libticurses.a", proved.archive)
     tree.add(f"{libdir}/{SONAME}", proved.shared)
     tree.links[f"{libdir}/libticurses.so"] = SONAME
-    for name in sorted(os.listdir(BINDING)):
-        if name.endswith((".py", "py.typed")):
-            tree.add(f"{python}/ticurses/{name}", read(f"{BINDING}/{name}"))
+    for name in ("_installed.py", *package_files()):
+        tree.add(f"{python}/ticurses/{name}", read(f"{BINDING}/{name}"))
     for page in sorted(os.listdir(f"{TOP}/man")):
         held, ending = read(f"{TOP}/man/{page}"), ""
         if pages_zipped:

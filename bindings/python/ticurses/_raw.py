@@ -46,7 +46,7 @@ def is_trusting() -> bool:
     return os.geteuid() == os.getuid() and os.getegid() == os.getgid()
 
 
-def _path() -> str:
+def path() -> str:
     """Where the library is: as a variable says, where ./install put it, or where the system looks."""
     own = os.environ.get("TICURSES_LIBRARY") if is_trusting() else None
     if own:
@@ -55,17 +55,17 @@ def _path() -> str:
 
 
 def _loaded() -> Any:
-    path = _path()
+    at = path()
     try:
         # it keeps the interpreter's lock, so that no two threads are in one session
-        library = ctypes.PyDLL(path)
+        library = ctypes.PyDLL(at)
         for call, (result, arguments) in _CALLS.items():
             function = getattr(library, f"ticurses_raw_{call}")
             function.restype, function.argtypes = result, arguments
     except (OSError, AttributeError) as error:
         text = f"the library of ticurses can't be used ({error}); "
         text += "./install of its repository installs it, and TICURSES_LIBRARY names another"
-        raise ImportError(text, name="ticurses", path=path) from error
+        raise ImportError(text, name="ticurses", path=at) from error
     return library
 
 

@@ -1,0 +1,263 @@
+"""Keys: read one by one or as a line, given back, named."""
+
+from __future__ import annotations
+
+import time
+from typing import TYPE_CHECKING, Any
+
+from . import _modes
+from ._arguments import c_int, cell
+from ._constants import KEY_BACKSPACE, KEY_DOWN, KEY_ENTER, KEY_LEFT, KEY_RESIZE, KEY_UP
+from ._errors import ERR, check, error
+from ._library import LIBRARY
+from ._modes import MODES
+from ._screen import SCREEN, size_published
+from ._waiting import held_signals, ready
+
+if TYPE_CHECKING:
+    from ._showing import Showing
+
+__all__ = [
+    "erasechar", "flushinp", "getmouse", "has_key", "keyname", "killchar", "mouseinterval", "mousemask", "unctrl",
+    "unget_wch", "ungetch", "ungetmouse",
+]
+
+# what is read is a descriptor of this number, C's standard input
+INPUT = 0
+LINE_MAX = 511
+_ENDS = (10, 13, KEY_DOWN, KEY_UP, KEY_ENTER)
+
+# the rest of a line that was read as one, where keys come line by line
+_line: list[int] = []
+
+
+def read(shown: Showing) -> int:
+    """A key for this window, which is refreshed before; ERR where none comes in the window's time."""
+    if not MODES.is_cbreak:
+        if not _line:
+            _line.extend(_read_line(shown))
+        return _line.pop(0) if _line else ERR
+    return _read_key(shown)
+
+
+def _read_key(shown: Showing) -> int:
+    delay = LIBRARY.wgetdelay(shown.at)
+    if delay < 0 and MODES.half_delay:
+        delay = MODES.half_delay * 100
+    key = LIBRARY.wgetch(shown.at) if delay == 0 else _awaited(shown, delay)
+    if key == KEY_RESIZE:
+        size_published()
+    return int(key)
+
+
+def _awaited(shown: Showing, delay: int) -> int:
+    """The library is asked for what is there, and the wait is outside of it."""
+    at, before = shown.at, LIBRARY.wgetdelay(shown.at)
+    end = None if delay < 0 else time.monotonic() + delay / 1000
+    has_come = False
+    LIBRARY.wtimeout(at, 0)
+    try:
+        key = LIBRARY.wgetch(at)
+        while key == ERR:
+            left = None if end is None else end - time.monotonic()
+            if left is not None and left <= 0:
+                return ERR
+            with held_signals() as mask:
+                # what a signal has asked for meanwhile, the library does here
+                key = LIBRARY.wgetch(at)
+                if key == ERR and has_come:
+                    # there was something to read, and nothing was read: the terminal is gone
+                    return ERR
+                if key == ERR:
+                    has_come = ready(INPUT, left, mask)
+        return int(key)
+    finally:
+        if shown.is_usable():
+            LIBRARY.wtimeout(at, before)
+
+
+def _read_line(shown: Showing) -> list[int]:
+    held = read_text(shown, LINE_MAX)
+    return [] if held is None else [*held, 10]
+
+
+class _Line:
+    """A line that is being read: where it began in the window, and what it has so far."""
+
+    def __init__(self, shown: Showing, most: int, echoes: bool) -> None:
+        self.shown, self.most, self.echoes = shown, most, echoes
+        self.start, self.held = shown.getyx(), bytearray()
+
+    def add(self, key: int) -> None:
+        if key > 255 or len(self.held) >= self.most:
+            LIBRARY.beep()
+            return
+        self.held.append(key)
+        if not self.echoes:
+            return
+        row, column = self.shown.getyx()
+        if LIBRARY.waddch(self.shown.at, key) == ERR:
+            self.wipe()
+            return
+        # the window may have scrolled below the line
+        if column == self.shown.getmaxyx()[1] - 1 and self.shown.getyx() == (row, 0):
+            self.start = self.start[0] - 1, self.start[1]
+        self.shown.show()
+
+    def wipe(self) -> None:
+        """Takes the last character off."""
+        if not self.held:
+            return
+        del self.held[-1]
+        if not self.echoes:
+            return
+        end, at = self.shown.getyx(), self.shown.at
+        LIBRARY.wmove(at, *self.start)
+        LIBRARY.waddnstr(at, bytes(self.held), len(self.held))
+        rest = self.shown.getyx()
+        while self.shown.getyx() < end and LIBRARY.waddch(at, 32) != ERR:
+            pass
+        LIBRARY.wmove(at, *rest)
+        self.shown.show()
+
+    def end(self) -> None:
+        """Puts the cursor at the beginning of the next line, where there is one."""
+        row, last = self.shown.getyx()[0], self.shown.getmaxyx()[0] - 1
+        if row < last or LIBRARY.waddch(self.shown.at, 10) == ERR:
+            LIBRARY.wmove(self.shown.at, min(row + 1, last), 0)
+        self.shown.show()
+
+
+def read_text(shown: Showing, most: int) -> bytes | None:
+    """A line of at most so many bytes, with its editing keys; None where no key comes in time, or another size does."""
+    line = _Line(shown, most, MODES.echoes)
+    was = MODES.is_cbreak, MODES.is_raw, MODES.half_delay, MODES.reads_newlines
+    erasing, killing = (it[0] for it in (erasechar(), killchar()))
+    if not MODES.is_cbreak:
+        _modes.cbreak()
+    _modes.noecho()
+    _modes.nl()
+    try:
+        key = _read_key(shown)
+        while key not in (ERR, KEY_RESIZE, *_ENDS):
+            if key in (KEY_LEFT, KEY_BACKSPACE) or key == erasing != 0:
+                line.wipe()
+            elif key == killing != 0:
+                while line.held:
+                    line.wipe()
+            else:
+                line.add(key)
+            key = _read_key(shown)
+        if key in (ERR, KEY_RESIZE):
+            return None
+        line.end()
+        return bytes(line.held)
+    finally:
+        _restore(line.echoes, *was)
+
+
+def _restore(echoes: bool, is_cbreak: bool, is_raw: bool, half_delay: int, reads_newlines: bool) -> None:
+    """Sets the modes that were before a line was read."""
+    if SCREEN.is_inherited:
+        return
+    _modes.echo(echoes)
+    _modes.nl(reads_newlines)
+    if not is_cbreak:
+        _modes.nocbreak()
+    if is_raw:
+        _modes.raw()
+    if half_delay:
+        _modes.halfdelay(half_delay)
+
+
+def ungetch(ch: Any) -> None:
+    """Gives a key back, so that it is the next that is read."""
+    SCREEN.begun()
+    key = cell(ch, "ascii")
+    if _line:
+        _line.insert(0, key)
+    else:
+        check(LIBRARY.ungetch(key), "ungetch")
+
+
+def unget_wch(ch: Any) -> None:
+    """Gives a character of ASCII back, so that it is the next that is read."""
+    SCREEN.begun()
+    if isinstance(ch, str):
+        if len(ch) != 1:
+            raise TypeError(f"expect str of length 1 or int, got a str of length {len(ch)}")
+        key = ch.encode("ascii")[0]
+    elif isinstance(ch, int):
+        key = c_int(ch)
+    else:
+        raise TypeError(f"expect str of length 1 or int, got {type(ch).__name__}")
+    if not 0 <= key < 128:
+        raise OverflowError("character doesn't fit in ASCII")
+    ungetch(key)
+
+
+def flushinp() -> None:
+    """Throws away all keys that were typed or given back."""
+    SCREEN.begun()
+    del _line[:]
+    check(LIBRARY.flushinp(), "flushinp")
+
+
+def keyname(k: int, /) -> bytes:
+    """The name of a key."""
+    SCREEN.begun()
+    key = c_int(k)
+    if key < 0:
+        raise ValueError("invalid key number")
+    return LIBRARY.keyname(key) or b""
+
+
+def has_key(ch: int) -> bool:
+    """Whether the terminal has a key of this number."""
+    SCREEN.begun()
+    return bool(LIBRARY.has_key(c_int(ch)))
+
+
+def unctrl(ch: Any) -> bytes:
+    """How a character is shown that is none, as ^X."""
+    SCREEN.begun()
+    return bytes(LIBRARY.unctrl(cell(ch, "ascii")))
+
+
+def erasechar() -> bytes:
+    """The key that takes a character off a line."""
+    SCREEN.begun()
+    return bytes(LIBRARY.erasechar())
+
+
+def killchar() -> bytes:
+    """The key that takes all off a line."""
+    SCREEN.begun()
+    return bytes(LIBRARY.killchar())
+
+
+# -- mice, of which there are none --
+
+
+def mousemask(newmask: int) -> tuple[int, int]:
+    """Which events of the mouse come, and which came before: none."""
+    SCREEN.begun()
+    return LIBRARY.mousemask(c_int(newmask) & 0xFFFFFFFF, None), 0
+
+
+def mouseinterval(interval: int) -> None:
+    """Without effect."""
+    SCREEN.begun()
+    check(LIBRARY.mouseinterval(c_int(interval)), "mouseinterval")
+
+
+def getmouse() -> tuple[int, int, int, int, int]:
+    """There is no event of a mouse."""
+    SCREEN.begun()
+    raise error("getmouse() returned ERR")
+
+
+def ungetmouse(id: int, x: int, y: int, z: int, bstate: int) -> None:
+    """There is no event of a mouse."""
+    SCREEN.begun()
+    raise error("ungetmouse() returned ERR")

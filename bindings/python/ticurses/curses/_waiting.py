@@ -1,0 +1,57 @@
+"""Waiting for keys and for time: without the interpreter's lock, so that other threads run, and so that no signal is
+missed, also one that the library handles by itself."""
+
+from __future__ import annotations
+
+import contextlib
+import ctypes
+import errno
+import os
+import signal
+import threading
+from typing import Any, Iterator
+
+# other threads are given signals that this one waits for, so that it looks at what the library has noted now and then
+LOOKING = 0.25
+POLLIN = 1
+# a set of signals of the system has so many bytes
+MASK_LEN = 128
+
+
+class _Poll(ctypes.Structure):
+    _fields_ = [("fd", ctypes.c_int), ("events", ctypes.c_short), ("found", ctypes.c_short)]
+
+
+class _Time(ctypes.Structure):
+    _fields_ = [("seconds", ctypes.c_long), ("nanoseconds", ctypes.c_long)]
+
+
+_ppoll = ctypes.CDLL(None, use_errno=True).ppoll
+_ppoll.restype = ctypes.c_int
+_ppoll.argtypes = [ctypes.POINTER(_Poll), ctypes.c_ulong, ctypes.POINTER(_Time), ctypes.c_char_p]
+
+
+@contextlib.contextmanager
+def held_signals() -> Iterator[bytes]:
+    """Holds all signals back; gives the set of those that were held back before, with which `ready` lets them come."""
+    before = signal.pthread_sigmask(signal.SIG_BLOCK, signal.valid_signals())
+    try:
+        yield sum(1 << (number - 1) for number in before).to_bytes(MASK_LEN, "little")
+    finally:
+        # here those that came are handled, and a handler may raise an exception
+        signal.pthread_sigmask(signal.SIG_SETMASK, before)
+
+
+def ready(fd: int, seconds: float | None, mask: bytes) -> bool:
+    """Waits until the descriptor has something to read, so many seconds have passed, or a signal has come. It answers
+    whether there is something. Below 0 there is no descriptor; None is no end of time."""
+    if threading.active_count() > 1:
+        seconds = LOOKING if seconds is None else min(seconds, LOOKING)
+    asked, time = _Poll(fd, POLLIN, 0), None
+    if seconds is not None:
+        whole = int(max(seconds, 0))
+        time = _Time(whole, int((max(seconds, 0) - whole) * 1e9))
+    found: Any = _ppoll(asked, 1, time, mask)
+    if found < 0 and ctypes.get_errno() != errno.EINTR:
+        raise OSError(ctypes.get_errno(), os.strerror(ctypes.get_errno()))
+    return bool(found > 0)
