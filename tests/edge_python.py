@@ -296,9 +296,25 @@ def check_import(work):
         sys.exit(f"edge: of Python: the version is {out}, and {VERSION} was wanted")
 
 
-def printed(work, line, library):
+def check_curses_import(work):
+    """`ticurses.curses` without its library, with another file in its place, or with one that lacks functions, is an
+    ImportError that says what to do; so says the demo."""
+    write(f"{work}/older.c", b'const char *curses_version(void) { return "ticurses-curses 0.9.0"; }\n')
+    subprocess.run(["cc", "-shared", "-fPIC", f"{work}/older.c", "-o", f"{work}/older.so"], check=True)
+    line = "try:\n    import ticurses.curses\nexcept ImportError as error:\n    print(error)"
+    demo = "import runpy\ntry:\n    runpy.run_module('ticurses.demo')\nexcept SystemExit as end:\n    print(end)"
+    name = SONAME.replace("libticurses", "libticurses_curses")
+    for library in ("", f"{work}/none.so", f"{work}/empty.so", f"{work}/older.so", "libm.so.6"):
+        for program in (line, demo):
+            out = printed(work, program, f"{work}/libstub.so", TICURSES_CURSES_LIBRARY=library)
+            wanted = ("./install", "TICURSES_CURSES_LIBRARY", (library or name).split("/")[-1])
+            if any(it not in out for it in wanted) or out.count("\n") != 1:
+                sys.exit(f"edge: of Python: without the library of curses.h it says {out!r}")
+
+
+def printed(work, line, library, **more):
     """The output of a line that imports the copy of the package."""
-    environment = {"PYTHONPATH": f"{work}/a/b", "PYTHONDONTWRITEBYTECODE": "1", "TICURSES_LIBRARY": library}
+    environment = {"PYTHONPATH": f"{work}/a/b", "PYTHONDONTWRITEBYTECODE": "1", "TICURSES_LIBRARY": library, **more}
     ran = subprocess.run([sys.executable, "-c", line], env=environment, stdout=subprocess.PIPE, check=True)
     return ran.stdout.decode()
 
@@ -318,6 +334,7 @@ def check(work):
     for program in (ERRORS, TEXTS, SENT, READ, BLOCKS):
         run(work, program, {"PATH": os.environ["PATH"]})
     check_import(work)
+    check_curses_import(work)
     check_types(work)
     which = sysconfig.get_python_version()
     print(f"edge: the Python package ({which}): errors, imports, interrupted output, keys, blocks that are left")

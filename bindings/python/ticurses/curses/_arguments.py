@@ -19,13 +19,13 @@ def c_int(value: Any) -> int:
     return number
 
 
-def c_short(value: Any) -> int:
-    """A number that fits in a short."""
+def c_byte(value: Any) -> int:
+    """A number that fits in a byte."""
     number = operator.index(value)
-    if number >= 2**15:
-        raise OverflowError("signed short integer is greater than maximum")
-    if number < -(2**15):
-        raise OverflowError("signed short integer is less than minimum")
+    if number > 255:
+        raise OverflowError("unsigned byte integer is greater than maximum")
+    if number < 0:
+        raise OverflowError("unsigned byte integer is less than minimum")
     return number
 
 

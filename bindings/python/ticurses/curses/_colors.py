@@ -5,6 +5,7 @@ from __future__ import annotations
 import operator
 from typing import Any
 
+from ._arguments import c_int
 from ._constants import A_COLOR
 from ._errors import check, error
 from ._library import LIBRARY, SHORT, number
@@ -15,8 +16,6 @@ __all__ = [
     "has_extended_color_support", "init_color", "init_pair", "pair_content", "pair_number", "start_color",
     "use_default_colors",
 ]
-
-_PAIRS_IN_ATTRIBUTES = 256
 
 
 def _begun() -> None:
@@ -70,8 +69,7 @@ def can_change_color() -> bool:
 def color_pair(pair_number: int) -> int:
     """The attribute of a pair."""
     _begun()
-    most = _PAIRS_IN_ATTRIBUTES - 1
-    return _within(pair_number, 0, most, "Color pair", "the last that attributes hold") << 8
+    return (c_int(pair_number) << 8) & A_COLOR
 
 
 def pair_number(attr: int) -> int:

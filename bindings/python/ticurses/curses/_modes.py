@@ -4,7 +4,7 @@ from __future__ import annotations
 
 from typing import Any
 
-from ._arguments import c_int
+from ._arguments import c_byte, c_int
 from ._errors import check
 from ._library import LIBRARY, number, set_number
 from ._screen import SCREEN
@@ -86,7 +86,7 @@ def nonl() -> None:
 def halfdelay(tenths: int) -> None:
     """As cbreak, and a key is waited for so many tenths of a second."""
     SCREEN.begun()
-    wanted = c_int(tenths)
+    wanted = c_byte(tenths)
     check(LIBRARY.halfdelay(wanted), "halfdelay")
     MODES.is_cbreak, MODES.half_delay = True, wanted
 

@@ -6,7 +6,7 @@ from typing import Any
 
 from ._arguments import c_int
 from ._base import Base, asked, numbered, option, placed, plain
-from ._errors import ERR, check
+from ._errors import ERR, check, error
 from ._library import LIBRARY
 
 # a pad's place, and that of the part of the screen on which it is shown
@@ -32,6 +32,8 @@ class Showing(Base):
 
     def _refresh(self, name: str, part: tuple[Any, ...]) -> None:
         is_pad = LIBRARY.is_pad(self.at)
+        if is_pad and not part:
+            raise error(f"{name}() called for a pad requires {_PART} arguments")
         if is_pad and len(part) != _PART:
             raise TypeError(f"{name}() for a pad requires {_PART} arguments")
         if part and not is_pad:
@@ -69,7 +71,7 @@ class Showing(Base):
     @placed
     def subwin(self, *given: Any) -> Any:
         """subwin([nlines=0, ncols=0,] begin_y, begin_x)
-        A part of it, at this place of the screen; of a pad, of the pad."""
+        A part of it, at this place of the screen; of a pad, at this place of the pad."""
         return self._part("subpad" if LIBRARY.is_pad(self.at) else "subwin", given)
 
     @placed
@@ -81,8 +83,8 @@ class Showing(Base):
     @placed
     def subpad(self, *given: Any) -> Any:
         """subpad([nlines=0, ncols=0,] begin_y, begin_x)
-        A part of a pad, at this place of it."""
-        return self._part("subpad", given)
+        As subwin."""
+        return self._part("subpad" if LIBRARY.is_pad(self.at) else "subwin", given)
 
     def _part(self, call: str, given: tuple[Any, ...]) -> Any:
         if len(given) not in (2, 4):

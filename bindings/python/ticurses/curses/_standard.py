@@ -5,6 +5,7 @@ from __future__ import annotations
 import contextlib
 import importlib
 import importlib.util
+import os
 import sys
 from importlib.machinery import PathFinder
 from types import ModuleType
@@ -36,9 +37,8 @@ def _standing_in() -> Iterator[None]:
 
 def taken(name: str) -> ModuleType:
     """The standard library's module of this name, as it is."""
-    found = PathFinder.find_spec("curses")
-    places = found.submodule_search_locations if found else None
-    spec = PathFinder.find_spec(f"curses.{name}", places) if places else None
+    # not what a program has of this name
+    spec = PathFinder.find_spec(f"curses.{name}", [f"{os.path.dirname(os.__file__)}/curses"])
     if spec is None or spec.origin is None:
         raise ImportError(f"this Python has no curses.{name}", name=f"{__package__}.{name}")
     own = importlib.util.spec_from_file_location(f"{__package__}.{name}", spec.origin)
