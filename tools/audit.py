@@ -253,7 +253,7 @@ def others(lists):
     out.append("### Not needed\n")
     out.append(
         lists.wrapped(
-            "No promise to a user depends on these files of `specs/`. They serve private functions, calls inside "
+            "No clause of a published call leads to these files of `specs/`. They serve private functions, the own calls of "
             "helper crates, or a program: " + ", ".join(rest) + "."
         )
     )
