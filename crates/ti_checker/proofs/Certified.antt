@@ -1,4 +1,4 @@
--- Strings of which there is a certificate have no clash.
+-- Strings that have a certificate have no clash.
 use Rattle.std.proofs.Common.{◌≡◌, ℕ, true, false, List, Option, Some, None, refl, sym, ap, subst, ◌∙◌}
 use Rattle.std.specs.Prelude.{is_some}
 use Rattle.std.proofs.lemmas.Bool.{false≢true}
@@ -17,7 +17,7 @@ use Rattle.ti_checker.specs.No.{HasClash, IsOfAll, AtSmacs, AtRmacs, AtAcsc, AtC
 use Rattle.ti_checker.specs.declared.causes.No.{No}
 use Rattle.ti_checker.proofs.Sent.{never_clashes}
 
--- the table of its lines is just what the entry sends
+-- the table of its lines has exactly what the entry sends
 lines_agree : (entry : Content) (rows cols : ℕ) (text : List ℕ) (Is : Table → Type 0) (c : IsCertificateOf entry rows cols text) → (o : OfLines rows cols c.lines Is) → EntryAgrees rows cols entry o.table.line_of
 lines_agree entry rows cols text Is c o row range = record { checked = checked; unchecked = unchecked (o.table.line_of row) refl }
   where

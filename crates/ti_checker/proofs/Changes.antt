@@ -1,4 +1,4 @@
--- What is ignored changes nothing, and all else changes something.
+-- Ignored sequences change nothing, and all others change something.
 use Rattle.std.proofs.Common.{◌≡◌, ◌≢◌, ℕ, ◌==◌, ◌||◌, Bool, true, false, not, Option, None, Some, if◌then◌else◌, refl, ap}
 use Rattle.std.specs.Prelude.{is_none}
 use Rattle.std.specs.Option.{unwrap_or}

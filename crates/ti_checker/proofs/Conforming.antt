@@ -1,4 +1,4 @@
--- An entry whose rows stand and whose strings go together conforms.
+-- An entry conforms if its rows stand and its strings have no clash.
 use Rattle.std.proofs.Common.{◌≡◌, ℕ, ◌-◌, Bool, true, List, [], reverse, Option, None, Some, refl, sym, ap, subst, ◌∙◌, append-nil}
 use Rattle.std.specs.Prelude.{is_some}
 use Rattle.std.proofs.lemmas.Bool.{and_from}
@@ -32,7 +32,7 @@ use Rattle.ti_checker.proofs.Sent.{table_with, has_sent, ItsLine, its_line, line
 use Rattle.ti_checker.proofs.Standings.{all_stand}
 use Rattle.ti_checker.proofs.Together.{whole_screen}
 
--- where attributes look as all lines say, each is asked for
+-- if attributes look as all lines say, each line's effect is asked for
 asked_lines : (entry : Content) (rows cols : ℕ) → IsFit entry → (w : EachWritten entry rows cols) → AreAsked (reverse w.within.lines)
 asked_lines entry rows cols fit w =
     subst AreAsked (append-nil (reverse w.within.lines)) (asked_in_order rows cols [] w.within.lines (all_stand entry rows cols w.within.lines fit w.stands w.within.are) (λ line a. absurd a))

@@ -1,4 +1,4 @@
--- What a probe shows of a text.
+-- The end of a text's run that a probe shows.
 use Rattle.std.proofs.Common.{◌≡◌, ℕ, List, [], Some, refl}
 use Rattle.vt_term.specs.Screen.{Screen}
 use Rattle.vt_term.specs.Text.{Splits}
@@ -42,7 +42,7 @@ bare_free rows cols p f =
       bottom = f.bottom;
     }
 
--- where looks show the one attribute of the row as the bytes do from starts without marks, they do so as the effect does
+-- looks that show the one attribute of the row as the bytes do from starts without marks show it as the effect does
 shown_by : (rows cols : ℕ) (row : Row) (bytes : List ℕ) (tokens : List (List ℕ)) (e : Effect) (p : Probe) (looks : Looks) → Splits bytes tokens [] → record_of rows cols (start_of rows cols row) tokens ≡ Some e
     → Starts rows cols row (screen_of rows cols p) → ShowsAlone rows cols row bytes looks → ShowsBy looks row (marks_after e.rendition no_marks)
 shown_by rows cols (Sgr a) bytes tokens e p looks split recorded starts alone =

@@ -32,7 +32,7 @@ use Rattle.ti_conforms.proofs.Matches.{same_checked}
 abbrev IsBefore : ℕ → ℕ → Row → Row → Type 0
 IsBefore rows cols row other = Precedes rows cols other row
 
--- ---- one line more
+-- ---- one more line
 
 line_of : (entry : Content) (rows cols : ℕ) (string : List ℕ) (row : Row) (line : RowLine) → IsInRange rows cols row → is_checked entry row ≡ true → string_of entry row ≡ Some string → line.row ≡ row → IsLineFor rows cols string line
     → IsLineOf entry rows cols line
@@ -75,7 +75,7 @@ added_is : (entry : Content) (rows cols : ℕ) (lines : List RowLine) (string : 
 added_is entry rows cols lines string row old new a e =
     a.added ∙ (ap (λ (l : List ℕ). l ++ (line_text a.line ++ 10 ∷ [])) e ∙ sym (front_end entry rows cols lines a.line))
 
--- the same with what the text and the bytes were before
+-- as `added_is`, with the text and the bytes before
 pub added_same : (old between new : List ℕ) (row : Row) (a b : List ℕ) (e : Effect) → between ≡ old → a ≡ b → new ≡ between ++ (line_text (record { row = row; bytes = a; effect = e }) ++ 10 ∷ [])
     → new ≡ old ++ (line_text (record { row = row; bytes = b; effect = e }) ++ 10 ∷ [])
 added_same old between new row a b e p q h =
@@ -101,7 +101,7 @@ one_more entry rows cols string row old new range checked there right adds short
     stand other in_range (inl e) = subst (λ (r : Row). RowStands entry rows cols r) (sym e) (right_stands entry rows cols row string there right)
     stand other in_range (inr p) = d.stand other in_range p
 
--- ---- the same rows, told in another way
+-- ---- the drafted rows, described in another way
 
 pub drafted_as : (entry : Content) (rows cols : ℕ) (P Q : Row → Type 0) (text : List ℕ) → ((row : Row) → IsInRange rows cols row → P row → Q row) → ((row : Row) → IsInRange rows cols row → is_checked entry row ≡ true → Q row → P row)
     → IsDrafted entry rows cols P text → IsDrafted entry rows cols Q text
@@ -146,7 +146,7 @@ before_next entry rows cols row other text range f d = drafted_as entry rows col
     back one in_range checked (inl lt) = let k = f.same_order in inr (inl (omega (arith, lt, k)))
     back one in_range checked (inr same) = let k = f.rank_next in let lt = same.1 in by_rank one in_range (same.0 ∙ f.same_order) (eq-or-lt_of_le (omega (arith, lt, k)))
 
--- ---- a capability that is done with
+-- ---- a capability whose rows are all done
 
 -- after its last row
 pub after_last : (entry : Content) (rows cols n : ℕ) (row : Row) (text : List ℕ) → IsSize rows cols → IsInRange rows cols row → order row ≡ n → next rows cols row ≡ None → IsDrafted entry rows cols (IsUpTo rows cols row) text
@@ -173,7 +173,7 @@ after_last entry rows cols n row text size range same last d = drafted_as entry 
     back : (one : Row) → IsInRange rows cols one → is_checked entry one ≡ true → order one < n + 1 → IsUpTo rows cols row one
     back one in_range checked lt = by_order one in_range (eq-or-lt_of_le (omega (arith, lt)))
 
--- that isn't checked
+-- a capability that isn't checked
 pub unchecked_cap : (entry : Content) (rows cols n : ℕ) (first : Row) (text : List ℕ) → order first ≡ n → is_checked entry first ≡ false → IsDrafted entry rows cols (λ one. order one < n) text
     → IsDrafted entry rows cols (λ one. order one < n + 1) text
 unchecked_cap entry rows cols n first text same unchecked d = drafted_as entry rows cols (λ one. order one < n) (λ one. order one < n + 1) text (λ one range lt. omega (arith, lt)) back d

@@ -1,4 +1,4 @@
--- An effect that no probe shows wrong leads where it is wanted to, from any start of the row.
+-- An effect that no probe shows wrong leads to a wanted place, from any start of the row.
 use Rattle.std.proofs.Common.{◌≡◌, ℕ, ◌-◌, ◌<◌, ◌≤◌, ◌&&◌, Bool, true, false, if◌then◌else◌, Option, None, Some, inl, inr, refl, sym, ap, subst, ◌∙◌, arith}
 use Rattle.std.proofs.lemmas.Bool.{cases_eq, lt-ltb, true≢false, false≢true}
 use Rattle.vt_term.specs.Screen.{Screen}
@@ -67,7 +67,7 @@ pending_by false a b s calm h = none_kept a b s (calm refl)
 
 -- ---- margins
 
--- two changes of the margins make the same of these
+-- two changes lead these margins to the same margins
 record Bound (a d : Option Region) (top bottom : ℕ) : Type 0 where
   top_same : top_of a top ≡ top_of d top
   bottom_same : bottom_of a bottom ≡ bottom_of d bottom
@@ -84,7 +84,7 @@ of_two None (Some r) t b u c top bottom apart h k = absurd (apart (h.top_same �
 of_two (Some r) None t b u c top bottom apart h k = absurd (apart (sym h.top_same ∙ k.top_same) (sym h.bottom_same ∙ k.bottom_same))
 of_two (Some q) (Some r) t b u c top bottom apart h k = record { top_same = h.top_same; bottom_same = h.bottom_same }
 
--- the rows of a start where the margins hang on the cursor
+-- the rows of a start whose margins depend on the cursor
 abbrev Spans : ℕ → ℕ → ℕ → Margins → Type 0
 Spans rows least greatest margins.OnBottom = (least ≡ 1) × (greatest ≡ rows - 1)
 Spans rows least greatest margins.OnTop = (least ≡ 0) × (greatest ≡ rows - 1 - 1)
@@ -118,7 +118,7 @@ bound_by margins.OnTop rows least greatest a d s two size region on has lo hi sp
   | inr n ↦ (let none = span.0 in let far = span.1 in of_two a d least (rows - 1) greatest (rows - 1) s.top s.bottom (λ p q. omega (arith, p, none, far, two, n)) first last)
 ]
 
--- ---- where an end that is wanted is
+-- ---- the place of a wanted end
 
 -- from a probe the effect ends where the one that is asked for does
 record EndsThere (e w : Effect) (p : Probe) : Type 0 where

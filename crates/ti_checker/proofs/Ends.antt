@@ -1,4 +1,4 @@
--- What each end that is wanted of a row has in common with the one that is asked for.
+-- The parts in which each wanted end of a row equals the end that is asked for.
 use Rattle.std.proofs.Common.{◌≡◌, Bool, true, false, refl, sym, subst}
 use Rattle.vt_effects.specs.declared.effects.Effect.{Effect}
 use Rattle.ti_rows.specs.Asked.{asked}
@@ -20,7 +20,7 @@ abbrev pub is_told : Row → Bool
 is_told Cvvis = false
 is_told _ = true
 
--- two effects do the same but for what the row leaves open
+-- two effects do the same except where the row leaves the end open
 pub record EndsLike (open_in : Row) (f g : Effect) : Type 0 where
   pub row : f.row ≡ g.row
   pub col : f.col ≡ g.col
@@ -32,7 +32,7 @@ pub record EndsLike (open_in : Row) (f g : Effect) : Type 0 where
   pub rendition : is_fixed open_in ≡ true → f.rendition ≡ g.rendition
   pub visible : is_told open_in ≡ true → f.visible ≡ g.visible
 
--- a row of which one end is wanted
+-- a row with one wanted end
 only : (l m : Looks) (row : Row) (e : Effect) → has_choice row ≡ false → EndsLike row (wanted_end l row e) (asked m row e)
 only l m (Sgr a) e one = never one
 only l m Cvvis e one = never one
@@ -41,7 +41,7 @@ only l m Smcup e one = record { row = refl; col = refl; ends_pending = refl; mar
 only l m Rmcup e one = record { row = refl; col = refl; ends_pending = refl; margins_are = refl; charset = refl; erasure = refl; scroll = λ bound. never bound; rendition = λ fixed. refl; visible = λ told. refl }
 only l m _ e one = record { row = refl; col = refl; ends_pending = refl; margins_are = refl; charset = refl; erasure = refl; scroll = λ bound. refl; rendition = λ fixed. refl; visible = λ told. refl }
 
--- one of which two are, each that which is asked for by an effect with these sets
+-- a row with two wanted ends, each asked for by an effect with these sets
 chosen : (l m : Looks) (row : Row) (e d : Effect) → d.charset ≡ e.charset → has_choice row ≡ true → EndsLike row (asked l row d) (asked m row e)
 chosen l m (Sgr a) e d sets choice = record { row = refl; col = refl; ends_pending = refl; margins_are = refl; charset = sets; erasure = refl; scroll = λ bound. refl; rendition = λ fixed. never (sym fixed); visible = λ told. refl }
 chosen l m Cvvis e d sets choice = record { row = refl; col = refl; ends_pending = refl; margins_are = refl; charset = refl; erasure = refl; scroll = λ bound. refl; rendition = λ fixed. refl; visible = λ told. never (sym told) }

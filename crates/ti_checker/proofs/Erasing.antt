@@ -1,4 +1,4 @@
--- What is wanted of the cells, row by row, and that an effect which no probe shows wrong leaves them so.
+-- The cells that each row wants, and the proof that an effect which no probe shows wrong leaves them so.
 use Rattle.std.proofs.Common.{◌≡◌, inl, inr, ℕ, ◌-◌, ◌<◌, ◌≤◌, Bool, true, false, length, refl, sym, ap, subst, ◌∙◌, arith}
 use Rattle.std.proofs.lemmas.Bool.{lt-leb, ne_eqb, true≢false}
 use Rattle.vt_term.specs.Grid.{line_at}
@@ -75,7 +75,7 @@ nothing rows cols taught row e size range h ends bound none still =
     (subst (λ (z : Scroll). SameCells cols e.erasure e.scroll (asked taught Cvvis e).erasure z) (sym still)
     (none_cells rows cols p.top p.bottom p.row p.col allowed.screen.row allowed.screen.col allowed.screen.region allowed.screen.bottom e.erasure e.scroll (one rows cols row e h) seen))
 
--- what is known of an erasure: what the probes at the first place, in the last line and in the last column show
+-- the facts known of an erasure: those that the probes at the first place, in the last line and in the last column show
 corners : (rows cols : ℕ) (taught : Looks) (row : Row) (e : Effect) (pending : Bool) → IsSize rows cols → is_free row ≡ false → start_of rows cols row ≡ starting rows cols pending margins.Whole → (asked taught row e).scroll ≡ scrolls.Still
     → EndsBelow rows cols taught row e 32 → Corners rows cols e.erasure e.scroll (asked taught row e).erasure
 corners rows cols taught row e pending size bound whole still ends =

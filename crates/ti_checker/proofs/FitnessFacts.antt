@@ -1,4 +1,4 @@
--- Where the lines of all rows are not too long, those before a row aren't either.
+-- If the lines of all rows are not too long, those before a row aren't either.
 use Rattle.std.proofs.Common.{◌≡◌, ◌⊎◌, inl, inr, ◌<◌, ◌≤◌, ℕ, true, List, [], ◌∷◌, ◌++◌, length, refl, sym, ap, subst, ◌∙◌, arith, length-append}
 use Rattle.std.proofs.Math.Nat.{eq-or-lt_of_le}
 use Rattle.ti_caps.specs.Entry.{Content}

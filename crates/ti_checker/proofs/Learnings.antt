@@ -149,14 +149,14 @@ tail_before entry rows cols one row head tail f same b = record {
     by_part : (other : Row) → Precedes rows cols other one → HasLine (head ∷ tail) other → HasLine tail other
     by_part other p h = by_among other p h.line h.of_row h.among
 
--- what the entry's line is, as one of the string
+-- the entry's line, as one of the string
 for_string : (entry : Content) (rows cols : ℕ) (string : List ℕ) (row : Row) (line : RowLine) → string_of entry row ≡ Some string → order line.row ≡ order row → IsLineOf entry rows cols line → IsLineFor rows cols string line
 for_string entry rows cols string row line there same is =
     let s = is.sent.sends in
     let own : s.string ≡ string = same_Some s.string string (sym s.there ∙ (same_string entry line.row row same ∙ there)) in
     subst (λ (x : List ℕ). IsLineFor rows cols x line) own (record { sends = s.sends; has = is.has })
 
--- ---- what is taught
+-- ---- looks that are taught
 
 learned_by : (one other : Row) (e f : Effect) (l m : Looks) → one ≡ other → e ≡ f → l ≡ m → learned one e l ≡ learned other f m
 learned_by one other e f l m p q r = ap (λ (x : Row). learned x e l) p ∙ (ap (λ (x : Effect). learned other x l) q ∙ ap (λ (x : Looks). learned other f x) r)

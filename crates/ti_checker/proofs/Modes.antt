@@ -1,4 +1,4 @@
--- An effect that no probe shows wrong leaves the sets and the visibility that are wanted, from any start of the row.
+-- An effect that no probe shows wrong leaves the wanted sets and visibility, from any start of the row.
 use Rattle.std.proofs.Common.{◌≡◌, ℕ, ◌<◌, Bool, true, false, refl, sym, ap, ◌∙◌, arith}
 use Rattle.vt_term.specs.Screen.{Charset}
 use Rattle.vt_effects.specs.declared.effects.Effect.{Effect}

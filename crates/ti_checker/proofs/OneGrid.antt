@@ -1,4 +1,4 @@
--- An effect that no probe shows wrong leaves no other cells than is wanted, from any start of the row.
+-- An effect that no probe shows wrong leaves the wanted cells, from any start of the row.
 use Rattle.std.proofs.Common.{◌≡◌, ◌⊎◌, inl, inr, ℕ, ◌+◌, ◌-◌, ◌<◌, ◌≤◌, ◌==◌, ◌&&◌, ◌||◌, Bool, true, false, if◌then◌else◌, length, refl, sym, ap, subst, ◌∙◌, arith}
 use Rattle.std.proofs.lemmas.Bool.{cases_lt, le-leb, lt-leb}
 use Rattle.std.proofs.lemmas.Bool.Decides.{nat_tests}
@@ -18,7 +18,7 @@ use Rattle.ti_checker.specs.Cells.{is_erased, is_blank_after}
 
 -- ---- what two changes of the cells have in common
 
--- they make the same places blank where all were alike, with the cursor and the margins here
+-- they make the same places blank if all cells were alike, with the cursor and the margins here
 abbrev pub Agree : ℕ → ℕ → Erasure → Scroll → Erasure → Scroll → ℕ → ℕ → ℕ → ℕ → Type 0
 Agree rows cols x z y w top bottom row col = (i j : ℕ) → i < rows → j < cols
     → is_blank_after z top bottom (λ k. is_erased x row col k j) i ≡ is_blank_after w top bottom (λ k. is_erased y row col k j) i
@@ -114,7 +114,7 @@ to_end row col i j n cols h lt = grind (arith, nat_tests)
 nowhere : (row col i j n : ℕ) → n ≡ 0 → ((i == row) && (nat_le col j && nat_lt j (col + n))) ≡ false
 nowhere row col i j n h = grind (arith, nat_tests)
 
--- ---- nothing is wanted of the cells
+-- ---- the cells must stay
 
 none_still : (rows cols top bottom row col : ℕ) → row < rows → col < cols → (x : Erasure) → Agree rows cols x scrolls.Still erasures.Nothing scrolls.Still top bottom row col → SameCells cols x scrolls.Still erasures.Nothing scrolls.Still
 none_still rows cols top bottom row col r c erasures.Nothing a = record { scroll = refl; chosen = λ row col i j lt. refl }
@@ -223,7 +223,7 @@ rest_cells rows cols = forms (Erases rows cols erasures.Rest) (rest_still rows c
     (λ c. never (sym (c.home 0 0 (first rows c.tall) (first cols c.wide)) ∙ not_up rows c.tall))
     (λ c. never (sym (c.home 1 0 (second rows c.tall) (first cols c.wide)) ∙ not_down rows c.tall))
 
--- so many cells
+-- erasures by a count of cells
 shifted : (n m row col i j : ℕ) → col ≤ j → (nat_le 0 (j - col) && nat_lt (j - col) (0 + n)) ≡ (nat_le 0 (j - col) && nat_lt (j - col) (0 + m)) → ((i == row) && (nat_le col j && nat_lt j (col + n))) ≡ ((i == row) && (nat_le col j && nat_lt j (col + m)))
 shifted n m row col i j le h = grind (arith, nat_tests)
 

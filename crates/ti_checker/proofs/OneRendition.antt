@@ -1,4 +1,4 @@
--- An effect that no probe shows wrong renders as is wanted, from any start of the row.
+-- An effect that no probe shows wrong renders as wanted, from any start of the row.
 use Rattle.std.proofs.Common.{◌≡◌, ℕ, ◌<◌, ◌&&◌, ◌||◌, Bool, true, false, if◌then◌else◌, Option, None, Some, refl, sym, ap, subst, ◌∙◌, arith}
 use Rattle.std.proofs.lemmas.Bool.{and_parts}
 use Rattle.std.proofs.lemmas.Option.{none-some}
@@ -64,7 +64,7 @@ from_parts r s h x y =
 
 -- ---- what is known of the renderings where no probe shows anything
 
--- they do the same from a probe
+-- two renderings do the same from a probe
 record RendersSo (q r : Rendering) (p : Probe) : Type 0 where
   marks : marks_after q p.look ≡ marks_after r p.look
   foreground : inked q.foreground p.foreground ≡ inked r.foreground p.foreground
@@ -118,7 +118,7 @@ standout_rendered rows cols taught e s ends =
 
 -- ---- sets of attributes
 
--- from a probe the effect leads to just what the set shows, with both colours kept or both default
+-- from a probe the effect leads to just what the set shows, with both colors kept or both default
 record ShowsSome (m : Marks) (e : Effect) (p : Probe) : Type 0 where
   defaults : Bool
   so : RendersSo e.rendition (just m (ink_of defaults)) p
@@ -135,7 +135,7 @@ no_ink false = refl
 just_marks : (m n : Marks) (i : Ink) → m ≡ marks_after (just m i) n
 just_marks m n i = same_sets _ _ _ _ _ _ _ _ _ _ _ _ (set_mark m.bold n.bold) (set_mark m.faint n.faint) (set_mark m.underline n.underline) (set_mark m.blink n.blink) (set_mark m.negative n.negative) (set_mark m.concealed n.concealed)
 
--- the set is shown so by some looks, with both colours kept or both default, from whatever rendition
+-- with some looks the effect shows the set, with both colors kept or both default, from every rendition
 pub record IsRendered (taught : Looks) (a : Attributes) (e : Effect) : Type 0 where
   pub looks : Looks
   pub agree : AgreeBefore (Sgr a) taught looks

@@ -61,7 +61,7 @@ no_longer rows cols (x ∷ xs) (y ∷ ys) p q over = by_first (over x (inl refl)
         let n = size_more y ys in
         omega (arith, k, n)
 
--- one line more at the end
+-- one more line at the end
 pub order_end : (rows cols : ℕ) (lines : List RowLine) (line : RowLine) → InOrder rows cols lines → ((other : RowLine) → IsAmong lines other → Precedes rows cols other.row line.row) → InOrder rows cols (lines ++ line ∷ [])
 order_end rows cols [] line p before = (λ other a. absurd a, tt)
 order_end rows cols (x ∷ lines) line p before = (λ other a. by_part other (among_either lines (line ∷ []) other a), order_end rows cols lines line p.1 (λ other a. before other (inr a)))

@@ -94,7 +94,7 @@ length_by_lines entry rows cols lines =
     text_length entry rows cols lines
     ∙ ap (λ (n : ℕ). n + 4) (ap (λ (l : List ℕ). length l) (front_is entry rows cols lines) ∙ length-append (ended (heads entry rows cols)) (ended (map line_text lines)))
 
--- one line more at the end
+-- one more line at the end
 pub front_end : (entry : Content) (rows cols : ℕ) (lines : List RowLine) (line : RowLine) → front_with entry rows cols (lines ++ line ∷ []) ≡ front_with entry rows cols lines ++ (line_text line ++ 10 ∷ [])
 front_end entry rows cols lines line =
     front_is entry rows cols (lines ++ line ∷ [])

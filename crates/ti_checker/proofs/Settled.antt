@@ -1,4 +1,4 @@
--- What was seen of an entry's strings is so in every table of what it sends.
+-- The facts seen of an entry's strings hold in every table of what it sends.
 use Rattle.std.proofs.Common.{◌≡◌, ◌⊎◌, inl, inr, ℕ, ◌+◌, ◌<◌, ◌≤◌, Bool, true, false, List, [], ◌∷◌, ◌++◌, Option, None, Some, refl, sym, ap, subst, ◌∙◌, arith, below_more}
 use Rattle.std.specs.Prelude.{IfNone, IfSome}
 use Rattle.std.proofs.lemmas.Bool.{false≢true, cases_Bool}
@@ -41,7 +41,7 @@ sent_line entry rows cols t h row string bytes range checked there s =
     let is : own.sends.bytes ≡ bytes = cc (sends.sends, s.sends) in
     own.sends.line_has ∙ ap (λ (x : List ℕ). Some x) is
 
--- ---- one row more
+-- ---- one more row
 
 among_both : (P : List ℕ → Type 0) (ts us : List (List ℕ)) (x : List ℕ) → ((y : List ℕ) → IsAmong ts y → P y) → ((y : List ℕ) → IsAmong us y → P y) → IsAmong (ts ++ us) x → P x
 among_both P [] us x f g a = g x a
@@ -147,7 +147,7 @@ none_before : (rows cols : ℕ) (row : Row) → IsBefore rows cols 0 0 row → �
 none_before rows cols row (inl lt) = omega (arith, lt)
 none_before rows cols row (inr p) = omega (arith, p.1)
 
--- what the line of a string says
+-- the facts that the line of a string adds
 pub is_seen_too : (rows cols : ℕ) (string : List ℕ) (row : Row) (bytes : List ℕ) (e : Effect) (old new : Reach) (before after : List Sets) → IsLineFor rows cols string (record { row = row; bytes = bytes; effect = e })
     → ((tokens : List (List ℕ)) → Splits bytes tokens [] → new ≡ joined old (reach_of tokens)) → after ≡ with_change (settles row) before e.charset → IsSeenToo string row old before new after
 is_seen_too rows cols string row bytes e old new before after is reach changes = record {
@@ -206,7 +206,7 @@ nothing_seen entry rows cols reach changes r e = record {
   counted = λ row range checked b. absurd (none_before rows cols row b);
 }
 
--- ---- what a row's line does
+-- ---- the changes by a row's line
 
 pub unchecked_changes : (entry : Content) (rows cols : ℕ) (row : Row) → IsInRange rows cols row → is_checked entry row ≡ false → RowChanges entry rows cols row None
 unchecked_changes entry rows cols row range unchecked t h = NoLine ((h.sends row range).unchecked unchecked)

@@ -1,4 +1,4 @@
--- What is wanted of an effect's end is the end of the effect that the table asks for.
+-- The wanted end of an effect is the end of the effect that the table asks for.
 use Rattle.std.proofs.Common.{◌≡◌, ℕ, Bool, true, false, ◌&&◌, ◌||◌, if◌then◌else◌, Option, None, ◌⊎◌, inl, inr, refl, sym, ap, subst, ◌∙◌}
 use Rattle.std.proofs.lemmas.Bool.{true≢false}
 use Rattle.vt_term.specs.Color.{Color}
@@ -82,7 +82,7 @@ calm_end : (b p : Bool) → p ≡ false → p ≡ (if b then false else p)
 calm_end true p h = h
 calm_end false p h = refl
 
--- the marks that the effect shows from a start without any, and the looks of which each is seen so
+-- the marks that the effect shows from a start without any, and the looks that are each seen so
 abbrev alone : Effect → Marks
 alone e = marks_after e.rendition no_marks
 
@@ -144,7 +144,7 @@ one_seen : (taught : Looks) (row : Row) (e : Effect) → has_choice row ≡ fals
 one_seen taught (Sgr a) e one = never one
 one_seen taught _ e one = refl
 
--- what is wanted of a row of one end fails where the ends differ
+-- a row with one wanted end isn't satisfied if the ends differ
 pub one_end_missed : (rows cols : ℕ) (taught : Looks) (row : Row) (e : Effect) (p : Probe) → has_choice row ≡ false → Starts rows cols row (screen_of rows cols p)
     → (EndAlike e (wanted_end (looks_for taught row e) row e) (screen_of rows cols p) → ⊥) → NotWanted rows cols taught row e p
 one_end_missed rows cols taught row e p one st apart l agree by h =

@@ -24,7 +24,7 @@ marks_of r = record {
   concealed = r.concealed;
 }
 
--- sets of attributes that are shown as each of them is alone: all but those of one attribute
+-- sets whose attributes are each shown as alone: all sets but those of one attribute
 abbrev pub is_several : Row → Bool
 is_several (Sgr a) = not (is_single (number_of a) || number_of a == 64)
 is_several _ = false
@@ -35,8 +35,8 @@ ShowsBy looks (Sgr a) m = is_several (Sgr a) ≡ false → shown looks a ≡ m
 ShowsBy looks Smso m = looks.standout ≡ m
 ShowsBy looks _ m = Unit {0}
 
--- and these are the marks that the bytes turn on: a run of them from a start of the row without marks ends with just
--- those
+-- the looks show the row's one attribute by the marks that the bytes turn on: a run from a start of the row without
+-- marks ends with just these marks
 abbrev pub ShowsAlone : ℕ → ℕ → Row → List ℕ → Looks → Type 0
 ShowsAlone rows cols row bytes looks = (before after : Screen) → Starts rows cols row before
     → marks_of before.rendition ≡ no_marks

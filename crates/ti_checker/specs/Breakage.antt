@@ -1,4 +1,4 @@
--- What a string wrongly does, seen from a probe.
+-- A string's wrong effect, seen from a probe.
 use Rattle.std.specs.Prelude.{ℕ, ◌≡◌, ◌<◌, Bool, true, false, if◌then◌else◌, List, [], Some, None}
 use Rattle.vt_term.specs.Screen.{Screen}
 use Rattle.vt_effects.specs.declared.effects.Effect.{Effect}
@@ -25,9 +25,9 @@ use Rattle.ti_checker.specs.Probes.{screen_of}
 use Rattle.ti_checker.specs.Taught.{IsTaught}
 use Rattle.ti_checker.specs.declared.probes.Probe.{Probe}
 
--- The probe is a start of the row, and the run of the bytes from it ends as is not wanted: however attributes look, as
--- long as the rows of the string before this one do what is wanted where they look so, and the one attribute that this
--- row turns on looks as the bytes show it from a start without marks.
+-- The probe is a start of the row, and the run of the bytes from it has an end that isn't wanted, for all looks of the
+-- attributes with which the string's rows before this one are right, and with which the one attribute that this row
+-- turns on looks as the bytes show it from a start without marks.
 pub record Breaks (rows cols : ℕ) (string : List ℕ) (row : Row) (bytes : List ℕ) (p : Probe) : Type 0 where
   pub starts : Starts rows cols row (screen_of rows cols p)
   pub after : Screen
@@ -35,12 +35,12 @@ pub record Breaks (rows cols : ℕ) (string : List ℕ) (row : Row) (bytes : Lis
   pub unwanted : (looks : Looks) → StandBefore rows cols looks string row → ShowsAlone rows cols row bytes looks
       → Wants looks row (screen_of rows cols p) after → ⊥
 
--- the looks agree on what the parameter lists of `sgr` before this one show
+-- the looks agree on the marks that the parameter lists of `sgr` before this one show
 abbrev pub AgreeBefore : Row → Looks → Looks → Type 0
 AgreeBefore (Sgr a) l m = (b : Attributes) → number_of b < number_of a → shown l b ≡ shown m b
 AgreeBefore _ l m = Unit {0}
 
--- the marks that an effect leaves of these
+-- the marks after the effect, starting from these marks
 abbrev pub marks_after : Rendering → Marks → Marks
 marks_after e m = record {
   bold = switched e.bold m.bold;
@@ -51,8 +51,8 @@ marks_after e m = record {
   concealed = switched e.concealed m.concealed;
 }
 
--- the end of the effect isn't wanted, whatever attributes look like that agree with what the rows before taught, where
--- the one that the row turns on looks as the effect shows it from a start without marks
+-- the end of the effect isn't wanted, for all looks that agree with what the rows before taught and with which the one
+-- attribute that the row turns on looks as the effect shows it from a start without marks
 abbrev pub NotWanted : ℕ → ℕ → Looks → Row → Effect → Probe → Type 0
 NotWanted rows cols taught row e p = (looks : Looks) → AgreeBefore row taught looks
     → ShowsBy looks row (marks_after e.rendition no_marks)
@@ -63,22 +63,22 @@ pub record IsShown (rows cols : ℕ) (taught : Looks) (row : Row) (e : Effect) (
   pub starts : Starts rows cols row (screen_of rows cols p)
   pub unwanted : NotWanted rows cols taught row e p
 
--- so that the run of bytes of such an effect breaks what is wanted
+-- the run of bytes with such an effect is then wrong
 abbrev pub ShownBreaks : Type 0
 ShownBreaks = (rows cols : ℕ) (string : List ℕ) (taught : Looks) (row : Row) (bytes : List ℕ)
     → (tokens : List (List ℕ)) (e : Effect) (p : Probe) → IsTaught rows cols string row taught → Splits bytes tokens []
     → record_of rows cols (start_of rows cols row) tokens ≡ Some e → IsShown rows cols taught row e p
     → Breaks rows cols string row bytes p
 
--- ---- (Serves the code alone.) The ends that are wanted of an effect.
+-- ---- (Serves the code alone.) The wanted ends of an effect.
 
--- the rows of which two are wanted: both colours stay or become default, the cursor becomes visible or all stays
+-- the rows with two wanted ends: both colors stay or become default, or the cursor becomes visible or all stays
 abbrev pub has_choice : Row → Bool
 has_choice (Sgr a) = true
 has_choice Cvvis = true
 has_choice _ = false
 
--- those of which cells, cursor, rendition and sets are free in the end
+-- the rows whose end may have any cells, cursor, rendition and sets
 abbrev pub is_free : Row → Bool
 is_free Smcup = true
 is_free Rmcup = true
@@ -102,7 +102,7 @@ without_defaults e =
       visible = switches.Kept;
     }
 
--- the looks of which each is seen where these marks are on
+-- looks each of which is seen when these marks are on
 abbrev pub looks_of : Marks → Looks
 looks_of m = record {
   standout = m;
@@ -114,7 +114,7 @@ looks_of m = record {
   invisible = m.concealed;
 }
 
--- the looks by which the end of the effect is judged: what was taught, or what the effect shows from a start without
+-- the looks by which the end of the effect is judged: those taught, or those that the effect shows from a start without
 -- marks
 abbrev pub looks_for : Looks → Row → Effect → Looks
 looks_for taught row e = if is_several row then taught else looks_of (marks_after e.rendition no_marks)

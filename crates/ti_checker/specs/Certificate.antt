@@ -1,4 +1,4 @@
--- The certificate of an entry: a text whose lines are just what its strings send.
+-- The certificate of an entry: a text with exactly the lines that its strings send.
 use Rattle.std.specs.Prelude.{ℕ, ◌≡◌, true, List, Ok}
 use Rattle.ti_caps.specs.Entry.{Content, string_at}
 use Rattle.ti_rows.specs.declared.rows.Row.{Row}

@@ -1,5 +1,5 @@
--- With `NotTame` and `NotShown` a string may be right: but neither is said of a row that stands, and `NotShown` of none
--- that leads elsewhere than is wanted, to another rendition, to other modes or to other cells.
+-- With `NotTame` and `NotShown` a string may be right; but neither is reported of a row that stands, and `NotShown` of
+-- no row that leads to a place, a rendition, modes or cells that aren't wanted.
 use Rattle.std.specs.Prelude.{ℕ, ◌≡◌, List}
 use Rattle.vt_effects.specs.declared.effects.Effect.{Effect}
 use Rattle.ti_rows.specs.declared.rows.Looks.{Looks}
@@ -11,7 +11,7 @@ use Rattle.ti_checker.specs.Strays.{LeadsElsewhere, LeavesOtherCells, LeavesOthe
 use Rattle.ti_checker.specs.Taught.{IsTaught}
 use Rattle.ti_checker.specs.declared.causes.Cause.TheVariants.{NotTame, NotShown}
 
--- what the rows of a string before this one teach is one look of the attributes
+-- the rows of a string before this one teach one look of the attributes only
 abbrev pub OneTeaching : Type 0
 OneTeaching = (rows cols : ℕ) (string : List ℕ) (row : Row) (looks others : Looks)
     → IsTaught rows cols string row looks → IsTaught rows cols string row others → others ≡ looks
@@ -24,8 +24,8 @@ abbrev pub NeverUnasked : Type 0
 NeverUnasked = (rows cols : ℕ) (string : List ℕ) (row : Row) → SendsAsked rows cols string row
     → IsFaulty rows cols string row NotShown → ⊥
 
--- what the string sends has an effect that is such, where attributes look as the rows of the string before this one
--- teach
+-- the bytes that the string sends have an effect for which `Such` holds with the looks that the string's rows before
+-- this one teach
 pub record SendsSuch (Such : Looks → Effect → Type 0) (rows cols : ℕ) (string : List ℕ) (row : Row) : Type 0 where
   pub bytes : List ℕ
   pub effect : Effect

@@ -1,5 +1,5 @@
--- What the terminal ignores of a sequence: all of it, where it names no function, or some of its numbers (ECMA-48 5.4,
--- control sequences; 8.3.106 RM, 8.3.117 SGR, 8.3.125 SM; ECMA-35 13.2, escape sequences).
+-- The part of a sequence that the terminal ignores: all of it if it names no function, or some of its numbers (ECMA-48
+-- 5.4, control sequences; 8.3.106 RM, 8.3.117 SGR, 8.3.125 SM; ECMA-35 13.2, escape sequences).
 use Rattle.std.specs.Prelude.{ℕ, ◌==◌, ◌&&◌, ◌||◌, nat_le, not, is_none, Bool, true, false, List, [], ◌∷◌}
 use Rattle.std.specs.Prelude.{if◌then◌else◌, Option}
 use Rattle.std.specs.Option.{unwrap_or}
@@ -27,7 +27,7 @@ is_whole_sequence (first ∷ behind) = (first == 27) && has_final behind
 
 -- ---- a number that is unknown
 
--- of SGR; the default is 0
+-- a number of SGR that is unknown; the default is 0
 abbrev pub is_unknown_rendition : Option ℕ → Bool
 is_unknown_rendition n = is_none (change_of (unwrap_or n 0))
 
@@ -39,9 +39,9 @@ is_mode Private n = (n == 7) || (n == 25)
 abbrev pub is_unknown_mode : ModeKind → Option ℕ → Bool
 is_unknown_mode kind n = not (is_mode kind (unwrap_or n 0))
 
--- ---- what is ignored
+-- ---- functions that are ignored
 
--- nothing is done, or for one of the numbers nothing is
+-- the function does nothing, or nothing for one of its numbers
 abbrev pub ignores : Function → Bool
 ignores Ignored = true
 ignores (SelectRendition numbers) = list_any is_unknown_rendition numbers

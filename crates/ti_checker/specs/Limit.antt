@@ -1,4 +1,4 @@
--- Where the lines of an entry's certificate would pass the length that a certificate may have.
+-- The row at which the lines of an entry's certificate would pass the length that a certificate may have.
 use Rattle.std.specs.Prelude.{ℕ, ◌≡◌, ◌<◌, ◌≤◌, ◌⊎◌, true, length, map, List, [], ◌∷◌, ◌++◌}
 use Rattle.ti_caps.specs.Entry.{Content, string_at}
 use Rattle.ti_conforms.specs.Charsets.{IsAmong}
@@ -14,18 +14,18 @@ use Rattle.ti_cert.specs.Order.{HasLine, Precedes}
 use Rattle.ti_cert.specs.Certificates.{HasEffect, limit}
 use Rattle.ti_checker.specs.Certificate.{IsSent}
 
--- what the entry sends for a checked row, and the effect of that
+-- the bytes that the entry sends for a checked row, and their effect
 pub record IsLineOf (entry : Content) (rows cols : ℕ) (line : RowLine) : Type 0 where
   pub sent : IsSent entry rows cols line.row line.bytes
   pub has : HasEffect rows cols line line.effect
 
--- each line before those that follow it
+-- each line's row precedes those of the lines that follow it
 abbrev pub InOrder : ℕ → ℕ → List RowLine → Type 0
 InOrder rows cols [] = Unit {0}
 InOrder rows cols (line ∷ lines) =
     ((other : RowLine) → IsAmong lines other → Precedes rows cols line.row other.row) × InOrder rows cols lines
 
--- the entry's lines for all checked rows of which this holds, in the order of a certificate
+-- the entry's lines for all checked rows for which `Holds` holds, in the order of a certificate
 pub record AreLines (entry : Content) (rows cols : ℕ) (Holds : Row → Type 0) (lines : List RowLine) : Type 0 where
   pub ordered : InOrder rows cols lines
   pub each : (line : RowLine) → IsAmong lines line → IsLineOf entry rows cols line
@@ -47,7 +47,7 @@ pub record PassesLimit (entry : Content) (rows cols : ℕ) (row : Row) : Type 0 
   pub are : AreLines entry rows cols (λ other. IsUpTo rows cols row other) lines
   pub long : limit < length (text_with entry rows cols lines)
 
--- those of the rows before it are not
+-- the lines of the rows before it are not too long
 pub record StaysWithin (entry : Content) (rows cols : ℕ) (row : Row) : Type 0 where
   pub lines : List RowLine
   pub are : AreLines entry rows cols (λ other. Precedes rows cols other row) lines
@@ -70,7 +70,7 @@ abbrev pub front_with : Content → ℕ → ℕ → List RowLine → List ℕ
 front_with entry rows cols lines =
     ended (size_text rows cols ∷ (acsc_lines (string_at entry acsc) ++ map line_text lines))
 
--- what a string sends for a row, and the effect of that
+-- the bytes that a string sends for a row, and their effect
 pub record IsLineFor (rows cols : ℕ) (string : List ℕ) (line : RowLine) : Type 0 where
   pub sends : Sends string line.row line.bytes
   pub has : HasEffect rows cols line line.effect
@@ -82,20 +82,20 @@ pub record AddsLine (rows cols : ℕ) (string : List ℕ) (row : Row) (old new :
   pub is : IsLineFor rows cols string line
   pub added : new ≡ old ++ (line_text line ++ 10 ∷ [])
 
--- it doesn't leave room for `end`
+-- the string's line for the row leaves no room for `end`
 pub record Overflows (rows cols : ℕ) (string : List ℕ) (row : Row) (old : List ℕ) : Type 0 where
   pub new : List ℕ
   pub adds : AddsLine rows cols string row old new
   pub long : most < length new
 
--- the lines of those rows are written
+-- the lines of the rows for which `Holds` holds are written
 pub record IsWritten (entry : Content) (rows cols : ℕ) (Holds : Row → Type 0) (text : List ℕ) : Type 0 where
   pub lines : List RowLine
   pub are : AreLines entry rows cols Holds lines
   pub text_is : text ≡ front_with entry rows cols lines
   pub short : length text ≤ most
 
--- those of all checked rows with `end`, no longer than a certificate may be
+-- the lines of all checked rows with `end`, no longer than a certificate may be
 pub record IsFullText (entry : Content) (rows cols : ℕ) (text : List ℕ) : Type 0 where
   pub lines : List RowLine
   pub are : AreLines entry rows cols (λ row. Unit {0}) lines

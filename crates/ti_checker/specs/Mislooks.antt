@@ -51,7 +51,7 @@ other_in None m = false
 abbrev pub shows_other : Row → Marks → Bool
 shows_other row m = other_in (own_mark row) m
 
--- from a start of the row without any mark the run of the bytes ends with one that isn't the attribute's own
+-- from a start of the row without any mark, the run of the bytes ends with a mark that isn't the attribute's own
 pub record Mislooks (rows cols : ℕ) (row : Row) (bytes : List ℕ) : Type 0 where
   pub before : Screen
   pub starts : Starts rows cols row before
@@ -60,6 +60,6 @@ pub record Mislooks (rows cols : ℕ) (row : Row) (bytes : List ℕ) : Type 0 wh
   pub runs : Runs (record { screen = before; rest = [] }) bytes (record { screen = after; rest = [] })
   pub other : shows_other row (marks_of after.rendition) ≡ true
 
--- (Serves the code alone.) The same by the effect.
+-- (Serves the code alone.) `Mislooks`, decided by the effect.
 abbrev pub looks_other : Row → Effect → Bool
 looks_other row e = shows_other row (marks_after e.rendition no_marks)

@@ -1,4 +1,4 @@
--- The notes on an entry: which sequences of its strings the terminal ignores.
+-- The notes on an entry: the sequences of its strings that the terminal ignores.
 use Rattle.std.specs.Prelude.{ℕ, ◌≡◌, true, false, List, [], ◌∷◌, ◌++◌, map, filter, take, codes, Some, None, Err}
 use Rattle.std.specs.List.{flat_map}
 use Rattle.ti_caps.specs.Entry.{Content}
@@ -21,7 +21,7 @@ use Rattle.ti_checker.specs.declared.causes.No.{No}
 
 -- ---- the notes
 
--- the string sends whole tokens for the row, and these are they
+-- the string sends just these whole tokens for the row
 pub record SendsTokens (string : List ℕ) (row : Row) (tokens : List (List ℕ)) : Type 0 where
   pub bytes : List ℕ
   pub sends : Sends string row bytes
@@ -30,7 +30,7 @@ pub record SendsTokens (string : List ℕ) (row : Row) (tokens : List (List ℕ)
 abbrev pub note_of : ℕ → List ℕ → CheckNote
 note_of cap token = record { cap = cap; bytes = token }
 
--- one for each of the tokens that is ignored, in their order
+-- a note for each ignored token, in their order
 abbrev pub notes_of : ℕ → List (List ℕ) → List CheckNote
 notes_of cap tokens = map (note_of cap) (filter is_ignored tokens)
 
@@ -42,19 +42,19 @@ pub record StringNotes (entry : Content) (row : Row) (notes : List CheckNote) : 
   pub sends : SendsTokens string row tokens
   pub ignored : notes ≡ notes_of (cap_of row) tokens
 
--- none where the entry doesn't have the capability, or it isn't checked
+-- the notes on a row: none if the entry doesn't have the capability, or if it isn't checked
 pub record RowNotes (entry : Content) (row : Row) (notes : List CheckNote) : Type 0 where
   pub checked : is_checked entry row ≡ true → StringNotes entry row notes
   pub unchecked : is_checked entry row ≡ false → notes ≡ []
 
--- those of these rows, one row after another
+-- the notes on these rows, one row after another
 unfoldable pub RowsNotes : Content → List Row → List CheckNote → Type 0
 RowsNotes entry [] notes = notes ≡ []
 RowsNotes entry (row ∷ rows) notes =
     (own : List CheckNote) × (later : List CheckNote) × (notes ≡ own ++ later) × RowNotes entry row own
     × RowsNotes entry rows later
 
--- those of all checked capabilities in the byte order of their names, each for its first parameter list
+-- the notes on all checked capabilities in the byte order of their names, each for its first parameter list
 abbrev pub EntryNotes : Content → List CheckNote → Type 0
 EntryNotes entry notes = RowsNotes entry firsts notes
 
@@ -69,7 +69,7 @@ SendsNoTokens string row Stuck = SendsSome string row (λ bytes. (at : ℕ) × I
 SendsNoTokens string row NoMemory = Unit {0}
 SendsNoTokens string row _ = ⊥
 
--- so of the checked capability at this place in their order, for its first parameter list
+-- the checked capability at this place in their order sends no tokens for its first parameter list
 pub record IsUnsentAt (entry : Content) (place : ℕ) (refusal : No) : Type 0 where
   pub row : Row
   pub is_first : first_in_order place ≡ Some row
@@ -80,7 +80,7 @@ pub record IsUnsentAt (entry : Content) (place : ℕ) (refusal : No) : Type 0 wh
   pub there : string_of entry row ≡ Some string
   pub unsent : SendsNoTokens string row refusal.cause
 
--- and all before it have their notes
+-- the first such capability: all before it have their notes
 pub record IsFirstUnsent (entry : Content) (refusal : No) : Type 0 where
   pub place : ℕ
   pub unsent : IsUnsentAt entry place refusal
@@ -89,7 +89,7 @@ pub record IsFirstUnsent (entry : Content) (refusal : No) : Type 0 where
 
 -- ---- the lines
 
--- note, the capability and the bytes in hexadecimal
+-- `note`, the capability and the bytes in hexadecimal
 abbrev pub note_line : CheckNote → List ℕ
 note_line note = codes "note " ++ (name_at note.cap ++ 32 ∷ (hex_text note.bytes ++ 10 ∷ []))
 

@@ -1,4 +1,4 @@
--- The screen that a probe stands for.
+-- The screen that a probe describes.
 use Rattle.std.specs.Prelude.{ℕ, ◌<◌, ◌≤◌, true, false}
 use Rattle.vt_term.specs.Look.{Look, plain}
 use Rattle.vt_term.specs.Grid.{uniform}
@@ -27,7 +27,7 @@ screen_of rows cols p = record {
   visible = p.visible;
 }
 
--- (Serves the code alone.) the probe's character isn't a space, and its margins lie in so many rows
+-- (Serves the code alone.) the probe's character isn't a space, and its margins lie within `rows`
 pub record CanShow (rows : ℕ) (p : Probe) : Type 0 where
   pub fill : 33 ≤ p.fill
   pub bottom : p.bottom < rows

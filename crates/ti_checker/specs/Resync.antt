@@ -1,4 +1,5 @@
--- What an entry sends to lead a terminal out of an unknown state (terminfo(5), "Initialization" and "Line Graphics").
+-- The bytes that an entry sends to lead a terminal out of an unknown state (terminfo(5), "Initialization" and "Line
+-- Graphics").
 use Rattle.std.specs.Prelude.{ℕ, ◌<◌, ◌≡◌, true, false, List, [], length, slice_index_or, Some}
 use Rattle.ti_caps.specs.Entry.{Content}
 use Rattle.ti_rows.specs.declared.rows.Row.{Row}
@@ -16,7 +17,7 @@ pub record SendsFor (entry : Content) (row : Row) (bytes : List ℕ) : Type 0 wh
 
 -- ---- (Serves the code alone.)
 
--- what the entry sends for the row, nothing where it isn't checked
+-- the bytes that the entry sends for the row, none if it isn't checked
 pub record IsPart (entry : Content) (row : Row) (bytes : List ℕ) : Type 0 where
   pub checked : is_checked entry row ≡ true → SendsFor entry row bytes
   pub unchecked : is_checked entry row ≡ false → bytes ≡ []
@@ -24,7 +25,8 @@ pub record IsPart (entry : Content) (row : Row) (bytes : List ℕ) : Type 0 wher
 abbrev pub AreInRange : ℕ → ℕ → List Row → Type 0
 AreInRange height width rows = (i : ℕ) (d : Row) → i < length rows → IsInRange height width (slice_index_or rows i d)
 
--- What the entry sends for these rows, one after another: the lines of each table that has just what the entry sends.
+-- The bytes that the entry sends for these rows, one after another: the lines of each table with exactly what the entry
+-- sends.
 abbrev pub SendsAll : Content → ℕ → ℕ → List Row → List ℕ → Type 0
 SendsAll entry height width rows text =
     (t : Table) → EntryAgrees height width entry t.line_of → text ≡ texts_of t.line_of rows

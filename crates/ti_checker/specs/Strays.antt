@@ -1,4 +1,4 @@
--- In what the end of an effect differs from each end that is wanted of a row.
+-- The respects in which the end of an effect differs from each wanted end of a row.
 use Rattle.std.specs.Prelude.{ℕ, ◌≡◌, List, Some}
 use Rattle.vt_term.specs.Screen.{Screen}
 use Rattle.vt_effects.specs.declared.effects.Effect.{Effect}
@@ -11,8 +11,8 @@ use Rattle.ti_rows.specs.declared.rows.Looks.{Looks}
 use Rattle.ti_rows.specs.declared.rows.Row.{Row}
 use Rattle.ti_checker.specs.Breakage.{AgreeBefore}
 
--- From some start of the row, whatever its cells are, the effect leads to an end that is like none of those that are
--- wanted, however attributes look that agree with what the rows before taught.
+-- From some start of the row, whatever its cells are, the effect leads to an end that is like none of the wanted ones,
+-- for all looks that agree with what the rows before taught.
 pub record Strays (Alike : Screen → Screen → Type 0) (rows cols : ℕ) (taught : Looks) (row : Row) (e : Effect)
     : Type 0 where
   pub start : Screen
@@ -34,12 +34,12 @@ HaveOneRendition s t = s.rendition ≡ t.rendition
 abbrev pub HaveSameCells : Screen → Screen → Type 0
 HaveSameCells s t = s.grid ≡ t.grid
 
--- the active set and both sets are the same, and so is whether the cursor is seen
+-- the active set, both sets and the cursor's visibility are the same
 pub record HaveSameModes (s t : Screen) : Type 0 where
   pub charset : s.charset ≡ t.charset
   pub visible : s.visible ≡ t.visible
 
--- the effect leads elsewhere than is wanted, to another rendition, to other cells, and to other modes
+-- the effect leads to a place, a rendition, cells or modes that aren't wanted
 abbrev pub LeadsElsewhere : ℕ → ℕ → Looks → Row → Effect → Type 0
 LeadsElsewhere rows cols taught row e = Strays HaveOnePlace rows cols taught row e
 
@@ -52,12 +52,12 @@ LeavesOtherCells rows cols taught row e = Strays HaveSameCells rows cols taught 
 abbrev pub LeavesOtherModes : ℕ → ℕ → Looks → Row → Effect → Type 0
 LeavesOtherModes rows cols taught row e = Strays HaveSameModes rows cols taught row e
 
--- (Serves the code alone.) the effect is what some text does from every start of the row
+-- (Serves the code alone.) the effect is the record of some text from the row's start
 abbrev pub IsRecorded : ℕ → ℕ → Row → Effect → Type 0
 IsRecorded rows cols row e = (tokens : List (List ℕ)) × (record_of rows cols (start_of rows cols row) tokens ≡ Some e)
 
--- Attributes can look in one way, which agrees with what the rows before taught, so that the end of the effect from
--- each start of the row is one that is wanted.
+-- There are looks that agree with what the rows before taught, with which the end of the effect from each start of the
+-- row is wanted.
 pub record IsAlwaysWanted (rows cols : ℕ) (taught : Looks) (row : Row) (e : Effect) : Type 0 where
   pub looks : Looks
   pub agree : AgreeBefore row taught looks

@@ -1,5 +1,5 @@
--- Which character set the strings of an entry leave active, all of them together (terminfo(5), "Line Graphics"; VT100
--- user guide, "Select character set").
+-- The character set that the strings of an entry leave active, all of them together (terminfo(5), "Line Graphics";
+-- VT100 user guide, "Select character set").
 use Rattle.std.specs.Prelude.{ℕ, ◌<◌, ◌≡◌, ◌⊎◌, true, List, [], Option, Some}
 use Rattle.vt_term.specs.Size.{IsSize}
 use Rattle.vt_term.specs.Screen.{Screen, Charset}
@@ -23,25 +23,25 @@ use Rattle.ti_cert.specs.Seen.{IsOfLine, ChangesBy}
 use Rattle.ti_checker.specs.Probes.{screen_of}
 use Rattle.ti_checker.specs.declared.probes.Probe.{Probe}
 
--- the table has just what the entry sends for the checked rows of a size
+-- the table has exactly what the entry sends for the checked rows of a size
 pub record HasSent (entry : Content) (rows cols : ℕ) (t : Table) : Type 0 where
   pub size : IsSize rows cols
   pub rows_are : t.rows ≡ rows
   pub sends : EntryAgrees rows cols entry t.line_of
   pub only : (row : Row) (bytes : List ℕ) → t.line_of row ≡ Some bytes → IsInRange rows cols row
 
--- it is so of such a table
+-- `Is` holds of one such table
 pub record OfSent (entry : Content) (rows cols : ℕ) (Is : Table → Type 0) : Type 0 where
   pub table : Table
   pub has : HasSent entry rows cols table
   pub is : Is table
 
--- (Serves the code alone.) it is so of each such table
+-- (Serves the code alone.) `Is` holds of each such table
 abbrev pub OfAllSent : Content → ℕ → ℕ → (Table → Type 0) → Type 0
 OfAllSent entry rows cols Is = (t : Table) → HasSent entry rows cols t → Is t
 
--- The probe is a start of the row, and the run of the row's bytes from it ends with the other set active than `smacs`
--- and `rmacs` are to activate.
+-- The probe is a start of the row, and the run of the row's bytes from it ends without the set active that the row,
+-- `smacs` or `rmacs`, must activate.
 pub record RunsWrong (rows cols : ℕ) (row : Row) (p : Probe) (t : Table) : Type 0 where
   pub bytes : List ℕ
   pub there : t.line_of row ≡ Some bytes
@@ -50,16 +50,16 @@ pub record RunsWrong (rows cols : ℕ) (row : Row) (p : Probe) (t : Table) : Typ
   pub runs : Runs (record { screen = screen_of rows cols p; rest = [] }) bytes (record { screen = after; rest = [] })
   pub inactive : Activates row after.charset → ⊥
 
--- ---- (Serves the code alone.) What is seen of the strings.
+-- ---- (Serves the code alone.) Facts seen of the strings.
 
--- what a string sends for a row: its tokens, and what they leave of each charset
+-- the tokens that a string sends for a row, and the charset to which they lead from each charset
 pub record IsChange (string : List ℕ) (row : Row) (tokens : List (List ℕ)) (change : Sets) : Type 0 where
   pub bytes : List ℕ
   pub sends : Sends string row bytes
   pub whole : Splits bytes tokens []
   pub leads : (c : Charset) → charset_over tokens c ≡ designated change c
 
--- so does the entry's string for a checked row
+-- these are the tokens and the change of the entry's string for a checked row
 pub record IsChangeOf (entry : Content) (row : Row) (tokens : List (List ℕ)) (change : Sets) : Type 0 where
   pub checked : is_checked entry row ≡ true
   pub string : List ℕ
@@ -70,7 +70,7 @@ pub record IsChangeOf (entry : Content) (row : Row) (tokens : List (List ℕ)) (
 abbrev pub IsBefore : ℕ → ℕ → ℕ → ℕ → Row → Type 0
 IsBefore rows cols n k row = (order row < n) ⊎ ((order row ≡ n) × (rank rows cols row < k))
 
--- what the row's string does is among these
+-- the tokens and the change of the row's string are among these
 pub record IsCounted (entry : Content) (all : List (List ℕ)) (changes : List Sets) (row : Row) : Type 0 where
   pub tokens : List (List ℕ)
   pub change : Sets
@@ -78,8 +78,8 @@ pub record IsCounted (entry : Content) (all : List (List ℕ)) (changes : List S
   pub reached : (token : List ℕ) → IsAmong tokens token → IsAmong all token
   pub settled : settles row ≡ true → IsAmong changes change
 
--- what was seen of an entry's strings: marks that tokens turn on, and changes, which are those of strings, and of all
--- strings for rows so far
+-- facts seen of an entry's strings: the marks that tokens turn on, and the changes by strings, of all strings for the
+-- rows so far
 pub record IsSeen (entry : Content) (rows cols : ℕ) (reach : Reach) (changes : List Sets) (n k : ℕ) : Type 0 where
   pub tokens : List (List ℕ)
   pub reach_is : reach ≡ reach_of tokens
@@ -88,7 +88,7 @@ pub record IsSeen (entry : Content) (rows cols : ℕ) (reach : Reach) (changes :
   pub counted : (row : Row) → IsInRange rows cols row → is_checked entry row ≡ true → IsBefore rows cols n k row
       → IsCounted entry tokens changes row
 
--- what a string sends for a row is seen besides
+-- the bytes that a string sends for a row are seen as well
 pub record IsSeenToo (string : List ℕ) (row : Row) (old : Reach) (before : List Sets) (new : Reach)
     (after : List Sets) : Type 0 where
   pub tokens : List (List ℕ)
@@ -97,6 +97,6 @@ pub record IsSeenToo (string : List ℕ) (row : Row) (old : Reach) (before : Lis
   pub reach_is : new ≡ joined old (reach_of tokens)
   pub changes_are : after ≡ with_change (settles row) before change
 
--- what the row's line does in each table of what is sent
+-- the change by the row's line, in each table of what is sent
 abbrev pub RowChanges : Content → ℕ → ℕ → Row → Option Sets → Type 0
 RowChanges entry rows cols row change = OfAllSent entry rows cols (λ t. ChangesBy t row change)

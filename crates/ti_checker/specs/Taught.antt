@@ -1,4 +1,4 @@
--- How attributes look by the rows of one string: what its parameter lists teach, one after another.
+-- The looks of attributes that the rows of one string teach, one parameter list after another.
 use Rattle.std.specs.Prelude.{ℕ, ◌≡◌, List}
 use Rattle.vt_effects.specs.declared.effects.Effect.{Effect}
 use Rattle.ti_rows.specs.declared.rows.Looks.{Looks}
@@ -10,13 +10,12 @@ use Rattle.ti_lines.specs.declared.row_lines.RowLine.{RowLine}
 use Rattle.ti_conforms.specs.Looks.{no_looks}
 use Rattle.ti_checker.specs.Limit.{IsLineFor}
 
--- the effect is the one that is asked for, where attributes look so by the rows before, and by what the row itself
--- shows
+-- the effect is the one that is asked for, with these looks from the rows before and with what the row itself shows
 abbrev pub IsAskedOf : Looks → Row → Effect → Type 0
 IsAskedOf looks row e = e ≡ asked (learned row e looks) row e
 
 -- The looks that the rows of the string before this one teach: none before the first; and each row whose effect is the
--- one that is asked for adds what it shows. Only `sgr` has rows of which one teaches what another is asked for.
+-- one that is asked for adds what it shows. Only in `sgr` does one row teach what another is asked for.
 pub data IsTaught (rows cols : ℕ) (string : List ℕ) : Row → Looks → Type 0 where
   AtFirst : (row : Row) (looks : Looks) → IsFirst rows cols row → looks ≡ no_looks
       → IsTaught rows cols string row looks

@@ -1,4 +1,4 @@
--- (Serves the code alone.) The probes that are tried, and what is known of an effect that none of them shows wrong.
+-- (Serves the code alone.) The probes that are tried, and the facts known of an effect that none of them shows wrong.
 use Rattle.std.specs.Prelude.{ℕ, ◌+◌, ◌-◌, ◌/◌, ◌%◌, ◌<◌, ◌≡◌, ◌==◌, ◌&&◌, not, nat_lt, Bool, true, false, Option, Some}
 use Rattle.std.specs.Prelude.{None, if◌then◌else◌}
 use Rattle.vt_term.specs.Color.{Color, Red, Blue}
@@ -43,7 +43,7 @@ bottom_by narrow margins.Legal row last = last
 bottom_by narrow margins.OnBottom row last = row
 bottom_by narrow margins.OnTop row last = if narrow && nat_lt row last then row + 1 else last
 
--- a row or a column at one end of these, and a colour or none
+-- a row or a column at one end of these, and a color or none
 abbrev pub end_by : Bool → ℕ → ℕ → ℕ
 end_by greatest least most = if greatest then most else least
 
@@ -68,7 +68,7 @@ probe_by c s rows = record {
   fill = 120;
 }
 
--- ---- what is known where a probe shows nothing
+-- ---- facts known if a probe shows nothing
 
 -- from the probe two effects lead to one end
 pub record EndSo (rows cols : ℕ) (e f : Effect) (p : Probe) : Type 0 where
@@ -84,7 +84,7 @@ pub record EndSo (rows cols : ℕ) (e f : Effect) (p : Probe) : Type 0 where
   pub visible : switched e.visible p.visible ≡ switched f.visible p.visible
   pub cells : (i j : ℕ) → i < rows → j < cols → becomes_blank e p i j ≡ becomes_blank f p i j
 
--- an effect whose end is wanted where attributes look so
+-- an effect whose end is wanted with these looks
 pub data IsEnd (l : Looks) (row : Row) (e f : Effect) : Type 0 where
   Only : has_choice row ≡ false → f ≡ wanted_end l row e → IsEnd l row e f
   WithDefaults : has_choice row ≡ true → f ≡ asked l row (with_defaults e) → IsEnd l row e f
@@ -95,7 +95,7 @@ pub record EndsAsWanted (rows cols : ℕ) (taught : Looks) (row : Row) (e : Effe
   pub is : IsEnd (looks_for taught row e) row e wanted
   pub so : EndSo rows cols e wanted p
 
--- so from the probes below this number, and from all
+-- the effect leads to a wanted end from the probes below this number, and from all of them
 abbrev pub EndsBelow : ℕ → ℕ → Looks → Row → Effect → ℕ → Type 0
 EndsBelow rows cols taught row e n = (k : ℕ) → k < n
     → EndsAsWanted rows cols taught row e (probe_by (choices_of k) (start_of rows cols row) rows)

@@ -1,4 +1,4 @@
-//! Whether an effect leaves something else than is wanted of a row.
+//! Whether an effect leads to an end that a row doesn't want.
 
 ghost use Rattle.std.specs.Prelude.{◌≡◌, IsTrue, false, if◌then◌else◌};
 ghost use Rattle.ti_checker.specs.Alone.{is_several};
@@ -43,7 +43,7 @@ fn bottom_of(margins: Option<Region>, bottom: u16) -> u16
     }
 }
 
-/// The marks that an effect leaves of these.
+/// The marks after `rendering`, starting from `marks`.
 pub(crate) fn marks_after(rendering: Rendering, marks: Marks) -> Marks
     ensures { result ≡ spec.marks_after rendering marks }
 {
@@ -57,7 +57,7 @@ pub(crate) fn marks_after(rendering: Rendering, marks: Marks) -> Marks
     }
 }
 
-/// Looks of which each is seen where all these marks are on.
+/// Looks each of which is seen when all of `marks` are on.
 fn looks_of(marks: Marks) -> Looks
     ensures { result ≡ spec.looks_of marks }
 {
@@ -145,22 +145,21 @@ fn differ(first: &Effect, second: &Effect, size: Size, probe: &Probe) -> bool
         || cells_differ(first, second, size, probe)
 }
 
-/// Whether two ends are wanted of the row: both colours stay or become default, or the cursor becomes
-/// visible or all stays.
+/// Whether the row has two wanted ends: both colors stay or become default, or the cursor becomes visible or all stays.
 fn has_choice(row: Row) -> bool
     ensures { result ≡ spec.has_choice row }
 {
     matches!(row, Row::Sgr(_) | Row::Cvvis)
 }
 
-/// Whether cells, cursor, rendition and sets are free in the end.
+/// Whether the row's end may have any cells, cursor, rendition and sets.
 fn is_free(row: Row) -> bool
     ensures { result ≡ spec.is_free row }
 {
     matches!(row, Row::Smcup | Row::Rmcup)
 }
 
-/// The effect whose end is wanted, where there is one.
+/// The effect whose end is the wanted one, if `row` has one wanted end.
 fn wanted_end(row: Row, looks: Looks, effect: &Effect) -> Effect
     ensures { result ≡ spec.wanted_end looks row effect.now }
 {
@@ -203,8 +202,8 @@ fn without_defaults(effect: &Effect) -> Effect
     }
 }
 
-/// Whether a set of attributes is shown as each of them is alone: not the look of a single one, which is
-/// what its row tells.
+/// Whether the attributes of the row's set are each shown as alone. A single attribute is not: its own row says how it
+/// looks.
 fn is_several(row: Row) -> bool
     ensures { result ≡ is_several row }
 {
@@ -214,8 +213,8 @@ fn is_several(row: Row) -> bool
     }
 }
 
-/// The looks by which the end of the effect is judged: what the rows before taught, or what the effect
-/// shows from a start without marks.
+/// The looks by which the end of `effect` is judged: those that the rows before `taught`, or those that `effect` shows
+/// from a start without marks.
 fn looks_for(taught: Looks, row: Row, effect: &Effect) -> Looks
     ensures { result ≡ spec.looks_for taught row effect.now }
 {
@@ -226,9 +225,9 @@ fn looks_for(taught: Looks, row: Row, effect: &Effect) -> Looks
     }
 }
 
-/// Whether the effect leads from the probe, a start of the row, to an end that isn't wanted, however
-/// attributes look that agree with what the rows before `taught`, where the one that the row turns on looks
-/// as the effect shows it from a start without marks.
+/// Whether `effect` leads from `probe`, a start of the row, to an end that isn't wanted, for all looks that agree with
+/// what the rows before `taught` and with which the one attribute that the row turns on looks as the effect shows it
+/// from a start without marks.
 pub(crate) fn breaks(row: Row, taught: Looks, effect: &Effect, size: Size, probe: &Probe) -> bool
     requires starts { Starts size.rows size.cols row (screen_of size.rows size.cols probe.now) }
     requires seen { CanShow size.rows probe.now }

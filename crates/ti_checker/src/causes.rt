@@ -1,4 +1,4 @@
-//! Why an entry gets no certificate.
+//! The reasons why an entry gets no certificate.
 
 ghost use Rattle.std.specs.Prelude.{◌≡◌, []};
 ghost use Rattle.ti_rows.specs.Names.{cap_of};
@@ -11,12 +11,12 @@ use ti_caps::Cap;
 use ti_parm::ParmFault;
 use ti_rows::{Params, Row};
 
-/// What is wrong with a capability.
+/// The fault of a capability.
 #[derive(Clone, Copy, Debug, PartialEq, Eq)]
 pub enum Cause {
     /// A flag or number that rules every certificate out.
     FlagOut,
-    /// A string that every certificate needs isn't there.
+    /// A string that every certificate needs is missing.
     Absent,
     /// A letter of line graphics has a partner that can't be printed.
     AcsByte,
@@ -24,22 +24,22 @@ pub enum Cause {
     Parm(ParmFault),
     /// The string reads a static variable before it sets it.
     StaticRead,
-    /// What is sent ends within a sequence.
+    /// The bytes that are sent end within a sequence.
     Unfinished,
-    /// What is sent has a byte that fits nothing.
+    /// The bytes that are sent have a byte that fits nothing.
     Stuck,
-    /// What is sent has no one effect from all states that it has to work from. It may be right.
+    /// The effect of the bytes that are sent depends on the state they start from. The string may be right.
     NotTame,
-    /// One attribute shows a mark that isn't its own.
+    /// An attribute alone shows a mark that isn't its own.
     BadLook,
-    /// From this start the terminal ends elsewhere than it should.
+    /// From this start the terminal doesn't end as it should.
     WrongEffect(Probe),
     /// The effect isn't the one that is asked for. The string may be right.
     NotShown,
     /// With this line and the last one, `end`, a certificate would be longer than any may be.
     TooLong,
-    /// What leads out of an unknown state (`smcup`, `enacs`, `sgr0`, `rmacs`, `csr` and `clear`, one after
-    /// another) doesn't begin with ESC, so that a sequence which was cut off swallows some of it.
+    /// The bytes that lead out of an unknown state (`smcup`, `enacs`, `sgr0`, `rmacs`, `csr` and `clear`, one after
+    /// another) don't begin with ESC, so that a sequence that was cut off swallows some of them.
     NoResync,
     /// Out of memory.
     NoMemory,
@@ -74,7 +74,7 @@ impl fmt::Display for Cause {
     }
 }
 
-/// A no: the capability, its parameters, and what is wrong with it for these.
+/// A refusal: the capability, its parameters, and its fault for these.
 #[derive(Debug, Drop)]
 pub struct No {
     pub cap: Cap,
@@ -96,7 +96,7 @@ impl From<AllocError> for No {
 }
 
 impl No {
-    /// What is wrong with a capability, whatever its parameters.
+    /// A refusal for a capability as a whole, without parameters.
     pub fn of(cap: Cap, cause: Cause) -> No
         ensures cap { result.cap ≡ cap }
         ensures params { result.params.items ≡ [] }
@@ -109,7 +109,7 @@ impl No {
         }
     }
 
-    /// What is wrong with the row's capability for the row's parameters.
+    /// A refusal for the row's capability with the row's parameters.
     pub fn at(row: Row, cause: Cause) -> No
         ensures cap { result.cap ≡ cap_of row }
         ensures params { result.params.items ≡ params row }

@@ -1,4 +1,4 @@
-//! Which cells two effects leave different.
+//! The cells that two effects leave different.
 
 ghost use Rattle.std.specs.Prelude.{◌≡◌, ◌<◌, ℕ, IsTrue, false};
 ghost use Rattle.ti_checker.specs.Cells as spec;
@@ -8,7 +8,7 @@ use crate::probes::Probe;
 use vt_effects::{Effect, Erasure, Scroll};
 use vt_term::Size;
 
-/// Whether an erasure with the probe's cursor takes a place.
+/// Whether `erasure`, with the cursor of `probe`, erases the place in row `i` and column `j`.
 fn is_erased(erasure: Erasure, probe: &Probe, i: usize, j: usize) -> bool
     ensures { result ≡ spec.is_erased erasure probe.now.row probe.now.col i j }
 {
@@ -24,7 +24,7 @@ fn is_erased(erasure: Erasure, probe: &Probe, i: usize, j: usize) -> bool
     }
 }
 
-/// Whether the effect leaves a place blank.
+/// Whether `effect` leaves the place in row `i` and column `j` blank.
 fn becomes_blank(effect: &Effect, probe: &Probe, i: usize, j: usize) -> bool
     requires { i < 65536 }
     ensures { result ≡ spec.becomes_blank effect.now probe.now i j }
@@ -39,7 +39,7 @@ fn becomes_blank(effect: &Effect, probe: &Probe, i: usize, j: usize) -> bool
     }
 }
 
-/// Whether a place becomes blank by one effect alone.
+/// Whether exactly one of the two effects leaves the place blank.
 fn place_differs(first: &Effect, second: &Effect, probe: &Probe, i: usize, j: usize) -> bool
     requires { i < 65536 }
     ensures apart { IsTrue result → spec.becomes_blank first.now probe.now i j

@@ -1,4 +1,4 @@
-//! Whether any certificate can be for an entry.
+//! Whether an entry can have a certificate.
 
 ghost use Rattle.std.specs.Prelude.{◌≡◌, [], IfErr, OnOk};
 ghost use Rattle.ti_checker.specs.No as spec;
@@ -9,7 +9,7 @@ use crate::causes::{Cause, No};
 use ti_caps::Entry;
 use ti_conforms::{Unfit, first_unfit};
 
-/// The no of an entry that is unfit in this way.
+/// The refusal of an entry that is unfit in this way.
 fn unfit_no(why: Unfit) -> No
     ensures cap { result.cap ≡ cap_of_unfit why }
     ensures params { result.params.items ≡ [] }
@@ -22,7 +22,7 @@ fn unfit_no(why: Unfit) -> No
     }
 }
 
-/// Refuses an entry of which no certificate can be, whatever its strings send.
+/// Refuses an entry that can't have a certificate, whatever its strings send.
 #[tactic(auto, using(crate::proofs::Together::by_reason))]
 pub(crate) fn check_fitness(entry: &Entry) -> Result<(), No>
     ensures fit { OnOk result (IsFit entry.now) }

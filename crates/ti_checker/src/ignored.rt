@@ -1,4 +1,4 @@
-//! What the terminal ignores of a sequence.
+//! Sequences that the terminal ignores, wholly or in part.
 
 ghost use Rattle.std.specs.List.{list_any};
 ghost use Rattle.std.specs.Prelude.{◌≡◌};
@@ -30,7 +30,7 @@ fn any_escape_final(body: &[u8]) -> bool
     body.iter().any(|byte| is_escape_final(*byte))
 }
 
-/// Whether a final byte is among those after ESC.
+/// Whether `behind`, the bytes after ESC, has a final byte.
 fn has_final(behind: &[u8]) -> bool
     ensures { result ≡ spec.has_final behind.now }
 {
@@ -84,7 +84,7 @@ fn has_unknown_mode(kind: ModeKind, numbers: &[Option<u16>]) -> bool
     numbers.iter().any(|number| is_unknown_mode(kind, *number))
 }
 
-/// Whether nothing is done, or nothing for one of the numbers.
+/// Whether `function` does nothing, or nothing for one of its numbers.
 fn ignores(function: Function<'_>) -> bool
     ensures { result ≡ spec.ignores function.entry }
 {

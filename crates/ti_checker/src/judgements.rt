@@ -22,8 +22,7 @@ use ti_rows::{Looks, Row};
 use vt_effects::{Effect, effect_of_text};
 use vt_term::{Scanner, Size, TextFault, TextFaultKind, Token, TokenFault, TokenFaultKind, tokens};
 
-/// What is wrong with an effect that isn't the one that is asked for, where attributes look so by the rows
-/// before.
+/// The fault of an effect that isn't the one that is asked for. `taught` has the looks that the rows before taught.
 fn misfit(row: Row, taught: Looks, effect: &Effect, size: Size) -> Cause
     requires range { IsInRange size.rows size.cols row }
     requires unasked { IsAskedOf taught row effect.now → ⊥ }
@@ -49,7 +48,7 @@ fn cause_of(fault: TokenFault) -> Cause
     }
 }
 
-/// The tokens of what a string sends.
+/// The tokens of `bytes`, which a string sends.
 pub(crate) fn tokens_of(alloc: Global, bytes: &[u8]) -> Result<Vec<Token>, Cause>
     ensures whole { IfOk result (λ found. Splits bytes.now found.items []) }
     ensures fault { IfErr result (λ cause. spec.IsNotWhole bytes.now cause) }
@@ -86,8 +85,8 @@ fn row_effect(
     }
 }
 
-/// The effect of bytes, if they have one, which has to be the one that is asked for, where attributes look
-/// so by the rows before.
+/// The effect that was `found`, which must be the one that is asked for; `None` where the bytes have none. `taught` has
+/// the looks that the rows before taught.
 #[tactic(auto, using(crate::proofs::Misjudgements::misfit_misjudged))]
 fn judged(row: Row, found: Option<Effect>, size: Size, taught: Looks) -> Result<Effect, Cause>
     requires { IsInRange size.rows size.cols row }
@@ -107,17 +106,17 @@ fn judged(row: Row, found: Option<Effect>, size: Size, taught: Looks) -> Result<
     }
 }
 
-/// What rows are judged in, one after another.
+/// The memory in which rows are judged, one after another.
 #[derive(Drop)]
 pub struct Judge {
-    /// What the string of the row that was judged last sends.
+    /// The bytes that the string of the row judged last sends.
     bytes: Vec<u8>,
-    /// Reads what it sends.
+    /// Reads those bytes.
     scanner: Scanner,
 }
 
 impl Judge {
-    /// No row is judged yet. The error is out of memory.
+    /// A judge that has judged no row yet. Fails if memory runs out.
     pub fn new(alloc: Global) -> Result<Judge, AllocError> {
         Ok(Judge {
             bytes: Vec::new(alloc),
@@ -125,14 +124,14 @@ impl Judge {
         })
     }
 
-    /// What the string of the row that was judged last sends.
+    /// The bytes that the string of the row judged last sends.
     pub fn bytes(&self) -> &[u8]
         ensures { result.now ≡ self.now.bytes.items }
     {
         self.bytes.as_slice()
     }
 
-    /// Adds the marks of the sets that the tokens of what the row that was judged last sends turn on.
+    /// Adds to `reach` the marks of the sets that the tokens of the row judged last turn on.
     pub(crate) fn add_marks(&mut self, reach: &mut Reach) -> Result<(), Cause>
         ensures bytes { self.new.bytes.items ≡ self.old.bytes.items }
         ensures learned { OnOk result ((tokens : List (List ℕ)) → Splits self.old.bytes.items tokens []
@@ -145,10 +144,10 @@ impl Judge {
         }
     }
 
-    /// The effect of what the entry's `string` sends for `row`. The bytes that it sends are kept.
+    /// The effect of the bytes that the entry's `string` sends for `row`. The bytes are kept.
     ///
-    /// The rows of a string are judged one after another, from the first on. `looks` is how attributes look by
-    /// those before this one, `NO_LOOKS` at the first; what this one shows is added.
+    /// The rows of a string must be judged one after another, from the first on. `looks` has the looks of attributes
+    /// that the rows before this one taught, `NO_LOOKS` at the first; the looks that this one shows are added.
     #[tactic(auto, using(crate::proofs::Misjudgements::taught_next, crate::proofs::Misjudgements::sends_asked))]
     pub fn judge_row(
         &mut self,

@@ -1,5 +1,5 @@
-//! Laws of the checker: what the terminal ignores changes nothing, and a no that claims something
-//! excludes a yes.
+//! Laws of the checker: sequences that the terminal ignores change nothing, and a refusal that claims something
+//! excludes a certificate.
 
 ghost use Rattle.std.specs.Option.{unwrap_or};
 ghost use Rattle.std.specs.Prelude.{◌≡◌, ◌≢◌, ℕ, Bool, List, Option, true, false};
@@ -52,9 +52,9 @@ pub fn one_list_of_notes()
         → others ≡ notes }
 {}
 
-/// An entry of which a no is so doesn't conform, unless the no claims nothing: its cause is
-/// `NotTame`, `NotShown` or `NoMemory`. `TooLong` says nothing of what the entry's strings do, but that
-/// there is no certificate of it.
+/// An entry that a refusal is true of doesn't conform, unless the refusal claims nothing: its cause is `NotTame`,
+/// `NotShown` or `NoMemory`. `TooLong` says nothing about the effects of the entry's strings, only that the entry has
+/// no certificate.
 pub fn no_excludes_yes()
     ensures conforms { (entry : Content) (rows cols : ℕ) (refusal : No) → IsNo entry rows cols refusal
         → refusal.cause ≢ TooLong → Conforms entry rows cols → ClaimsNothing refusal.cause }
@@ -67,21 +67,20 @@ pub fn basic_certificate()
     ensures { BasicCertificate }
 {}
 
-/// From a probe that shows an effect wrong, the run of every text with that effect ends as isn't wanted.
+/// From a probe that shows an effect wrong, the run of every text with that effect has an end that isn't wanted.
 pub fn shown_breaks()
     ensures { ShownBreaks }
 {}
 
-/// With `NotTame` and `NotShown` a string may be right, but neither is so of a row that stands. What the rows
-/// of a string before another one teach is one look of the attributes.
+/// With `NotTame` and `NotShown` a string may be right, but neither is true of a row that stands. The rows of a string
+/// before another one teach one look of the attributes only.
 pub fn no_doubt_of_what_stands()
     ensures one_teaching { OneTeaching }
     ensures untamed { NeverUntamed }
     ensures unasked { NeverUnasked }
 {}
 
-/// `NotShown` is so of no row whose string leads elsewhere than is wanted, to another rendition, to other
-/// modes or to other cells.
+/// `NotShown` is true of no row whose string leads to a place, a rendition, modes or cells that aren't wanted.
 pub fn what_differs_is_shown()
     ensures place { NeverElsewhere }
     ensures rendition { NeverOther }

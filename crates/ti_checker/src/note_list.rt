@@ -1,4 +1,4 @@
-//! What the terminal ignores of an entry's strings.
+//! The sequences of an entry's strings that the terminal ignores.
 
 ghost use Rattle.std.specs.Prelude.{◌≡◌, ◌++◌, ◌∷◌, [], IfErr, IfOk, OnOk, true};
 ghost use Rattle.ti_checker.specs.No.{HasFaulty};
@@ -23,7 +23,7 @@ pub struct CheckNote {
     pub bytes: Bytes,
 }
 
-/// Adds a note where the token is ignored.
+/// Adds a note if the token is ignored.
 fn push_ignored(
     alloc: Global,
     cap: Cap,
@@ -39,7 +39,7 @@ fn push_ignored(
     Ok(())
 }
 
-/// Adds a note for each of the tokens that is ignored.
+/// Adds a note for each ignored token.
 fn push_all_ignored(
     alloc: Global,
     cap: Cap,
@@ -54,7 +54,7 @@ fn push_all_ignored(
     Ok(())
 }
 
-/// The tokens of what a string sends for a row.
+/// The tokens of the bytes that `string` sends for `row`.
 fn tokens_sent(alloc: Global, string: &[u8], row: Row) -> Result<Vec<Token>, Cause>
     ensures sends { IfOk result (λ tokens. spec.SendsTokens string.now row tokens.items) }
     ensures unsent { IfErr result (λ cause. spec.SendsNoTokens string.now row cause) }
@@ -102,10 +102,10 @@ fn push_notes_at(
     }
 }
 
-/// What the terminal ignores of an entry's strings: of each checked capability, in the byte order of
-/// their names and for its first parameter list, the sequences that name no function, and those that
-/// set renditions or modes of which one number is unknown (ECMA-48 8.3.106, 8.3.117, 8.3.125). The
-/// first parameter lists are the same for every size.
+/// The sequences of an entry's strings that the terminal ignores: for each checked capability, in the byte order of
+/// their names and for its first parameter list, the sequences that name no function, and those that set renditions or
+/// modes with an unknown number (ECMA-48 8.3.106, 8.3.117, 8.3.125). The first parameter lists are the same for every
+/// size.
 ///
 /// # Errors
 /// The first capability whose string sends no whole tokens for its first parameter list, with the

@@ -1,4 +1,4 @@
-//! The lines that tell the notes on an entry.
+//! The lines that print the notes on an entry.
 
 ghost use Rattle.std.specs.Prelude.{◌≡◌, ◌++◌, IfOk, OnOk};
 ghost use Rattle.ti_checker.specs.Notes as spec;
@@ -8,8 +8,8 @@ use std::alloc::{AllocError, Global};
 use ti_caps::name;
 use ti_lines::push_hex;
 
-/// A line `note CAP HEX` for each note, in their order: the capability's name, and the sequence in
-/// lower case hexadecimal. Each ends with LF. The error is out of memory.
+/// A line `note CAP HEX` for each note, in their order: the capability's name, and the sequence in lower case
+/// hexadecimal. Each ends with LF. Fails if memory runs out.
 pub fn note_lines(alloc: Global, notes: &[CheckNote]) -> Result<Vec<u8>, AllocError>
     ensures { IfOk result (λ lines. lines.items ≡ spec.notes_text notes.now) }
 {

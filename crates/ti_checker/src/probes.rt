@@ -12,15 +12,15 @@ pub struct Probe {
     pub col: u16,
     /// The last column was just printed.
     pub pending: bool,
-    /// The first and the last line of the region that scrolls.
+    /// The first and the last line of the scrolling region.
     pub top: u16,
     pub bottom: u16,
     pub charset: Charset,
-    /// The marks of the rendition, and its colours.
+    /// The marks of the rendition, and its colors.
     pub look: Marks,
     pub foreground: Option<Color>,
     pub background: Option<Color>,
     pub visible: bool,
-    /// 33 to 126.
+    /// The character in every place, 33 to 126.
     pub fill: u8,
 }

@@ -1,4 +1,4 @@
-//! What a string sends for a row, or which fault it has.
+//! The bytes that a string sends for a row, or its fault.
 
 ghost use Rattle.std.specs.Prelude.{◌≡◌, IfErr, IfNone, IfOk, IfSome, OnOk, Some, false, true};
 ghost use Rattle.ti_checker.specs.No as spec;
@@ -11,7 +11,7 @@ use ti_caps::Entry;
 use ti_conforms::{SendFault, is_checked, send_into};
 use ti_rows::Row;
 
-/// The entry's string for `row`, where the entry has it and it is checked.
+/// The entry's string for `row`, if the entry has it and it is checked.
 pub fn checked_string(entry: &Entry, row: Row) -> Option<&[u8]>
     ensures checked { IfSome result (λ string. entries.is_checked entry.now row ≡ true) }
     ensures there { IfSome result (λ string. entries.string_of entry.now row ≡ Some string.now) }
@@ -24,7 +24,7 @@ pub fn checked_string(entry: &Entry, row: Row) -> Option<&[u8]>
     }
 }
 
-/// Fills `bytes` with what the string sends for a row, in place of what they were.
+/// Replaces `bytes` by the bytes that `string` sends for `row`.
 pub(crate) fn sent_into(
     alloc: Global,
     string: &[u8],
@@ -42,7 +42,7 @@ pub(crate) fn sent_into(
     }
 }
 
-/// What the string sends for a row.
+/// The bytes that `string` sends for `row`.
 pub(crate) fn sent(alloc: Global, string: &[u8], row: Row) -> Result<Vec<u8>, Cause>
     ensures sends { IfOk result (λ bytes. sends.Sends string.now row bytes.items) }
     ensures unsent { IfErr result (λ cause. spec.IsUnsendable string.now row cause) }

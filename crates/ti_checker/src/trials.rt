@@ -13,7 +13,7 @@ use ti_rows::{Looks, Marks, Row};
 use vt_effects::{Effect, Margins, Start};
 use vt_term::{Charset, Color, Size};
 
-/// How many probes are tried: each choice of five.
+/// The number of probes that are tried: one for each choice of five.
 const TRIES: u8 = 32;
 
 /// The choices that the binary digits of a number make.
@@ -54,7 +54,7 @@ fn all_marks(on: bool) -> Marks
     }
 }
 
-/// The first line of the region, with the cursor in this row: of a wide region or a narrow one.
+/// The first line of a wide or a `narrow` region, with the cursor in `row`.
 fn top_by(narrow: bool, margins: Margins, row: u16, last: u16) -> u16
     ensures { result ≡ spec.top_by narrow margins row last }
 {
@@ -83,7 +83,7 @@ fn color_by(on: bool, color: Color) -> Option<Color>
     if on { Some(color) } else { None }
 }
 
-/// A row or column at one end of these.
+/// The row or column at one end of the range from `min` to `max`.
 fn end_by(greatest: bool, min: u16, max: u16) -> u16
     ensures { result ≡ spec.end_by greatest min max }
 {
@@ -130,10 +130,10 @@ fn shown_by(number: u8, row: Row, taught: Looks, effect: &Effect, size: Size) ->
     }
 }
 
-/// A start of the row from which the effect leads to an end that isn't wanted, however attributes look
-/// that agree with what the rows before `taught`, where the one that the row turns on looks as the effect shows
-/// it from a start without marks. `None` where there is none: then attributes can look in one way with which
-/// the effect of a text leads from each start to an end that is wanted.
+/// A start of the row from which `effect` leads to an end that isn't wanted, for all looks that agree with what the
+/// rows before `taught` and with which the one attribute that the row turns on looks as the effect shows it from a
+/// start without marks. `None` if there is none: then there are looks with which the effect, if it is that of a text,
+/// leads from each start to a wanted end.
 pub(crate) fn probe_for(row: Row, taught: Looks, effect: &Effect, size: Size) -> Option<Probe>
     requires { IsInRange size.rows size.cols row }
     ensures shown { IfSome result (λ probe. IsShown size.rows size.cols taught row effect.now probe) }
