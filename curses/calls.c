@@ -116,11 +116,7 @@ int session_bkgd(int window, chtype cell) {
 }
 
 int session_init_pair(int pair, int foreground, int background) {
-    return CALL(ticurses_init_pair(&tcu_session, pair, foreground, background));
-}
-
-bool session_has_default_colors(void) {
-    return false;
+    return CALL(ticurses_init_pair_or_default(&tcu_session, pair, foreground, background));
 }
 
 /* -- copying, options -- */

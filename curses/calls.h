@@ -63,9 +63,8 @@ int session_setscrreg(int window, int top, int bottom);
 
 int session_bkgdset(int window, chtype cell);
 int session_bkgd(int window, chtype cell);
+/* a color may be -1, the terminal's default one */
 int session_init_pair(int pair, int foreground, int background);
-/* whether a pair may have default colors, which are -1 */
-bool session_has_default_colors(void);
 
 int session_copywin(int source, int target, int source_y, int source_x, int y, int x, int last_y, int last_x,
                     bool is_overlay);

@@ -80,9 +80,9 @@ int use_default_colors(void) {
     return assume_default_colors(-1, -1);
 }
 
-/* The first pair has the terminal's own colors, and no others. */
+/* Pair 0 has the terminal's own colors, and can't have others. */
 int assume_default_colors(int foreground, int background) {
-    if (!tcu.has_colors || !session_has_default_colors() || foreground != -1 || background != -1) return ERR;
+    if (!tcu.has_colors || foreground != -1 || background != -1) return ERR;
     tcu.has_default_colors = true;
     pairs[0][0] = pairs[0][1] = -1;
     return OK;
