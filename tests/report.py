@@ -52,7 +52,7 @@ class Page(html.parser.HTMLParser):
         if tag == "article":
             self.articles.append("")
         self.words += given.get("class") == "words"
-        if tag == "tr" and re.fullmatch(r"e\d+", given.get("id", "")):
+        if tag == "tr" and given.get("class") in ("yes", "no", "refused"):
             self.rows.append((given["class"], ""))
 
     def handle_startendtag(self, tag, attrs):
@@ -63,7 +63,7 @@ class Page(html.parser.HTMLParser):
     def handle_endtag(self, tag):
         if not self.open or self.open.pop()[0] != tag:
             fail(f"</{tag}> closes nothing at {self.getpos()}")
-        if "article" in (it for it, _ in self.open) and tag in ("h4", "p", "td", "th"):
+        if "article" in (it for it, _ in self.open) and tag in ("h4", "p", "footer", "td", "th"):
             self.articles[-1] += "\n"
 
     def handle_data(self, data):

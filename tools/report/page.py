@@ -59,7 +59,7 @@ def screen(symbols, given, size, wrong=()):
     """A drawn state, or nothing where it isn't known."""
     if given is None:
         return ""
-    return f'<svg aria-hidden="true"><use href="#s{symbols.number(screens.Screen(given, size, wrong).drawn())}"/></svg>'
+    return f'<svg><use href="#s{symbols.number(screens.Screen(given, size, wrong).drawn())}"/></svg>'
 
 
 def states_of(fault):
@@ -88,7 +88,7 @@ def in_words(fault, drawn):
 def fact_row(label, words, is_wrong):
     """What the three states are in one respect."""
     cells = "".join(f"<td>{it or ''}</td>" for it in words)
-    return f'<tr{" class=x" * is_wrong}><th scope="row">{label}</th>{cells}</tr>'
+    return f'<tr{" class=x" * is_wrong}><th>{label}</th>{cells}</tr>'
 
 
 def states_table(fault, symbols):
@@ -97,7 +97,7 @@ def states_table(fault, symbols):
     if start is None:
         return in_words(fault, drawn)
     wrong = states.differ(wanted, seen) if wanted and seen else []
-    heads = '<tr><th></th><th scope="col">start</th><th scope="col" class="good">wanted</th><th scope="col" class="bad">seen</th></tr>'
+    heads = "<tr><td></td><th>start</th><th>wanted</th><th>seen</th></tr>"
     shows = [(start, ()), (wanted, ()), (seen, wrong)]
     pictures = "".join(f"<td>{screen(symbols, given, fault.size, marked)}</td>" for given, marked in shows)
     rows = "".join(
@@ -111,18 +111,18 @@ def strings(fault):
     parts = []
     if fault.bytes is not None:
         sent = shown(cut(source_form(fault.bytes)))
-        parts.append(f'sends <code class="bad">{sent or "nothing"}</code>')
+        parts.append(f'sends <samp>{sent or "nothing"}</samp>')
     if isinstance(fault.suggestion, str):
-        parts.append(f'<code class="good">{shown(cut(fault.suggestion))}</code> would be right on T')
+        parts.append(f'<kbd>{shown(cut(fault.suggestion))}</kbd> would be right on T')
     if fault.wanted:
-        parts.append(f'<span class="want">wanted: {shown(fault.wanted)}</span>')
+        parts.append(f'wanted: {shown(fault.wanted)}')
     return "".join(f"<p>{it}</p>" for it in parts)
 
 
-def who(fault, numbers):
+def who(fault):
     """The entries that a fault concerns."""
-    names = ", ".join(f'<a href="#e{numbers[id(it)]}">{shown(it.shown())}</a>' for it in fault.entries)
-    return f'<p class="who">{counted(len(fault.entries), "entry", "entries")}: {names}</p>'
+    names = ", ".join(shown(it.shown()) for it in fault.entries)
+    return f"<footer>{counted(len(fault.entries), 'entry', 'entries')}: {names}</footer>"
 
 
 def places(fault):
@@ -132,10 +132,10 @@ def places(fault):
     return f"{len(fault.places):,} compiled files"
 
 
-def article(at, fault, symbols, numbers):
+def article(at, fault, symbols):
     return (
         f'<article id="f{at}"><h4><a href="#f{at}">{shown(fault.title())}</a> {places(fault)}</h4>'
-        f"{strings(fault)}{states_table(fault, symbols)}{who(fault, numbers)}</article>\n"
+        f"{strings(fault)}{states_table(fault, symbols)}{who(fault)}</article>\n"
     )
 
 
@@ -182,9 +182,9 @@ def verdict(entry, of_fault):
 def entries(found, of_fault):
     """A row for each entry."""
     rows = "".join(
-        f'<tr id="e{at}" class="{it.verdict}"><th scope="row">{shown(it.shown())}</th><td>{it.verdict}</td>'
+        f'<tr class="{it.verdict}"><th>{shown(it.shown())}</th><td>{it.verdict}</td>'
         f"<td>{len(it.faults) or ''}</td><td>{verdict(it, of_fault)}</td></tr>\n"
-        for at, it in enumerate(found.entries)
+        for it in found.entries
     )
     heads = "".join(f'<th scope="col">{it}</th>' for it in ("entry", "verdict", "faults", "what is wrong, or advice"))
     return f'<section id="entries"><h2>Entries</h2><table><thead><tr>{heads}</tr></thead><tbody>\n{rows}</tbody></table></section>\n'
@@ -192,11 +192,10 @@ def entries(found, of_fault):
 
 def faults(found, of_fault, symbols):
     """The faults by cause, the most frequent first; among them those that concern most entries."""
-    numbers = {id(it): at for at, it in enumerate(found.entries)}
     parts = []
     for at, (name, group, _) in enumerate(found.causes()):
         group = sorted(group, key=lambda it: (-len(it.entries), it.capability))
-        articles = "".join(article(of_fault[id(it)], it, symbols, numbers) for it in group)
+        articles = "".join(article(of_fault[id(it)], it, symbols) for it in group)
         parts.append(
             f'<section id="c-{shown(name)}" class="cause"><h3><i class="k{at % COLORS}"></i>{shown(name)}: '
             f"{counted(len(group), 'fault', 'faults')}</h3><p>{code_spans(MEANING.get(name, ''))}</p>\n{articles}</section>\n"
