@@ -1,7 +1,7 @@
 /* The terminal of a program that uses ticurses, for POSIX, in C99 or C++11: the entry of the terminal, its size, and a
  * descriptor to which the bytes of a session go. Nothing here is needed for ticurses.h; a program may do all of it in
  * its own way. Nothing here keeps any state, so threads don't disturb each other. A signal handler may call
- * ticurses_set_cooked, and no other function. */
+ * ticurses_set_cooked, and no other function of the library. */
 #ifndef TICURSES_TERMINAL_H
 #define TICURSES_TERMINAL_H
 
