@@ -10,9 +10,11 @@ Two sorts of things are counted:
 - Doc comments of three lines or more that name no parameter of a function with two or more. In Rattle a name counts
   only between backticks.
 
+Comments of Rattle and shell, and those of C after `//`, count only on lines of their own.
+
 Most of the repository was rewritten at once, and some areas were not. `NOT_REWRITTEN` lists those areas, each with the
-highest count that it may have: the count on the day when the others were rewritten. Everything else together may have at
-most `LIMIT`. Rewriting an area means taking its line out of the table; no number in it may rise."""
+highest count that it may have: its count on the day when the others were rewritten. Everything else together may have
+at most `LIMIT`. Rewriting an area means taking its line out of the table; no number in it may rise."""
 
 import ast
 import io
@@ -66,7 +68,7 @@ SILENT = "names no parameter"
 
 
 def sentences(text):
-    """The sentences of a paragraph without code and links, each without the marks of a list or of emphasis before it."""
+    """The sentences of a paragraph without code and links, each without the marks of a list or of emphasis."""
     plain = re.sub(r"`[^`]*`|\]\([^)]*\)", "`x`", " ".join(text.split()))
     for sentence in re.split(r"(?<=[.!?:])\s+", plain):
         yield sentence.lstrip("-*_|>( \"'")
@@ -172,11 +174,17 @@ def documented(text):
     return [node for node in ast.walk(ast.parse(text)) if isinstance(node, kinds) and ast.get_docstring(node)]
 
 
+# the attributes and the head of a function, up to what follows its parameters
+RATTLE_HEAD = re.compile(
+    r"(?:\s*#\[[^\n]*\]\n)*[ \t]*(?:\w+(?: \"C\")? )*fn \w+(?:<[^(]*>)?\(([^{;]*?)\)[^()]*?[{;\n]"
+)
+
+
 def rattle_functions(text):
     """The functions with a doc comment: its line, its lines, and the names of the parameters but `self`."""
     for at, lines in blocks(text, "///"):
         rest = "\n".join(text.splitlines()[at + len(lines) - 1 :])
-        head = re.match(r"(?:\s*#\[[^\n]*\]\n)*[ \t]*(?:\w+(?: \"C\")? )*fn \w+(?:<[^(]*>)?\(([^{;]*?)\)[^()]*?[{;\n]", rest)
+        head = RATTLE_HEAD.match(rest)
         if head:
             yield at, lines, re.findall(r"(?:^|,|\()\s*(?:mut )?(\w+): ", head.group(1))
 
@@ -337,7 +345,9 @@ def over(areas, read):
     for area, limit in {**NOT_REWRITTEN, "all else": LIMIT}.items():
         if areas[area] > limit:
             yield f"{area}: {areas[area]} places, and {limit} is the limit; `english.py --list` shows them"
-    yield from (f"only {read[kind]} paragraphs of {kind} were read" for kind, fewest in FEWEST.items() if read[kind] < fewest)
+    for kind, fewest in FEWEST.items():
+        if read[kind] < fewest:
+            yield f"only {read[kind]} paragraphs of {kind} were read"
 
 
 def main():

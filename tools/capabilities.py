@@ -116,31 +116,33 @@ def wanted_words(text):
 
 
 REQUIRED = (
-    "{} capabilities of terminfo(5) are checked, and no others; this page says nothing about a capability that has no row. "
-    "`clear`, `cup` and `sgr0` are required; any other one may be absent."
+    "{} capabilities of terminfo(5) are checked, and no others; this page says nothing about a capability that has no"
+    " row. `clear`, `cup` and `sgr0` are required; any other one may be absent."
 )
 
 METHOD = (
-    "Method: `check` expands each string with every parameter list that the size (R rows, C columns) allows. The bytes must do "
-    "on [T](TERMINAL.md) what the column \"wanted\" says, and nothing else, from every state that the column \"starts\" allows. "
-    "In every start cells, renditions, sets and the cursor's visibility are free, autowrap is on and insert mode off. `sgr`, "
-    "`sgr0`, the strings of single attributes, `smcup` and `rmcup` may also switch character sets. `check` doesn't try the "
-    "states one by one: it computes one record of the effect from all of them ([vt_effects](../crates/vt_effects/README.md)), "
-    "and a refusal names a state from which the string goes wrong."
+    "Method: `check` expands each string with every parameter list that the size (R rows, C columns) allows. The "
+    "bytes must do on [T](TERMINAL.md) what the column \"wanted\" says, and nothing else, from every state that the "
+    "column \"starts\" allows. In every start cells, renditions, sets and the cursor's visibility are free, autowrap "
+    "is on and insert mode off. `sgr`, `sgr0`, the strings of single attributes, `smcup` and `rmcup` may also switch "
+    "character sets. `check` doesn't try the states one by one: it computes one record of the effect from all of them"
+    " ([vt_effects](../crates/vt_effects/README.md)), and a refusal names a state from which the string goes wrong."
 )
 
 LOOKS = (
-    "A yes and looks: an attribute is shown by its own rendition or not at all, and `standout` by any. So a certificate "
-    "allows an `sgr` that never turns bold on; bold text is then plain. Where the entry has a string for a feature that is "
-    "never shown, `check` says so after the certificate (`advice`): an attribute that `sgr` never shows, colors where one of "
-    "`setaf`, `setab` and `op` is missing, `acsc` without `smacs` or `rmacs`, `civis` without `cnorm`."
+    "A yes and looks: an attribute is shown by its own rendition or not at all, and `standout` by any. So a "
+    "certificate allows an `sgr` that never turns bold on; bold text is then plain. Where the entry has a string for "
+    "a feature that is never shown, `check` says so after the certificate (`advice`): an attribute that `sgr` never "
+    "shows, colors where one of `setaf`, `setab` and `op` is missing, `acsc` without `smacs` or `rmacs`, `civis` "
+    "without `cnorm`."
 )
 
 TOGETHER = (
-    "All strings together: `smacs` must leave the graphic set active and `rmacs` the plain one, from every state of the sets "
-    "in which strings of the entry can leave them; `acsc` may list only characters of 32 to 126; and the strings that lead "
-    "out of an unknown state (`smcup`, `enacs`, `sgr0`, `rmacs`, `csr`, `clear`, in this order) must do so even after output "
-    "that was cut off within a sequence. An entry with `xmc`, `hc`, `gn` or `os` gets no certificate."
+    "All strings together: `smacs` must leave the graphic set active and `rmacs` the plain one, from every state of "
+    "the sets in which strings of the entry can leave them; `acsc` may list only characters of 32 to 126; and the "
+    "strings that lead out of an unknown state (`smcup`, `enacs`, `sgr0`, `rmacs`, `csr`, `clear`, in this order) "
+    "must do so even after output that was cut off within a sequence. An entry with `xmc`, `hc`, `gn` or `os` gets no"
+    " certificate."
 )
 
 

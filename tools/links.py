@@ -45,8 +45,8 @@ def dead_links(path):
 def written_pages():
     """The pages of the repository that name files of crates."""
     folders = [TOP, os.path.join(TOP, "docs"), *(os.path.join(CRATES, crate) for crate in crates_listed())]
-    paths = [os.path.join(folder, name) for folder in folders for name in sorted(os.listdir(folder)) if name.endswith(".md")]
-    return [path for path in paths if os.path.basename(path) != "NEWS.md"]
+    names = [(folder, name) for folder in folders for name in sorted(os.listdir(folder)) if name.endswith(".md")]
+    return [os.path.join(folder, name) for folder, name in names if name != "NEWS.md"]
 
 
 def faults():

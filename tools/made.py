@@ -1,4 +1,4 @@
-"""The forms that all made pages share: their first sentence, the width of their lines, and the marks around a made part."""
+"""The forms that made pages share: their first sentence, the width of their lines, and the marks around a made part."""
 
 import textwrap
 

@@ -47,10 +47,10 @@ PARTS = [
 ]
 
 WHAT_FOR = (
-    "Use this page to find the crate and the file for a subject. Each part lists its crates from the top down: the crate's "
-    "purpose, the crates that it depends on (without those that it depends on only through another crate), and its files, "
-    "each with the first sentence of the comment at its head. [ARCHITECTURE](ARCHITECTURE.md) says how the parts work "
-    "together, and where a change goes."
+    "Use this page to find the crate and the file for a subject. Each part lists its crates from the top down: the "
+    "crate's purpose, the crates that it depends on (without those that it depends on only through another crate), and "
+    "its files, each with the first sentence of the comment at its head. [ARCHITECTURE](ARCHITECTURE.md) says how the "
+    "parts work together, and where a change goes."
 )
 
 

@@ -1,10 +1,10 @@
 #!/usr/bin/env python3
 """The pages of docs/ that are made from the sources.
 
-pages.py          writes docs/MAP.md, docs/CAPABILITIES.md, the lists of docs/AUDIT.md, the statement in docs/THEOREM.md and the
-                  sizes in docs/TRUST.md
-pages.py --check  says which of them differ from the sources, which pages name or link a file that isn't there, and which
-                  words or sentences docs/THEOREM.md leaves out; status 1 if there is one"""
+pages.py          writes docs/MAP.md, docs/CAPABILITIES.md, the lists of docs/AUDIT.md, the statement in docs/THEOREM.md
+                  and the sizes in docs/TRUST.md
+pages.py --check  says which of them differ from the sources, which pages name or link a file that isn't there, and
+                  which words or sentences docs/THEOREM.md leaves out; status 1 if there is one"""
 
 import os
 import sys
