@@ -25,7 +25,8 @@ import tokenize
 from collections import Counter
 
 TOP = os.path.dirname(os.path.dirname(os.path.abspath(__file__)))
-FOLDERS = ["docs", "man", "include", "bindings", "curses", "tools", "tests", "bench", "crates"]
+PROGRAMS = ["include", "bindings", "curses", "examples", "packaging", "vectors", "tools", "tests", "bench", "crates"]
+FOLDERS = ["docs", "man", *PROGRAMS]
 ALONE = ["README.md", "NEWS.md", "build", "install", "package", "test", "ticurses"]
 # docs/MAP.md repeats the first sentences of comments
 LEFT_OUT = {"docs/MAP.md", "tests/english.py"}

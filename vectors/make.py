@@ -11,7 +11,7 @@ from model import object_of
 
 HERE = Path(__file__).resolve().parent
 ROWS, COLS = 6, 20
-# a letter, a digit and a sign of the graphic set in each line, so that each line and each column can be told from others
+# a letter, a digit and a sign of the graphic set in each line, so that each line and each column differs from the others
 FILL = b"".join(
     b"\033[%dH" % (row + 1) + bytes(97 + (7 * row + col) % 26 if col % 5 else 48 + row for col in range(COLS)) for row in range(ROWS)
 )
@@ -97,7 +97,7 @@ def with_situation(situations, fill=FILL):
 
 
 def by_numbers():
-    """What numbers a function takes: none, 0, empty ones, too many, leading zeros, above 65535; marks and other bytes."""
+    """The numbers that a function takes: none, 0, empty ones, too many, leading zeros, above 65535; marks and other bytes."""
     start = FILL + at(3, 6)
     for final, name in FINALS.items():
         for body in ("", "0", "00", "1", "002", ";", ";;", "2;", ";2", "2;3", "2;3;4", "65535", "65536", "99999999999", "3", "5"):

@@ -33,7 +33,7 @@ class Pen:
         )
 
     def after(self, number):
-        """What one number of SGR makes of it."""
+        """The rendition after one number of SGR."""
         on = dict(MARKS)
         if number == 0:
             return Pen()

@@ -74,7 +74,7 @@ static int larger(int one, int other) {
 
 /* -- what is shown -- */
 
-/* A line as it is drawn: tabs are spaces, and what can't stand in a cell is a question mark. */
+/* A line as it is drawn: tabs are spaces, and a character that no cell can hold is a question mark. */
 static char *drawable(const char *bytes, size_t len) {
     char *line = malloc(PAD_MAX);
     size_t count = 0;

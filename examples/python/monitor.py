@@ -38,7 +38,7 @@ GOING_ON = (signal.SIGWINCH, signal.SIGCONT, signal.SIGTSTP)
 
 
 def drawable(line):
-    """A line as it is drawn: tabs are spaces, and what can't stand in a cell is a question mark."""
+    """A line as it is drawn: tabs are spaces, and a character that no cell can hold is a question mark."""
     line = line.expandtabs(8)
     return bytes(it if 32 <= it <= 126 else 63 for it in line)[: PAD_MAX - 1].decode("ascii")
 
@@ -67,7 +67,7 @@ class Log:
 
 
     def read(self):
-        """What is there now."""
+        """The bytes that are there now."""
         try:
             return os.read(self.fd, 4096)
         except BlockingIOError:
