@@ -1,4 +1,4 @@
--- What verifies an entry makes it conform.
+-- A certificate that verifies an entry makes it conform.
 use Rattle.std.proofs.Common.{◌≡◌, ◌<◌, ℕ, List, Option, Some, None, IfSome, Result, Ok, Err, IfOk, Bor, sym, subst}
 use Rattle.std.specs.Prelude.{option_copied}
 use Rattle.vt_term.specs.Size.{IsSize}

@@ -1,4 +1,4 @@
--- What the judgement of a line makes of what the lines before it say.
+-- The judgement of a line, from the meaning of the lines before it.
 use Rattle.std.proofs.Common.{◌≡◌, ◌⊎◌, ◌<◌, ◌≤◌, ◌+◌, ◌-◌, ◌==◌, ◌||◌, ℕ, Bool, true, false, not, get_or, if◌then◌else◌, List, [], ◌∷◌, length, replicate, take, drop, Option, Some, None, Result, Ok, Err, inl, inr, refl, sym, ap, subst, ◌∙◌, arith}
 use Rattle.std.specs.List.{slice_get}
 use Rattle.std.specs.Prelude.{is_some}
@@ -177,7 +177,7 @@ later_last p text answer e h = λ pairs lines st pa. becomes_by p answer (Judges
 pub last_refused : (p : Progress) (text : List ℕ) (kind : CertFaultKind) → is_end text ≡ true → OrNoMemory kind (AnswersLast p) → OrNoMemory kind (AnswersLater p text)
 last_refused p text kind e h = or_by kind (AnswersLast p) (AnswersLater p text) (λ r a. later_last p text r e a) h
 
--- where a line's bytes are read counts for nothing
+-- the memory into which a line's bytes are read doesn't matter
 reroomed : (p : Progress) (room : List ℕ) (lines : List RowLine) → Stands p lines → Stands (record p { room = room }) lines
 reroomed p room lines st = record { rows = st.rows; cols = st.cols; holds = st.holds; lists = st.lists; place = st.place }
 
@@ -415,7 +415,7 @@ row_stands p line tokens effect looks new none splits has same looks_are adds ne
     asked_as lines st = subst (λ (e : Effect). e ≡ asked looks line.row e) same has.asked_for
         ∙ ap (λ (l : Looks). asked l line.row line.effect) (looks_are ∙ (ap (λ (e : Effect). looks_with p.known line.row e) same ∙ looks_more p.known lines line st.lists))
 
--- the same where the parts are known by other names
+-- the misplaced row again, with its parts under other names
 
 pub row_misplaced_at : (p : Progress) (line : RowLine) (kind : CertFaultKind) (q : Progress) → q ≡ p → fault_in_place q line.row ≡ Some kind → AnswersRow p line (Err kind)
 row_misplaced_at p line kind q is h = row_misplaced p line kind (subst (λ (x : Progress). fault_in_place x line.row ≡ Some kind) is h)

@@ -122,7 +122,7 @@ one_rises : (rows cols : ℕ) (there : Bool) (row : Row) → Rises rows cols (on
 one_rises rows cols true row = (λ other a. absurd a, tt)
 one_rises rows cols false row = tt
 
--- where a row of the list stands among the names
+-- the place of a row of the list among the names
 pub data Kind (rows cols : ℕ) (home el : Bool) (row : Row) : Type 0 where
   IsClear : row ≡ Clear → Kind rows cols home el row
   IsCup : (r c : ℕ) → row ≡ Cup r c → r < rows → c < cols → Kind rows cols home el row

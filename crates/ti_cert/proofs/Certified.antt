@@ -1,4 +1,4 @@
--- What a painter needs to know of a certificate holds of every verified one.
+-- The facts that a painter needs of a certificate hold of every verified one.
 use Rattle.std.proofs.Common.{◌≡◌, ◌+◌, ◌&&◌, ℕ, max, Bool, true, false, if◌then◌else◌, List, length, Some, refl, sym, ◌∙◌, arith}
 use Rattle.ti_rows.specs.declared.rows.Row.{Row}
 use Rattle.ti_rows.specs.declared.rows.Row.TheVariants.{Sgr, Sgr0, Smacs, Rmacs}

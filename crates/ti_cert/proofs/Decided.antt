@@ -1,4 +1,5 @@
--- Lines that were judged one by one and go together are judged, where a table says which charsets can be had and settled.
+-- Lines that were judged one by one and go together are judged, where a table says which charsets can be reached and
+-- settled.
 use Rattle.std.proofs.Common.{◌≡◌, ◌&&◌, ℕ, Bool, true, false, List, [], ◌∷◌, ◌++◌, Option, Some, None, inl, inr, refl, sym, ap, subst, ◌∙◌}
 use Rattle.std.specs.Prelude.{is_some}
 use Rattle.std.proofs.lemmas.Bool.{true≢false, cases_Bool, cases_eq}

@@ -1,4 +1,4 @@
--- What is among lists that are appended, reversed or mapped, and lists that rise.
+-- The elements of lists that are appended, reversed or mapped, and lists that rise.
 use Rattle.std.proofs.Common.{◌≡◌, ◌⊎◌, List, [], ◌∷◌, ◌++◌, map, reverse, inl, inr, refl, sym, ap, subst, ◌∙◌}
 use Rattle.std.proofs.lemmas.Grind.{reverse_onto}
 use Rattle.std.proofs.lemmas.List.{reverse-reverse}

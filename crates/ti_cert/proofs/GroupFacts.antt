@@ -150,7 +150,7 @@ adds rows cols groups row bytes g many fits place made = record {
         let p = if_some (allows rows cols other) (slice_get (group_at new (order other)) (rank rows cols other)) found h in
         decided other found p.0 p.1 (same_or_not (order other) (order row) (order other == order row) refl)
 
--- the same of any strings that are these
+-- one more string, for any strings equal to these
 pub adds_to : (old : Strings) (rows cols : ℕ) (groups : List (List (List ℕ))) (row : Row) (bytes : List ℕ) (n : ℕ) (g : List (List ℕ)) → record { rows = rows; cols = cols; groups = groups } ≡ old → n ≡ order row
     → length groups ≡ capabilities → allows old.rows old.cols row ≡ true → rank old.rows old.cols row ≡ length (group_at old (order row)) → g ≡ slice_index_or groups n [] ++ bytes ∷ []
     → Adds old (record { rows = rows; cols = cols; groups = slice_set groups n g }) row bytes

@@ -38,7 +38,7 @@ taken false m n h = cc
 there_is : (o : Option (List ℕ)) (x : List ℕ) → o ≡ Some x → is_some o ≡ true
 there_is o x e = ap (λ (p : Option (List ℕ)). is_some p) e
 
--- where one set of attributes has a line, so has the empty one
+-- if one set of attributes has a line, so has the empty one
 sgr_within : (c : CheckedTable) → StandTogether (table_of c) → (row : Row) (bytes : List ℕ) → (strings.has (table_of c) row ≡ true → strings.has (table_of c) (Sgr no_attributes) ≡ true)
     → longest_line c.known.strings row ≡ longest_line c.known.strings (Sgr no_attributes) → row_string c.known.strings row ≡ Some bytes → length bytes ≤ longest_change c.known.strings
 sgr_within c together row bytes same longest h =

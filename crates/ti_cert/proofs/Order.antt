@@ -1,4 +1,4 @@
--- What the test of a line's place tells of the lines before it.
+-- The consequences of the test of a line's place for the lines before it.
 use Rattle.std.proofs.Common.{◌≡◌, ◌⊎◌, ◌<◌, ◌≤◌, ◌+◌, nat_lt, nat_le, ℕ, Bool, true, false, if◌then◌else◌, List, Option, Some, None, inl, inr, refl, sym, ap, subst, ◌∙◌, arith}
 use Rattle.std.proofs.lemmas.Bool.{ltb-true, ltb-false, leb-true, leb-false, cases_lt, cases_order, and_parts, and_cases}
 use Rattle.std.proofs.lemmas.Option.{same_Some, none-some}

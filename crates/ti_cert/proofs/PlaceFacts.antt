@@ -62,7 +62,7 @@ is_late_line rows cols lines None row none h = absurd (true≢false (sym h))
 is_late_line rows cols lines (Some last) row up h =
     record { line = up.there.line; among = up.there.among; late = inr (subst (λ (r : Row). Precedes rows cols row r) (sym up.there.of_row) (inl (ltb-true (order row) (order last) h))) }
 
--- where nothing else is missing, the lists that are lacking are of the row's own capability
+-- if nothing else is missing, the missing lists are of the row's own capability
 own_lacking : (rows cols : ℕ) (lines : List RowLine) (last : Option Row) (row : Row) → IsSize rows cols → IsUpTo rows cols lines last → missing rows cols last (order row) ≡ None
     → (other : Row) → IsLacking rows cols lines (Some row) other → (order other ≡ order row) × (rank rows cols other < rank rows cols row)
 own_lacking rows cols lines last row size up none other k = by_before k.before k.due

@@ -1,4 +1,4 @@
--- What is known of lines stays so when one more line is known.
+-- Facts known of lines stay true when one more line is known.
 use Rattle.std.proofs.Common.{◌≡◌, ◌⊎◌, ◌<◌, nat_lt, ℕ, Bool, true, false, if◌then◌else◌, List, [], ◌∷◌, ◌++◌, Some, inl, inr, refl, sym, ap, ◌∙◌, subst}
 use Rattle.std.specs.Prelude.{◌==◌, not, length, replicate}
 use Rattle.std.proofs.lemmas.Bool.{true≢false}

@@ -159,7 +159,7 @@ pub never_failed_there : (rows cols : ℕ) (text : List ℕ) (fault : VerifyFaul
 never_failed_there rows cols text (Cert fault) h = never_failed rows cols text fault h
 never_failed_there rows cols text (Agree fault) h = tt
 
--- What a text is refused for is never that a reader failed.
+-- No text is refused because a reader failed.
 
 row_unread : (rows cols : ℕ) (lines : List RowLine) (line : RowLine) (after : Said) → JudgesRow rows cols lines line after (Err ReadFailed) → ⊥
 row_unread rows cols lines line after (NotAllowed never e) = cc

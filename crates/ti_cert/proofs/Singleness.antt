@@ -45,7 +45,7 @@ either Is Other Later one never later a b (inl p) (inr q) = absurd (never a p q.
 either Is Other Later one never later a b (inr p) (inl q) = absurd (never b q p.0)
 either Is Other Later one never later a b (inr p) (inr q) = later a b p.1 q.1
 
--- an answer that is told when something is so
+-- an answer that is given under a condition
 equal_to : {A : Type 0} (If : Type 0) (x : A) → Single (λ a. If × (a ≡ x))
 equal_to If x a b p q = p.1 ∙ sym q.1
 
@@ -258,7 +258,7 @@ stays_alike pairs t u a s = record {
 opens_alike : (t u : Table) → IsAlike t u → BeginsOpen t → BeginsOpen u
 opens_alike t u a never rest e = never rest (resync_alike t u a ∙ e)
 
--- and so there is one fault of all lines together, or none
+-- there is one fault of all lines together, or none
 one_clash : (pairs : Bool) (t u : Table) → IsAlike t u → (a b : Clash) → IsClash pairs t a → IsClash pairs u b → kind_of a ≡ kind_of b
 one_clash pairs t u l (clashes.Smacs c) (clashes.Smacs d) m n = refl
 one_clash pairs t u l (clashes.Smacs c) (clashes.Rmacs d) m n = refl

@@ -46,7 +46,7 @@ sent_few : (s : Strings) (row : Row) (o : Option (List ℕ)) → row_string s ro
 sent_few s row None e few = omega arith
 sent_few s row (Some x) e few = omega (arith, within s row x e, longest_few s row few)
 
--- so where the row's string is a part of a resynchronization
+-- the row's string is a part of a resynchronization
 resync_part_few : (c : CheckedTable) (row : Row) → total c.known.strings < limit → length (strings.text_of (table_of c) row) < 2 ^ 26
 resync_part_few c row few = sent_few c.known.strings row (row_string c.known.strings row) refl few
 

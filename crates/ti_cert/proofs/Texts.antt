@@ -292,7 +292,7 @@ first_of_text rows cols budget number (text ∷ texts) last pairs final p =
       counted = let c = r.counted in let l = ended_length text texts in omega (arith, c, l);
     }
 
--- so many bytes have all lines of an accepted text at most
+-- the most bytes of all lines of an accepted text together
 pub few_bytes : (rows cols : ℕ) (text : List ℕ) (pairs : Option (List ℕ)) (lines : List RowLine) → IsAnswer rows cols text (Ok (Ended pairs lines)) → all_bytes lines < limit
 unfolding Judged JudgedFrom
 few_bytes rows cols text pairs lines p =

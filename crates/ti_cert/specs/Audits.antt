@@ -1,4 +1,4 @@
--- (Serves the code alone.) What is known while a certificate is read, and how that stands to what its lines say.
+-- (Serves the code alone.) The facts known while a certificate is read, and their relation to the meaning of its lines.
 use Rattle.std.specs.Prelude.{ℕ, ◌+◌, ◌-◌, ◌≡◌, ◌⊎◌, Bool, true, List, [], ◌∷◌, length, Option, None, Some, Result, Ok}
 use Rattle.std.specs.Prelude.{Err}
 use Rattle.vt_effects.specs.declared.effects.Effect.{Effect}
@@ -29,12 +29,12 @@ use Rattle.ti_cert.specs.declared.faults.CertFaultKind.{CertFaultKind}
 use Rattle.ti_cert.specs.declared.faults.CertFaultKind.TheVariants.{BadLine, OutOfOrder, NotWhole, NotTame, NotShown}
 use Rattle.ti_cert.specs.declared.faults.CertFaultKind.TheVariants.{NoMemory, ReadFailed}
 
--- how many bytes lines have together
+-- the number of bytes of all these lines together
 abbrev pub all_bytes : List RowLine → ℕ
 all_bytes [] = 0
 all_bytes (line ∷ lines) = length line.bytes + all_bytes lines
 
--- the strings are those of the lines, and attributes look as these say
+-- the strings are those of the lines, and attributes look as the lines say
 pub record Lists (k : Known) (lines : List RowLine) : Type 0 where
   pub found : (row : Row) (bytes : List ℕ) → row_string k.strings row ≡ Some bytes → GivesBytes lines row bytes
   pub kept : (line : RowLine) → IsAmong lines line → row_string k.strings line.row ≡ Some line.bytes
@@ -61,7 +61,7 @@ pub record Stands (p : Progress) (lines : List RowLine) : Type 0 where
   pub lists : Lists p.known lines
   pub place : IsUpTo p.size.rows p.size.cols lines p.place.last
 
--- where the last line was read, the strings were judged
+-- the state of the reading agrees with the lines so far; once the last line was read, the strings are judged
 abbrev pub Tells : Progress → Awaited → Said → Type 0
 Tells p lines_awaited.First Nothing = Stands p [] × (p.acsc ≡ None)
 Tells p lines_awaited.Acsc Sized = Stands p [] × (p.acsc ≡ None)
@@ -73,7 +73,7 @@ Tells p awaited said = ⊥
 abbrev pub TellsNow : Progress → Said → Type 0
 TellsNow p said = Tells p p.awaited said
 
--- what is judged here is so of the lines, whatever they are
+-- the judgement holds of the lines, whatever they are
 pub record Steps (q : Progress) (size_rows size_cols : ℕ) (Judges : Result Said CertFaultKind → Type 0) : Type 0 where
   pub after : Said
   pub judges : Judges (Ok after)
@@ -121,7 +121,7 @@ pub record IsTableMade (p : Progress) (table : CheckedTable) : Type 0 where
   pub known : table.known ≡ p.known
   pub acsc : table.acsc ≡ p.acsc
 
--- the same of what stands after the first two lines, of a line about a capability, and of the last one
+-- the answer to a line after the first two, to a line about a capability, and to the last line
 abbrev pub AnswersLater : Progress → List ℕ → Result Progress CertFaultKind → Type 0
 AnswersLater p text answer =
     (pairs : Option (List ℕ)) (lines : List RowLine) → Stands p lines → p.acsc ≡ pairs
@@ -144,7 +144,7 @@ OrNoMemory kind Answers = Answers (Err kind) ⊎ (kind ≡ NoMemory)
 abbrev pub IsTokenFault : List ℕ → CertFaultKind → Type 0
 IsTokenFault bytes kind = ((kind ≡ NotWhole) × (IsWholeText bytes → ⊥)) ⊎ (kind ≡ NoMemory)
 
--- what is wrong with the effect of tokens
+-- the fault of the effect of tokens
 pub data Misshows (k : Known) (row : Row) (stated : Effect) (tokens : List (List ℕ))
     (kind : CertFaultKind) : Type 0 where
   NoRecord : record_of k.strings.rows k.strings.cols (start_of k.strings.rows k.strings.cols row) tokens ≡ None
@@ -156,7 +156,7 @@ pub data Misshows (k : Known) (row : Row) (stated : Effect) (tokens : List (List
       → (stated ≡ asked (looks_with k row stated) row stated → ⊥)
       → IsMisfit row stated kind → Misshows k row stated tokens kind
 
--- why a text is none about a capability
+-- the fault of a text that is no line about a capability
 pub data IsMisplacedBy (text : List ℕ) (kind : CertFaultKind) : Type 0 where
   HasPairs : (bytes : List ℕ) → IsAcscText text bytes → kind ≡ OutOfOrder → IsMisplacedBy text kind
   HasNoPairs : ((bytes : List ℕ) → IsAcscText text bytes → ⊥) → kind ≡ BadLine → IsMisplacedBy text kind
@@ -169,18 +169,18 @@ pub data LacksRecord (s : Strings) (kind : CertFaultKind) : Type 0 where
       → Splits bytes tokens [] → record_of s.rows s.cols (start_of s.rows s.cols row) tokens ≡ None → LacksRecord s kind
   RanOut : kind ≡ NoMemory → LacksRecord s kind
 
--- a line that has to be there isn't
+-- a required line is missing
 pub data LacksNeeded (s : Strings) (kind : CertFaultKind) : Type 0 where
   NoClear : row_string s Clear ≡ None → LacksNeeded s kind
   NoSgr0 : row_string s Sgr0 ≡ None → LacksNeeded s kind
   NoWidening : has_group s (Csr 0 1) ≡ true → row_string s (Csr 0 (s.rows - 1)) ≡ None → LacksNeeded s kind
 
--- what is known where nothing is wrong with them
+-- the facts known once the lines together have no fault
 pub record IsConcluded (k : Known) (has_pairs : Bool) (settled : Charsets) : Type 0 where
   pub judged : IsJudged (checked_of k settled)
   pub together : GoesTogether has_pairs (checked_of k settled)
 
--- why lines that were judged one by one can't be concluded
+-- the fault of all lines together, each of which was judged by itself
 pub data ConcludesBy (k : Known) (has_pairs : Bool) (kind : CertFaultKind) : Type 0 where
   Lacking : LacksNeeded k.strings kind → ConcludesBy k has_pairs kind
   Together : (settled : Charsets) (clash : Clash) → IsClash has_pairs (checked_of k settled) clash

@@ -29,7 +29,7 @@ use Rattle.ti_cert.specs.declared.faults.AgreeFault.TheVariants as agreeing
 use Rattle.ti_cert.specs.declared.faults.VerifyFault.{VerifyFault}
 use Rattle.ti_cert.specs.declared.faults.VerifyFault.TheVariants.{Cert, Agree}
 
--- what such an entry sends for a row (ECMA-48 8.3.21, CUP; 8.3.39, ED; 8.3.41, EL; 8.3.117, SGR)
+-- the bytes that such an entry sends for a row (ECMA-48 8.3.21, CUP; 8.3.39, ED; 8.3.41, EL; 8.3.117, SGR)
 abbrev pub basic_bytes : Row → List ℕ
 basic_bytes Clear = clear_text
 basic_bytes (Cup row col) = cursor_to row col
@@ -38,7 +38,7 @@ basic_bytes El = el_text
 basic_bytes Sgr0 = sgr0_text
 basic_bytes _ = []
 
--- and what that does: row=0 col=0 nopend all; row=r col=c nopend; row=0 col=0 nopend; tail; look:000000 ink:dd
+-- their effects: row=0 col=0 nopend all; row=r col=c nopend; row=0 col=0 nopend; tail; look:000000 ink:dd
 abbrev pub basic_effect : Row → Effect
 basic_effect Clear = cleared
 basic_effect (Cup row col) = placed_at row col
@@ -94,7 +94,7 @@ BasicAccepted =
     (rows cols : ℕ) (home el : Bool) → IsSize rows cols → IsAnswer rows cols (basic_text rows cols home el)
     (Ok (Ended None (reverse (map basic_line (basic_rows rows cols home el)))))
 
--- so nothing is wrong with it: memory ran out, or the reader failed
+-- the text isn't at fault: memory ran out, or the reader failed
 abbrev pub IsStopped : Type 0 → CertFault → Type 0
 IsStopped Failed fault = (fault.kind ≡ NoMemory) ⊎ ((fault.kind ≡ ReadFailed) × Failed)
 
@@ -109,7 +109,7 @@ pub record IsBasicTable (entry : Content) (table : tables.CheckedTable) : Type 0
   pub made : IsTableOf table.known.strings.rows table.known.strings.cols
       (basic_text_of entry table.known.strings.rows table.known.strings.cols) table
 
--- is just what the entry sends
+-- the table has exactly what the entry sends
 pub record IsTableFor (entry : Content) (table : tables.CheckedTable) : Type 0 where
   pub fit : IsFit entry
   pub pairs : table.acsc ≡ string_at entry acsc
@@ -119,7 +119,7 @@ pub record IsTableFor (entry : Content) (table : tables.CheckedTable) : Type 0 w
 abbrev pub BasicAgrees : Type 0
 BasicAgrees = (entry : Content) (table : tables.CheckedTable) → IsBasicTable entry table → IsTableFor entry table
 
--- these lines, and no others, are what the entry sends
+-- the entry sends exactly these lines
 pub record AreSent (entry : Content) (rows cols : ℕ) (lines : List RowLine) : Type 0 where
   pub range : (line : RowLine) → IsAmong lines line → IsInRange rows cols line.row
   pub checked : (line : RowLine) → IsAmong lines line → is_checked entry line.row ≡ true
@@ -127,7 +127,7 @@ pub record AreSent (entry : Content) (rows cols : ℕ) (lines : List RowLine) : 
       → Sends string line.row line.bytes
   pub all : (row : Row) → IsInRange rows cols row → is_checked entry row ≡ true → HasLine lines row
 
--- a text that is accepted with just those is the basic text
+-- a text that is accepted with exactly these lines is the basic text
 abbrev pub BasicAlone : Type 0
 BasicAlone =
     (entry : Content) (rows cols : ℕ) (text : List ℕ) (lines : List RowLine) → IsSize rows cols

@@ -1,4 +1,4 @@
--- How the lines of a certificate are judged one after another: which line may follow those that were read, and
+-- How the lines of a certificate are judged one after another: whether a line may follow those that were read, and
 -- otherwise its first fault. Lines are listed with the latest first.
 use Rattle.std.specs.Prelude.{ℕ, ◌≡◌, ◌==◌, ◌||◌, is_some, Bool, true, false, if◌then◌else◌, List, [], ◌∷◌, Option}
 use Rattle.std.specs.Prelude.{None, Some, Result, Ok, Err}
@@ -26,12 +26,12 @@ use Rattle.ti_cert.specs.declared.faults.CertFaultKind.{CertFaultKind}
 use Rattle.ti_cert.specs.declared.faults.CertFaultKind.TheVariants.{BadLine, Missing, OutOfOrder, NotWhole, NotTame}
 use Rattle.ti_cert.specs.declared.faults.CertFaultKind.TheVariants.{NotShown, BadLook, NoMemory, ReadFailed}
 
--- the fault of a row's line that isn't there where it has to be, by its capability and its parameters
+-- the fault of a row's missing line, by its capability and its parameters
 abbrev pub missing_line : Row → CertFaultKind
 missing_line row = Missing (cap_of row) (record { items = params row })
 
--- What the lines so far say: nothing, the size alone, or also the pairs of alternate characters, where there are any,
--- and lines about capabilities, with the last line or before it.
+-- The meaning of the lines so far: nothing, the size alone, or also the pairs of alternate characters, if there are
+-- any, and lines about capabilities, with the last line or before it.
 pub data Said : Type 0 where
   Nothing : Said
   Sized : Said
@@ -48,7 +48,8 @@ abbrev pub rival : Row → Row
 rival (Sgr a) = Smso
 rival _ = Sgr no_attributes
 
--- how attributes look by these lines: by those of `sgr` for one attribute alone, or else by those of single attributes
+-- the looks of attributes by these lines: by those of `sgr` for one attribute alone, or else by those of single
+-- attributes
 abbrev pub looks_of : List RowLine → Looks
 looks_of [] = no_looks
 looks_of (line ∷ lines) =
@@ -59,20 +60,20 @@ pub record IsWholeText (bytes : List ℕ) : Type 0 where
   pub tokens : List (List ℕ)
   pub splits : Splits bytes tokens []
 
--- from the row's start they have this record
+-- from the row's start the line's bytes have this record
 pub record HasEffect (rows cols : ℕ) (line : RowLine) (effect : Effect) : Type 0 where
   pub tokens : List (List ℕ)
   pub splits : Splits line.bytes tokens []
   pub recorded : record_of rows cols (start_of rows cols line.row) tokens ≡ Some effect
 
--- they are whole control functions without a record
+-- the line's bytes are whole control functions without a record
 pub record HasNoEffect (rows cols : ℕ) (line : RowLine) : Type 0 where
   pub tokens : List (List ℕ)
   pub splits : Splits line.bytes tokens []
   pub unrecorded : record_of rows cols (start_of rows cols line.row) tokens ≡ None
 
--- the fault of a line whose effect isn't the one that is asked for: an attribute of its own that looks like others, or
--- any
+-- the fault of a line whose effect isn't the one that is asked for: an attribute alone that looks like another, or any
+-- other fault
 pub data IsMisfit (row : Row) (effect : Effect) (kind : CertFaultKind) : Type 0 where
   Mislooks : is_alone row ≡ true → IsSomeLook effect → kind ≡ BadLook → IsMisfit row effect kind
   Misdoes : (is_alone row ≡ true → IsSomeLook effect → ⊥) → kind ≡ NotShown → IsMisfit row effect kind
@@ -112,7 +113,7 @@ pub data JudgesLast (rows cols : ℕ) (pairs : Option (List ℕ)) (lines : List 
   Closes : IsComplete rows cols lines None → OfLines rows cols lines (λ t. GoesTogether (is_some pairs) t)
       → answer ≡ Ok (Ended pairs lines) → JudgesLast rows cols pairs lines answer
 
--- a line after that of alternate characters, or where that one may stand
+-- a line after that of alternate characters, or in its place
 pub data JudgesLater (rows cols : ℕ) (pairs : Option (List ℕ)) (lines : List RowLine) (text : List ℕ)
     (answer : Result Said CertFaultKind) : Type 0 where
   IsLast : is_end text ≡ true → JudgesLast rows cols pairs lines answer → JudgesLater rows cols pairs lines text answer
@@ -144,7 +145,7 @@ JudgesLine rows cols Sized text answer = JudgesSecond rows cols text answer
 JudgesLine rows cols (Listing pairs lines) text answer = JudgesLater rows cols pairs lines text answer
 JudgesLine rows cols (Ended pairs lines) text answer = answer ≡ Err BadLine
 
--- the end of the text, which has to come after the last line
+-- the end of the text, which must come after the last line
 abbrev pub JudgesEnd : Said → Result Said CertFaultKind → Type 0
 JudgesEnd (Ended pairs lines) answer = answer ≡ Ok (Ended pairs lines)
 JudgesEnd _ answer = answer ≡ Err BadLine
@@ -166,6 +167,6 @@ limit = 67108864
 abbrev pub CertFault : Type 0
 CertFault = LineFault CertFaultKind
 
--- what a whole text says, or its first fault with its line
+-- the meaning of a whole text, or its first fault with its line
 abbrev pub IsAnswer : ℕ → ℕ → List ℕ → Result Said CertFault → Type 0
 IsAnswer rows cols text answer = Judged (rules_of rows cols) limit Nothing text answer

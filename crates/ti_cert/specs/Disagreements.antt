@@ -1,4 +1,4 @@
--- When a certificate isn't that of an entry.
+-- The cases in which a certificate isn't that of an entry.
 use Rattle.std.specs.Prelude.{ℕ, ◌≡◌, List, []}
 use Rattle.ti_caps.specs.Entry as caps
 use Rattle.ti_caps.specs.Entry.{string_at}
@@ -18,8 +18,8 @@ use Rattle.ti_cert.specs.declared.faults.AgreeFault.TheVariants.{Disagree, NoMem
 use Rattle.ti_cert.specs.declared.faults.VerifyFault.{VerifyFault}
 use Rattle.ti_cert.specs.declared.faults.VerifyFault.TheVariants.{Cert, Agree}
 
--- The line of this capability and these parameters, which the size allows, isn't just what the entry sends: it has
--- other bytes, or isn't there, or is there though the capability isn't checked.
+-- The line of this capability and these parameters, which the size allows, isn't exactly what the entry sends: it has
+-- other bytes, or is missing, or is there though the capability isn't checked.
 pub record HasOtherLine (table : CheckedTable) (entry : caps.Content) (cap : ℕ) (numbers : List ℕ) : Type 0 where
   pub row : Row
   pub cap_is : cap ≡ cap_of row
@@ -27,8 +27,8 @@ pub record HasOtherLine (table : CheckedTable) (entry : caps.Content) (cap : ℕ
   pub range : IsInRange table.known.strings.rows table.known.strings.cols row
   pub differs : LineAgrees entry (row_string table.known.strings row) row → ⊥
 
--- What is reported first: why no certificate is for the entry as a whole, by the capability of the first such reason;
--- then that its pairs of alternate characters are others; both without parameters. Then a line.
+-- The order of reports: first the reason why the entry as a whole can have no certificate, by the capability of the
+-- first such reason; then other pairs of alternate characters; both without parameters. Then a line.
 pub data IsDisagreement (table : CheckedTable) (entry : caps.Content) (cap : ℕ) (numbers : List ℕ) : Type 0 where
   RuledOut : (why : Unfit) → IsUnfit entry why → cap ≡ cap_of_unfit why → numbers ≡ []
       → IsDisagreement table entry cap numbers
@@ -42,7 +42,7 @@ abbrev pub IsDisagreeing : CheckedTable → caps.Content → AgreeFault → Type
 IsDisagreeing table entry (Disagree cap numbers) = IsDisagreement table entry cap numbers.items
 IsDisagreeing table entry NoMemory = Unit {0}
 
--- the table of a text disagrees so
+-- the table of a text has this disagreement
 pub record TextDisagrees (rows cols : ℕ) (text : List ℕ) (entry : caps.Content) (fault : AgreeFault) : Type 0 where
   pub table : CheckedTable
   pub rows_are : table.known.strings.rows ≡ rows
@@ -50,12 +50,12 @@ pub record TextDisagrees (rows cols : ℕ) (text : List ℕ) (entry : caps.Conte
   pub made : IsTableOf rows cols text table
   pub disagrees : IsDisagreeing table entry fault
 
--- of a refusal to verify, where the certificate itself has no fault
+-- a refusal to verify, although the certificate itself has no fault
 abbrev pub IsAgreeRefused : ℕ → ℕ → List ℕ → caps.Content → VerifyFault → Type 0
 IsAgreeRefused rows cols text entry (Cert fault) = Unit {0}
 IsAgreeRefused rows cols text entry (Agree fault) = TextDisagrees rows cols text entry fault
 
--- Where a disagreement is so, the certificate isn't that of the entry.
+-- If a disagreement is true, the certificate isn't that of the entry.
 abbrev pub DisagreementExcludesYes : Type 0
 DisagreementExcludesYes =
     (table : CheckedTable) (entry : caps.Content) (cap : ℕ) (numbers : List ℕ) → IsDisagreement table entry cap numbers

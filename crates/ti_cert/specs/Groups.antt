@@ -5,6 +5,6 @@ use Rattle.std.specs.Prelude.{ℕ, ◌-◌, ◌≤◌, List, take, drop}
 abbrev pub piece : List ℕ → ℕ → ℕ → List ℕ
 piece bytes from to = take (to - from) (drop from bytes)
 
--- places of this many bytes, in order
+-- two places within this many bytes, in order
 abbrev pub IsPart : ℕ → ℕ → ℕ → Type 0
 IsPart count from to = (from ≤ to) × (to ≤ count)

@@ -1,4 +1,4 @@
--- (Serves the code alone.) What is known of the lines that were judged so far.
+-- (Serves the code alone.) The facts known of the lines that were judged so far.
 use Rattle.std.specs.Prelude.{ℕ, ◌≡◌, Bool, true, false, if◌then◌else◌, List, [], ◌∷◌, ◌++◌, Option, Some}
 use Rattle.vt_term.specs.Text.{Splits}
 use Rattle.vt_effects.specs.declared.effects.Effect.{Effect}
@@ -15,11 +15,11 @@ use Rattle.ti_cert.specs.Strings.{Strings, row_string, has_group}
 use Rattle.ti_conforms.specs.Looks.{LooksAlone}
 use Rattle.ti_cert.specs.Certificates.{rival}
 
--- what the lines so far say
+-- the facts that the lines so far state
 pub record Known : Type 0 where
   pub strings : Strings
   pub looks : Looks
-  -- the marks of the charsets that tokens turn on, and what whole strings do to the charsets
+  -- the marks of the charsets that tokens turn on, and the changes of the charsets by whole strings
   pub reach : Reach
   pub changes : List Sets
 
@@ -32,7 +32,7 @@ pub record HasRecord (rows cols : ℕ) (looks : Looks) (row : Row) (tokens : Lis
   pub recorded : record_of rows cols (start_of rows cols row) tokens ≡ Some effect
   pub asked_for : effect ≡ asked looks row effect
 
--- what was found of these tokens, from the row's start
+-- the record found of these tokens, from the row's start, or none
 abbrev pub IsRecord : Known → Row → List (List ℕ) → Option Effect → Type 0
 IsRecord k row tokens found =
     found ≡ record_of k.strings.rows k.strings.cols (start_of k.strings.rows k.strings.cols row) tokens
@@ -43,7 +43,7 @@ pub record TellsRecord (rows cols : ℕ) (looks : Looks) (row : Row) (bytes : Li
   pub whole : Splits bytes tokens []
   pub has : HasRecord rows cols looks row tokens effect
 
--- what is kept of a line: its tokens are among all of them, and its change is among the changes
+-- the kept part of a line: its tokens are among all of them, and its change is among the changes
 pub record IsKept (k : Known) (all : List (List ℕ)) (row : Row) (bytes : List ℕ) : Type 0 where
   pub tokens : List (List ℕ)
   pub whole : Splits bytes tokens []

@@ -1,4 +1,4 @@
--- How many bytes the longest lines of a certificate have.
+-- The lengths of the longest lines of a certificate.
 use Rattle.std.specs.Prelude.{ℕ, ◌+◌, max, if◌then◌else◌, List, [], ◌∷◌, length, is_some, sum_by}
 use Rattle.vt_term.specs.Color.{Black}
 use Rattle.ti_rows.specs.declared.rows.Row.{Row}
@@ -9,7 +9,7 @@ use Rattle.ti_conforms.specs.Certified.{singles}
 use Rattle.ti_conforms.specs.Table.{Longest, or_nothing}
 use Rattle.ti_cert.specs.Strings.{Strings, group_at, row_string}
 
--- the greatest length among these, 0 where there are none
+-- the greatest length among these, 0 if there are none
 abbrev pub greatest : List (List ℕ) → ℕ
 greatest [] = 0
 greatest (x ∷ xs) = max (length x) (greatest xs)
@@ -22,7 +22,7 @@ longest_line s row = greatest (group_at s (order row))
 abbrev pub singly : Strings → ℕ
 singly s = length (or_nothing (row_string s Sgr0)) + sum_by (λ row. length (or_nothing (row_string s row))) singles
 
--- what changes the attributes: one line, or else those strings
+-- the longest change of attributes: one line of `sgr`, or else those strings
 abbrev pub longest_change : Strings → ℕ
 longest_change s =
     if is_some (row_string s (Sgr no_attributes))

@@ -1,4 +1,4 @@
--- The order of a certificate's lines about capabilities, and which of them have to be there.
+-- The order of a certificate's lines about capabilities, and which of them are required.
 use Rattle.std.specs.Prelude.{ℕ, ◌<◌, ◌≡◌, ◌⊎◌, List, Option, None, Some}
 use Rattle.ti_conforms.specs.Charsets.{IsAmong}
 use Rattle.ti_rows.specs.declared.rows.Row.{Row}
@@ -17,13 +17,13 @@ pub record HasLine (lines : List RowLine) (row : Row) : Type 0 where
   pub among : IsAmong lines line
   pub of_row : line.row ≡ row
 
--- one of them is about the row's capability
+-- one of these lines is about the row's capability
 pub record HasCap (lines : List RowLine) (row : Row) : Type 0 where
   pub line : RowLine
   pub among : IsAmong lines line
   pub of_cap : order line.row ≡ order row
 
--- one of them says that the row has these bytes
+-- one of these lines says that the row has these bytes
 pub record GivesBytes (lines : List RowLine) (row : Row) (bytes : List ℕ) : Type 0 where
   pub line : RowLine
   pub among : IsAmong lines line
@@ -34,7 +34,7 @@ pub record GivesBytes (lines : List RowLine) (row : Row) (bytes : List ℕ) : Ty
 abbrev pub IsRequiredLine : Row → Type 0
 IsRequiredLine row = (order row ≡ order Clear) ⊎ ((order row ≡ order (Cup 0 0)) ⊎ (order row ≡ order Sgr0))
 
--- what comes next is a line about this row, or, at `None`, the last line of the text
+-- the row's line comes before the next line: one about the row `next`, or, at `None`, the last line of the text
 abbrev pub IsBefore : ℕ → ℕ → Option Row → Row → Type 0
 IsBefore rows cols None row = Unit {0}
 IsBefore rows cols (Some next) row = Precedes rows cols row next
@@ -43,8 +43,8 @@ abbrev pub IsOfCap : Option Row → Row → Type 0
 IsOfCap None row = ⊥
 IsOfCap (Some next) row = order row ≡ order next
 
--- A line about this row has to stand before what comes next, and doesn't: its capability is a required one, or has a
--- line or is to have one now, and a capability that has one line has all that the size allows.
+-- A line about this row must come before the next line, and is missing: its capability is a required one, or has a line
+-- or gets one now, and a capability with one line must have all that the size allows.
 pub record IsLacking (rows cols : ℕ) (lines : List RowLine) (next : Option Row) (row : Row) : Type 0 where
   pub range : IsInRange rows cols row
   pub absent : HasLine lines row → ⊥

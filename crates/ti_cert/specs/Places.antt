@@ -1,4 +1,4 @@
--- (Serves the code alone.) How the order of lines is tested, by the row of the last line and the number of lines about
+-- (Serves the code alone.) The test of the order of lines, by the row of the last line and the number of lines about
 -- one capability.
 use Rattle.std.specs.Prelude.{ℕ, ◌+◌, ◌==◌, ◌&&◌, ◌||◌, nat_le, nat_lt, Bool, false, if◌then◌else◌, Option, None, Some}
 use Rattle.ti_rows.specs.declared.rows.Row.{Row}
@@ -27,12 +27,12 @@ abbrev pub missing_behind : Option Row → ℕ → ℕ → Option Row
 missing_behind None last n = required (last + 1) n
 missing_behind (Some next) last n = if nat_lt last n then Some next else required (last + 1) n
 
--- the first line that has to come before those of the capability at a place
+-- the first missing line that must come before those of the capability at a place
 abbrev pub missing : ℕ → ℕ → Option Row → ℕ → Option Row
 missing rows cols None n = required 0 n
 missing rows cols (Some last) n = missing_behind (next_within rows cols last) (order last) n
 
--- the line that has to come next where lines of the row's capability come
+-- the line that must come next among those of the row's capability
 abbrev pub expected : ℕ → ℕ → Option Row → Row → Option Row
 expected rows cols None row = first_in_order (order row)
 expected rows cols (Some last) row =

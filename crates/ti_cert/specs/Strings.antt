@@ -1,4 +1,4 @@
--- The strings of a certificate: for each checked capability those of its parameter lists, in ascending order.
+-- The strings of a certificate: for each checked capability, those of its parameter lists in ascending order.
 use Rattle.std.specs.Prelude.{ℕ, ◌≡◌, ◌⊎◌, ◌&&◌, ◌||◌, nat_le, nat_lt, Bool, true, not, ◌+◌, ◌==◌, if◌then◌else◌, List}
 use Rattle.std.specs.Prelude.{[], Option, Some, None, length, slice_index_or}
 use Rattle.std.specs.List.{slice_get, sum_by}
@@ -10,7 +10,7 @@ use Rattle.ti_rows.specs.Lists.{rank}
 pub record Strings : Type 0 where
   pub rows : ℕ
   pub cols : ℕ
-  -- one group a capability, in the byte order of their names
+  -- one group for each capability, in the byte order of their names
   pub groups : List (List (List ℕ))
 
 -- whether the size allows the parameters
@@ -30,7 +30,7 @@ allows rows cols _ = true
 abbrev pub group_at : Strings → ℕ → List (List ℕ)
 group_at s n = slice_index_or s.groups n []
 
--- the string of a row, where there is one
+-- the string of a row, if there is one
 abbrev pub row_string : Strings → Row → Option (List ℕ)
 row_string s row =
     if allows s.rows s.cols row then slice_get (group_at s (order row)) (rank s.rows s.cols row) else None
@@ -39,7 +39,7 @@ row_string s row =
 abbrev pub has_group : Strings → Row → Bool
 has_group s row = not (length (group_at s (order row)) == 0)
 
--- how many bytes all strings have together
+-- the number of bytes of all strings together
 abbrev pub total : Strings → ℕ
 total s = sum_by (λ group. sum_by (λ bytes. length bytes) group) s.groups
 

@@ -1,4 +1,4 @@
--- The table that a certificate makes, and what is known of it.
+-- The table that a certificate makes, and the facts known of it.
 use Rattle.std.specs.Prelude.{ℕ, ◌≡◌, List, [], ◌∷◌, Option, Some, None}
 use Rattle.vt_effects.specs.declared.effects.Sets.{Sets}
 use Rattle.vt_effects.specs.Record.{record_of}
@@ -16,13 +16,13 @@ use Rattle.ti_cert.specs.Strings.{Strings, row_string}
 use Rattle.ti_cert.specs.Known.{Known}
 use Rattle.ti_cert.specs.Lengths.{longest_in}
 
--- the strings with what tells how they may be used
+-- the strings, with the facts that say how they may be used
 pub record CheckedTable : Type 0 where
   pub known : Known
   pub acsc : Option (List ℕ)
   pub settled : Charsets
 
--- the same as a driver of a terminal sees it
+-- the table as a driver of a terminal sees it
 abbrev pub checked_of : Known → Charsets → Table
 checked_of k settled = record {
   rows = k.strings.rows;
@@ -38,13 +38,13 @@ checked_of k settled = record {
 abbrev pub table_of : CheckedTable → Table
 table_of c = checked_of c.known c.settled
 
--- what a painter sends of it
+-- the part of it that a painter sends
 abbrev pub certified : CheckedTable → Table
 certified c = sendable (table_of c)
 
--- ---- (Serves the code alone.) What strings do together.
+-- ---- (Serves the code alone.) The effects of strings together.
 
--- the first of some bytes
+-- the first of these bytes, if there is one
 abbrev pub head_of : List ℕ → Option ℕ
 head_of [] = None
 head_of (b ∷ bytes) = Some b
@@ -53,7 +53,7 @@ head_of (b ∷ bytes) = Some b
 abbrev pub first_of_resync : Strings → Option ℕ
 first_of_resync s = head_of (texts_of (λ row. row_string s row) (resync_rows s.rows))
 
--- what the row's string does to the charsets, nothing where there is none
+-- the change of the charsets by the row's string, nothing if there is no string
 pub data Changes (s : Strings) (row : Row) : Option Sets → Type 0 where
   NoString : row_string s row ≡ None → Changes s row None
   OfString : (bytes : List ℕ) → row_string s row ≡ Some bytes → (tokens : List (List ℕ)) → Splits bytes tokens []

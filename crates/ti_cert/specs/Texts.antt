@@ -1,4 +1,4 @@
--- What an audit's answer says of the text of a certificate.
+-- The meaning of an audit's answer for the text of a certificate.
 use Rattle.std.specs.Prelude.{ℕ, ◌+◌, ◌≤◌, ◌≡◌, ◌⊎◌, ◌↔◌, List, [], ◌∷◌, length, reverse, is_some, Option, None, Some}
 use Rattle.std.specs.Prelude.{Result, Ok, Err}
 use Rattle.ti_conforms.specs.Charsets.{IsAmong}
@@ -18,7 +18,7 @@ use Rattle.ti_cert.specs.declared.faults.CertFaultKind.TheVariants.{NoMemory, Re
 use Rattle.ti_cert.specs.declared.faults.VerifyFault.{VerifyFault}
 use Rattle.ti_cert.specs.declared.faults.VerifyFault.TheVariants.{Cert, Agree}
 
--- the text is that of a certificate for this size, and the table has just the pairs and the bytes of its lines
+-- the text is that of a certificate for this size, and the table has exactly the pairs and the bytes of its lines
 pub record IsTableOf (rows cols : ℕ) (text : List ℕ) (table : CheckedTable) : Type 0 where
   pub lines : List RowLine
   pub says : IsAnswer rows cols text (Ok (Ended table.acsc lines))
@@ -32,13 +32,13 @@ IsRefused rows cols text Failed fault =
     IsAnswer rows cols text (Err fault)
     ⊎ ((fault.kind ≡ NoMemory) ⊎ ((fault.kind ≡ ReadFailed) × Failed))
 
--- the same of a refusal to verify, where it is one of the certificate
+-- a refusal to verify because of the certificate
 abbrev pub IsCertRefused : ℕ → ℕ → List ℕ → Type 0 → VerifyFault → Type 0
 IsCertRefused rows cols text Failed (Cert fault) = IsRefused rows cols text Failed fault
 IsCertRefused rows cols text Failed (Agree fault) = Unit {0}
 
--- A reader that failed did so in the line after those that were given whole. Once the line with the fault is whole, the
--- reader isn't called.
+-- A reader that failed did so in the line after the whole lines that it gave. Once the line with the fault is whole,
+-- the reader isn't called.
 pub record IsLineRead (given : List ℕ) (fault : CertFault) : Type 0 where
   pub failed : fault.kind ≡ ReadFailed → fault.line ≡ length (cut_of given).lines + 1
   pub last : LastCall given fault.line
@@ -47,8 +47,8 @@ abbrev pub IsCertLineRead : List ℕ → VerifyFault → Type 0
 IsCertLineRead given (Cert fault) = IsLineRead given fault
 IsCertLineRead given (Agree fault) = Unit {0}
 
--- What a call takes from its reader: at most one byte more than a certificate may have; and what is so of the bytes
--- that were given.
+-- A call takes at most one byte more from its reader than a certificate may have; and `IsSo` holds of the bytes that
+-- were given.
 pub record Takes {R : Type 0} (left : R → List ℕ → Type 0) (failures : R → ℕ) (old new : R)
     (IsSo : List ℕ → Type 0) : Type 0 where
   pub given : List ℕ
@@ -62,20 +62,20 @@ OneAnswer =
     (rows cols : ℕ) (text : List ℕ) (one other : Result Said CertFault) → IsAnswer rows cols text one
     → IsAnswer rows cols text other → one ≡ other
 
--- So tables of the same text have the same pairs and the same strings,
+-- Tables of one text have the same pairs and the same strings.
 abbrev pub OneTable : Type 0
 OneTable =
     (rows cols : ℕ) (text : List ℕ) (one other : CheckedTable) → IsTableOf rows cols text one
     → IsTableOf rows cols text other
     → (one.acsc ≡ other.acsc) × ((row : Row) → row_string one.known.strings row ≡ row_string other.known.strings row)
 
--- and a text that has a table is refused only where memory runs out,
+-- A text that has a table is refused only if memory runs out.
 abbrev pub NoOther : Type 0
 NoOther =
     (rows cols : ℕ) (text : List ℕ) (table : CheckedTable) (fault : CertFault) → IsTableOf rows cols text table
     → IsRefused rows cols text ⊥ fault → fault.kind ≡ NoMemory
 
--- and one that has none always for the same fault in the same line.
+-- A text that has no table is always refused for the same fault in the same line.
 abbrev pub OneFault : Type 0
 OneFault =
     (rows cols : ℕ) (text : List ℕ) (one other : CertFault) → IsRefused rows cols text ⊥ one
@@ -87,8 +87,8 @@ pub record StandsNext (rows cols : ℕ) (before : List RowLine) (line : RowLine)
   pub has : HasEffect rows cols line line.effect
   pub asked : IsAskedFor before line
 
--- These lines about capabilities, each after those before it, which are listed with the latest first; after the last of
--- them nothing is missing.
+-- Each of these lines about capabilities is in its place after those `before` it, which are listed with the latest
+-- first; after the last of them nothing is missing.
 abbrev pub StandInOrder : ℕ → ℕ → List RowLine → List RowLine → Type 0
 StandInOrder rows cols before [] = IsComplete rows cols before None
 StandInOrder rows cols before (line ∷ lines) =
@@ -100,7 +100,7 @@ pub record IsCertificate (rows cols : ℕ) (text : List ℕ) (pairs : Option (Li
   pub stands : StandInOrder rows cols [] lines
   pub few : length text ≤ limit
 
--- The text of a certificate is accepted, with its pairs and lines, where all its lines go together.
+-- The text of a certificate is accepted, with its pairs and lines, if all its lines go together.
 abbrev pub IsAcceptedCertificate : Type 0
 IsAcceptedCertificate =
     (rows cols : ℕ) (text : List ℕ) (pairs : Option (List ℕ)) (lines : List RowLine)
@@ -113,7 +113,7 @@ pub record IsAcceptable (rows cols : ℕ) (text : List ℕ) (pairs : Option (Lis
   pub certificate : IsCertificate rows cols text pairs lines
   pub together : OfLines rows cols (reverse lines) (λ t. GoesTogether (is_some pairs) t)
 
--- A text is accepted, with these pairs and lines, exactly if it is one of these.
+-- A text is accepted, with these pairs and lines, exactly if it is that of a certificate whose lines go together.
 abbrev pub AcceptsCertificates : Type 0
 AcceptsCertificates =
     (rows cols : ℕ) (text : List ℕ) (pairs : Option (List ℕ)) (lines : List RowLine)

@@ -1,4 +1,5 @@
--- The strings of an entry that was verified for a size, and what may be relied on of them, by runs of a terminal alone.
+-- The strings of an entry that was verified for a size, and the facts that may be relied on about them, stated by runs
+-- of a terminal alone.
 use Rattle.std.specs.Prelude.{ℕ, ◌<◌, ◌≡◌, ◌&&◌, Bool, List, Option, Some, None, if◌then◌else◌}
 use Rattle.vt_term.specs.Size.{IsSize}
 use Rattle.vt_term.specs.Screen.{State}
@@ -20,18 +21,18 @@ pub record IsVerified (c : CheckedTable) : Type 0 where
   pub size : IsSize c.known.strings.rows c.known.strings.cols
   -- all strings together have fewer bytes than a certificate may have, 2^26
   pub few : total c.known.strings < limit
-  -- where the lines' runs end, whole and cut off, and where a resynchronization leads
+  -- the ends of the lines' runs, whole and cut off, and the end of a resynchronization
   pub holds : TableHolds (table_of c)
-  -- which lines there are beside each other
+  -- lines that come with other lines
   pub together : StandTogether (table_of c)
-  -- how attributes look where no line sets all of them
+  -- the looks of attributes if no line sets all of them
   pub looks : LooksStand (table_of c)
 
 -- the row of a capability with these parameters
 abbrev pub IsRowOf : ℕ → List ℕ → Row → Type 0
 IsRowOf cap numbers row = (cap_of row ≡ cap) × (params row ≡ numbers)
 
--- there is such a row, and the bytes of its line are these, of which all that a line promises is so
+-- there is such a row, its line has these bytes, and everything that a line promises holds of them
 pub record IsLineOf (t : Table) (cap : ℕ) (numbers bytes : List ℕ) : Type 0 where
   pub row : Row
   pub is_row : IsRowOf cap numbers row
@@ -46,8 +47,8 @@ listed (Some pairs) letter = partner_of pairs letter
 abbrev pub can_switch : CheckedTable → Bool
 can_switch c = has (table_of c) Smacs && has (table_of c) Rmacs
 
--- What a letter of the alternate set is sent as (terminfo(5), "Line Graphics"): its partner in `acsc` where the sets
--- can be switched.
+-- The byte that a letter of the alternate set is sent as (terminfo(5), "Line Graphics"): its partner in `acsc`, if the
+-- sets can be switched.
 abbrev pub partner_in : CheckedTable → ℕ → Option ℕ
 partner_in c letter = if can_switch c then listed c.acsc letter else None
 

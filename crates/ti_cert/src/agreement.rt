@@ -62,14 +62,13 @@ fn at_cap(cap: Cap) -> AgreeFault
     }
 }
 
-/// Whether a certificate is that of an entry: for each checked capability of the entry and each
-/// parameter list that the size allows it has a line with the bytes that the string sends, and no
-/// other lines.
+/// Whether a certificate is that of an entry: for each checked capability of `entry` and each parameter list that the
+/// size allows, `table` has a line with the bytes that the string sends, and it has no other lines.
 ///
 /// # Errors
 /// `Disagree`, without parameters, with the capability of the first reason why the entry can have no certificate
-/// (`first_unfit` of `ti_conforms`), or else `acsc` where the pairs differ; or else with a capability and parameters
-/// whose line isn't what the entry sends. And `NoMemory`.
+/// (`first_unfit` of `ti_conforms`), or else `acsc` if the pairs differ; or else with a capability and parameters whose
+/// line isn't what the entry sends. `NoMemory` if memory runs out.
 pub fn agrees(alloc: Global, table: &Table, entry: &Entry) -> Result<(), AgreeFault>
     ensures fit { OnOk result (conforms.IsFit entry.now) }
     ensures acsc { OnOk result (table.now.acsc ≡ string_at entry.now entries.acsc) }

@@ -1,4 +1,4 @@
-//! A certificate judged line by line as a reader gives it.
+//! Judging a certificate line by line as a reader gives it.
 
 ghost use Rattle.std.specs.Prelude.{◌≡◌, ◌<◌, ℕ, Bool, List, true, false, IfOk, IfErr, OnOk, Ok};
 ghost use Rattle.ti_conforms.specs.Judged.{IsJudged};
@@ -32,21 +32,21 @@ use vt_term::{Scanner, Size};
 /// The most bytes that a certificate has.
 const LIMIT: u32 = 67_108_864;
 
-/// Which line comes next.
+/// The line that comes next.
 #[derive(Clone, Copy)]
 enum Awaited {
-    /// The first, with the size.
+    /// The first line, with the size.
     First,
-    /// That of alternate characters, if there is one.
+    /// The line of alternate characters, if there is one.
     Acsc,
-    /// One about a capability, or the last.
+    /// A line about a capability, or the last line.
     Rows,
-    /// None. These charsets are settled.
+    /// No line. These charsets are settled.
     Ended(Charsets),
 }
 
 impl Awaited {
-    /// The settled charsets, where the last line was read.
+    /// The settled charsets, once the last line was read.
     fn settled(self) -> Option<Charsets>
         ensures { result ≡ spec.settled_of self }
     {
@@ -59,7 +59,7 @@ impl Awaited {
     }
 }
 
-/// What a certificate's lines so far make.
+/// The result of a certificate's lines so far.
 #[derive(Drop)]
 struct Progress {
     size: Size,
@@ -69,7 +69,7 @@ struct Progress {
     awaited: Awaited,
     /// Reads the bytes of lines.
     scanner: Scanner,
-    /// The bytes of the line before, whose memory those of the next take.
+    /// The bytes of the line before, whose memory is used again for the next line.
     room: Bytes,
 }
 
@@ -84,7 +84,7 @@ fn is_size_line(text: &[u8], size: Size) -> bool
     }
 }
 
-/// The fault of a line that is none about a capability: a line of alternate characters comes too late.
+/// The fault of a line that isn't about a capability: a line of alternate characters is out of order.
 fn misplaced(alloc: Global, text: &[u8]) -> CertFaultKind
     ensures { spec.IsMisplacedBy text.now result }
 {
@@ -253,13 +253,11 @@ fn started(alloc: Global, size: Size) -> Result<Progress, CertFault>
     }
 }
 
-/// Judges the certificate that a reader has left, line by line as it arrives. What is kept is the table
-/// alone, never the text. At most 67,108,865 bytes are read, and the reader isn't called once the line with the
-/// fault is whole.
+/// Judges the certificate that a reader has left, line by line as it arrives. Only the table is kept, never the text.
+/// At most 67,108,865 bytes are read, and the reader isn't called once the line with the fault is whole.
 ///
 /// # Errors
-/// The first fault of the text with its line, `ReadFailed` where the reader failed in this call, and
-/// `NoMemory`.
+/// The first fault of the text with its line; `ReadFailed` if the reader failed in this call; `NoMemory`.
 pub fn audit_from<R: Reader>(alloc: Global, reader: &mut R, size: Size) -> Result<Table, CertFault>
     ensures judged { IfOk result (λ table. IsJudged (table_of table)) }
     ensures looks { IfOk result (λ table. LooksStand (table_of table)) }
@@ -280,7 +278,7 @@ pub fn audit_from<R: Reader>(alloc: Global, reader: &mut R, size: Size) -> Resul
     }
 }
 
-/// Judges a certificate alone.
+/// Judges the certificate `text` for `size` by itself, without its entry.
 ///
 /// # Errors
 /// The first fault of the text with its line, and `NoMemory`.

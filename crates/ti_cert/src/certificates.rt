@@ -1,4 +1,4 @@
-//! A verified certificate, as a painter's.
+//! A verified certificate, as a painter uses it.
 ghost use Rattle.std.specs.Prelude.{◌≡◌, ◌&&◌, not};
 ghost use Rattle.ti_rows.specs.Right.{sets_visible};
 ghost use Rattle.ti_cert.specs.Table.{certified};

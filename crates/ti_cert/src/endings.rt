@@ -1,4 +1,4 @@
-//! What is judged at the end of a certificate: charsets, and the strings that lead out of any state.
+//! The judgement at the end of a certificate: charsets, and the strings that lead out of any state.
 
 ghost use Rattle.std.specs.Prelude.{◌≡◌, ◌-◌, IfOk, IfErr, OnOk, Some, true, false, is_some};
 ghost use Rattle.ti_cert.specs.Audits.{LacksRecord, LacksNeeded, IsConcluded, ConcludesBy};
@@ -20,7 +20,7 @@ use ti_rows::Row;
 use vt_effects::Sets;
 use vt_term::Scanner;
 
-/// What the row's string does to the charsets, `None` where there is no such string.
+/// The change of the charsets by the row's string, `None` if there is no such string.
 #[tactic(auto, using(crate::proofs::AuditSteps::not_split))]
 fn change_of(
     scanner: &mut Scanner,
@@ -56,7 +56,7 @@ fn resync_of(scanner: &mut Scanner, strings: &Strings) -> Result<Resync, CertFau
     })
 }
 
-/// The first byte of the strings of these rows.
+/// The first byte of the strings of `rows`, one after another.
 fn first_byte(strings: &Strings, rows: &[Row]) -> Option<u8>
     ensures { result ≡ spec.head_of (texts_of (λ row. row_string strings.now row) rows.now) }
 {
@@ -68,14 +68,14 @@ fn first_byte(strings: &Strings, rows: &[Row]) -> Option<u8>
     None
 }
 
-/// The first byte of what leads a terminal out of a state that isn't known.
+/// The first byte of the strings that lead a terminal out of an unknown state.
 fn first_of_resync(strings: &Strings) -> Option<u8>
     ensures { result ≡ spec.first_of_resync strings.now }
 {
     first_byte(strings, &resync_rows(strings.size()))
 }
 
-/// The lines that a certificate needs.
+/// Checks that the lines that every certificate needs are there.
 fn check_needed(strings: &Strings) -> Result<(), CertFaultKind>
     ensures fails { IfErr result (LacksNeeded strings.now) }
     ensures clear { OnOk result (is_some (row_string strings.now rows.Clear) ≡ true) }
@@ -96,7 +96,7 @@ fn check_needed(strings: &Strings) -> Result<(), CertFaultKind>
     Ok(())
 }
 
-/// The fault that a clash of all lines together is.
+/// The fault to report for a clash of all lines together.
 fn kind_of(clash: Clash) -> CertFaultKind
     ensures { result ≡ clashes.kind_of clash }
 {
@@ -108,7 +108,7 @@ fn kind_of(clash: Clash) -> CertFaultKind
     }
 }
 
-/// Judges what can only be judged when all lines are known. The settled charsets.
+/// Judges the lines together once all are known. Returns the settled charsets.
 #[tactic(auto, using(crate::proofs::AuditSteps::no_lack))]
 pub(crate) fn conclude(
     alloc: Global,
@@ -137,7 +137,7 @@ pub(crate) fn conclude(
     }
 }
 
-/// Whether what leads out of a state that isn't known begins with ESC.
+/// Whether the bytes that lead out of an unknown state begin with ESC.
 fn begins_with_escape(strings: &Strings) -> bool
     ensures yes { result ≡ true → spec.first_of_resync strings.now ≡ Some 27 }
     ensures no { result ≡ false → spec.first_of_resync strings.now ≡ Some 27 → ⊥ }

@@ -1,4 +1,4 @@
-//! Why a certificate is refused.
+//! The reasons why a certificate is refused.
 
 ghost use Rattle.std.specs.Prelude.{◌≡◌};
 ghost use Rattle.ti_cert.specs.Certificates.{missing_line};
@@ -8,22 +8,22 @@ use ti_caps::Cap;
 use ti_lines::LineFault;
 use ti_rows::{Params, Row};
 
-/// What is wrong with a line of a certificate.
+/// The fault of a line of a certificate.
 #[derive(Debug, Drop, PartialEq, Eq)]
 pub enum CertFaultKind {
-    /// No line that a certificate of this size can have, or none where there has to be one.
+    /// The line can't be in a certificate of this size, or a line is missing.
     BadLine,
-    /// The line of this capability and these parameters has to come here, or earlier.
+    /// The line of this capability and these parameters must come here, or earlier.
     Missing(Cap, Params),
-    /// A line that had to come earlier, or that is there already.
+    /// The line had to come earlier, or is there already.
     OutOfOrder,
     /// The bytes are no whole control functions.
     NotWhole,
-    /// The bytes have no one effect from all states that they have to work from.
+    /// The effect of the bytes depends on the state they start from.
     NotTame,
-    /// The effect is another than the one that stands in the line, or than the one that is asked for.
+    /// The effect isn't the one that the line states, or isn't the one that is asked for.
     NotShown,
-    /// The strings that are to lead out of any state don't.
+    /// The strings that must lead out of any state don't.
     NoResync,
     /// An attribute looks like another one, or a charset that isn't plain can stay active.
     BadLook,
@@ -58,7 +58,7 @@ impl From<AllocError> for CertFaultKind {
 /// The first fault of a certificate, with its line, counted from 1.
 pub type CertFault = LineFault<CertFaultKind>;
 
-/// Why a certificate isn't that of an entry.
+/// The reason why a certificate isn't that of an entry.
 #[derive(Debug, Drop)]
 pub enum AgreeFault {
     /// The entry sends something else for this capability and these parameters, or isn't fit.
@@ -67,7 +67,7 @@ pub enum AgreeFault {
     NoMemory,
 }
 
-/// Why an entry isn't verified.
+/// The reason why an entry isn't verified.
 #[derive(Debug, Drop)]
 pub enum VerifyFault {
     /// The certificate has this fault.

@@ -6,7 +6,7 @@ ghost use Rattle.std.specs.List.{slice_get};
 use std::alloc::{AllocError, Global};
 use std::marker::Model;
 
-/// Where a string stands.
+/// The range of a string in the bytes.
 #[derive(Clone, Copy)]
 struct Part {
     from: usize,
@@ -57,7 +57,7 @@ impl Group {
         }
     }
 
-    /// Adds a string. The error is out of memory.
+    /// Adds `string`. Fails if memory runs out.
     pub fn push(&mut self, string: &[u8]) -> Result<(), AllocError>
         ensures { OnOk result (self.new ≡ self.old ++ string.now ∷ []) }
     {

@@ -1,4 +1,4 @@
-//! What is known from the lines of a certificate that were read so far.
+//! The facts known from the lines of a certificate that were read so far.
 
 ghost use Rattle.std.specs.Prelude.{◌≡◌, [], length, replicate, IfOk, IfErr, OnOk, IsTrue, true, List, ℕ};
 ghost use Rattle.ti_rows.specs.Lists.{rank};
@@ -20,7 +20,7 @@ use ti_rows::{Looks, NO_ATTRIBUTES, Row};
 use vt_effects::{Effect, Sets};
 use vt_term::{Scanner, Size};
 
-/// The strings so far, how attributes look, and what tokens and strings do to the charsets.
+/// The strings so far, the looks of attributes, and the changes of the charsets by tokens and strings.
 #[derive(Drop)]
 pub(crate) struct Known {
     pub strings: Strings,
@@ -47,7 +47,7 @@ fn rival(row: Row) -> Row
     }
 }
 
-/// Adds what a string of this row does to the charsets, where that counts.
+/// Adds `change`, the change of the charsets by a string of `row`, if the row counts for the settled charsets.
 fn push_change(changes: &mut Vec<Sets>, row: Row, change: Sets) -> Result<(), AllocError>
     ensures { OnOk result (changes.new.items ≡ spec.with_change (settles row) changes.old.items change) }
 {
@@ -57,7 +57,7 @@ fn push_change(changes: &mut Vec<Sets>, row: Row, change: Sets) -> Result<(), Al
     Ok(())
 }
 
-/// The fault of an effect that isn't the one asked for: an attribute that looks like others, or any.
+/// The fault of an effect that isn't the one asked for: an attribute that looks like another, or any other fault.
 fn misfit(row: Row, effect: &Effect) -> CertFaultKind
     ensures { certificates.IsMisfit row effect.now result }
 {
@@ -87,7 +87,7 @@ impl Known {
         })
     }
 
-    /// The looks with what a line of this effect says.
+    /// The looks, with those added that a line of this effect teaches.
     fn looks_with(&self, row: Row, effect: &Effect) -> Looks
         ensures { result ≡ spec.looks_with self.now row effect.now }
     {
@@ -98,7 +98,7 @@ impl Known {
         }
     }
 
-    /// The effect of a line, which is the one that stands in the line and the one that is asked for.
+    /// The effect of a line, which must be both the one that the line states and the one that is asked for.
     pub fn judge_effect(
         &self,
         row: Row,

@@ -12,9 +12,8 @@ ghost use Rattle.ti_cert.specs.Texts.{
   OneFault,
 };
 
-/// A text has one answer: what its lines say, or its first fault in one line. So what an audit makes of
-/// a text is the same each time: tables with the same pairs and strings, or the same fault, but where
-/// memory runs out.
+/// A text has one answer: the meaning of its lines, or its first fault in one line. So an audit of a text has the same
+/// result each time, unless memory runs out: tables with the same pairs and strings, or the same fault.
 pub fn one_answer()
     ensures answer { OneAnswer }
     ensures table { OneTable }
@@ -22,20 +21,19 @@ pub fn one_answer()
     ensures fault { OneFault }
 {}
 
-/// A text that is accepted is that of a certificate: ASCII, the size, the pairs of alternate characters,
-/// where there are any, the lines about capabilities, each in its place and with the effect that is asked
-/// for, none missing, and the last line.
+/// A text that is accepted is that of a certificate: ASCII, the size, the pairs of alternate characters, if there are
+/// any, the lines about capabilities, each in its place and with the effect that is asked for, none missing, and the
+/// last line.
 pub fn accepted_text()
     ensures { IsThatOfCertificate }
 {}
 
-/// The text of a certificate is accepted, with its pairs and lines, where all its lines go together.
+/// The text of a certificate is accepted, with its pairs and lines, if all its lines go together.
 pub fn certificate_accepted()
     ensures { IsAcceptedCertificate }
 {}
 
-/// So a text is accepted, with these pairs and lines, exactly if it is that of a certificate whose lines
-/// go together.
+/// A text is accepted, with these pairs and lines, exactly if it is that of a certificate whose lines go together.
 pub fn accepted_exactly()
     ensures { AcceptsCertificates }
 {}
@@ -45,17 +43,17 @@ pub fn basic_text_accepted()
     ensures { BasicAccepted }
 {}
 
-/// The table of that text is just what the entry sends.
+/// The table of a basic entry's certificate has exactly what the entry sends.
 pub fn basic_text_agrees()
     ensures { BasicAgrees }
 {}
 
-/// Of a basic entry no other text is accepted with just what it sends.
+/// For a basic entry, no other text is accepted with exactly the lines that it sends.
 pub fn basic_text_alone()
     ensures { BasicAlone }
 {}
 
-/// A certificate of which a disagreement is so isn't that of the entry: `agrees` doesn't say yes.
+/// A certificate that has a disagreement with an entry isn't that of the entry: `agrees` doesn't accept it.
 pub fn disagreement_excludes_yes()
     ensures { DisagreementExcludesYes }
 {}

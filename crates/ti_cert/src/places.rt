@@ -17,7 +17,7 @@ pub(crate) struct Place {
     last: Option<Row>,
 }
 
-/// What follows a row among its capability's lines.
+/// The row that follows `row` among its capability's lines.
 #[tactic(auto, using(crate::proofs::Ranges::in_range))]
 fn next_of(row: Row, size: Size) -> Option<Row>
     ensures { result ≡ spec.next_within size.rows size.cols row }
@@ -50,7 +50,8 @@ fn required(from: usize, to: usize) -> Option<Row>
     }
 }
 
-/// What is missing after the line of the capability at a place, whose next line is this one.
+/// The first row that is missing before the capability at `order`: `next`, the row after the last line, whose
+/// capability is at `last`; or else the first of a required capability between them.
 fn missing_behind(next: Option<Row>, last: usize, order: usize) -> Option<Row>
     requires { last < capabilities }
     ensures { result ≡ spec.missing_behind next last order }
@@ -68,14 +69,14 @@ fn missing_behind(next: Option<Row>, last: usize, order: usize) -> Option<Row>
 }
 
 impl Place {
-    /// Before the first line.
+    /// The place before the first line.
     pub fn new() -> Place
         ensures { result.last ≡ None }
     {
         Place { last: None }
     }
 
-    /// After the line of this row.
+    /// The place after the line of `row`.
     pub fn after(row: Row) -> Place
         ensures { result.last ≡ Some row }
     {
@@ -92,8 +93,8 @@ impl Place {
         }
     }
 
-    /// The first line that has to come before those of the capability at the place `order`; `CAPABILITIES` is that
-    /// of the end.
+    /// The first missing line that must come before those of the capability at the place `order`; `CAPABILITIES` is the
+    /// place of the end.
     pub fn missing(&self, size: Size, order: usize) -> Option<Row>
         ensures { result ≡ spec.missing size.rows size.cols self.now.last order }
     {
@@ -103,7 +104,7 @@ impl Place {
         }
     }
 
-    /// The line that has to come next where lines of this row's capability come.
+    /// The line that must come next among those of the row's capability.
     fn expected(&self, size: Size, row: Row) -> Option<Row>
         ensures { result ≡ spec.expected size.rows size.cols self.now.last row }
     {
@@ -119,7 +120,7 @@ impl Place {
         }
     }
 
-    /// The line that is missing where this one comes before others of its capability.
+    /// The line that is missing if the line of `row` comes before others of its capability.
     fn early(&self, size: Size, row: Row) -> Row
         ensures { result ≡ spec.or_row (spec.expected size.rows size.cols self.now.last row) row }
     {

@@ -19,7 +19,7 @@ use vt_term::Size;
 #[derive(Drop)]
 pub(crate) struct Strings {
     size: Size,
-    /// One for each checked capability, in the byte order of their names.
+    /// One group for each checked capability, in the byte order of their names.
     groups: Vec<Group>,
 }
 
@@ -55,7 +55,7 @@ pub(crate) fn allows(size: Size, row: Row) -> bool
 }
 
 impl Strings {
-    /// No strings. The error is out of memory.
+    /// No strings. Fails if memory runs out.
     pub fn new(alloc: Global, size: Size) -> Result<Strings, AllocError>
         ensures { IfOk result (λ strings. strings
             ≡ record { rows = size.rows; cols = size.cols; groups = replicate capabilities [] }) }
@@ -73,7 +73,7 @@ impl Strings {
         self.size
     }
 
-    /// The string of a row, where there is one.
+    /// The string of a row, if there is one.
     #[tactic(auto, using(crate::proofs::Ranges::in_range))]
     pub fn get(&self, row: Row) -> Option<&[u8]>
         ensures { option_copied result ≡ spec.row_string self.now row }
@@ -96,14 +96,14 @@ impl Strings {
         self.count(row) != 0
     }
 
-    /// How many strings the row's capability has.
+    /// The number of strings of the row's capability.
     pub fn count(&self, row: Row) -> usize
         ensures { result ≡ length (spec.group_at self.now (order row)) }
     {
         self.groups[row.order()].len()
     }
 
-    /// Adds the string of the capability's next parameter list. The error is out of memory.
+    /// Adds `bytes`, the string of the capability's next parameter list. Fails if memory runs out.
     pub fn push(&mut self, row: Row, bytes: &[u8]) -> Result<(), AllocError>
         requires range { spec.allows self.old.rows self.old.cols row ≡ true }
         requires place { rank self.old.rows self.old.cols row ≡ length (spec.group_at self.old (order row)) }

@@ -54,26 +54,26 @@ impl Table {
         self.known.strings.size()
     }
 
-    /// The pairs of alternate characters, where the certificate has them.
+    /// The pairs of alternate characters, if the certificate has them.
     pub fn acsc(&self) -> Option<&[u8]>
         ensures { option_copied result ≡ self.now.acsc }
     {
         self.acsc.as_ref().map(|bytes| bytes.as_slice())
     }
 
-    /// The bytes of the row's line, where there is one.
+    /// The bytes of the row's line, if there is one.
     pub fn bytes(&self, row: Row) -> Option<&[u8]>
         ensures { option_copied result ≡ row_string self.now.known.strings row }
     {
         self.known.strings.get(row)
     }
 
-    /// What was judged of the lines, and how attributes look that have strings of their own.
+    /// Lemma: the lines were judged, and attributes with strings of their own look as those show.
     pub fn judged(&self)
         ensures lines { IsJudged (spec.table_of self.now) }
         ensures looks { LooksStand (spec.table_of self.now) }
     {
-        // a look at a field brings in the invariant: what was judged of the lines
+        // a look at a field brings in the invariant: the lines were judged
         let _ = &self.settled;
     }
 }

@@ -1,4 +1,4 @@
-//! An entry that its certificate verifies.
+//! Verifying an entry by its certificate.
 
 ghost use Rattle.std.specs.Prelude.{◌≡◌, ◌++◌, ℕ, List, IfOk, IfErr, IfSome, IfNone, OnOk, option_copied};
 ghost use Rattle.ti_lines.specs.Reader.{Rose};
@@ -46,7 +46,7 @@ impl Model for Checked {
     ghost invariant = { λ c. IsVerified c.table × IsResync c.table c.resync × (c.switches ≡ can_switch c.table) };
 }
 
-/// The row of a capability with these parameters, `None` where it isn't checked or doesn't take them.
+/// The row of `cap` with `params`, `None` if the capability isn't checked or doesn't take them.
 fn row_of(cap: Cap, params: &[u16]) -> Option<Row>
     ensures found { IfSome result (spec.IsRowOf cap params.now) }
     ensures none { IfNone result ((row : Row) → spec.IsRowOf cap params.now row → ⊥) }
@@ -54,7 +54,7 @@ fn row_of(cap: Cap, params: &[u16]) -> Option<Row>
     Row::named(name(cap))?.with_params(params)
 }
 
-/// Adds the bytes of the row's line, where there is one.
+/// Adds the bytes of the row's line to `text`, if there is one.
 fn add(text: &mut Vec<u8>, table: &Table, row: Row) -> Result<(), AllocError>
     ensures { OnOk result (text.new.items ≡ text.old.items ++ text_of (table_of table.now) row) }
 {
@@ -64,7 +64,7 @@ fn add(text: &mut Vec<u8>, table: &Table, row: Row) -> Result<(), AllocError>
     }
 }
 
-/// Adds the bytes of these rows' lines, those that there are.
+/// Adds the bytes of the lines of `rows` to `text`, for each row that has one.
 fn add_all(text: &mut Vec<u8>, table: &Table, rows: &[Row]) -> Result<(), AllocError>
     ensures { OnOk result (text.new.items ≡ text.old.items ++ texts_of (table_of table.now).line_of rows.now) }
 {
@@ -74,7 +74,7 @@ fn add_all(text: &mut Vec<u8>, table: &Table, rows: &[Row]) -> Result<(), AllocE
     Ok(())
 }
 
-/// What leads a terminal out of any state to a blank screen at rest.
+/// The bytes that lead a terminal out of any state to a blank screen at rest.
 fn resync_of(alloc: Global, table: &Table) -> Result<Bytes, AllocError>
     ensures { IfOk result (λ text. text ≡ resync (table_of table.now)) }
 {
@@ -104,7 +104,7 @@ impl Checked {
         })
     }
 
-    /// The size that they are for. What else may be relied on stands in the contract.
+    /// The size that the strings are for. The contract states everything else that may be relied on.
     pub fn size(&self) -> Size
         ensures rows { result.rows ≡ self.now.known.strings.rows }
         ensures cols { result.cols ≡ self.now.known.strings.cols }
@@ -115,8 +115,8 @@ impl Checked {
         self.table.size()
     }
 
-    /// What the entry sends for a capability and its parameters, `None` where the certificate has no such line. From
-    /// every start of the row its run ends as is wanted, and cut off anywhere it leaves a lost state.
+    /// The bytes that the entry sends for `cap` with `params`, `None` if the certificate has no such line. From every
+    /// start of the row their run ends as wanted, and cut off anywhere they leave a lost state.
     pub fn bytes(&self, cap: Cap, params: &[u16]) -> Option<&[u8]>
         ensures line { (row : Row) → spec.IsRowOf cap params.now row
             → option_copied result ≡ (table_of self.now).line_of row }
@@ -128,8 +128,8 @@ impl Checked {
         }
     }
 
-    /// What the entry sends for a row, `None` where the certificate has no such line. From every start of the row its
-    /// run ends as is wanted, and cut off anywhere it leaves a lost state.
+    /// The bytes that the entry sends for `row`, `None` if the certificate has no such line. From every start of the
+    /// row their run ends as wanted, and cut off anywhere they leave a lost state.
     pub fn row_bytes(&self, row: Row) -> Option<&[u8]>
         ensures line { option_copied result ≡ (table_of self.now).line_of row }
         ensures right { IfSome result (λ bytes. LineHolds (table_of self.now) row bytes.now) }
@@ -137,8 +137,8 @@ impl Checked {
         self.table.bytes(row)
     }
 
-    /// What a letter of the alternate set is sent as, `None` where the entry can't switch sets or
-    /// doesn't list the letter.
+    /// The byte that a letter of the alternate set is sent as, `None` if the entry can't switch sets or doesn't list
+    /// the letter.
     pub fn partner(&self, letter: u8) -> Option<u8>
         ensures { result ≡ spec.partner_in self.now letter }
     {
@@ -151,8 +151,8 @@ impl Checked {
         }
     }
 
-    /// What leads from every state that output cut off anywhere may leave to a blank screen at rest,
-    /// whatever sequence is open.
+    /// The bytes that lead to a blank screen at rest from every state that output cut off anywhere may leave, whatever
+    /// sequence is open.
     pub fn resync(&self) -> &[u8]
         ensures text { result.now ≡ resync (table_of self.now) }
         ensures leads { spec.Resyncs (table_of self.now) }
@@ -173,7 +173,7 @@ fn handed_out(alloc: Global, table: Table) -> Result<Checked, VerifyFault>
     }
 }
 
-/// Judges the certificate that a reader has left, and compares it with an entry.
+/// Judges the certificate that `reader` has left, and compares it with `entry`.
 ///
 /// # Errors
 /// `Cert` with the certificate's first fault, `Agree` where it is that of another entry or memory runs
@@ -210,7 +210,7 @@ pub fn verify_from<R: Reader>(
     }
 }
 
-/// Judges a certificate, and compares it with an entry.
+/// Judges the certificate `text`, and compares it with `entry`.
 ///
 /// # Errors
 /// `Cert` with the certificate's first fault, `Agree` where it is that of another entry or memory runs
