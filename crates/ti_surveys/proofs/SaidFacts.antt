@@ -1,4 +1,4 @@
--- What is said of each item of a list, one after another.
+-- The statements about each item of a list, one after another.
 use Rattle.std.proofs.Common.{◌≡◌, ◌<◌, ℕ, zero, suc, ◌+◌, List, [], ◌∷◌, ◌++◌, length, take, get_or, Option, Some, None, Result, refl, sym, ap, subst, ◌∙◌, inl, inr, append_assoc, add-one, arith}
 use Rattle.std.specs.List.{range_with_len}
 use Rattle.std.specs.Prelude.{map, slice_get}
@@ -21,7 +21,7 @@ range_more : (from n : ℕ) → range_with_len from (suc n) ≡ range_with_len f
 range_more from zero = ap (λ (k : ℕ). k ∷ []) (omega arith)
 range_more from (suc n) = ap (λ (l : List ℕ). from ∷ l) (range_more (from + 1) n ∙ ap (λ (k : ℕ). range_with_len (from + 1) n ++ k ∷ []) (omega arith))
 
--- ---- what is said
+-- ---- statements
 
 right_nothing : (t : Told) → followed_by t nothing ≡ t
 right_nothing t = rw (append-nil t.lines, append-nil t.places, append-nil t.answers) refl
@@ -39,7 +39,7 @@ pub said_of_none : {X : Type 0} (P : X → Told → Type 0) (told : Told) → to
 unfolding IsToldOfEach
 said_of_none P told e = e
 
--- what is said of the place after those before it
+-- the statement about one more place, after those before it
 pub said_step : (P : ℕ → Told → Type 0) (n : ℕ) (told own more : Told) → more ≡ followed_by told own → IsToldOfEach P (range_with_len 0 n) told → P n own → IsToldOfEach P (range_with_len 0 (n + 1)) more
 said_step P n told own more spelled h p =
     let longer : range_with_len 0 n ++ n ∷ [] ≡ range_with_len 0 (n + 1) = ap (λ (k : ℕ). range_with_len 0 n ++ k ∷ []) (omega arith) ∙ (sym (range_more 0 n) ∙ ap (λ (m : ℕ). range_with_len 0 m) (sym (add-one n))) in
@@ -106,7 +106,7 @@ map_length : {X Y : Type 0} (f : X → Y) (xs : List X) → length (map f xs) �
 map_length f [] = refl
 map_length f (x ∷ xs) = ap suc (map_length f xs)
 
--- there is a fault or none beside each entry
+-- each entry has a fault or none beside it
 pub faults_beside : (text : List ℕ) (raws : List RawEntry) (faults : List (Option SourceFault)) → IsApart text raws faults → length faults ≡ length raws
 faults_beside text raws faults apart =
     ap length apart.faults_are ∙ (map_length (λ (one : Alone). one.fault) apart.ones ∙ sym (ap length apart.raws_are ∙ map_length (λ (one : Alone). one.raw) apart.ones))

@@ -1,5 +1,5 @@
--- What `survey` says of an entry: a line under its name, or a line for each of its faults, and beside these where they
--- stand. Each byte of a line can be printed.
+-- The lines of `survey` about an entry: one under its name, or one for each of its faults, and beside these the faults'
+-- places. Each byte of a line can be printed.
 use Rattle.std.specs.Prelude.{◌≡◌, ◌≢◌, ◌⊎◌, ℕ, Bool, true, false, List, [], ◌∷◌, ◌++◌, Option, Some, None, codes, map}
 use Rattle.std.specs.List.{flat_map}
 use Rattle.ti_caps.specs.Entry.{Content}
@@ -17,11 +17,11 @@ use Rattle.ti_surveys.specs.declared.asked.Asked.{Asked}
 use Rattle.ti_words.specs.Shown.{shown}
 use Rattle.ti_verdicts.specs.FaultAnswers.{fault_answer}
 
--- a name, and what is said of it, as far as it can be shown
+-- the line of a name and the words about it, as far as they can be shown
 abbrev pub line_of : List ℕ → List ℕ → List ℕ
 line_of name words = shown (name ++ words) ++ 10 ∷ []
 
--- that line alone, and its answer
+-- one line alone, and its answer
 abbrev pub one_line : List ℕ → List ℕ → Answer → Told
 one_line name words answer = record { lines = line_of name words; places = []; answers = answer ∷ [] }
 
@@ -31,14 +31,14 @@ pub record HasYes (Certifies : List ℕ → Type 0) (name : List ℕ) (told : To
   pub certified : Certifies text
   pub says : told ≡ one_line name (codes " yes") answers.Yes
 
--- there is a no, which claims something
+-- there is a refusal, which claims something
 pub record HasNo (Refuses : No → Type 0) (name : List ℕ) (told : Told) : Type 0 where
   pub refusal : No
   pub refused : Refuses refusal
   pub claims : refusal.cause ≢ NoMemory
   pub says : told ≡ one_line name (codes " " ++ no_text refusal) (answers.No refusal.cause)
 
--- what a certifier says of an entry for rows and columns, under the entry's name
+-- a certifier's answer about an entry for rows and columns, under the entry's name
 abbrev pub HasAnswer : (Content → ℕ → ℕ → List ℕ → Type 0) → (Content → ℕ → ℕ → No → Type 0) → ℕ → ℕ → List ℕ → Content
     → Told → Type 0
 HasAnswer certifies refuses height width name entry told =
@@ -48,7 +48,7 @@ HasAnswer certifies refuses height width name entry told =
 abbrev pub fault_line : List ℕ → No → List ℕ
 fault_line name refusal = line_of name (codes " " ++ no_text refusal)
 
--- a line for each of its faults, or for the yes of an entry that has none
+-- a line for each fault of an entry, or ` yes` if it has none
 abbrev pub fault_lines : List ℕ → List No → List ℕ
 fault_lines name [] = line_of name (codes " yes")
 fault_lines name (first ∷ others) = flat_map (fault_line name) (first ∷ others)
@@ -58,7 +58,7 @@ abbrev pub fault_answers : List No → List Answer
 fault_answers [] = answers.Yes ∷ []
 fault_answers (first ∷ others) = map fault_answer (first ∷ others)
 
--- the lines of all faults of an entry, under its name, and for each of them where its value stands
+-- the lines of all faults of an entry, under its name, and for each of them the place of its value
 pub record HasAllFaults (height width : ℕ) (stands : Option PlaceInSource) (name : List ℕ) (entry : Content)
     (told : Told) : Type 0 where
   pub nos : List No
@@ -67,20 +67,20 @@ pub record HasAllFaults (height width : ℕ) (stands : Option PlaceInSource) (na
   pub placed : HasParts (IsPlaced stands name) nos told.places
   pub answers : told.answers ≡ fault_answers nos
 
--- what is said of an entry under its name: all its faults, or what a certifier says
+-- the statement about an entry under its name: all its faults, or a certifier's answer
 abbrev pub SaysBy : Bool → (Content → ℕ → ℕ → List ℕ → Type 0) → (Content → ℕ → ℕ → No → Type 0) → ℕ → ℕ → Saying
 SaysBy true certifies refuses height width path stands name entry told =
     HasAllFaults height width stands name entry told
 SaysBy false certifies refuses height width path stands name entry told =
     HasAnswer certifies refuses height width name entry told
 
--- (Serves the code alone.) what is said of it, as it is asked
+-- (Serves the code alone.) the statement about an entry, as the survey is asked for it
 abbrev pub SaysTo : {C : Type 0} → (C → Content → ℕ → ℕ → List ℕ → Type 0) → (C → Content → ℕ → ℕ → No → Type 0)
     → Asked C → Saying
 SaysTo certifies refuses asked = SaysBy asked.lists_all (certifies asked.certifier.now)
     (refuses asked.certifier.now) asked.size.rows asked.size.cols
 
--- what can't be had is refused, with the reason
+-- the words of a refusal, with the reason
 abbrev pub refusal_text : List ℕ → List ℕ
 refusal_text why = codes " refused: " ++ why
 
@@ -89,6 +89,6 @@ abbrev pub name_or : List ℕ → Option (List ℕ) → List ℕ
 name_or path (Some name) = name
 name_or path None = path
 
--- the line of a name, that what it names can't be had and why
+-- the line of a name whose entry or file can't be read, with the reason
 abbrev pub IsRefused : Refusing
 IsRefused path name why told = told ≡ one_line (name_or path name) (refusal_text why) answers.Refused

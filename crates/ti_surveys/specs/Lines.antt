@@ -1,4 +1,4 @@
--- The lines of a survey: what is said of each entry of a file, in order.
+-- The lines of a survey: the statements about each entry of a file, in order.
 use Rattle.std.specs.Prelude.{◌≡◌, ◌≢◌, ◌⊎◌, ◌==◌, ◌&&◌, ◌||◌, ℕ, Bool, true, false, List, ◌∷◌, Option, Some, None}
 use Rattle.std.specs.Prelude.{Result, Ok, Err, length, slice_get}
 use Rattle.std.specs.List.{range_with_len}
@@ -20,29 +20,29 @@ use Rattle.ti_commands.specs.Refusals.{refusal_text_of}
 use Rattle.ti_surveys.specs.Told.{IsToldOfEach, Told}
 use Rattle.ti_verdicts.specs.Locations.{PlaceInSource, first_name}
 
--- what may be said of an entry by the path of its file, where it stands in a source, its name and what it has
+-- the statements allowed about an entry, by the path of its file, its place in a source, its name and its contents
 abbrev pub Saying : Type 1
 Saying = List ℕ → Option PlaceInSource → List ℕ → Content → Told → Type 0
 
--- what may be said by the path of a file of an entry of this name that can't be had, or of a file that has none, and
--- the reason
+-- the statements allowed about an entry of this name that can't be read, or about a file that has no entries, by the
+-- file's path and the reason
 abbrev pub Refusing : Type 1
 Refusing = List ℕ → Option (List ℕ) → List ℕ → Told → Type 0
 
--- the same, where the reason is a refusal
+-- a statement with a refusal as the reason
 abbrev pub IsLack : Refusing → CommandRefusal → List ℕ → Option (List ℕ) → Told → Type 0
 IsLack Refuses refusal path name told = Refuses path name (refusal_text_of refusal) told
 
 -- ---- the lines of an entry
 
--- what is said under its name of an entry that is there, or of one that can't be had
+-- the statement under its name about an entry that is there, or about one that can't be read
 abbrev pub IsTold : Saying → Refusing → Result Content CommandRefusal → List ℕ → Option PlaceInSource → List ℕ → Told
     → Type 0
 IsTold Says Refuses (Ok entry) path stands name told = Says path stands name entry told
 IsTold Says Refuses (Err refusal) path stands name told = IsLack Refuses refusal path (Some name) told
 
--- the entry at a place of a text whose entries are read one by one, or why it can't be had: it or one that it uses
--- can't be read, or it can't be resolved
+-- the entry at a place of a text whose entries are read one by one, or the reason why there is none: it or one that it
+-- uses can't be read, or it can't be resolved
 abbrev pub ResolvesApart : List RawEntry → List (Option SourceFault) → ℕ → Result Content CommandRefusal → Type 0
 ResolvesApart raws faults place (Ok entry) = IsResolvedApart raws faults place entry
 ResolvesApart raws faults place (Err (Source fault)) = IsUnread raws faults place fault
@@ -50,7 +50,7 @@ ResolvesApart raws faults place (Err (Resolve fault)) =
     (walk_at raws place ≡ Err fault) × (fault ≢ resolve_faults.NoMemory)
 ResolvesApart raws faults place (Err _) = ⊥
 
--- of an entry of a source text by its place, whatever other entries have its names
+-- the lines of an entry of a source text by its place, whatever other entries have its names
 pub record IsSourcePart (Says : Saying) (Refuses : Refusing) (path text : List ℕ) (raws : List RawEntry)
     (faults : List (Option SourceFault)) (place : ℕ) (said : Told) : Type 0 where
   pub raw : RawEntry
@@ -60,7 +60,7 @@ pub record IsSourcePart (Says : Saying) (Refuses : Refusing) (path text : List �
   pub told : IsTold Says Refuses entry path (Some (record { path = path; text = text; raws = raws; place = place }))
       (first_name raw.names) said
 
--- of the entry of a compiled file
+-- the lines of the entry of a compiled file
 pub record IsFilePart (Says : Saying) (Refuses : Refusing) (path : List ℕ) (packed : Content) (said : Told)
     : Type 0 where
   pub entry : Result Content CommandRefusal
@@ -69,7 +69,7 @@ pub record IsFilePart (Says : Saying) (Refuses : Refusing) (path : List ℕ) (pa
 
 -- ---- a file
 
--- it begins as a compiled file does
+-- a file that begins as a compiled one does
 abbrev pub is_compiled : List ℕ → Bool
 is_compiled (first ∷ second ∷ rest) = ((first == 0x1a) && (second == 0x01)) || ((first == 0x1e) && (second == 0x02))
 is_compiled _ = false
@@ -80,7 +80,7 @@ pub record HasEntry (Says : Saying) (Refuses : Refusing) (path bytes : List ℕ)
   pub reads : read_of bytes ≡ Ok packed
   pub told : IsFilePart Says Refuses path packed said
 
--- or it has a fault
+-- the compiled file has a fault
 pub record IsFaultyFile (Refuses : Refusing) (path bytes : List ℕ) (said : Told) : Type 0 where
   pub fault : PackFault
   pub faulty : read_of bytes ≡ Err fault
@@ -93,7 +93,7 @@ pub record HasEntries (Says : Saying) (Refuses : Refusing) (path bytes : List �
   pub reads : IsApart bytes raws faults
   pub each : IsToldOfEach (IsSourcePart Says Refuses path bytes raws faults) (range_with_len 0 (length raws)) said
 
--- or it is too long, or has a fault before the first of them
+-- the source text is too long, or has a fault before its first entry
 pub record LacksEntries (Refuses : Refusing) (path bytes : List ℕ) (said : Told) : Type 0 where
   pub fault : SourceFault
   pub faulty : FailsBy fault.kind fault (apart_of bytes)

@@ -1,4 +1,4 @@
--- What `survey` answers, by what its files hold and what a certifier promises.
+-- The answer of `survey`, by the contents of its files and the promises of a certifier.
 use Rattle.std.specs.Prelude.{◌≡◌, ◌⊎◌, ℕ, List, ◌∷◌, ◌++◌, Option, Some, None}
 use Rattle.ti_caps.specs.Entry.{Content}
 use Rattle.ti_checker.specs.declared.causes.No.{No}
@@ -14,25 +14,25 @@ use Rattle.ti_surveys.specs.Lines.{AreLines}
 use Rattle.ti_surveys.specs.Told.{IsToldOfEach, Told, followed_by, nothing}
 use Rattle.ti_requests.specs.declared.request.SurveyWords.{SurveyWords}
 
--- what may be said of a file, by its path and its bytes
+-- the statements allowed about a file, by its path and its bytes
 abbrev pub OfFile : Type 1
 OfFile = List ℕ → List ℕ → Told → Type 0
 
--- what is said of what a path holds
+-- the statement about the file at a path
 abbrev pub HasLines : OfFile → Held → List ℕ → Told → Type 0
 HasLines Are held path told = HasBytes (held path) longest_file (λ bytes. Are path bytes told)
 
--- that, or nothing
+-- the statement about the file at a path, or nothing
 abbrev pub MayHaveLines : OfFile → Held → List ℕ → Told → Type 0
 MayHaveLines Are held path told = HasLines Are held path told ⊎ (told ≡ nothing)
 
--- (Serves the code alone.) something is said of a path, or it can't be had, as the failure says
+-- (Serves the code alone.) a path has its statement, or can't be read, as the failure says
 abbrev pub EndsPath : OfFile → Held → List ℕ → Told → Option Failure → Type 0
 EndsPath Are held path told None = HasLines Are held path told
 EndsPath Are held path told (Some failure) = (told ≡ nothing) × IsFileFailure path failure
 
--- The failure is that of the first path that can't be had. Each one before it has its lines, and each one behind it has
--- its lines or can't be had either.
+-- The failure is that of the first path that can't be read. Each path before it has its lines, and each behind it has
+-- its lines or none.
 pub record Misses (Are : OfFile) (held : Held) (paths : List (List ℕ)) (told : Told) (failure : Failure) : Type 0 where
   pub front : List (List ℕ)
   pub path : List ℕ
@@ -45,7 +45,7 @@ pub record Misses (Are : OfFile) (held : Held) (paths : List (List ℕ)) (told :
   pub after : IsToldOfEach (MayHaveLines Are held) behind later
   pub says : told ≡ followed_by first later
 
--- each path has its lines; or one can't be had
+-- each path has its lines; or one can't be read
 abbrev pub EndsPaths : OfFile → Held → List (List ℕ) → Told → Option Failure → Type 0
 EndsPaths Are held paths told None = IsToldOfEach (HasLines Are held) paths told
 EndsPaths Are held paths told (Some failure) = Misses Are held paths told failure
@@ -55,8 +55,8 @@ abbrev pub first_failure : Option Failure → Option Failure → Option Failure
 first_failure (Some failure) later = Some failure
 first_failure None later = later
 
--- The lines of each path, and after them how many have which answer; its notes are where the faults in the lines stand.
--- It fails where a path can't be had.
+-- The reply has the lines of each path, and after them the number of lines with each answer; its notes are the places
+-- of the faults in the lines. It fails if a path can't be read.
 pub record IsSurveyed (certifies : Content → ℕ → ℕ → List ℕ → Type 0) (refuses : Content → ℕ → ℕ → No → Type 0)
     (held : Held) (words : SurveyWords) (reply : Reply) : Type 0 where
   pub height : ℕ

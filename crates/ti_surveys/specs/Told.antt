@@ -1,9 +1,9 @@
--- What a survey says of an entry, a file or several.
+-- The statements of a survey about an entry, a file or several.
 use Rattle.std.specs.Prelude.{◌≡◌, ℕ, List, [], ◌∷◌, ◌++◌}
 use Rattle.ti_verdicts.specs.declared.answers.Answer.{Answer}
 use Rattle.ti_surveys.specs.declared.said.Said.{Said}
 
--- lines, beside them where the faults stand that they name, and the answer of each line
+-- lines, the places of the faults that they name, and the answer of each line
 pub record Told : Type 0 where
   pub lines : List ℕ
   pub places : List ℕ
@@ -12,7 +12,7 @@ pub record Told : Type 0 where
 abbrev pub nothing : Told
 nothing = record { lines = []; places = []; answers = [] }
 
--- the one, and then the other
+-- one statement, and then the other
 abbrev pub followed_by : Told → Told → Told
 followed_by first later = record {
   lines = first.lines ++ later.lines;
@@ -20,12 +20,12 @@ followed_by first later = record {
   answers = first.answers ++ later.answers;
 }
 
--- what is said of each item, one after another
+-- the statements about each item, one after another
 unfoldable pub IsToldOfEach : {X : Type 0} → (X → Told → Type 0) → List X → Told → Type 0
 IsToldOfEach P [] told = told ≡ nothing
 IsToldOfEach P (x ∷ xs) told = (own : Told) × (later : Told) × (told ≡ followed_by own later) × P x own
     × IsToldOfEach P xs later
 
--- (Serves the code alone.) the same without where it lies in memory
+-- (Serves the code alone.) the lines, the places and the answers, without their memory
 abbrev pub told_of : Said → Told
 told_of said = record { lines = said.lines.items; places = said.places.items; answers = said.answers.items }

@@ -1,8 +1,8 @@
-//! What a survey asks of each entry.
+//! The question that a survey asks about each entry.
 
 use vt_term::Size;
 
-/// Whether the `certifier` writes a certificate for the `size`; or else all faults for it, where `lists_all`.
+/// Whether the `certifier` writes a certificate for the `size`; or all faults for it, if `lists_all`.
 #[derive(Drop)]
 pub struct Asked<'a, C> {
     pub certifier: &'a C,

@@ -1,4 +1,4 @@
-//! What is said of the entries of a file, one after another.
+//! The statements about the entries of a file, one after another.
 
 ghost use Rattle.std.specs.Prelude.{◌≡◌, ◌≢◌, ◌<◌, IfOk, IfSome, OnOk, Some, false, length, option_map, slice_get};
 ghost use Rattle.std.specs.Prelude.{true};
@@ -23,8 +23,8 @@ use ti_source::{Apart, FaultKind, RawEntry, SourceFault, read_apart};
 use ti_verdicts::{SourcePlace, first_name};
 use ti_words::Remarks;
 
-/// What the `speaker` says of the file at `path` with these `bytes`: a compiled one, as its first two bytes show, or a
-/// source. Hints about a source go to `remarks`, where the speaker gives them.
+/// The statements of the `speaker` about the file at `path` with these `bytes`: a compiled one, as its first two bytes
+/// show, or a source. Hints about a source go to `remarks`, if the speaker gives them.
 pub fn file_lines<S: Speaker, W: Watcher>(
     alloc: Global,
     speaker: &S,
@@ -53,7 +53,7 @@ fn is_compiled(bytes: &[u8]) -> bool
     }
 }
 
-/// What is said of the compiled file at `path` with these `bytes`.
+/// The statement about the compiled file at `path` with these `bytes`.
 fn compiled_lines<S: Speaker>(
     alloc: Global,
     speaker: &S,
@@ -69,7 +69,7 @@ fn compiled_lines<S: Speaker>(
     }
 }
 
-/// What is said of the entry of `packed`, the file at `path`.
+/// The statement about the entry of `packed`, the file at `path`.
 fn packed_lines<S: Speaker>(
     alloc: Global,
     speaker: &S,
@@ -84,7 +84,7 @@ fn packed_lines<S: Speaker>(
     entry_lines(alloc, speaker, path, &None, name, &entry)
 }
 
-/// What is said of the source text at `path` with these `bytes`.
+/// The statements about the source text at `path` with these `bytes`.
 fn text_lines<S: Speaker, W: Watcher>(
     alloc: Global,
     speaker: &S,
@@ -110,7 +110,7 @@ fn text_lines<S: Speaker, W: Watcher>(
     }
 }
 
-/// Fails where the `kind` of a source's fault is that memory ran out, which claims nothing of the source.
+/// Fails if `kind`, a fault of a source, is that memory ran out, which claims nothing about the source.
 fn must_claim(kind: FaultKind) -> Result<(), AllocError>
     ensures { OnOk result (kind ≢ FaultKind.NoMemory) }
 {
@@ -133,7 +133,7 @@ struct SourceEntries<'a> {
     text: &'a [u8],
     /// The entries by their names and places.
     index: Index<'a>,
-    /// For each entry why it can't be read, if it can't.
+    /// For each entry the reason why it can't be read, if it can't.
     faults: &'a [Option<SourceFault>],
 }
 
@@ -216,7 +216,7 @@ fn source_part<S: Speaker>(
     entry_lines(alloc, speaker, source.path, &stands, name, &entry)
 }
 
-/// The entry at `place`, or why it can't be had.
+/// The entry at `place`, or the reason why it can't be read or resolved.
 fn entry_apart(
     alloc: Global,
     index: &Index<'_>,
@@ -248,8 +248,8 @@ fn raw_at(raws: &[RawEntry], place: usize) -> &RawEntry
     &raws[place]
 }
 
-/// What is said of the `entry` of the file at `path` under its `name`, whether it is there, as it `stands`, or can't be
-/// had.
+/// The statement about the `entry` of the file at `path` under its `name`, whether it is there, at the place `stands`,
+/// or can't be read.
 fn entry_lines<S: Speaker>(
     alloc: Global,
     speaker: &S,
@@ -276,8 +276,8 @@ fn entry_lines<S: Speaker>(
     }
 }
 
-/// That the file at `path` has an entry of this `name` that can't be had, or no entries where there is no name, and
-/// the `refusal` that says why.
+/// The statement that the file at `path` has an entry of this `name` that can't be read, or no entries if there is no
+/// name, with the `refusal` that says why.
 fn lack<S: Speaker>(
     alloc: Global,
     speaker: &S,

@@ -1,4 +1,4 @@
-//! Surveys: what is said of each entry of many files, and how the answers are counted.
+//! Surveys: the statements about each entry of many files, and the count of the answers.
 #![tactic(auto)]
 
 mod asked;

@@ -1,4 +1,4 @@
-//! The lines of a survey: one for each entry of a file, or for each of its faults, and where these stand.
+//! The lines of a survey: one for each entry of a file, or for each of its faults, and the places of these.
 
 ghost use Rattle.std.specs.Prelude.{◌≡◌, ◌≢◌, ◌<◌, ◌++◌, IfOk, IfSome, codes, length, map, option_map};
 ghost use Rattle.std.specs.List.{flat_map};
@@ -57,7 +57,7 @@ fn name_or<'a>(name: Option<&'a [u8]>, path: &'a str) -> &'a [u8]
     }
 }
 
-/// The line of `name`, with the `words` that are said of it, as far as they can be shown.
+/// The line of `name`, with the `words` about it, as far as they can be shown.
 fn line(alloc: Global, name: &[u8], words: &[u8]) -> Result<Vec<u8>, AllocError>
     ensures { IfOk result (λ line. line.items ≡ spec.line_of name.now words.now) }
 {
@@ -69,7 +69,7 @@ fn line(alloc: Global, name: &[u8], words: &[u8]) -> Result<Vec<u8>, AllocError>
     Ok(line)
 }
 
-/// The line of `name` alone, with the `words` that are said of it, which answer this.
+/// The line of `name` alone, with the `words` about it and its `answer`.
 fn one_line(alloc: Global, name: &[u8], words: &[u8], answer: Answer) -> Result<Said, AllocError>
     ensures { IfOk result (λ said. told_of said ≡ spec.one_line name.now words.now answer) }
 {
@@ -77,7 +77,7 @@ fn one_line(alloc: Global, name: &[u8], words: &[u8], answer: Answer) -> Result<
     Said::of_line(alloc, line, answer)
 }
 
-/// What `no` says of its entry.
+/// The words of `no` about its entry.
 fn words_of(alloc: Global, no: &No) -> Result<Vec<u8>, AllocError>
     ensures { IfOk result (λ words. words.items ≡ codes " " ++ no_text no.now) }
 {
@@ -86,7 +86,7 @@ fn words_of(alloc: Global, no: &No) -> Result<Vec<u8>, AllocError>
     Ok(words)
 }
 
-/// That something can't be had, and `why`.
+/// The words for an entry or a file that can't be read, with `why`.
 fn refused(alloc: Global, why: &[u8]) -> Result<Vec<u8>, AllocError>
     ensures { IfOk result (λ words. words.items ≡ spec.refusal_text why.now) }
 {
@@ -95,7 +95,7 @@ fn refused(alloc: Global, why: &[u8]) -> Result<Vec<u8>, AllocError>
     Ok(words)
 }
 
-/// The lines of the faults of `entry` under its `name`, and where they stand; or that there are none.
+/// The lines of the faults of `entry` under its `name`, and their places; or the line ` yes` if there are none.
 fn all_faults(
     alloc: Global,
     size: Size,
@@ -118,7 +118,8 @@ fn all_faults(
     })
 }
 
-/// For each of the faults `nos` of the entry of this `name`, which `stands` there, the line that says where it stands.
+/// For each of the faults `nos` of the entry of this `name` at the place `stands`, the line that says where the fault
+/// is.
 fn places_of(
     alloc: Global,
     stands: &Option<SourcePlace<'_>>,
@@ -136,7 +137,7 @@ fn places_of(
     Ok(places)
 }
 
-/// The lines of the faults `nos` of the entry of this `name`; or that it has none.
+/// The lines of the faults `nos` of the entry of this `name`, or the line ` yes` if there are none.
 fn listed(alloc: Global, name: &[u8], nos: &[No]) -> Result<Vec<u8>, AllocError>
     ensures { IfOk result (λ lines. lines.items ≡ spec.fault_lines name.now nos.now) }
 {
@@ -166,7 +167,7 @@ fn fault_line(alloc: Global, name: &[u8], no: &No) -> Result<Vec<u8>, AllocError
     line(alloc, name, words.as_slice())
 }
 
-/// The answers of the lines of the faults `nos`, or of the line that there are none.
+/// The answers of the lines of the faults `nos`, or of the line ` yes` if there are none.
 fn answers_of(alloc: Global, nos: &[No]) -> Result<Vec<Answer>, AllocError>
     ensures { IfOk result (λ answers. answers.items ≡ spec.fault_answers nos.now) }
 {
@@ -176,7 +177,7 @@ fn answers_of(alloc: Global, nos: &[No]) -> Result<Vec<Answer>, AllocError>
     }
 }
 
-/// The line of `entry` under its `name`, with what the certifier says.
+/// The line of `entry` under its `name`, with the certifier's answer.
 fn answer_line<C: Certifier>(
     alloc: Global,
     asked: &Asked<'_, C>,
@@ -193,7 +194,7 @@ fn answer_line<C: Certifier>(
     }
 }
 
-/// The line of `no` about the entry of this `name`; out of memory is no answer.
+/// The line of `no` about the entry of this `name`. Fails if `no` is out of memory, which is no answer.
 fn no_line(alloc: Global, name: &[u8], no: &No) -> Result<Said, AllocError>
     ensures claims { IfOk result (λ said. no.now.cause ≢ Cause.NoMemory) }
     ensures says { IfOk result (λ said. told_of said
@@ -204,7 +205,7 @@ fn no_line(alloc: Global, name: &[u8], no: &No) -> Result<Said, AllocError>
     one_line(alloc, name, words.as_slice(), Answer::No(no.cause))
 }
 
-/// The line of `name`, that what it names can't be had, and `why`.
+/// The line of `name`, whose entry or file can't be read, with `why`.
 fn refused_line(alloc: Global, name: &[u8], why: &[u8]) -> Result<Said, AllocError>
     ensures { IfOk result (λ said. told_of said
         ≡ spec.one_line name.now (spec.refusal_text why.now) Answer.Refused) }

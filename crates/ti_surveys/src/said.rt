@@ -1,4 +1,4 @@
-//! What is said of an entry, a file or several.
+//! The statements about an entry, a file or several.
 
 ghost use Rattle.std.specs.Prelude.{◌≡◌, [], ◌∷◌, IfOk, OnOk};
 ghost use Rattle.ti_surveys.specs.Told as spec;
@@ -6,19 +6,19 @@ ghost use Rattle.ti_surveys.specs.Told as spec;
 use std::alloc::{AllocError, Global};
 use ti_verdicts::Answer;
 
-/// What is said of an entry, a file or several.
+/// The statements about an entry, a file or several.
 #[derive(Drop)]
 pub struct Said {
     /// The lines.
     pub lines: Vec<u8>,
-    /// Where the faults in them stand.
+    /// The lines that say where their faults are.
     pub places: Vec<u8>,
     /// The answer of each line.
     pub answers: Vec<Answer>,
 }
 
 impl Said {
-    /// Nothing yet.
+    /// No statements yet.
     pub fn new(alloc: Global) -> Said
         ensures { spec.told_of result ≡ spec.nothing }
     {
@@ -29,7 +29,7 @@ impl Said {
         }
     }
 
-    /// A `line` that answers this, and names no fault that stands anywhere.
+    /// One `line` with this `answer`, which has no fault with a place.
     pub fn of_line(alloc: Global, line: Vec<u8>, answer: Answer) -> Result<Said, AllocError>
         ensures { IfOk result (λ said. spec.told_of said
             ≡ record { lines = line.items; places = []; answers = answer ∷ [] }) }
@@ -41,7 +41,7 @@ impl Said {
         })
     }
 
-    /// Adds what `later` says.
+    /// Adds the statements of `later`.
     pub fn add(&mut self, later: &Said) -> Result<(), AllocError>
         ensures { OnOk result (spec.told_of self.new
             ≡ spec.followed_by (spec.told_of self.old) (spec.told_of later.now)) }

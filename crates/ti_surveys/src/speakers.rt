@@ -1,4 +1,4 @@
-//! Who says what is found out about entries.
+//! Speakers, which report the results about entries.
 
 ghost use Rattle.std.specs.Prelude.{◌<◌, IfOk, IfSome, length, option_map};
 ghost use Rattle.ti_surveys.specs.Lines.{Refusing, Saying};
@@ -15,33 +15,33 @@ use ti_verdicts::SourcePlace;
 pub struct FileEntry<'a> {
     /// The file's path.
     pub path: &'a str,
-    /// Where the entry stands in the file; `None` where that is no source.
+    /// The place of the entry in the file; `None` if the file is no source.
     pub stands: &'a Option<SourcePlace<'a>>,
-    /// The first of the names that it has there.
+    /// The first of the names that the entry has there.
     pub name: &'a [u8],
-    /// What it has.
+    /// The contents of the entry.
     pub entry: &'a Entry,
 }
 
-/// Says what is found out about each entry of a file.
+/// Reports the results about each entry of a file.
 pub trait Speaker {
-    /// What holds of what it says of an entry.
+    /// The relation that its statement about an entry satisfies.
     ghost says: { Self → Saying };
 
-    /// What holds of what it says of an entry that can't be had, or of a file that has none.
+    /// The relation that its statement about an entry that can't be read, or about a file that has none, satisfies.
     ghost refuses: { Self → Refusing };
 
-    /// Whether hints about the fields of a source text are wanted beside what it says.
+    /// Whether hints about the fields of a source text are wanted beside its statements.
     fn hints(&self) -> bool;
 
-    /// What it says of the entry that was `found`.
+    /// Its statement about the entry that was `found`.
     fn say(&self, alloc: Global, found: &FileEntry<'_>) -> Result<Said, AllocError>
         requires { IfSome found.now.stands.now (λ there. there.place < length there.raws.now) }
         ensures { IfOk result (λ said. says self.now found.now.path.now (place_if found.now.stands.now)
             found.now.name.now found.now.entry.now (told_of said)) };
 
-    /// That the file at `path` has an entry of this `name` that can't be had, or no entries where there is no name, and
-    /// `why`.
+    /// Its statement that the file at `path` has an entry of this `name` that can't be read, or no entries if there is
+    /// no name, with `why`.
     fn refuse(
         &self,
         alloc: Global,

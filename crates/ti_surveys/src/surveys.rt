@@ -1,4 +1,4 @@
-//! The command `survey`, and what all surveys do.
+//! The command `survey`, and the common part of all surveys.
 
 ghost use Rattle.std.specs.Prelude.{◌≡◌, IfErr, IfOk};
 ghost use Rattle.ti_commands.specs.Sizes.{LacksSize};
@@ -18,23 +18,23 @@ use ti_requests::SurveyWords;
 use ti_verdicts::{Certifier, answers_line};
 use ti_words::Remarks;
 
-/// What a survey of some paths has found.
+/// The result of a survey of some paths.
 #[derive(Drop)]
 pub struct Surveyed {
-    /// What is said of them.
+    /// The statements about the paths.
     pub said: Said,
-    /// The failure of the first path that can't be had.
+    /// The failure of the first path that can't be read, if there is one.
     pub failure: Option<Failure>,
 }
 
 /// Says for each entry of each file that the `words` name whether the `certifier` writes a certificate, or why not, or
-/// lists all faults of each, as the `words` ask for; and counts the answers. What can't be read as an entry has its
-/// line too. The reply's notes say of each fault that is listed of a source's entry where its value stands. The reply
-/// fails as the first file does that can't be had, and the others are surveyed all the same. The `watcher` sees how far
-/// the survey has come.
+/// lists all faults of each, as the `words` ask for; and counts the answers. An entry that can't be read has its line
+/// too. For each listed fault of a source's entry, the reply's notes give the place of its value. If a file can't be
+/// read, the reply fails as the first such file does, and the others are surveyed all the same. The `watcher` sees how
+/// far the survey has come.
 ///
 /// # Errors
-/// Why the words give no size; out of memory.
+/// The reason why the words give no size; out of memory.
 pub fn survey_files<C: Certifier, F: Files, W: Watcher + Drop>(
     alloc: Global,
     certifier: &C,
@@ -77,8 +77,9 @@ pub fn survey_files<C: Certifier, F: Files, W: Watcher + Drop>(
     })
 }
 
-/// What the `speaker` says of each entry of each file of `paths`, one after another. The failure is that of the first
-/// file that can't be had, and the others are surveyed all the same. The `watcher` sees how far the survey has come.
+/// The statements of the `speaker` about each entry of each file of `paths`, one after another. The failure is that of
+/// the first file that can't be read; the others are surveyed all the same. The `watcher` sees how far the survey has
+/// come.
 pub fn survey_paths<S: Speaker, F: Files, W: Watcher + Drop>(
     alloc: Global,
     speaker: &S,
@@ -96,7 +97,7 @@ pub fn survey_paths<S: Speaker, F: Files, W: Watcher + Drop>(
     surveyed
 }
 
-/// What the `speaker` says of all `paths`.
+/// The statements of the `speaker` about all `paths`.
 fn paths_said<S: Speaker, F: Files, W: Watcher>(
     alloc: Global,
     speaker: &S,
@@ -130,7 +131,7 @@ fn first_failure(failure: Option<Failure>, later: Option<Failure>) -> Option<Fai
     }
 }
 
-/// What the `speaker` says of `path`; nothing where it can't be had.
+/// The statements of the `speaker` about `path`; nothing if it can't be read.
 fn path_said<S: Speaker, F: Files, W: Watcher>(
     alloc: Global,
     speaker: &S,

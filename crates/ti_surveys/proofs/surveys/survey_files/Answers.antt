@@ -7,7 +7,7 @@ use Rattle.ti_surveys.specs.Surveys.{EndsPaths}
 use Rattle.ti_surveys.specs.Told.{told_of}
 use Rattle.ti_surveys.proofs.surveys.survey_files.Goals as goal
 
--- what the certifier says, as it is asked, and then the counts
+-- the certifier's answers, as the words ask, and then the counts
 pub returns-clause-reply : goal.returns-clause-reply
 returns-clause-reply g c =
     let said = c.in_ok-surveyed.surveyed.said in
