@@ -78,7 +78,7 @@ int waddch(WINDOW *window, chtype ch) {
     int y, x;
     if (!tcu_is_own(window)) return ERR;
     if (!session_put(window->number, ch, &y, &x)) return add_and_go(window, ch);
-    tcu_touch(window, y, x, x);
+    tcu_touch_place(window, y, x);
     return tcu_changed(window, OK);
 }
 

@@ -60,8 +60,12 @@ struct ticurses_screen {
 };
 extern struct ticurses_screen tcu;
 
+/* Whether it is a window that the program may draw in. */
+static inline bool tcu_is_own(const WINDOW *window) {
+    return window && tcu.is_open && window != &tcu.newscr && window != &tcu.curscr;
+}
+
 /* windows.c */
-bool tcu_is_own(const WINDOW *window);
 int tcu_make_part(int number, const WINDOW *parent, int lines, int columns, int y, int x);
 WINDOW *tcu_made(int number, int lines, int columns, WINDOW *parent);
 void tcu_freed(WINDOW *window);
@@ -70,7 +74,20 @@ void tcu_restored(WINDOW *window, int cursor_y, int cursor_x);
 /* touch.c */
 void tcu_touch(WINDOW *window, int line, int first, int last);
 void tcu_touch_lines(WINDOW *window, int top, int bottom);
-int tcu_changed(WINDOW *window, int code);
+void tcu_pass_on(WINDOW *window);
+
+/* Touches a place of the window. */
+static inline void tcu_touch_place(WINDOW *window, int line, int column) {
+    struct tcu_line *at = &window->touched[line];
+    if (column < at->first) at->first = column;
+    if (column > at->last) at->last = column;
+}
+
+/* After a change: what the window's options want. Gives the code. */
+static inline int tcu_changed(WINDOW *window, int code) {
+    if (window->syncs || window->shows_changes) tcu_pass_on(window);
+    return code;
+}
 
 /* cells.c */
 int tcu_put_row(int number, int line, int column, const chtype *cells, int count);

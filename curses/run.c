@@ -75,10 +75,9 @@ void run_end(void) {
     run.window = NONE;
 }
 
-/* Whether the window is the one of which all is known, now. */
-static bool is_current(int window) {
+/* Finds out where the window's cursor is; whether there is the window. */
+static bool is_found(int window) {
     uint16_t one, other;
-    if (run.window == window) return true;
     run_end();
     if (known[window].lines == 0) {
         if (ticurses_window_size(&tcu_session, (size_t)window, &one, &other) != TICURSES_OK) return false;
@@ -93,6 +92,11 @@ static bool is_current(int window) {
     run.is_moved = false;
     run.wanted = known[window].marks;
     return true;
+}
+
+/* Whether the window is the one of which that is known, now. */
+static inline bool is_current(int window) {
+    return run.window == window || is_found(window);
 }
 
 /* The marks of a character with some of its own: they join the window's, but for the pair. */

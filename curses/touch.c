@@ -9,25 +9,22 @@ static bool is_touched(const struct tcu_line *line) {
 }
 
 void tcu_touch(WINDOW *window, int line, int first, int last) {
-    struct tcu_line *at;
     if (line < 0 || line >= window->lines) return;
     if (first < 0) first = 0;
     if (last >= window->columns) last = window->columns - 1;
     if (first > last) return;
-    at = &window->touched[line];
-    if (first < at->first) at->first = first;
-    if (last > at->last) at->last = last;
+    tcu_touch_place(window, line, first);
+    tcu_touch_place(window, line, last);
 }
 
 void tcu_touch_lines(WINDOW *window, int top, int bottom) {
     for (int line = top; line <= bottom; line++) tcu_touch(window, line, 0, window->columns - 1);
 }
 
-/* After a change: what the window's options want. */
-int tcu_changed(WINDOW *window, int code) {
+/* A change is touched in the windows above, and shown, where the window's options want that. */
+void tcu_pass_on(WINDOW *window) {
     if (window->syncs) wsyncup(window);
     if (window->shows_changes && !window->is_pad) wrefresh(window);
-    return code;
 }
 
 int wtouchln(WINDOW *window, int first, int count, int is_to_be_touched) {

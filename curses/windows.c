@@ -10,11 +10,6 @@
 /* a window that isn't on the screen is at most so far from it */
 enum { FARTHEST = 10000 };
 
-/* Whether it is a window that the program may draw in. */
-bool tcu_is_own(const WINDOW *window) {
-    return window && tcu.is_open && window != &tcu.newscr && window != &tcu.curscr;
-}
-
 static int free_number(void) {
     int number = 1;
     while (number < TCU_WINDOWS && tcu.windows[number]) number++;
