@@ -1,5 +1,5 @@
 """The Python module over the library for C: what it sends, answers and raises, beside the program and the header; the
-monitor of examples/python, which sends what that of examples/c sends."""
+monitor of examples/python, which sends what that of examples/c sends; `ticurses.curses` (python_curses.py)."""
 
 import os
 import re
@@ -7,6 +7,7 @@ import subprocess
 import sys
 
 import c as c_tests
+import curses_library
 from linked import WRONG, compiled, installed, missing, rooms, terminfo, ticurses
 from scripts import STORED
 from trying import TOP, held_in, write
@@ -147,6 +148,16 @@ def check_monitor(prefix, folder, work):
         print("python: the monitor shows in tmux what its calls draw")
 
 
+def check_curses(prefix, folder):
+    """`ticurses.curses`, by a script of its own: in this process other modules have the name `curses`."""
+    if not os.path.exists(f"{prefix}/lib/{curses_library.SONAME}"):
+        print("python: the library of curses.h isn't installed without a compiler; ticurses.curses is left out")
+        return
+    sys.stdout.flush()
+    if subprocess.run([sys.executable, "-B", f"{TOP}/tests/python_curses.py", folder]).returncode:
+        sys.exit(1)
+
+
 def main():
     if missing("python", "cc"):
         return
@@ -160,6 +171,7 @@ def main():
         print("python: codes, answers, certificates, reasons and scripts are those of the header and of the program")
         check_monitor(prefix, folder, work)
         print("python: the monitor shows what its calls draw, and sends what the one in C sends")
+        check_curses(prefix, folder)
 
 
 if __name__ == "__main__":

@@ -25,22 +25,28 @@ __all__ = [
 # what is read is a descriptor of this number, C's standard input
 INPUT = 0
 LINE_MAX = 511
+GIVEN_MAX = 1024
 _ENDS = (10, 13, KEY_DOWN, KEY_UP, KEY_ENTER)
 
-# the rest of a line that was read as one, where keys come line by line
-_line: list[int] = []
+# what was given back, and the rest of a line where keys come line by line; the next one is first. They aren't shown again,
+# as the library would
+_given: list[int] = []
 
 
 def read(shown: Showing) -> int:
     """A key for this window, which is refreshed before; ERR where none comes in the window's time."""
-    if not MODES.is_cbreak:
-        if not _line:
-            _line.extend(_read_line(shown))
-        return _line.pop(0) if _line else ERR
+    if not MODES.is_cbreak and not _given:
+        held = read_text(shown, LINE_MAX)
+        if held is None:
+            return ERR
+        _given.extend([*held, 10])
     return _read_key(shown)
 
 
 def _read_key(shown: Showing) -> int:
+    if _given:
+        shown.show()
+        return _given.pop(0)
     delay = LIBRARY.wgetdelay(shown.at)
     if delay < 0 and MODES.half_delay:
         delay = MODES.half_delay * 100
@@ -74,11 +80,6 @@ def _awaited(shown: Showing, delay: int) -> int:
     finally:
         if shown.is_usable():
             LIBRARY.wtimeout(at, before)
-
-
-def _read_line(shown: Showing) -> list[int]:
-    held = read_text(shown, LINE_MAX)
-    return [] if held is None else [*held, 10]
 
 
 class _Line:
@@ -174,10 +175,9 @@ def ungetch(ch: Any) -> None:
     """Gives a key back, so that it is the next that is read."""
     SCREEN.begun()
     key = cell(ch, "ascii")
-    if _line:
-        _line.insert(0, key)
-    else:
-        check(LIBRARY.ungetch(key), "ungetch")
+    if len(_given) >= GIVEN_MAX:
+        raise error("ungetch() returned ERR")
+    _given.insert(0, key)
 
 
 def unget_wch(ch: Any) -> None:
@@ -199,7 +199,7 @@ def unget_wch(ch: Any) -> None:
 def flushinp() -> None:
     """Throws away all keys that were typed or given back."""
     SCREEN.begun()
-    del _line[:]
+    del _given[:]
     check(LIBRARY.flushinp(), "flushinp")
 
 

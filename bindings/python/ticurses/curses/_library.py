@@ -75,7 +75,6 @@ _MODES: dict[str, tuple[Any, list[Any]]] = {
 
 _KEYS: dict[str, tuple[Any, list[Any]]] = {
     "wgetch": (INT, [WINDOW]),
-    "ungetch": (INT, [INT]),
     "flushinp": (INT, []),
     "has_key": (INT, [INT]),
     "keyname": (TEXT, [INT]),

@@ -60,8 +60,8 @@ class Screen:
         for it in list(self.windows):
             it.leave()
         for number in _HANDLED:
-            # handlers that aren't Python's are the library's
-            if signal.getsignal(number) is None:
+            # what isn't handled in Python, the library may handle
+            if signal.getsignal(number) in (None, signal.SIG_DFL):
                 signal.signal(number, signal.SIG_DFL)
 
 

@@ -1,0 +1,94 @@
+"""Refreshes of a full screen from Python: the standard module `curses` beside `ticurses.curses`, on a terminal that takes
+all that is sent at once.
+
+    python3 -B bench/python_refreshes.py [ROWSxCOLS..]
+
+Each run is a process of its own: 1,000 times each cell of the screen is written with a letter that is drawn by lot, a
+line a call, and the screen is refreshed. A line of figures is the processor time of the fastest of five runs, in milliseconds, and the bytes that were
+sent. The package and its library have to be where Python finds them (PYTHONPATH, TICURSES_LIBRARY)."""
+
+import fcntl
+import importlib
+import os
+import pty
+import random
+import struct
+import subprocess
+import sys
+import termios
+import threading
+import time
+
+REFRESHES, RUNS, SCREENS = 1000, 5, 40
+LETTERS = "abcdefghijklmnopqrstuvwxyz0123456789"
+
+
+def draw(name, log):
+    """Draws on the terminal, and writes the processor time to a file."""
+    curses = importlib.import_module(name)
+    screen = curses.initscr()
+    rows, cols = screen.getmaxyx()
+    # the last place of the screen stays blank, since the cursor can't go past it
+    drawn = random.Random(7)
+    screens = [["".join(drawn.choices(LETTERS, k=cols - 1)) for _ in range(rows)] for _ in range(SCREENS)]
+    begun = time.process_time()
+    for step in range(REFRESHES):
+        for row, text in enumerate(screens[step % SCREENS]):
+            screen.addstr(row, 0, text)
+        screen.refresh()
+    spent = time.process_time() - begun
+    curses.endwin()
+    with open(log, "w", encoding="ascii") as file:
+        file.write(f"{spent}")
+
+
+def drained(fd, counted):
+    """Takes all that is sent, and counts it."""
+    try:
+        while piece := os.read(fd, 1 << 16):
+            counted[0] += len(piece)
+    except OSError:
+        # the program has ended
+        pass
+
+
+def run(name, rows, cols):
+    """The seconds and the bytes of one run."""
+    outer, inner = pty.openpty()
+    fcntl.ioctl(outer, termios.TIOCSWINSZ, struct.pack("HHHH", rows, cols, 0, 0))
+    counted, log = [0], f"/tmp/ticurses-bench-{os.getpid()}"
+    words = [sys.executable, "-B", os.path.abspath(__file__), "--draw", name, log]
+    given = {**os.environ, "TERM": os.environ.get("BENCH_TERM", "xterm")}
+    program = subprocess.Popen(words, stdin=inner, stdout=inner, env=given)
+    os.close(inner)
+    reader = threading.Thread(target=drained, args=[outer, counted])
+    reader.start()
+    status = program.wait()
+    reader.join()
+    os.close(outer)
+    if status:
+        sys.exit(f"{name} ended with status {status}")
+    with open(log, encoding="ascii") as file:
+        spent = float(file.read())
+    os.remove(log)
+    return spent, counted[0]
+
+
+def main():
+    if sys.argv[1:2] == ["--draw"]:
+        draw(*sys.argv[2:])
+        return
+    for size in sys.argv[1:] or ["24x80", "50x132"]:
+        rows, cols = map(int, size.split("x"))
+        # both by turns, so that what else the machine does is shared
+        found = {"curses": [], "ticurses.curses": []}
+        for _ in range(RUNS):
+            for name, runs in found.items():
+                runs.append(run(name, rows, cols))
+        (one, sent), (other, own) = (min(it) for it in found.values())
+        print(f"{size}: curses {one * 1000:.0f} ms, {sent} bytes; ticurses.curses {other * 1000:.0f} ms, {own} bytes; "
+              f"{other / one:.2f} times the time")
+
+
+if __name__ == "__main__":
+    main()
