@@ -32,7 +32,7 @@ def run(page):
         found = steps(file.read())
     tried = [it for it in found if shutil.which("jq") or "jq " not in it[0]]
     with tempfile.TemporaryDirectory() as room:
-        for name in ("ticurses", "examples"):
+        for name in ("ticurses", "examples", "tools"):
             os.symlink(f"{TOP}/{name}", f"{room}/{name}")
         for command, lines in tried:
             ran = subprocess.run(["sh", "-c", command], cwd=room, stdout=subprocess.PIPE, stderr=subprocess.PIPE)
