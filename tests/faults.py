@@ -252,7 +252,9 @@ def judge_suggestions():
 
 # Entries whose strings are right only together, each with its faults and with what is suggested: `smacs` by SO needs an
 # `enacs`, and what `\E(0` begins `\E(B` ends and SI doesn't. SGR 10 and 11 switch no set, which shows only once `op` is
-# right. SGR 7 alone turns nothing off.
+# right. SGR 7 alone turns nothing off. `\E(B` in `smacs` and `\E(0` in `rmacs` are exchanged: each activates the other's set. SI
+# in front of `sgr0` is the first byte that is sent in an unknown state, where an open sequence takes it. Without `acsc` no
+# program ends the set that `\E(0` in `sgr0` begins.
 BASE = r"""base|base, acsc=qqxx, clear=\E[H\E[2J, cup=\E[%i%p1%d;%p2%dH, sgr0=\E[m, setaf=\E[3%p1%dm, setab=\E[4%p1%dm,"""
 KEEPING = (
     r"sgr=%?%p1%p2%|%p3%|%p4%|%p5%|%p6%|%p7%|%!%t\E[0m%e%?%p1%t\E[7m%e"
@@ -278,6 +280,26 @@ TOGETHER = [
         [r"op=\E[39;49m"],
     ),
     (
+        [r"op=\E[39;49m", r"smacs=\E(B", r"rmacs=\E(0"],
+        ["no smacs: WrongEffect", "no rmacs: WrongEffect"],
+        [r"smacs=\E(0", r"rmacs=\E(B"],
+    ),
+    (
+        [r"op=\E[39;49m", r"smacs=\E(B", r"rmacs=\E(0", r"sgr0=\017\E[m"],
+        ["no smacs: WrongEffect", "no rmacs: WrongEffect", "no clear: NoResync"],
+        [r"smacs=\E(0", r"rmacs=\E(B"],
+    ),
+    (
+        [r"op=\E[m", r"smacs=\E[11m", r"rmacs=\E[10m", r"sgr0=\017\E[m"],
+        ["no op: WrongEffect", "no smacs: WrongEffect", "no clear: NoResync"],
+        [r"op=\E[39;49m"],
+    ),
+    (
+        [r"op=\E[39;49m", "acsc@", r"sgr0=\017\E(0\E[m"],
+        ["no acsc: BadLook", "no clear: NoResync"],
+        [],
+    ),
+    (
         [r"op=\E[39;49m", "acsc@", KEEPING],
         ["no sgr 1 0 0 0 0 0 0 0 0: WrongEffect"],
         [ATTRIBUTES],
@@ -290,6 +312,12 @@ def list_together(entries):
     data = {f"{i}.ti": f"e|e, {', '.join(fields)}, use=base,\n{BASE}\n".encode() for i, fields in enumerate(entries)}
     told = run_cases(PROGRAM, [Case(["check", "--all", f"{name}:e", "3", "5"]) for name in data], data)
     return [one.out.decode().splitlines() for one in told]
+
+
+def together_source():
+    """One source with all of these entries, `e0` and so on."""
+    entries = [f"e{i}|e, {', '.join(fields)}, use=base," for i, (fields, _, _) in enumerate(TOGETHER)]
+    return "\n".join([*entries, BASE, ""]).encode()
 
 
 def told_faults(lines):
@@ -309,6 +337,10 @@ def judge_together():
         left = [fault for fault in faults if named(fault[3:]) not in map(named, wanted)]
         if told_faults(lines) != left:
             fail(f"the mended {fields} printed {lines}")
+    [survey] = run_cases(PROGRAM, [Case(["survey", "--all", "3", "5", "together"])], {"together": together_source()})
+    surveyed = [f"e{i} {fault}" for i, (_, faults, _) in enumerate(TOGETHER) for fault in faults] + ["base yes"]
+    if survey.out.decode().splitlines()[:-1] != surveyed:
+        fail(f"survey --all printed {survey.out.decode()} and was to print {surveyed}")
     print("faults: strings that are suggested hold together, and no fault is hidden by others")
 
 

@@ -4,7 +4,7 @@ import json
 import re
 import sys
 
-from faults import COLS, FIVE, MENDED, ROWS, all_entries
+from faults import COLS, FIVE, MENDED, ROWS, TOGETHER, all_entries, together_source
 from trying import PROGRAM, TOP, Case, run_cases
 
 # the members of an object, and what each may be
@@ -94,7 +94,8 @@ def judge_lines(one, lines, path):
     if len(places) != len(wanted) or not all(map(str.startswith, places, wanted)):
         fail(f"the line of {one} is not that of {lines}")
     for line in lines:
-        if sent(line) not in (None, one["bytes"]):
+        # what is sent first in an unknown state may be another string than `clear`, which the object is about
+        if one["cause"] != "NoResync" and sent(line) not in (None, one["bytes"]):
             fail(f"the bytes of {one} are not those of {line}")
     if one["bytes"] is not None and not any(" sends '" in line for line in lines):
         fail(f"the bytes of {one} stand in none of {lines}")
@@ -238,9 +239,10 @@ def main():
     names = [line.split("|")[0].rstrip(",") for line in samples.decode().splitlines() if line and line[0] not in "# \t"]
     count += judge_entries("samples", samples, names)
     count += judge_entries("five.ti", FIVE, ["five", "base"]) + judge_entries("mended.ti", MENDED, ["five", "base"])
-    lines = 0
-    for path, held in (("planted", source.text()), ("samples", samples), ("five.ti", FIVE), ("names", NAMES)):
-        lines += judge_survey(path, held)
+    together = together_source()
+    count += judge_entries("together", together, ["base", *(f"e{i}" for i in range(len(TOGETHER)))])
+    surveyed = {"planted": source.text(), "samples": samples, "five.ti": FIVE, "together": together, "names": NAMES}
+    lines = sum(judge_survey(path, held) for path, held in surveyed.items())
     judge_names()
     judge_twins()
     judge_refused()

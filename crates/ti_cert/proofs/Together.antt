@@ -1,6 +1,6 @@
 -- What was found wrong with all lines together is so by the terminal's own tokens, and so is that nothing is.
 use Rattle.std.proofs.Common.{◌≡◌, ◌&&◌, ℕ, Bool, true, false, not, List, [], ◌++◌, Option, Some, None, refl, sym, ap, subst, ◌∙◌}
-use Rattle.std.specs.Prelude.{is_some}
+use Rattle.std.specs.Prelude.{is_some, IfNone, IfSome}
 use Rattle.std.proofs.lemmas.Bool.{true≢false, and_right}
 use Rattle.std.proofs.lemmas.Option.{same_Some, none-some}
 use Rattle.vt_term.specs.Screen.{Charset, is_graphic}
@@ -19,9 +19,10 @@ use Rattle.ti_conforms.specs.Table.{Table, or_nothing, text_of, widening, resync
 use Rattle.ti_conforms.specs.Sets.{CanHave, LeadsBy, CanSettle, AfterResync, AfterLine, Occurs, has_sets}
 use Rattle.ti_conforms.specs.Sets as sets
 use Rattle.ti_conforms.proofs.Holds.{Leads, leads_joined, leads_nothing, led, designated_twice}
-use Rattle.ti_cert.specs.Clashes.{Misswitches, SwitchesRight, StaysGraphic, ResyncsPlain, IsClash, GoesTogether}
-use Rattle.ti_cert.specs.Seen.{LeadsAs, IsOfLine, IsLineSeen, AreSeen, ChangesBy, NoLine, ByLine, KeepsSets, IsFound, parts_of, Misleads, AreSettled, ClashesAs, NoneClashes}
+use Rattle.ti_cert.specs.Clashes.{Misswitches, SwitchesRight, StaysGraphic, ResyncsPlain, IsClash, GoesTogether, OfSwitch, AreClashes, first_by, first_of}
+use Rattle.ti_cert.specs.Seen.{LeadsAs, IsOfLine, IsLineSeen, AreSeen, ChangesBy, NoLine, ByLine, KeepsSets, IsFound, parts_of, Misleads, AreSettled, ClashesAs, NoneClashes, OfChange, AreFound}
 use Rattle.ti_cert.specs.Seen as seen
+use Rattle.ti_cert.specs.declared.clashes.AllClashes.{AllClashes}
 use Rattle.ti_cert.specs.declared.clashes.Clash.{Clash}
 use Rattle.ti_cert.specs.declared.clashes.Clash.TheVariants as clashes
 use Rattle.ti_cert.specs.declared.clashes.Resync.{Resync}
@@ -239,6 +240,15 @@ rmacs_wrong : (t : Table) (reach : Reach) (changes : List Sets) (r : Resync) (sm
 rmacs_wrong t reach changes r smacs escapes settled c p m =
     misled_by t settled Rmacs r.rmacs false c p.found.rmacs_is m (in_settled t reach changes r smacs escapes settled p c (member settled r.rmacs false c m)) not_plain
 
+stays_graphic : (t : Table) (reach : Reach) (changes : List Sets) (r : Resync) (smacs : Option Sets) (escapes : Bool) (settled : Charsets) (pairs : Bool) (c : Charset) → Settles t reach changes r smacs escapes settled
+    → (pairs && (is_some smacs && is_some r.rmacs)) ≡ false → Misleads settled (Some kept) false c → StaysGraphic pairs t
+stays_graphic t reach changes r smacs escapes settled pairs c p unsent m = record {
+  unsent = sets_there t smacs r.rmacs pairs p.found.smacs_is p.found.rmacs_is ∙ unsent;
+  charset = c;
+  settles = in_settled t reach changes r smacs escapes settled p c m.0;
+  graphic = m.1;
+}
+
 pub clash : (t : Table) (reach : Reach) (changes : List Sets) (r : Resync) (smacs : Option Sets) (escapes pairs : Bool) (settled : Charsets) (found : Clash) → AreSettled reach changes r settled
     → ClashesAs settled smacs r.rmacs (pairs && (is_some smacs && is_some r.rmacs)) escapes found → IsFound t reach changes r smacs escapes → IsClash pairs t found
 clash t reach changes r smacs escapes pairs settled (clashes.Smacs c) all m f = smacs_wrong t reach changes r smacs escapes settled c (record { found = f; all = all }) m
@@ -249,16 +259,84 @@ clash t reach changes r smacs escapes pairs settled clashes.Acsc all m f =
     let p : Settles t reach changes r smacs escapes settled = record { found = f; all = all } in (
       graphic_right t reach changes r smacs escapes settled p m.0,
       plain_right t reach changes r smacs escapes settled p m.1,
-      record {
-        unsent = sets_there t smacs r.rmacs pairs f.smacs_is f.rmacs_is ∙ m.2;
-        charset = m.3.0;
-        settles = in_settled t reach changes r smacs escapes settled p m.3.0 m.3.1.0;
-        graphic = m.3.1.1;
-      },
+      stays_graphic t reach changes r smacs escapes settled pairs m.3.0 p m.2 m.3.1,
     )
 clash t reach changes r smacs escapes pairs settled clashes.Clear all m f =
     let p : Settles t reach changes r smacs escapes settled = record { found = f; all = all } in
     (graphic_right t reach changes r smacs escapes settled p m.0, plain_right t reach changes r smacs escapes settled p m.1, stays_plain t reach changes r smacs escapes settled pairs p m.2, f.opens m.3)
 
-pub none_clashes : (s : Charsets) (smacs rmacs : Option Sets) (sent escapes : Bool) → seen.Leads s smacs true → seen.Leads s rmacs false → (sent ≡ false → seen.Leads s (Some kept) false) → escapes ≡ true → NoneClashes s smacs rmacs sent escapes
-none_clashes s smacs rmacs sent escapes graphic plain unsent begins = record { graphic = graphic; plain = plain; unsent = unsent; escapes_is = begins }
+-- ---- all clashes, and the first of them
+
+not_true : (b : Bool) → not b ≡ true → b ≡ false
+not_true true e = absurd (true≢false (sym e))
+not_true false e = refl
+
+not_false : (b : Bool) → not b ≡ false → b ≡ true
+not_false true e = refl
+not_false false e = absurd (true≢false e)
+
+some_is : (a b : Clash) → Some a ≡ Some b → a ≡ b
+some_is a b e = cc
+
+none_by : (s : Charsets) (smacs rmacs : Option Sets) (sent escapes : Bool) (a b : Option Charset) (x y : Bool) → OfChange s smacs true a → OfChange s rmacs false b
+    → (x ≡ false → sent ≡ false → seen.Leads s (Some kept) false) → y ≡ not escapes → first_by a b x y ≡ None → NoneClashes s smacs rmacs sent escapes
+none_by s smacs rmacs sent escapes (Some c) b x y h k plain begins none = cc
+none_by s smacs rmacs sent escapes None (Some c) x y h k plain begins none = cc
+none_by s smacs rmacs sent escapes None None true y h k plain begins none = cc
+none_by s smacs rmacs sent escapes None None false true h k plain begins none = cc
+none_by s smacs rmacs sent escapes None None false false h k plain begins none = record { graphic = h; plain = k; unsent = plain refl; escapes_is = not_false escapes (sym begins) }
+
+pub none_first : (s : Charsets) (smacs rmacs : Option Sets) (sent escapes : Bool) (all : AllClashes) → AreFound s smacs rmacs sent escapes all → first_of all ≡ None → NoneClashes s smacs rmacs sent escapes
+none_first s smacs rmacs sent escapes all f none = none_by s smacs rmacs sent escapes all.smacs all.rmacs all.acsc all.clear f.of_smacs f.of_rmacs f.plain f.of_clear none
+
+some_by : (s : Charsets) (smacs rmacs : Option Sets) (sent escapes : Bool) (a b : Option Charset) (x y : Bool) (clash : Clash) → OfChange s smacs true a → OfChange s rmacs false b
+    → (x ≡ true → (sent ≡ false) × ((c : Charset) × Misleads s (Some kept) false c)) → (x ≡ false → sent ≡ false → seen.Leads s (Some kept) false) → y ≡ not escapes → first_by a b x y ≡ Some clash
+    → ClashesAs s smacs rmacs sent escapes clash
+some_by s smacs rmacs sent escapes (Some c) b x y clash h k graphic plain begins is =
+    subst (λ (found : Clash). ClashesAs s smacs rmacs sent escapes found) (some_is (clashes.Smacs c) clash is) h
+some_by s smacs rmacs sent escapes None (Some c) x y clash h k graphic plain begins is =
+    subst (λ (found : Clash). ClashesAs s smacs rmacs sent escapes found) (some_is (clashes.Rmacs c) clash is) (h, k)
+some_by s smacs rmacs sent escapes None None true y clash h k graphic plain begins is =
+    subst (λ (found : Clash). ClashesAs s smacs rmacs sent escapes found) (some_is clashes.Acsc clash is) (h, k, (graphic refl).0, (graphic refl).1)
+some_by s smacs rmacs sent escapes None None false true clash h k graphic plain begins is =
+    subst (λ (found : Clash). ClashesAs s smacs rmacs sent escapes found) (some_is clashes.Clear clash is) (h, k, plain refl, not_true escapes (sym begins))
+some_by s smacs rmacs sent escapes None None false false clash h k graphic plain begins is = cc
+
+pub some_first : (s : Charsets) (smacs rmacs : Option Sets) (sent escapes : Bool) (all : AllClashes) (clash : Clash) → AreFound s smacs rmacs sent escapes all → first_of all ≡ Some clash → ClashesAs s smacs rmacs sent escapes clash
+some_first s smacs rmacs sent escapes all clash f is = some_by s smacs rmacs sent escapes all.smacs all.rmacs all.acsc all.clear clash f.of_smacs f.of_rmacs f.graphic f.plain f.of_clear is
+
+found_change : (s : Charsets) (change : Option Sets) (graphic : Bool) (found : Option Charset) → IfNone found (seen.Leads s change graphic) → IfSome found (Misleads s change graphic) → OfChange s change graphic found
+found_change s change graphic None none some = none
+found_change s change graphic (Some c) none some = some
+
+pub found_by : (s : Charsets) (smacs rmacs : Option Sets) (sent escapes : Bool) (a b : Option Charset) (plain : Bool) → IfNone a (seen.Leads s smacs true) → IfSome a (Misleads s smacs true)
+    → IfNone b (seen.Leads s rmacs false) → IfSome b (Misleads s rmacs false) → (plain ≡ true → sent ≡ false → seen.Leads s (Some kept) false) → (plain ≡ false → (sent ≡ false) × ((c : Charset) × Misleads s (Some kept) false c))
+    → AreFound s smacs rmacs sent escapes (record { smacs = a; rmacs = b; acsc = not plain; clear = not escapes })
+found_by s smacs rmacs sent escapes a b plain none some no_other other right wrong = record {
+  of_smacs = found_change s smacs true a none some;
+  of_rmacs = found_change s rmacs false b no_other other;
+  graphic = λ on. wrong (not_true plain on);
+  plain = λ off. right (not_false plain off);
+  of_clear = refl;
+}
+
+smacs_of : (t : Table) (reach : Reach) (changes : List Sets) (r : Resync) (smacs : Option Sets) (escapes : Bool) (settled : Charsets) (a : Option Charset) → Settles t reach changes r smacs escapes settled → OfChange settled smacs true a → OfSwitch t Smacs a
+smacs_of t reach changes r smacs escapes settled None p h = graphic_right t reach changes r smacs escapes settled p h
+smacs_of t reach changes r smacs escapes settled (Some c) p h = smacs_wrong t reach changes r smacs escapes settled c p h
+
+rmacs_of : (t : Table) (reach : Reach) (changes : List Sets) (r : Resync) (smacs : Option Sets) (escapes : Bool) (settled : Charsets) (a : Option Charset) → Settles t reach changes r smacs escapes settled → OfChange settled r.rmacs false a → OfSwitch t Rmacs a
+rmacs_of t reach changes r smacs escapes settled None p h = plain_right t reach changes r smacs escapes settled p h
+rmacs_of t reach changes r smacs escapes settled (Some c) p h = rmacs_wrong t reach changes r smacs escapes settled c p h
+
+pub all_found : (t : Table) (reach : Reach) (changes : List Sets) (r : Resync) (smacs : Option Sets) (escapes pairs : Bool) (settled : Charsets) (all : AllClashes) → AreSettled reach changes r settled
+    → AreFound settled smacs r.rmacs (pairs && (is_some smacs && is_some r.rmacs)) escapes all → IsFound t reach changes r smacs escapes → AreClashes pairs t all
+all_found t reach changes r smacs escapes pairs settled all are f found =
+    let p : Settles t reach changes r smacs escapes settled = record { found = found; all = are } in
+    record {
+      of_smacs = smacs_of t reach changes r smacs escapes settled all.smacs p f.of_smacs;
+      of_rmacs = rmacs_of t reach changes r smacs escapes settled all.rmacs p f.of_rmacs;
+      graphic = λ on. let m = f.graphic on in stays_graphic t reach changes r smacs escapes settled pairs m.1.0 p m.0 m.1.1;
+      plain = λ off. stays_plain t reach changes r smacs escapes settled pairs p (f.plain off);
+      opens = λ on. found.opens (not_true escapes (sym f.of_clear ∙ on));
+      escapes = λ off. found.begins (not_false escapes (sym f.of_clear ∙ off));
+    }

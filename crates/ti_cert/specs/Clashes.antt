@@ -1,6 +1,6 @@
 -- What may be wrong with the lines of a table together, though each is right: the character sets that they leave, and
 -- how they lead a terminal out of an unknown state (terminfo(5), "Initialization" and "Line Graphics").
-use Rattle.std.specs.Prelude.{ℕ, ◌≡◌, ◌&&◌, Bool, true, false, List, ◌∷◌, Some}
+use Rattle.std.specs.Prelude.{ℕ, ◌≡◌, ◌&&◌, Bool, true, false, List, ◌∷◌, Option, Some, None}
 use Rattle.vt_term.specs.Screen.{Charset, is_graphic}
 use Rattle.ti_conforms.specs.Charsets.{IsAmong}
 use Rattle.ti_rows.specs.declared.rows.Row.{Row}
@@ -9,6 +9,7 @@ use Rattle.ti_conforms.specs.Table.{Table, resync, Activates}
 use Rattle.ti_conforms.specs.Sets.{CanHave, LeadsBy, CanSettle, has_sets}
 use Rattle.ti_lines.specs.declared.row_lines.RowLine.{RowLine}
 use Rattle.ti_cert.specs.Order.{GivesBytes}
+use Rattle.ti_cert.specs.declared.clashes.AllClashes.{AllClashes}
 use Rattle.ti_cert.specs.declared.clashes.Clash.{Clash}
 use Rattle.ti_cert.specs.declared.clashes.Clash.TheVariants as clashes
 use Rattle.ti_cert.specs.declared.faults.CertFaultKind.{CertFaultKind}
@@ -50,6 +51,31 @@ IsClash pairs t (clashes.Rmacs before) = SwitchesRight t Smacs × Misswitches t 
 IsClash pairs t clashes.Acsc = SwitchesRight t Smacs × SwitchesRight t Rmacs × StaysGraphic pairs t
 IsClash pairs t clashes.Clear =
     SwitchesRight t Smacs × SwitchesRight t Rmacs × (StaysGraphic pairs t → ⊥) × BeginsOpen t
+
+-- the row's line goes wrong from the charset that is named, or from none where none is
+abbrev pub OfSwitch : Table → Row → Option Charset → Type 0
+OfSwitch t row None = SwitchesRight t row
+OfSwitch t row (Some before) = Misswitches t row before
+
+-- all that is wrong with all lines together: each of the four by itself
+pub record AreClashes (pairs : Bool) (t : Table) (all : AllClashes) : Type 0 where
+  pub of_smacs : OfSwitch t Smacs all.smacs
+  pub of_rmacs : OfSwitch t Rmacs all.rmacs
+  pub graphic : all.acsc ≡ true → StaysGraphic pairs t
+  pub plain : all.acsc ≡ false → StaysGraphic pairs t → ⊥
+  pub opens : all.clear ≡ true → BeginsOpen t
+  pub escapes : all.clear ≡ false → BeginsOpen t → ⊥
+
+-- the first of them
+abbrev pub first_by : Option Charset → Option Charset → Bool → Bool → Option Clash
+first_by (Some before) rmacs acsc clear = Some (clashes.Smacs before)
+first_by None (Some before) acsc clear = Some (clashes.Rmacs before)
+first_by None None true clear = Some clashes.Acsc
+first_by None None false true = Some clashes.Clear
+first_by None None false false = None
+
+abbrev pub first_of : AllClashes → Option Clash
+first_of all = first_by all.smacs all.rmacs all.acsc all.clear
 
 -- none of the four is so; then what leads out of an unknown state leaves the plain set active too
 pub record GoesTogether (pairs : Bool) (t : Table) : Type 0 where

@@ -14,6 +14,7 @@ use Rattle.ti_conforms.specs.Closures.{Settled, SomeLeads, Leaves, kept, or_kept
 use Rattle.ti_conforms.specs.Table.{Table, settles, widening}
 use Rattle.ti_conforms.specs.Sets.{Occurs}
 use Rattle.ti_cert.specs.Clashes.{BeginsOpen}
+use Rattle.ti_cert.specs.declared.clashes.AllClashes.{AllClashes}
 use Rattle.ti_cert.specs.declared.clashes.Clash.{Clash}
 use Rattle.ti_cert.specs.declared.clashes.Clash.TheVariants as clashes
 use Rattle.ti_cert.specs.declared.clashes.Resync.{Resync}
@@ -110,3 +111,16 @@ pub record NoneClashes (s : Charsets) (smacs rmacs : Option Sets) (sent escapes 
   pub plain : Leads s rmacs false
   pub unsent : sent ≡ false → Leads s (Some kept) false
   pub escapes_is : escapes ≡ true
+
+-- it activates the other set from the charset that is named, or from none where none is
+abbrev pub OfChange : Charsets → Option Sets → Bool → Option Charset → Type 0
+OfChange s change graphic None = Leads s change graphic
+OfChange s change graphic (Some c) = Misleads s change graphic c
+
+-- all that clashes
+pub record AreFound (s : Charsets) (smacs rmacs : Option Sets) (sent escapes : Bool) (all : AllClashes) : Type 0 where
+  pub of_smacs : OfChange s smacs true all.smacs
+  pub of_rmacs : OfChange s rmacs false all.rmacs
+  pub graphic : all.acsc ≡ true → (sent ≡ false) × ((c : Charset) × Misleads s (Some kept) false c)
+  pub plain : all.acsc ≡ false → sent ≡ false → Leads s (Some kept) false
+  pub of_clear : all.clear ≡ not escapes

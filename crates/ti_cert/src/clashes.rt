@@ -25,6 +25,37 @@ pub enum Clash {
     Clear,
 }
 
+/// All that is wrong with strings together, each of four things by itself: what [`Clash`] names one by one.
+#[derive(Clone, Copy, Debug, PartialEq, Eq)]
+pub struct AllClashes {
+    /// A charset that strings can leave, from which `smacs` goes wrong.
+    pub smacs: Option<Charset>,
+    /// A charset that strings can leave, from which `rmacs` goes wrong.
+    pub rmacs: Option<Charset>,
+    /// Whether the graphic set can stay active where letters of line graphics can't be sent.
+    pub acsc: bool,
+    /// Whether what leads out of an unknown state doesn't begin with ESC.
+    pub clear: bool,
+}
+
+impl AllClashes {
+    /// The first of them; `None` where nothing is wrong.
+    pub fn first(self) -> Option<Clash>
+        ensures { result ≡ clashes.first_of self }
+    {
+        if let Some(charset) = self.smacs {
+            return Some(Clash::Smacs(charset));
+        }
+        if let Some(charset) = self.rmacs {
+            return Some(Clash::Rmacs(charset));
+        }
+        if self.acsc {
+            return Some(Clash::Acsc);
+        }
+        if self.clear { Some(Clash::Clear) } else { None }
+    }
+}
+
 /// What the strings that lead a terminal out of an unknown state do to the charsets, `None` where there is
 /// no such string. `csr` and `clear` do nothing to them.
 #[derive(Clone, Copy, Debug, PartialEq, Eq)]
@@ -103,29 +134,41 @@ fn is_plain(settled: &Charsets, sent: bool) -> bool
     }
 }
 
-/// The first clash of strings that can leave the `settled` charsets. `sent` says whether letters of line
-/// graphics can be sent, and `escapes` whether what leads out of an unknown state begins with ESC.
-#[tactic(auto, using(crate::proofs::Together::none_clashes))]
-fn clash_of(
+/// All clashes of strings that can leave the `settled` charsets. `sent` says whether letters of line graphics can be
+/// sent, and `escapes` whether what leads out of an unknown state begins with ESC.
+fn clashes_of(
     settled: &Charsets,
     smacs: Option<Sets>,
     rmacs: Option<Sets>,
     sent: bool,
     escapes: bool,
-) -> Result<(), Clash>
-    ensures none { OnOk result (spec.NoneClashes settled.now smacs rmacs sent escapes) }
-    ensures some { IfErr result (spec.ClashesAs settled.now smacs rmacs sent escapes) }
+) -> AllClashes
+    ensures { spec.AreFound settled.now smacs rmacs sent escapes result }
 {
-    if let Some(charset) = misled(settled, smacs, true) {
-        return Err(Clash::Smacs(charset));
+    AllClashes {
+        smacs: misled(settled, smacs, true),
+        rmacs: misled(settled, rmacs, false),
+        acsc: !is_plain(settled, sent),
+        clear: !escapes,
     }
-    if let Some(charset) = misled(settled, rmacs, false) {
-        return Err(Clash::Rmacs(charset));
-    }
-    if !is_plain(settled, sent) {
-        return Err(Clash::Acsc);
-    }
-    if escapes { Ok(()) } else { Err(Clash::Clear) }
+}
+
+/// All of four things that are wrong with strings together: `smacs`, `rmacs`, charsets that stay graphic, and what
+/// leads out of an unknown state. The parameters are those of [`first_clash`].
+pub fn all_clashes(
+    reach: Reach,
+    changes: &[Sets],
+    resync: Resync,
+    smacs: Option<Sets>,
+    has_acsc: bool,
+    escapes: bool,
+) -> AllClashes
+    ensures { (t : Table) → spec.IsFound t reach changes.now resync smacs escapes
+        → clashes.AreClashes has_acsc t result }
+{
+    let settled = settled_of(reach, changes, resync);
+    let sent = all_there(has_acsc, smacs, resync.rmacs);
+    clashes_of(&settled, smacs, resync.rmacs, sent, escapes)
 }
 
 /// The first of four things that may be wrong with strings together: `smacs`, `rmacs`, charsets that stay
@@ -151,8 +194,8 @@ pub fn first_clash(
 {
     let settled = settled_of(reach, changes, resync);
     let sent = all_there(has_acsc, smacs, resync.rmacs);
-    match clash_of(&settled, smacs, resync.rmacs, sent, escapes) {
-        Ok(()) => Ok(settled),
-        Err(clash) => Err(clash),
+    match clashes_of(&settled, smacs, resync.rmacs, sent, escapes).first() {
+        None => Ok(settled),
+        Some(clash) => Err(clash),
     }
 }

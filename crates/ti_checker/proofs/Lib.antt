@@ -37,3 +37,4 @@ pub mod Ends
 pub mod Erasing
 pub mod Modes
 pub mod Complete
+pub mod ClashLists

@@ -231,7 +231,7 @@ has_sent entry rows cols looks reached settled size stands = record {
   only = λ row bytes there. in_range rows cols row (within (allows rows cols row) (is_checked entry row) (sent_for (string_of entry row) row) bytes there);
 }
 
-of_sent : (entry : Content) (rows cols : ℕ) (Is : Table → Type 0) → IsSize rows cols → EachStands entry rows cols → ((t : Table) → HasSent entry rows cols t → Is t) → OfSent entry rows cols Is
+pub of_sent : (entry : Content) (rows cols : ℕ) (Is : Table → Type 0) → IsSize rows cols → EachStands entry rows cols → ((t : Table) → HasSent entry rows cols t → Is t) → OfSent entry rows cols Is
 of_sent entry rows cols Is size stands always =
     let t : Table = table_with entry rows cols no_looks (λ c. false) (λ c. false) in
     let has : HasSent entry rows cols t = has_sent entry rows cols no_looks (λ c. false) (λ c. false) size stands in
@@ -257,7 +257,7 @@ its_line entry rows cols lines t h are row bytes there =
 
 -- ---- noes of all strings together
 
-runs_wrong : (rows cols : ℕ) (row : Row) (p : Probe) (t : Table) → Starts rows cols row (screen_of rows cols p) → Misswitches t row p.charset → RunsWrong rows cols row p t
+pub runs_wrong : (rows cols : ℕ) (row : Row) (p : Probe) (t : Table) → Starts rows cols row (screen_of rows cols p) → Misswitches t row p.charset → RunsWrong rows cols row p t
 runs_wrong rows cols row p t starts m =
     let start : Screen = screen_of rows cols p in
     let charset : (steps m.leads.tokens start).charset ≡ m.after = over_steps m.leads.tokens start ∙ sym m.leads.is in

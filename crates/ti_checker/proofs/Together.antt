@@ -14,7 +14,7 @@ use Rattle.ti_conforms.specs.declared.fitness.Unfit.{Unfit}
 use Rattle.ti_rows.specs.Names.{cap_of}
 use Rattle.ti_rows.specs.Params.{params}
 use Rattle.vt_term.specs.Size.{IsSize}
-use Rattle.ti_checker.specs.No.{IsFaulty, IsUnsendable, IsRowFault, cause_of_unfit, IsOfEntry, IsOfRow, IsNo, OfEntry, OfRow, OutOfMemory}
+use Rattle.ti_checker.specs.No.{IsFaulty, IsUnsendable, IsRowFault, cause_of_unfit, IsOfEntry, IsOfRow, IsNo, OfEntry, OfRow, OutOfMemory, IsOfPart, PartEntry, PartRow, PartMemory}
 use Rattle.ti_checker.specs.First.{EachWritten}
 use Rattle.ti_checker.specs.Switches.{OfAllSent}
 use Rattle.ti_cert.specs.Clashes.{BeginsOpen}
@@ -32,11 +32,19 @@ by_reason entry refusal why h cap none cause = record { why = why; first = h; ab
 pub entry_no : (entry : Content) (rows cols : ℕ) (refusal : No) → IsOfEntry entry refusal → IsNo entry rows cols refusal
 entry_no entry rows cols refusal h = OfEntry h
 
-pub row_no : (entry : Content) (rows cols : ℕ) (refusal : No) → IsFit entry → IsOfRow entry rows cols refusal → IsNo entry rows cols refusal
-row_no entry rows cols refusal fit h = OfRow fit h
+pub entry_of_part : (entry : Content) (rows cols : ℕ) (refusal : No) → IsOfEntry entry refusal → IsOfPart entry rows cols refusal
+entry_of_part entry rows cols refusal h = PartEntry h
 
-pub memory_no : (entry : Content) (rows cols : ℕ) (refusal : No) → refusal.cause ≡ NoMemory → IsNo entry rows cols refusal
-memory_no entry rows cols refusal e = OutOfMemory e
+pub row_of_part : (entry : Content) (rows cols : ℕ) (refusal : No) → IsFit entry → IsOfRow entry rows cols refusal → IsOfPart entry rows cols refusal
+row_of_part entry rows cols refusal fit h = PartRow fit h
+
+pub memory_of_part : (entry : Content) (rows cols : ℕ) (refusal : No) → refusal.cause ≡ NoMemory → IsOfPart entry rows cols refusal
+memory_of_part entry rows cols refusal e = PartMemory e
+
+pub part_no : (entry : Content) (rows cols : ℕ) (refusal : No) → IsOfPart entry rows cols refusal → IsNo entry rows cols refusal
+part_no entry rows cols refusal (PartEntry h) = OfEntry h
+part_no entry rows cols refusal (PartRow fit h) = OfRow fit h
+part_no entry rows cols refusal (PartMemory e) = OutOfMemory e
 
 string_fault : (entry : Content) (rows cols : ℕ) (string : List ℕ) (row : Row) (cause : Cause) → string_of entry row ≡ Some string → IsFaulty rows cols string row cause → IsRowFault entry rows cols row cause
 string_fault entry rows cols string row TooLong there f = absurd f
@@ -44,8 +52,8 @@ string_fault entry rows cols string row _ there f = record { string = string; th
 
 -- a row that was looked at once more
 pub row_again : (entry : Content) (rows cols : ℕ) (refusal : No) (string : List ℕ) (row : Row) (cause : Cause) → IsFit entry → EachWritten entry rows cols → IsInRange rows cols row → is_checked entry row ≡ true
-    → string_of entry row ≡ Some string → refusal.cap ≡ cap_of row → refusal.params.items ≡ params row → refusal.cause ≡ cause → IsFaulty rows cols string row cause → IsNo entry rows cols refusal
-row_again entry rows cols refusal string row cause fit written range checked there cap given e f = OfRow fit (record {
+    → string_of entry row ≡ Some string → refusal.cap ≡ cap_of row → refusal.params.items ≡ params row → refusal.cause ≡ cause → IsFaulty rows cols string row cause → IsOfPart entry rows cols refusal
+row_again entry rows cols refusal string row cause fit written range checked there cap given e f = PartRow fit (record {
   row = row;
   cap_is = cap;
   params_are = given;

@@ -15,3 +15,4 @@ pub mod Strays
 pub mod Switches
 pub mod Taught
 pub mod Trials
+pub mod Clashes

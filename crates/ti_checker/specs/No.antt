@@ -221,6 +221,12 @@ pub data IsNo (entry : Content) (rows cols : ℕ) (refusal : No) : Type 0 where
   OfAll : IsFit entry → EachWritten entry rows cols → IsOfAll entry rows cols refusal → IsNo entry rows cols refusal
   OutOfMemory : refusal.cause ≡ NoMemory → IsNo entry rows cols refusal
 
+-- of the entry as a whole or of a row, and so not of all strings together
+pub data IsOfPart (entry : Content) (rows cols : ℕ) (refusal : No) : Type 0 where
+  PartEntry : IsOfEntry entry refusal → IsOfPart entry rows cols refusal
+  PartRow : IsFit entry → IsOfRow entry rows cols refusal → IsOfPart entry rows cols refusal
+  PartMemory : refusal.cause ≡ NoMemory → IsOfPart entry rows cols refusal
+
 -- (Serves the code alone.) The same of a row that is refused, by its string and the text before it.
 abbrev pub IsRowRefused : ℕ → ℕ → List ℕ → Row → List ℕ → Cause → Type 0
 IsRowRefused rows cols string row text TooLong = Overflows rows cols string row text

@@ -22,7 +22,7 @@ use vt_term::Size;
 /// What is wrong first: with the entry as a whole, along the lines of a certificate, or with all strings
 /// together. Every cause but `NotTame`, `NotShown` and `NoMemory` states a fault of the entry, and
 /// `TooLong` that its certificate would pass the limit.
-#[tactic(auto, using(crate::proofs::Together::entry_no))]
+#[tactic(auto, using(crate::proofs::Together::entry_no, crate::proofs::Together::part_no))]
 pub fn check(alloc: Global, entry: &Entry, size: Size) -> Result<Vec<u8>, No>
     ensures conforms { IfOk result (λ text. Conforms entry.now size.rows size.cols) }
     ensures certificate { IfOk result (λ text. IsCertificateOf entry.now size.rows size.cols text.items) }

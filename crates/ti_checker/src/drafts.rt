@@ -276,7 +276,7 @@ fn finished(draft: Draft) -> Result<Written, AllocError>
 }
 
 /// The text of the lines of a fit entry, each of which was judged.
-#[tactic(auto, using(crate::proofs::Together::memory_no))]
+#[tactic(auto, using(crate::proofs::Together::memory_of_part))]
 pub(crate) fn draft_of(alloc: Global, entry: &Entry, size: Size) -> Result<Written, No>
     requires { IsFit entry.now }
     ensures written { IfOk result (λ _. told.EachWritten entry.now size.rows size.cols) }
@@ -284,7 +284,7 @@ pub(crate) fn draft_of(alloc: Global, entry: &Entry, size: Size) -> Result<Writt
     ensures seen { IfOk result (λ written. IsSeen entry.now size.rows size.cols written.seen.reach
         written.seen.changes.items capabilities 0) }
     ensures basic { IsBasic entry.now size.rows size.cols → IfErr result (λ refusal. refusal.cause ≡ Cause.NoMemory) }
-    ensures refused { IfErr result (spec.IsNo entry.now size.rows size.cols) }
+    ensures refused { IfErr result (spec.IsOfPart entry.now size.rows size.cols) }
 {
     let Ok(mut draft) = Draft::new(alloc, entry, size) else {
         return Err(no_memory());

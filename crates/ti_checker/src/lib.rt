@@ -5,6 +5,7 @@ mod breakage;
 mod causes;
 mod cells;
 mod checks;
+mod clash_lists;
 mod drafts;
 mod fitness;
 mod ignored;
@@ -21,6 +22,7 @@ mod trials;
 
 pub use causes::{Cause, No};
 pub use checks::check;
+pub use clash_lists::clashes;
 pub use judgements::Judge;
 pub use note_list::{CheckNote, notes};
 pub use note_texts::note_lines;

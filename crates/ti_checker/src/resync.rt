@@ -2,7 +2,7 @@
 
 ghost use Rattle.std.specs.Prelude.{◌≡◌, ◌∷◌, ℕ, List, IfErr, IfOk, false, true};
 ghost use Rattle.ti_checker.specs.First.{EachWritten};
-ghost use Rattle.ti_checker.specs.No.{IsNo};
+ghost use Rattle.ti_checker.specs.No.{IsOfPart};
 ghost use Rattle.ti_cert.specs.Clashes.{BeginsOpen};
 ghost use Rattle.ti_checker.specs.Resync as spec;
 ghost use Rattle.ti_checker.specs.Switches.{OfAllSent};
@@ -23,7 +23,7 @@ fn sent_for(alloc: Global, entry: &Entry, row: Row, size: Size) -> Result<Vec<u8
     requires written { EachWritten entry.now size.rows size.cols }
     requires range { IsInRange size.rows size.cols row }
     ensures part { IfOk result (λ bytes. spec.IsPart entry.now row bytes.items) }
-    ensures refused { IfErr result (IsNo entry.now size.rows size.cols) }
+    ensures refused { IfErr result (IsOfPart entry.now size.rows size.cols) }
 {
     match checked_string(entry, row) {
         Some(string) => match sent(alloc, string, row) {
@@ -35,13 +35,13 @@ fn sent_for(alloc: Global, entry: &Entry, row: Row, size: Size) -> Result<Vec<u8
 }
 
 /// What the entry sends for these rows, one after another.
-#[tactic(auto, using(crate::proofs::Together::memory_no))]
+#[tactic(auto, using(crate::proofs::Together::memory_of_part))]
 fn sent_for_all(alloc: Global, entry: &Entry, rows: &[Row], size: Size) -> Result<Vec<u8>, No>
     requires fit { IsFit entry.now }
     requires written { EachWritten entry.now size.rows size.cols }
     requires ranges { spec.AreInRange size.rows size.cols rows.now }
     ensures sends { IfOk result (λ text. spec.SendsAll entry.now size.rows size.cols rows.now text.items) }
-    ensures refused { IfErr result (IsNo entry.now size.rows size.cols) }
+    ensures refused { IfErr result (IsOfPart entry.now size.rows size.cols) }
 {
     let mut text = Vec::new(alloc);
     for row in rows {
@@ -65,7 +65,7 @@ pub(crate) fn escapes(alloc: Global, entry: &Entry, size: Size) -> Result<bool, 
     ensures yes { IfOk result (λ begins.
         begins ≡ true → OfAllSent entry.now size.rows size.cols (λ t. BeginsOpen t → ⊥)) }
     ensures no { IfOk result (λ begins. begins ≡ false → OfAllSent entry.now size.rows size.cols (λ t. BeginsOpen t)) }
-    ensures refused { IfErr result (IsNo entry.now size.rows size.cols) }
+    ensures refused { IfErr result (IsOfPart entry.now size.rows size.cols) }
 {
     let text = sent_for_all(alloc, entry, &resync_rows(size), size)?;
     Ok(begins_with_escape(&text))

@@ -2,9 +2,11 @@
 
 ghost use Rattle.std.specs.Prelude.{◌≡◌, ℕ, List, [], IfErr, IfOk, OnOk, is_some};
 ghost use Rattle.ti_caps.specs.Entry.{string_at};
+ghost use Rattle.ti_cert.specs.Clashes.{AreClashes};
 ghost use Rattle.ti_cert.specs.Known.{with_change};
+ghost use Rattle.ti_cert.specs.Seen.{IsFound};
 ghost use Rattle.ti_checker.specs.First.{EachWritten};
-ghost use Rattle.ti_checker.specs.No.{GoTogether, IsFaulty, IsNo, IsToldAs};
+ghost use Rattle.ti_checker.specs.No.{GoTogether, IsFaulty, IsNo, IsOfPart, IsToldAs};
 ghost use Rattle.ti_checker.specs.Probes.{screen_of};
 ghost use Rattle.ti_checker.specs.Switches as spec;
 ghost use Rattle.ti_conforms.specs.Charsets.{reach_of};
@@ -23,7 +25,7 @@ use crate::resync::escapes;
 use crate::sends::{checked_string, sent};
 use std::alloc::{AllocError, Global};
 use ti_caps::Entry;
-use ti_cert::{Clash, Resync, first_clash};
+use ti_cert::{AllClashes, Clash, Resync, all_clashes, first_clash};
 use ti_conforms::{Reach, acsc, settles};
 use ti_rows::{NO_MARKS, Row};
 use vt_effects::{Sets, effect_of};
@@ -80,7 +82,7 @@ fn change_of(alloc: Global, entry: &Entry, row: Row, size: Size) -> Result<Optio
     requires written { EachWritten entry.now size.rows size.cols }
     requires range { IsInRange size.rows size.cols row }
     ensures changes { IfOk result (λ change. spec.RowChanges entry.now size.rows size.cols row change) }
-    ensures refused { IfErr result (IsNo entry.now size.rows size.cols) }
+    ensures refused { IfErr result (IsOfPart entry.now size.rows size.cols) }
 {
     match checked_string(entry, row) {
         Some(string) => match change_by(alloc, string, row, size) {
@@ -99,7 +101,7 @@ fn resync_sets(alloc: Global, entry: &Entry, size: Size) -> Result<Resync, No>
     ensures enacs { IfOk result (λ r. spec.RowChanges entry.now size.rows size.cols rows.Enacs r.enacs) }
     ensures sgr0 { IfOk result (λ r. spec.RowChanges entry.now size.rows size.cols rows.Sgr0 r.sgr0) }
     ensures rmacs { IfOk result (λ r. spec.RowChanges entry.now size.rows size.cols rows.Rmacs r.rmacs) }
-    ensures refused { IfErr result (IsNo entry.now size.rows size.cols) }
+    ensures refused { IfErr result (IsOfPart entry.now size.rows size.cols) }
 {
     Ok(Resync {
         smcup: change_of(alloc, entry, Row::Smcup, size)?,
@@ -110,7 +112,7 @@ fn resync_sets(alloc: Global, entry: &Entry, size: Size) -> Result<Resync, No>
 }
 
 /// A start of `smacs` and `rmacs` with this charset.
-fn probe_with(charset: Charset, size: Size) -> Probe
+pub(crate) fn probe_with(charset: Charset, size: Size) -> Probe
     ensures charset { result.charset ≡ charset }
     ensures free { IsFree size.rows size.cols (screen_of size.rows size.cols result) }
 {
@@ -152,8 +154,39 @@ fn has_pairs(entry: &Entry) -> bool
     entry.get_string(acsc()).is_some()
 }
 
+/// What is asked of all strings together.
+#[derive(Clone, Copy)]
+struct Together {
+    resync: Resync,
+    smacs: Option<Sets>,
+    pairs: bool,
+    begins: bool,
+}
+
+/// What the entry's strings do together, of which each is right by itself. `seen` is what all of them do.
+fn together_of(alloc: Global, entry: &Entry, size: Size, seen: &Seen) -> Result<Together, No>
+    requires fit { IsFit entry.now }
+    requires written { EachWritten entry.now size.rows size.cols }
+    requires seen { spec.IsSeen entry.now size.rows size.cols seen.now.reach seen.now.changes.items capabilities 0 }
+    ensures found { IfOk result (λ all. spec.OfAllSent entry.now size.rows size.cols (λ t.
+        IsFound t seen.now.reach seen.now.changes.items all.resync all.smacs all.begins)) }
+    ensures pairs { IfOk result (λ all. all.pairs ≡ is_some (string_at entry.now entries.acsc)) }
+    ensures refused { IfErr result (IsOfPart entry.now size.rows size.cols) }
+{
+    let resync = resync_sets(alloc, entry, size)?;
+    let smacs = change_of(alloc, entry, Row::Smacs, size)?;
+    let begins = escapes(alloc, entry, size)?;
+    Ok(Together {
+        resync,
+        smacs,
+        pairs: has_pairs(entry),
+        begins,
+    })
+}
+
 /// Judges all strings of the entry together, of which each is right by itself, as an audit of their lines
 /// does. `seen` is what all of them do.
+#[tactic(auto, using(crate::proofs::Together::part_no))]
 pub(crate) fn check_together(
     alloc: Global,
     entry: &Entry,
@@ -167,12 +200,42 @@ pub(crate) fn check_together(
     ensures conforms { OnOk result (Conforms entry.now size.rows size.cols) }
     ensures refused { IfErr result (IsNo entry.now size.rows size.cols) }
 {
-    let resync = resync_sets(alloc, entry, size)?;
-    let smacs = change_of(alloc, entry, Row::Smacs, size)?;
-    let begins = escapes(alloc, entry, size)?;
-    let pairs = has_pairs(entry);
-    match first_clash(seen.reach, &seen.changes, resync, smacs, pairs, begins) {
+    let all = together_of(alloc, entry, size, seen)?;
+    match first_clash(
+        seen.reach,
+        &seen.changes,
+        all.resync,
+        all.smacs,
+        all.pairs,
+        all.begins,
+    ) {
         Ok(_) => Ok(()),
         Err(clash) => Err(no_of(clash, size)),
     }
+}
+
+/// All that is wrong with the strings of the entry together, of which each is right by itself. `seen` is what all of
+/// them do.
+pub(crate) fn clashes_together(
+    alloc: Global,
+    entry: &Entry,
+    size: Size,
+    seen: &Seen,
+) -> Result<AllClashes, No>
+    requires fit { IsFit entry.now }
+    requires written { EachWritten entry.now size.rows size.cols }
+    requires seen { spec.IsSeen entry.now size.rows size.cols seen.now.reach seen.now.changes.items capabilities 0 }
+    ensures all { IfOk result (λ all. spec.OfAllSent entry.now size.rows size.cols (λ t.
+        AreClashes (is_some (string_at entry.now entries.acsc)) t all)) }
+    ensures refused { IfErr result (IsOfPart entry.now size.rows size.cols) }
+{
+    let all = together_of(alloc, entry, size, seen)?;
+    Ok(all_clashes(
+        seen.reach,
+        &seen.changes,
+        all.resync,
+        all.smacs,
+        all.pairs,
+        all.begins,
+    ))
 }

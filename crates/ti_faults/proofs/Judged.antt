@@ -15,7 +15,7 @@ use Rattle.ti_conforms.specs.Sends.{Sends}
 use Rattle.ti_conforms.proofs.Matches.{same_checked}
 use Rattle.ti_checker.specs.declared.causes.No.{No}
 use Rattle.ti_checker.proofs.Walks.{same_string}
-use Rattle.ti_faults.specs.Shown.{AreShown, NoFault, Faulty, or_one}
+use Rattle.ti_faults.specs.Shown.{AreShown, NoFault, Faulty, OfRest, Single, Together, Alone}
 use Rattle.ti_faults.specs.RowFaults.{CapStands, IsCapFault, OfCap, Stands, Fails, OfCaps}
 use Rattle.ti_faults.specs.Standard.{where_so}
 use Rattle.ti_faults.specs.declared.mended.Mended.{Mended}
@@ -55,10 +55,11 @@ cap_stands entry rows cols (suc n) place nos p lt out all h = by_place (eq-or-lt
     by_place (inl same) earlier = of_cap entry rows cols place h.1 p out (own_all p h.0 h.1 there) (subst (λ (m : ℕ). OfCap entry rows cols m h.1) (sym same) h.4)
     by_place (inr less) earlier = earlier place h.0 p less out (front_all p h.0 h.1 there) h.3
 
--- all of those that are listed hold of each of them, and of the one that stands alone
-or_one_all : (p : No → Bool) (nos : List No) (refusal : No) → list_all p (or_one nos refusal) ≡ true → list_all p nos ≡ true
-or_one_all p [] refusal h = refl
-or_one_all p (first ∷ nos) refusal h = h
+-- what holds of all that is listed holds of the faults of the entry as a whole and of single rows
+rest_all : (entry : Content) (rows cols : ℕ) (refusal : No) (p : No → Bool) (found nos : List No) → OfRest entry rows cols refusal found nos → list_all p nos ≡ true → list_all p found ≡ true
+rest_all entry rows cols refusal p found nos (Single some is) h = subst (λ (l : List No). list_all p l ≡ true) is h
+rest_all entry rows cols refusal p found nos (Together clashes none all is) h = ap (λ (l : List No). list_all p l) none
+rest_all entry rows cols refusal p found nos (Alone other none of_part claims is) h = ap (λ (l : List No). list_all p l) none
 
 -- ---- so each row sends what is right
 
@@ -87,8 +88,7 @@ pub all_right : (entry : Content) (rows cols : ℕ) (row : Row) (string : List �
     → list_all p faults ≡ true → AreShown entry rows cols faults → SendsAllRight rows cols string (order row)
 all_right entry rows cols row string faults p out checked there all (NoFault none h) = conforming entry rows cols row string h.conforms checked there
 all_right entry rows cols row string faults p out checked there all (Faulty f) =
-    let listed : list_all p (or_one (f.whole ++ f.single) f.refusal) ≡ true = subst (λ (l : List No). list_all p l ≡ true) f.are all in
-    let single : list_all p f.single ≡ true = own_all p f.whole f.single (or_one_all p (f.whole ++ f.single) f.refusal listed) in
+    let single : list_all p f.single ≡ true = own_all p f.whole f.single (rest_all entry rows cols f.refusal p (f.whole ++ f.single) faults f.are all) in
     let of_row : (fault : No) → IsCapFault entry rows cols (order row) fault → p fault ≡ false =
     λ fault k. out fault (k.cap_is ∙ ap (λ (n : ℕ). 83 + string_in_order n) k.of_cap) in
     standing entry rows cols row string (cap_stands entry rows cols capabilities (order row) f.single p (orders_small row) of_row single f.of_single) checked there

@@ -20,7 +20,7 @@ abbrev pub is_hidden : List No → No → Bool
 is_hidden shown fault = not (names shown fault.cap) && not (names shown (other_of fault.cap))
 
 -- Where faults are shown, others may be hidden: those that are left once each capability that they are of is mended.
--- They are of all strings together, in which `check` looks for faults only where each string is right by itself.
+-- They are of all strings together, which are judged only where each string is right by itself: each clash of them.
 pub data AreHidden (entry : Content) (rows cols : ℕ) (shown hidden : List No) : Type 0 where
   NoneShown : shown ≡ [] → hidden ≡ [] → AreHidden entry rows cols shown hidden
   SomeShown : (m : Mended) → IsBestMended entry rows cols shown m

@@ -3,7 +3,8 @@ use Rattle.std.specs.Prelude.{ℕ, ◌≡◌, ◌≢◌, ◌++◌, List, [], ◌
 use Rattle.ti_caps.specs.Entry.{Content}
 use Rattle.ti_conforms.specs.Conforms.{Conforms}
 use Rattle.ti_checker.specs.Certificate.{IsCertificateOf}
-use Rattle.ti_checker.specs.No.{IsNo}
+use Rattle.ti_checker.specs.Clashes.{AreClashes}
+use Rattle.ti_checker.specs.No.{IsNo, IsOfPart}
 use Rattle.ti_checker.specs.declared.causes.Cause.TheVariants.{NoMemory}
 use Rattle.ti_checker.specs.declared.causes.No.{No}
 use Rattle.ti_faults.specs.Lacks.{Lacks}
@@ -21,9 +22,18 @@ pub record HasCertificate (entry : Content) (rows cols : ℕ) : Type 0 where
   pub text : List ℕ
   pub certificate : IsCertificateOf entry rows cols text
 
+-- What is listed where the no of `check` is `refusal`, and these are the faults of the entry as a whole and of single
+-- rows. Where there are such faults, they are. Where there is none, all strings are judged together, and each clash is
+-- listed. A no stands alone where the entry can't be judged so: each row stands, but the certificate would be too long.
+pub data OfRest (entry : Content) (rows cols : ℕ) (refusal : No) (found nos : List No) : Type 0 where
+  Single : found ≢ [] → nos ≡ found → OfRest entry rows cols refusal found nos
+  Together : (clashes : List No) → found ≡ [] → AreClashes entry rows cols clashes → nos ≡ or_one clashes refusal
+      → OfRest entry rows cols refusal found nos
+  Alone : (other : No) → found ≡ [] → IsOfPart entry rows cols other → other.cause ≢ NoMemory → nos ≡ refusal ∷ []
+      → OfRest entry rows cols refusal found nos
+
 -- There is none, as the no of `check` says. What the entry as a whole is at fault for comes first, then the first
--- faulty row of each checked capability. Where there is neither, that no is the only one: it is about all strings
--- together, or about how long the certificate would be.
+-- faulty row of each checked capability; where there is neither, what is wrong with all strings together.
 pub record AreFaults (entry : Content) (rows cols : ℕ) (nos : List No) : Type 0 where
   pub refusal : No
   pub refused : IsNo entry rows cols refusal
@@ -32,7 +42,7 @@ pub record AreFaults (entry : Content) (rows cols : ℕ) (nos : List No) : Type 
   pub of_whole : Lacks entry whole
   pub single : List No
   pub of_single : OfCaps entry rows cols capabilities single
-  pub are : nos ≡ or_one (whole ++ single) refusal
+  pub are : OfRest entry rows cols refusal (whole ++ single) nos
 
 -- no fault exactly where there is a certificate
 pub data AreShown (entry : Content) (rows cols : ℕ) (nos : List No) : Type 0 where

@@ -58,10 +58,10 @@ fn hidden_faults(
 
 /// All faults of an entry for a size, as `check` names them: each of `xmc`, `hc`, `gn` and `os` that it has, each of
 /// `clear`, `cup` and `sgr0` that it lacks, an `acsc` with a partner that can't be printed; then, for each checked
-/// capability with a faulty row, the first such row, in the order of a certificate's lines; then what is wrong with all
-/// strings together once these are mended. Where there is none of these, but no certificate either, it is the no of
-/// `check` alone: about all strings together, or about the certificate's length. There are none exactly where `check`
-/// gives a certificate.
+/// capability with a faulty row, the first such row, in the order of a certificate's lines; then all that is wrong with
+/// all strings together once these are mended, of `smacs`, `rmacs`, `acsc` and `clear` a no each. Where there is none
+/// of these, but no certificate either, it is the no of `check` about the certificate's length. There are none exactly
+/// where `check` gives a certificate.
 ///
 /// # Errors
 /// Out of memory.

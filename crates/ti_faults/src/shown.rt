@@ -1,6 +1,6 @@
 //! The faults that an entry shows as it is.
 
-ghost use Rattle.std.specs.Prelude.{◌≡◌, ◌≢◌, IfOk};
+ghost use Rattle.std.specs.Prelude.{◌≡◌, ◌≢◌, [], IfOk};
 ghost use Rattle.ti_checker.specs.No.{IsNo};
 ghost use Rattle.ti_faults.specs.Shown as spec;
 
@@ -9,24 +9,8 @@ use crate::lacks::lacks;
 use crate::row_faults::push_row_faults;
 use std::alloc::{AllocError, Global};
 use ti_caps::Entry;
-use ti_checker::{Cause, No, check};
+use ti_checker::{Cause, No, check, clashes};
 use vt_term::Size;
-
-/// All faults of an entry that gets the no `refusal` of `check`, which stands alone where there is no other.
-fn faults_beside(
-    alloc: Global,
-    entry: &Entry,
-    size: Size,
-    refusal: No,
-) -> Result<Vec<No>, AllocError>
-    requires refused { IsNo entry.now size.rows size.cols refusal }
-    requires claims { refusal.cause ≢ Cause.NoMemory }
-    ensures { IfOk result (λ nos. spec.AreFaults entry.now size.rows size.cols nos.items) }
-{
-    let mut nos = lacks(alloc, entry)?;
-    push_row_faults(alloc, entry, size, &mut nos)?;
-    or_one(nos, refusal)
-}
 
 /// The noes, or `refusal` where there are none.
 fn or_one(nos: Vec<No>, refusal: No) -> Result<Vec<No>, AllocError>
@@ -39,11 +23,49 @@ fn or_one(nos: Vec<No>, refusal: No) -> Result<Vec<No>, AllocError>
     Ok(nos)
 }
 
+/// What is wrong with all strings of an entry together, of which neither the whole nor a single row is at fault, and
+/// which gets the no `refusal` of `check`.
+fn clashes_or_one(
+    alloc: Global,
+    entry: &Entry,
+    size: Size,
+    refusal: No,
+) -> Result<Vec<No>, AllocError>
+    ensures { IfOk result (λ nos. spec.OfRest entry.now size.rows size.cols refusal [] nos.items) }
+{
+    match clashes(alloc, entry, size) {
+        Ok(nos) => or_one(nos, refusal),
+        Err(other) => {
+            must_claim(other.cause)?;
+            or_one(Vec::new(alloc), refusal)
+        }
+    }
+}
+
+/// All faults of an entry that gets the no `refusal` of `check`.
+fn faults_beside(
+    alloc: Global,
+    entry: &Entry,
+    size: Size,
+    refusal: No,
+) -> Result<Vec<No>, AllocError>
+    requires refused { IsNo entry.now size.rows size.cols refusal }
+    requires claims { refusal.cause ≢ Cause.NoMemory }
+    ensures { IfOk result (λ nos. spec.AreFaults entry.now size.rows size.cols nos.items) }
+{
+    let mut nos = lacks(alloc, entry)?;
+    push_row_faults(alloc, entry, size, &mut nos)?;
+    if nos.is_empty() {
+        return clashes_or_one(alloc, entry, size, refusal);
+    }
+    Ok(nos)
+}
+
 /// The faults that an entry shows for a size, as `check` names them: each of `xmc`, `hc`, `gn` and `os` that it has,
 /// each of `clear`, `cup` and `sgr0` that it lacks, an `acsc` with a partner that can't be printed; then, for each
 /// checked capability with a faulty row, the first such row, in the order of a certificate's lines. Where there is none
-/// of these, but no certificate either, it is the no of `check` alone: about all strings together, or about the
-/// certificate's length. There are none exactly where `check` gives a certificate.
+/// of these, but no certificate either, they are all that is wrong with all strings together, or the no of `check`
+/// about the certificate's length. There are none exactly where `check` gives a certificate.
 ///
 /// # Errors
 /// Out of memory.

@@ -1,0 +1,87 @@
+-- All that is wrong with an entry's strings together, of which each is right by itself.
+use Rattle.std.specs.Prelude.{ℕ, ◌≡◌, ◌++◌, is_some, Bool, true, false, List, [], ◌∷◌, Option, Some, None}
+use Rattle.vt_term.specs.Screen.{Charset}
+use Rattle.ti_caps.specs.Entry.{Content, string_at}
+use Rattle.ti_rows.specs.declared.rows.Row.{Row}
+use Rattle.ti_rows.specs.declared.rows.Row.TheVariants.{Clear, Smacs, Rmacs}
+use Rattle.ti_rows.specs.Names.{cap_of}
+use Rattle.ti_rows.specs.Starts.{IsFree}
+use Rattle.ti_conforms.specs.Conforms.{IsFit}
+use Rattle.ti_conforms.specs.Entries as entries
+use Rattle.ti_conforms.specs.Table.{Table}
+use Rattle.ti_cert.specs.Clashes.{Misswitches, SwitchesRight, StaysGraphic, BeginsOpen}
+use Rattle.ti_cert.specs.declared.clashes.AllClashes.{AllClashes}
+use Rattle.ti_checker.specs.First.{EachWritten}
+use Rattle.ti_checker.specs.No.{IsAbout}
+use Rattle.ti_checker.specs.Probes.{screen_of}
+use Rattle.ti_checker.specs.Switches.{OfSent, OfAllSent, RunsWrong}
+use Rattle.ti_checker.specs.declared.causes.Cause.{Cause}
+use Rattle.ti_checker.specs.declared.causes.Cause.TheVariants.{BadLook, WrongEffect, NoResync}
+use Rattle.ti_checker.specs.declared.causes.No.{No}
+use Rattle.ti_checker.specs.declared.probes.Probe.{Probe}
+
+-- of `smacs` or `rmacs`: a no where it leaves the other set active from a charset that strings can leave, with a start
+-- that has that charset; nothing where it doesn't
+pub data OfSwitch (entry : Content) (rows cols : ℕ) (row : Row) (nos : List No) : Type 0 where
+  GoesWrong : (refusal : No) (p : Probe) → nos ≡ refusal ∷ [] → IsAbout refusal (cap_of row) (WrongEffect p)
+      → OfSent entry rows cols (λ t. Misswitches t row p.charset)
+      → OfSent entry rows cols (λ t. RunsWrong rows cols row p t) → OfSwitch entry rows cols row nos
+  GoesRight : nos ≡ [] → OfAllSent entry rows cols (λ t. SwitchesRight t row) → OfSwitch entry rows cols row nos
+
+-- of another capability: a no where this is so of the strings, nothing where it isn't
+pub data OfStrings (entry : Content) (rows cols cap : ℕ) (cause : Cause) (Is : Table → Type 0) (nos : List No)
+    : Type 0 where
+  IsSo : (refusal : No) → nos ≡ refusal ∷ [] → IsAbout refusal cap cause → OfSent entry rows cols Is
+      → OfStrings entry rows cols cap cause Is nos
+  IsNotSo : nos ≡ [] → OfAllSent entry rows cols (λ t. Is t → ⊥) → OfStrings entry rows cols cap cause Is nos
+
+-- The entry is fit, each row stands with all lines short enough, and of each of the four things that may be wrong with
+-- all strings together there is a no where it is.
+pub record AreClashes (entry : Content) (rows cols : ℕ) (nos : List No) : Type 0 where
+  pub fit : IsFit entry
+  pub written : EachWritten entry rows cols
+  pub smacs : List No
+  pub of_smacs : OfSwitch entry rows cols Smacs smacs
+  pub rmacs : List No
+  pub of_rmacs : OfSwitch entry rows cols Rmacs rmacs
+  pub acsc : List No
+  pub of_acsc : OfStrings entry rows cols entries.acsc BadLook
+      (λ t. StaysGraphic (is_some (string_at entry entries.acsc)) t) acsc
+  pub clear : List No
+  pub of_clear : OfStrings entry rows cols (cap_of Clear) NoResync (λ t. BeginsOpen t) clear
+  pub are : nos ≡ ((smacs ++ rmacs) ++ acsc) ++ clear
+
+-- ---- (Serves the code alone.) The same by what was computed, and what is added of each.
+
+-- a no about `smacs` or `rmacs` where a charset is named, with a start in which nothing but the charset matters
+abbrev pub IsSwitchTold : ℕ → ℕ → Row → Option Charset → List No → Type 0
+IsSwitchTold rows cols row None own = own ≡ []
+IsSwitchTold rows cols row (Some before) own =
+    (refusal : No) × (p : Probe) × (own ≡ refusal ∷ []) × IsAbout refusal (cap_of row) (WrongEffect p)
+    × (p.charset ≡ before) × IsFree rows cols (screen_of rows cols p)
+
+-- a no with this cause where it is so
+abbrev pub IsTold : Bool → ℕ → Cause → List No → Type 0
+IsTold false cap cause own = own ≡ []
+IsTold true cap cause own = (refusal : No) × (own ≡ refusal ∷ []) × IsAbout refusal cap cause
+
+pub record AddsSwitch (rows cols : ℕ) (row : Row) (before : Option Charset) (old new : List No) : Type 0 where
+  pub own : List No
+  pub added : new ≡ old ++ own
+  pub told : IsSwitchTold rows cols row before own
+
+pub record AddsWhere (is_so : Bool) (cap : ℕ) (cause : Cause) (old new : List No) : Type 0 where
+  pub own : List No
+  pub added : new ≡ old ++ own
+  pub told : IsTold is_so cap cause own
+
+pub record AreTold (rows cols : ℕ) (all : AllClashes) (nos : List No) : Type 0 where
+  pub smacs : List No
+  pub of_smacs : IsSwitchTold rows cols Smacs all.smacs smacs
+  pub rmacs : List No
+  pub of_rmacs : IsSwitchTold rows cols Rmacs all.rmacs rmacs
+  pub acsc : List No
+  pub of_acsc : IsTold all.acsc entries.acsc BadLook acsc
+  pub clear : List No
+  pub of_clear : IsTold all.clear (cap_of Clear) NoResync clear
+  pub are : nos ≡ ((smacs ++ rmacs) ++ acsc) ++ clear
