@@ -1,5 +1,5 @@
 -- The marks of a session, call by call.
-use Rattle.std.proofs.Common.{◌≡◌, ◌==◌, ℕ, Bool, true, false, Option, Some, None, Result, ℤ, if◌then◌else◌, refl, sym, ap, ◌∙◌, subst}
+use Rattle.std.proofs.Common.{◌≡◌, ◌==◌, ℕ, List, Bool, true, false, Option, Some, None, Result, ℤ, if◌then◌else◌, refl, sym, ap, ◌∙◌, subst}
 use Rattle.cur_drawing.specs.declared.refusals.Refusal.{Refusal}
 use Rattle.cur_drawing.specs.Cells.{pair_count}
 use Rattle.cur_drawing.specs.Grids.{Grid, cell_at}
@@ -8,7 +8,8 @@ use Rattle.cur_drawing.specs.Windows.{place_below}
 use Rattle.cur_windows.specs.Desks.{State}
 use Rattle.cur_screens.specs.Touched.{AreFull, Markings}
 use Rattle.cur_windows.specs.TouchedWindows.{KeepsShown, ShowsBut}
-use Rattle.cur_screens.specs.VirtualScreen.{Screen, init_pair, initialized}
+use Rattle.cur_screens.specs.VirtualScreen.{Screen, color_or_default, colored, init_pair, init_pair_or_default, initialized}
+use Rattle.cur_screens.specs.declared.virtual_screen.Colors.{Colors}
 use Rattle.cur_windows.proofs.TouchedFacts.{shows_full}
 
 -- screens of equal cells
@@ -50,3 +51,21 @@ initialized_grid None f b v = refl
 
 pub init_pair_grid : (p f b : ℤ) (v w : Screen) (x : Result (Unit {0}) Refusal) → (w, x) ≡ init_pair p f b v → w.grid ≡ v.grid
 init_pair_grid p f b v w x e = ap grid_of e ∙ initialized_grid (place_below p pair_count) (place_below f 8) (place_below b 8) v
+
+abbrev screen_of : Screen × Result (Unit {0}) Refusal → Screen
+screen_of p = p.0
+
+chosen_screen : (P : Screen → Type 0) (b : Bool) (v w : Screen) (x y : Result (Unit {0}) Refusal) → P v → P w → P (screen_of (if b then (v, x) else (w, y)))
+chosen_screen P true v w x y here there = here
+chosen_screen P false v w x y here there = there
+
+colored_keeps : (P : Screen → Type 0) (v : Screen) → P v → ((pairs : List Colors) → P (record v { pairs = pairs })) → (p : Option ℕ) (f b : Option (Option ℕ)) → P (colored p f b v).0
+colored_keeps P v here there (Some p) (Some f) (Some b) = chosen_screen P (p == 0) v _ _ _ here (there _)
+colored_keeps P v here there (Some p) (Some f) None = here
+colored_keeps P v here there (Some p) None b = here
+colored_keeps P v here there None f b = here
+
+-- A property of a screen that doesn't depend on the colors of its pairs is kept when a pair gets others.
+pub recolored_keeps : (P : Screen → Type 0) (v w : Screen) (x : Result (Unit {0}) Refusal) (p f b : ℤ) → (w, x) ≡ init_pair_or_default p f b v → P v → ((pairs : List Colors) → P (record v { pairs = pairs })) → P w
+recolored_keeps P v w x p f b e here there =
+    subst P (sym (ap screen_of e)) (colored_keeps P v here there (place_below p pair_count) (color_or_default f) (color_or_default b))

@@ -1,5 +1,5 @@
 -- What each call does, and what it answers (X/Open Curses Issue 7, the reference pages of the calls).
-use Rattle.std.specs.Prelude.{ℕ, ◌≡◌, Bool, true, false, Result, Ok, Err}
+use Rattle.std.specs.Prelude.{ℕ, ℤ, ◌≡◌, Bool, true, false, Result, Ok, Err}
 use Rattle.ti_rows.specs.declared.rows.Row.TheVariants.{Bel}
 use Rattle.cur_drawing.specs.declared.refusals.Refusal.{Refusal}
 use Rattle.cur_drawing.specs.declared.refusals.Refusal.TheVariants.{NoMemory, NoCap, IsLost}
@@ -26,7 +26,7 @@ use Rattle.cur_calls.specs.declared.groups.PadCall.{PadCall}
 use Rattle.cur_calls.specs.declared.groups.PadCall.TheVariants.{Pnoutrefresh, Prefresh}
 use Rattle.cur_calls.specs.declared.groups.ScreenCall.{ScreenCall}
 use Rattle.cur_calls.specs.declared.groups.ScreenCall.TheVariants.{Doupdate, Beep, Endwin}
-use Rattle.cur_play.specs.Scenes.{Scene}
+use Rattle.cur_play.specs.Scenes.{Scene, Stage}
 use Rattle.cur_play.specs.Windows as windows
 use Rattle.cur_play.specs.Windows.{takes_memory}
 use Rattle.cur_play.specs.declared.answers.Answer.{Answer}
@@ -83,6 +83,12 @@ drawn t s (ShowPad k n row col top left bottom right) =
 drawn t s (Screen k) = (s, Done)
 drawn t s (CursSet n) = on_mode s (set_mode t n s.mode)
 drawn t s (InitPair p f b) = on_screen s (screens.init_pair p f b s.screen)
+
+-- a call beside those of a list, which sends nothing: a pair gets its colors, of which -1 is the terminal's default
+abbrev pub recolored : {C : Type 0} → ℤ → ℤ → ℤ → Stage C → Stage C × Answer
+recolored p f b s =
+    let x = screens.init_pair_or_default p f b s.screen in
+    (record s { screen = x.0 }, answer_of x.1)
 
 abbrev pub shown_window : ShowCall → Emission
 shown_window Noutrefresh = Nothing

@@ -6,9 +6,9 @@ ghost use Rattle.cur_play.specs.Deliveries.{Carries};
 ghost use Rattle.cur_play.specs.Drawings.{SameSizes};
 ghost use Rattle.cur_play.specs.Outputs.{poised};
 ghost use Rattle.cur_play.specs.Scenes.{IsStage, first, lost_stage, scene_of, stage_of};
-ghost use Rattle.cur_play.specs.Steps.{CallStep, drawn, output_of};
+ghost use Rattle.cur_play.specs.Steps.{CallStep, drawn, output_of, recolored};
 
-use crate::answers::Answer;
+use crate::answers::{Answer, answer_of};
 use crate::drawings::draw;
 use crate::sends::{output_of, send};
 use crate::stale_marks::StaleMarks;
@@ -69,6 +69,18 @@ impl<C: Certificate> Session<C> {
         ensures { self.new ≡ lost_stage self.old }
     {
         self.painter.lose();
+    }
+
+    /// Sets the colors of `pair`, as the call `init_pair` does, and also takes -1 for `foreground` or `background`:
+    /// the terminal's default color. Nothing is sent. Refused with `BadPair` for a pair that isn't 1 to 63, or a color
+    /// that isn't -1 to 7; then nothing has changed.
+    pub fn init_pair_or_default(&mut self, pair: i32, foreground: i32, background: i32) -> Answer
+        ensures { (self.new, result) ≡ recolored pair foreground background self.old }
+    {
+        answer_of(
+            self.screen
+                .init_pair_or_default(pair, foreground, background),
+        )
     }
 
     /// The windows.
