@@ -1,6 +1,6 @@
 -- Calls one after another.
-use Rattle.std.proofs.Common.{◌≡◌, ℕ, ◌+◌, ◌<◌, Bool, true, false, List, [], ◌∷◌, length, drop, refl, sym, subst, ap, get_or, inl, inr, arith, w32, ℤ, to_z, of_z}
-use Rattle.std.specs.Prelude.{Option, None, Result, Ok, Err}
+use Rattle.std.proofs.Common.{◌≡◌, ℕ, ◌+◌, ◌<◌, true, false, List, [], ◌∷◌, length, drop, refl, sym, subst, get_or, inl, inr, arith, ℤ}
+use Rattle.std.specs.Prelude.{None, Result, Ok}
 use Rattle.std.proofs.Math.Seq.{drop-length}
 use Rattle.std.proofs.lemmas.List.{drop_more}
 use Rattle.cur_calls.specs.declared.calls.Call.{Call}

@@ -1,5 +1,5 @@
 -- The place of a line's end.
-use Rattle.std.proofs.Common.{◌≡◌, ℕ, ◌+◌, ◌==◌, List, [], ◌∷◌, Option, None, Some, take, drop, sym, ap, ◌∙◌}
+use Rattle.std.proofs.Common.{◌≡◌, ℕ, ◌+◌, ◌==◌, List, [], ◌∷◌, None, Some, take, drop, sym, ap, ◌∙◌}
 use Rattle.std.specs.List.{position}
 use Rattle.cur_scripts.specs.Cuts.{lines_of}
 use Rattle.cur_scripts.proofs.CutFacts.{around, cut_found, part_alone, part_first}

@@ -1,18 +1,15 @@
 -- What a program's bytes give: an entry, a certificate of it, and what that shows.
-use Rattle.std.specs.Prelude.{ℕ, ◌≡◌, ◌⊎◌, List, [], ◌∷◌, Ok, Err}
+use Rattle.std.specs.Prelude.{ℕ, ◌≡◌, ◌≢◌, ◌⊎◌, List, [], ◌∷◌, Ok, Err}
 use Rattle.vt_term.specs.Size.{IsSize}
 use Rattle.ti_caps.specs.Entry.{Content, string_at}
 use Rattle.ti_cert.specs.Table.{CheckedTable, table_of}
 use Rattle.ti_checker.specs.Certificate.{IsCertificateOf}
 use Rattle.ti_checker.specs.No.{IsNo}
-use Rattle.ti_checker.specs.declared.causes.Cause.{Cause}
 use Rattle.ti_checker.specs.declared.causes.Cause.TheVariants as causes
 use Rattle.ti_checker.specs.declared.causes.No.{No}
 use Rattle.ti_cert.specs.Disagreements.{IsAgreeRefused}
 use Rattle.ti_cert.specs.Texts.{IsCertRefused}
-use Rattle.ti_cert.specs.declared.faults.AgreeFault.{AgreeFault}
 use Rattle.ti_cert.specs.declared.faults.AgreeFault.TheVariants as agrees
-use Rattle.ti_cert.specs.declared.faults.CertFaultKind.{CertFaultKind}
 use Rattle.ti_cert.specs.declared.faults.CertFaultKind.TheVariants as certs
 use Rattle.ti_cert.specs.declared.faults.VerifyFault.{VerifyFault}
 use Rattle.ti_cert.specs.declared.faults.VerifyFault.TheVariants.{Cert, Agree}
@@ -29,7 +26,6 @@ use Rattle.ti_resolve.specs.declared.faults.ResolveFault.{ResolveFault}
 use Rattle.ti_resolve.specs.declared.faults.ResolveFault.TheVariants as walks
 use Rattle.ti_source.specs.Source as source
 use Rattle.ti_source.specs.Source.{source_of}
-use Rattle.ti_source.specs.declared.types.FaultKind.{FaultKind}
 use Rattle.ti_source.specs.declared.types.FaultKind.TheVariants as sources
 use Rattle.ti_source.specs.declared.types.SourceFault.{SourceFault}
 use Rattle.ti_source.specs.declared.types.RawEntry.{RawEntry}
@@ -50,31 +46,22 @@ abbrev pub Gives : List ℕ → List ℕ → Content → Type 0
 Gives bytes [] entry = GivesPacked bytes entry
 Gives bytes (b ∷ name) entry = GivesNamed bytes (b ∷ name) entry
 
--- the failure that a fault is: want of memory is itself, any other says that there is no entry
-abbrev pub IsOfPack : PackFault → Failure → Type 0
-IsOfPack packs.NoMemory e = e ≡ NoMemory
-IsOfPack fault e = e ≡ BadEntry
-
-abbrev pub IsOfSource : FaultKind → Failure → Type 0
-IsOfSource sources.NoMemory e = e ≡ NoMemory
-IsOfSource kind e = e ≡ BadEntry
-
-abbrev pub IsOfWalk : ResolveFault → Failure → Type 0
-IsOfWalk walks.NoMemory e = e ≡ NoMemory
-IsOfWalk fault e = e ≡ BadEntry
+-- the failure that a fault is: `NoMemory` if the fault is `memory`, its kind's word for that, else `other`
+abbrev pub IsOf : {A : Type 0} → A → Failure → A → Failure → Type 0
+IsOf memory other fault e = ((fault ≡ memory) × (e ≡ NoMemory)) ⊎ ((fault ≢ memory) × (e ≡ other))
 
 -- the bytes are no compiled file, or one whose values fit no entry
 abbrev pub LacksPacked : List ℕ → Failure → Type 0
 LacksPacked bytes e = ((fault : PackFault) × (read_of bytes ≡ Err fault) × (e ≡ BadEntry))
     ⊎ ((packed : Content) × (read_of bytes ≡ Ok packed)
-    × ((fault : PackFault) × compiled.FailsBy fault (fit_of packed) × IsOfPack fault e))
+    × ((fault : PackFault) × compiled.FailsBy fault (fit_of packed) × IsOf packs.NoMemory BadEntry fault e))
 
 -- the text has a fault, or the entry of the name can't be had from it
 abbrev pub LacksNamed : List ℕ → List ℕ → Failure → Type 0
 LacksNamed text name e =
-    ((fault : SourceFault) × source.FailsBy fault.kind fault (source_of text) × IsOfSource fault.kind e)
+    ((fault : SourceFault) × source.FailsBy fault.kind fault (source_of text) × IsOf sources.NoMemory BadEntry fault.kind e)
     ⊎ ((raws : List RawEntry) × (source_of text ≡ Ok raws)
-    × ((fault : ResolveFault) × walk.FailsBy fault (walk_of raws name) × IsOfWalk fault e))
+    × ((fault : ResolveFault) × walk.FailsBy fault (walk_of raws name) × IsOf walks.NoMemory BadEntry fault e))
 
 abbrev pub LacksEntry : List ℕ → List ℕ → Failure → Type 0
 LacksEntry bytes [] e = LacksPacked bytes e
@@ -93,17 +80,9 @@ pub record IsShown (entry : Content) (height width : ℕ) (checked : CheckedTabl
   pub partners : checked.acsc ≡ string_at entry acsc
 
 -- the failure that a refusal to verify is
-abbrev pub IsOfCert : CertFaultKind → Failure → Type 0
-IsOfCert certs.NoMemory e = e ≡ NoMemory
-IsOfCert kind e = e ≡ BadCertificate
-
-abbrev pub IsOfAgree : AgreeFault → Failure → Type 0
-IsOfAgree agrees.NoMemory e = e ≡ NoMemory
-IsOfAgree (agrees.Disagree cap numbers) e = e ≡ BadCertificate
-
 abbrev pub IsOfVerify : VerifyFault → Failure → Type 0
-IsOfVerify (Cert fault) e = IsOfCert fault.kind e
-IsOfVerify (Agree fault) e = IsOfAgree fault e
+IsOfVerify (Cert fault) e = IsOf certs.NoMemory BadCertificate fault.kind e
+IsOfVerify (Agree fault) e = IsOf agrees.NoMemory BadCertificate fault e
 
 -- the certificate has this fault, or it isn't that of the entry, as the fault says
 pub record IsUnshown (entry : Content) (rows cols : ℕ) (certificate : List ℕ) (e : Failure) : Type 0 where
@@ -117,11 +96,6 @@ pub record IsCertified (entry : Content) (rows cols : ℕ) (text : List ℕ) : T
   pub conforms : Conforms entry rows cols
   pub certificate : IsCertificateOf entry rows cols text
 
--- the failure that a cause is
-abbrev pub IsOfCause : Cause → Failure → Type 0
-IsOfCause causes.NoMemory e = e ≡ NoMemory
-IsOfCause cause e = e ≡ NoCertificate
-
 -- there is a no, which is so of the entry and the first
 abbrev pub IsUncertified : Content → ℕ → ℕ → Failure → Type 0
-IsUncertified entry rows cols e = (refusal : No) × IsNo entry rows cols refusal × IsOfCause refusal.cause e
+IsUncertified entry rows cols e = (refusal : No) × IsNo entry rows cols refusal × IsOf causes.NoMemory NoCertificate refusal.cause e

@@ -1,5 +1,5 @@
 //! Entries, sizes and certificates from what a program hands over.
-ghost use Rattle.std.specs.Prelude.{◌≡◌, IfErr, IfOk};
+ghost use Rattle.std.specs.Prelude.{◌≡◌, if◌then◌else◌, IfErr, IfOk};
 ghost use Rattle.ti_checker.specs.Certificate.{IsCertificateOf};
 ghost use Rattle.ti_cert.specs.Texts.{IsTableOf};
 ghost use Rattle.ti_conforms.specs.Conforms.{Conforms};
@@ -10,7 +10,7 @@ use crate::codes::Failure;
 use std::alloc::Global;
 use ti_caps::Entry;
 use ti_cert::{AgreeFault, CertFaultKind, Checked, VerifyFault, verify};
-use ti_checker::{Cause, No, check};
+use ti_checker::{Cause, check};
 use ti_compiled::{PackFault, decode};
 use ti_resolve::{ResolveFault, resolve};
 use ti_source::{FaultKind, read};
@@ -82,17 +82,15 @@ fn packed_entry(alloc: Global, bytes: &[u8]) -> Result<Entry, Failure>
     };
     match packed.to_entry(alloc) {
         Ok(entry) => Ok(entry),
-        Err(fault) => Err(pack_failure(fault)),
+        Err(fault) => Err(failure(matches!(fault, PackFault::NoMemory), Failure::BadEntry)),
     }
 }
 
-fn pack_failure(fault: PackFault) -> Failure
-    ensures { spec.IsOfPack fault result }
+/// `NoMemory` if memory ran out, else `other`.
+fn failure(is_memory: bool, other: Failure) -> Failure
+    ensures { result ≡ (if is_memory then Failure.NoMemory else other) }
 {
-    match fault {
-        PackFault::NoMemory => Failure::NoMemory,
-        _ => Failure::BadEntry,
-    }
+    if is_memory { Failure::NoMemory } else { other }
 }
 
 /// The entry of a name in a source text.
@@ -102,29 +100,13 @@ pub fn source_entry(alloc: Global, text: &[u8], name: &[u8]) -> Result<Entry, Fa
 {
     let raws = match read(alloc, text) {
         Ok(raws) => raws,
-        Err(fault) => return Err(source_failure(fault.kind)),
+        Err(fault) => {
+            return Err(failure(matches!(fault.kind, FaultKind::NoMemory), Failure::BadEntry));
+        }
     };
     match resolve(alloc, raws.as_slice(), name) {
         Ok(entry) => Ok(entry),
-        Err(fault) => Err(resolve_failure(&fault)),
-    }
-}
-
-fn source_failure(kind: FaultKind) -> Failure
-    ensures { spec.IsOfSource kind result }
-{
-    match kind {
-        FaultKind::NoMemory => Failure::NoMemory,
-        _ => Failure::BadEntry,
-    }
-}
-
-fn resolve_failure(fault: &ResolveFault) -> Failure
-    ensures { spec.IsOfWalk fault.now result }
-{
-    match fault {
-        ResolveFault::NoMemory => Failure::NoMemory,
-        _ => Failure::BadEntry,
+        Err(fault) => Err(failure(matches!(fault, ResolveFault::NoMemory), Failure::BadEntry)),
     }
 }
 
@@ -141,34 +123,18 @@ pub fn checked_by(
 {
     match verify(alloc, &described.entry, described.size, certificate) {
         Ok(checked) => Ok(checked),
-        Err(fault) => Err(verify_failure(&fault)),
-    }
-}
-
-fn verify_failure(fault: &VerifyFault) -> Failure
-    ensures { spec.IsOfVerify fault.now result }
-{
-    match fault {
-        VerifyFault::Cert(fault) => cert_failure(&fault.kind),
-        VerifyFault::Agree(fault) => agree_failure(fault),
-    }
-}
-
-fn cert_failure(kind: &CertFaultKind) -> Failure
-    ensures { spec.IsOfCert kind.now result }
-{
-    match kind {
-        CertFaultKind::NoMemory => Failure::NoMemory,
-        _ => Failure::BadCertificate,
-    }
-}
-
-fn agree_failure(fault: &AgreeFault) -> Failure
-    ensures { spec.IsOfAgree fault.now result }
-{
-    match fault {
-        AgreeFault::NoMemory => Failure::NoMemory,
-        AgreeFault::Disagree { .. } => Failure::BadCertificate,
+        Err(VerifyFault::Cert(fault)) => {
+            Err(failure(
+                matches!(fault.kind, CertFaultKind::NoMemory),
+                Failure::BadCertificate,
+            ))
+        }
+        Err(VerifyFault::Agree(fault)) => {
+            Err(failure(
+                matches!(fault, AgreeFault::NoMemory),
+                Failure::BadCertificate,
+            ))
+        }
     }
 }
 
@@ -181,15 +147,6 @@ pub fn certificate_of(alloc: Global, described: &Described) -> Result<Vec<u8>, F
 {
     match check(alloc, &described.entry, described.size) {
         Ok(text) => Ok(text),
-        Err(no) => Err(no_failure(&no)),
-    }
-}
-
-fn no_failure(no: &No) -> Failure
-    ensures { spec.IsOfCause no.now.cause result }
-{
-    match no.cause {
-        Cause::NoMemory => Failure::NoMemory,
-        _ => Failure::NoCertificate,
+        Err(no) => Err(failure(matches!(no.cause, Cause::NoMemory), Failure::NoCertificate)),
     }
 }
