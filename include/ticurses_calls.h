@@ -348,6 +348,11 @@ static inline int ticurses_init_pair(ticurses *session, int pair, int foreground
     return ticurses_make(session, &request);
 }
 
+/* As ticurses_init_pair, and -1 is the terminal's default color. It is no call of a script. */
+static inline int ticurses_init_pair_or_default(ticurses *session, int pair, int foreground, int background) {
+    return !session ? TICURSES_NULL : ticurses_raw_init_pair_or_default(session, pair, foreground, background);
+}
+
 /* Rings the bell: TICURSES_NO_CAP, TICURSES_IS_LOST. */
 static inline int ticurses_beep(ticurses *session) {
     return ticurses_make_plain(session, TICURSES_BEEP, 0);

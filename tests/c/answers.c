@@ -5,6 +5,7 @@
 #define _GNU_SOURCE
 #include <ticurses.h>
 
+#include <limits.h>
 #include <malloc.h>
 #include <string.h>
 
@@ -427,6 +428,44 @@ static void questions(void) {
     ticurses_close(&session);
 }
 
+/* How many of the eight colors the bytes that wait select as a foreground. */
+static int foregrounds(const char *sent) {
+    int count = 0;
+    for (char color = '0'; color < '8'; color++) {
+        const char select[] = {'\033', '[', '3', color, 'm', '\0'};
+        count += strstr(sent, select) != NULL;
+    }
+    return count;
+}
+
+/* A pair may have the terminal's default color on one of the eight, or on both sides. */
+static void default_colors(void) {
+    ticurses session = {0, 0};
+    char sent[400] = "";
+    IS(TICURSES_NULL, ticurses_init_pair_or_default(NULL, 1, -1, -1));
+    IS(TICURSES_CLOSED, ticurses_init_pair_or_default(&session, 1, -1, -1));
+    IS(TICURSES_OK, OPEN(&session, "xc", 6, 24));
+    IS(TICURSES_BAD_PAIR, ticurses_init_pair_or_default(&session, 0, -1, -1));
+    IS(TICURSES_BAD_PAIR, ticurses_init_pair_or_default(&session, 64, -1, -1));
+    IS(TICURSES_BAD_PAIR, ticurses_init_pair_or_default(&session, 1, -2, 0));
+    IS(TICURSES_BAD_PAIR, ticurses_init_pair_or_default(&session, 1, 0, INT_MIN));
+    IS(TICURSES_BAD_PAIR, ticurses_init_pair_or_default(&session, 1, 8, 0));
+    IS(TICURSES_BAD_PAIR, ticurses_init_pair(&session, 5, -1, 4));
+    IS(TICURSES_OK, ticurses_init_pair_or_default(&session, 5, -1, 4));
+    IS(TICURSES_OK, CALL(&session, "color_set 0 5\naddch 0 41\nrefresh 0"));
+    IS(1, ticurses_waiting(&session) < sizeof sent);
+    sent[ticurses_output(&session, sent, sizeof sent - 1)] = '\0';
+    IS(0, foregrounds(sent));
+    IS(1, strstr(sent, "\033[44m") != NULL);
+    IS(TICURSES_OK, ticurses_init_pair_or_default(&session, 5, 3, -1));
+    IS(TICURSES_OK, CALL(&session, "refresh 0"));
+    sent[ticurses_output(&session, sent, sizeof sent - 1)] = '\0';
+    IS(1, foregrounds(sent));
+    IS(1, strstr(sent, "\033[33m") != NULL);
+    IS(1, strstr(sent, "\033[44m") == NULL);
+    ticurses_close(&session);
+}
+
 static void strings(void) {
     ticurses session = {0, 0};
     IS(TICURSES_OK, OPEN(&session, "vt", 6, 24));
@@ -642,7 +681,7 @@ static void no_memory_call(void) {
 int main(int argc, char **argv) {
     static void (*const parts[])(void) = {
         nulls,    closed, opening,   certificates, reasons, capabilities, packed_capabilities,
-        refusals, lines,  questions, strings,      numbers, output,       texts,
+        refusals, lines,  questions, default_colors, strings, numbers, output,    texts,
         many_sessions, many_calls, no_memory_open, no_memory_call,
     };
     FILE *file = argc >= 2 ? fopen(argv[1], "rb") : NULL;

@@ -1,5 +1,5 @@
 -- From single calls to what the terminal comes to.
-use Rattle.std.proofs.Common.{◌≡◌, ℕ, List, [], ◌∷◌, ◌++◌, take, drop, length, Option, refl, sym, ap, subst, ◌∙◌, append_assoc}
+use Rattle.std.proofs.Common.{◌≡◌, ℕ, ℤ, List, [], ◌∷◌, ◌++◌, take, drop, length, Option, refl, sym, ap, subst, ◌∙◌, append_assoc}
 use Rattle.std.proofs.lemmas.List.{append-nil}
 use lib.ListN.{take-append-drop}
 use Rattle.vt_term.specs.Ends.{Ends}
@@ -20,8 +20,8 @@ use Rattle.cur_update.specs.Painters.{Painted}
 use Rattle.cur_play.specs.Deliveries.{FitsIn}
 use Rattle.cur_play.specs.Scenes.{Scene, Stage}
 use Rattle.cur_play.specs.declared.answers.Answer.{Answer}
-use Rattle.curses_c.specs.Held.{Hands, Makes, noting}
-use Rattle.curses_c.specs.Laws.{Played, Begun, Called, Took, Noted, Rests, Still, Drew, TookMore, NotedMore, FitsHeld, ShowsAfter, Begins, CallsReach, RefreshesShow, LossesBegin, LossesFit, OpeningsBegin}
+use Rattle.curses_c.specs.Held.{Hands, Makes, Recolors, noting}
+use Rattle.curses_c.specs.Laws.{Played, Begun, Called, Took, Noted, Recolored, Rests, Still, Drew, TookMore, NotedMore, RecoloredMore, FitsHeld, ShowsAfter, Begins, CallsReach, RefreshesShow, LossesBegin, LossesFit, OpeningsBegin}
 use Rattle.curses_c.specs.declared.held.Held.{Held}
 
 -- a front of all that was sent leads to a state that fits a lost session
@@ -74,6 +74,10 @@ took mid k room count sent s hands r =
 noted : (mid k : Held) (line : ℕ) (sent : List ℕ) (s : State) → k ≡ noting line mid → Reached mid sent s → Reached k sent s
 noted mid k line sent s e r = subst (λ (x : Held). Reached x sent s) (sym e) (record { whole = r.whole; cut = r.cut; checked = r.checked })
 
+-- nor do the colors of a pair, which the painter doesn't hold
+recolors : (mid k : Held) (p f b : ℤ) (answer : Answer) (sent : List ℕ) (s : State) → Recolors p f b mid answer k → Reached mid sent s → Reached k sent s
+recolors mid k p f b answer sent s e r = subst (λ (x : Held). Reached x sent s) (sym e.0) (record { whole = r.whole; cut = r.cut; checked = r.checked })
+
 nothing_sent : {C : Type 0} (t : Table) → IsChecked t → (partners : ℕ → Option ℕ) (p : Painted C) (s : State) → FitsIn t partners p s → Ends s [] (FitsIn t partners p)
 nothing_sent t checked partners p s f =
     let lost = fits_lost t checked (ink_at t partners p.shown) p.session.status p.session.cursor s f in
@@ -95,6 +99,8 @@ reached h k taken s (Took before _ mid _ room count p hands e) b =
     (took mid k room count (before ++ mid.outbox.waiting) s hands (reached h mid before s p b))
 reached h k taken s (Noted _ mid _ line p e) b =
     subst (λ (l : List ℕ). Reached k (taken ++ l) s) (sym (ap (λ (x : Held). x.outbox.waiting) e)) (noted mid k line (taken ++ mid.outbox.waiting) s e (reached h mid taken s p b))
+reached h k taken s (Recolored _ mid _ p f b answer q e) x =
+    subst (λ (l : List ℕ). Reached k (taken ++ l) s) (sym (ap (λ (y : Held). y.outbox.waiting) e.0)) (recolors mid k p f b answer (taken ++ mid.outbox.waiting) s e (reached h mid taken s q x))
 
 pub calls_reach : CallsReach
 calls_reach h k taken s p b = (reached h k taken s p b).whole
@@ -107,6 +113,7 @@ rested h k taken (Drew _ mid _ call answer p m quiet) =
     ap (λ (l : List ℕ). taken ++ l) (m.carries.sent.waiting ∙ ap (λ (l : List ℕ). mid.outbox.waiting ++ l) none ∙ append-nil mid.outbox.waiting) ∙ rested h mid taken p
 rested h k taken (TookMore before _ mid _ room count p hands e) = handed before taken mid.outbox.waiting k.outbox.waiting count e hands.rest ∙ rested h mid before p
 rested h k taken (NotedMore _ mid _ line p e) = ap (λ (x : Held). taken ++ x.outbox.waiting) e ∙ rested h mid taken p
+rested h k taken (RecoloredMore _ mid _ p f b answer q e) = ap (λ (x : Held). taken ++ x.outbox.waiting) e.0 ∙ rested h mid taken q
 
 pub refreshes_show : RefreshesShow
 refreshes_show h mid k last taken more call answer s p m shown rests none b =

@@ -11,7 +11,7 @@ use Rattle.cur_scripts.specs.declared.faults.ScriptFaultKind.TheVariants.{BadLin
 use Rattle.cur_play.specs.Deliveries.{Carries}
 use Rattle.cur_play.specs.Outputs.{poised}
 use Rattle.cur_play.specs.Scenes.{lost_stage, scene_of}
-use Rattle.cur_play.specs.Steps.{CallStep, drawn, output_of}
+use Rattle.cur_play.specs.Steps.{CallStep, drawn, output_of, recolored}
 use Rattle.cur_play.specs.declared.answers.Answer.{Answer}
 use Rattle.cur_play.specs.declared.answers.Answer.TheVariants.{Done, Was, Refused, WireFailed}
 use Rattle.curses_c.specs.Codes.{answer_code, failure_code, script_code}
@@ -64,6 +64,15 @@ MakesUpTo h [] n a k = (n ≡ 0) × (a ≡ Done) × (k ≡ h)
 MakesUpTo h (call ∷ calls) n a k =
     (answer : Answer) × (mid : Held) × Makes h call answer mid
     × Then (is_done answer) answer n a mid k (λ more. MakesUpTo mid calls more a k)
+
+-- a pair gets its colors, of which -1 is the terminal's default; nothing is sent, and the line that is noted stays
+abbrev pub Recolors : ℤ → ℤ → ℤ → Held → Answer → Held → Type 0
+Recolors p f b h answer k =
+    let x = recolored p f b h.session in
+    (k ≡ record h { session = x.0 }) × (answer ≡ x.1)
+
+abbrev pub RecolorsAs : ℤ → ℤ → ℤ → Held → ℤ → Held → Type 0
+RecolorsAs p f b h code k = (answer : Answer) × Recolors p f b h answer k × (code ≡ answer_code answer)
 
 -- this line is the one that wasn't done; all else is the same
 abbrev pub noting : ℕ → Held → Held

@@ -1,5 +1,5 @@
 -- What a terminal comes to that gets the bytes that a program takes, by runs of a terminal alone.
-use Rattle.std.specs.Prelude.{ℕ, ◌≡◌, true, List, [], ◌++◌, take}
+use Rattle.std.specs.Prelude.{ℕ, ℤ, ◌≡◌, true, List, [], ◌++◌, take}
 use Rattle.vt_term.specs.Ends.{Ends}
 use Rattle.vt_term.specs.Screen.{State}
 use Rattle.ti_cert.specs.Table.{certified}
@@ -16,10 +16,11 @@ use Rattle.cur_play.specs.Scenes.{first, scene_of}
 use Rattle.cur_play.specs.Steps.{drawn, output_of}
 use Rattle.cur_play.specs.declared.answers.Answer.{Answer}
 use Rattle.cur_play.specs.declared.sends.Emission.TheVariants.{Nothing}
-use Rattle.curses_c.specs.Held.{Hands, Loses, Makes, noting}
+use Rattle.curses_c.specs.Held.{Hands, Loses, Makes, Recolors, noting}
 use Rattle.curses_c.specs.declared.held.Held.{Held}
 
--- calls on a session, and what the program took of the bytes that wait; which line wasn't done changes none of these
+-- calls on a session, colors of pairs, and what the program took of the bytes that wait; which line wasn't done
+-- changes none of these
 pub data Played (h : Held) : List ℕ → Held → Type 0 where
   Begun : (taken : List ℕ) (k : Held) → taken ≡ [] → k ≡ h → Played h taken k
   Called : (taken : List ℕ) (mid k : Held) (call : Call) (answer : Answer) → Played h taken mid
@@ -27,6 +28,8 @@ pub data Played (h : Held) : List ℕ → Held → Type 0 where
   Took : (before taken : List ℕ) (mid k : Held) (room : List ℕ) (count : ℕ) → Played h before mid
       → Hands mid room count k → taken ≡ before ++ take count mid.outbox.waiting → Played h taken k
   Noted : (taken : List ℕ) (mid k : Held) (line : ℕ) → Played h taken mid → k ≡ noting line mid → Played h taken k
+  Recolored : (taken : List ℕ) (mid k : Held) (p f b : ℤ) (answer : Answer) → Played h taken mid
+      → Recolors p f b mid answer k → Played h taken k
 
 -- the same, of calls that send nothing
 pub data Rests (h : Held) : List ℕ → Held → Type 0 where
@@ -36,6 +39,8 @@ pub data Rests (h : Held) : List ℕ → Held → Type 0 where
   TookMore : (before taken : List ℕ) (mid k : Held) (room : List ℕ) (count : ℕ) → Rests h before mid
       → Hands mid room count k → taken ≡ before ++ take count mid.outbox.waiting → Rests h taken k
   NotedMore : (taken : List ℕ) (mid k : Held) (line : ℕ) → Rests h taken mid → k ≡ noting line mid → Rests h taken k
+  RecoloredMore : (taken : List ℕ) (mid k : Held) (p f b : ℤ) (answer : Answer) → Rests h taken mid
+      → Recolors p f b mid answer k → Rests h taken k
 
 -- the states that the terminal may be in where nothing waits
 abbrev pub FitsHeld : Held → State → Type 0

@@ -5,8 +5,8 @@ ghost use Rattle.cur_play.specs.Scenes.{first, scene_of};
 ghost use Rattle.ti_cert.specs.Table.{certified};
 ghost use Rattle.ti_conforms.specs.Certified.{IsChecked};
 ghost use Rattle.curses_c.specs.Codes as codes;
-ghost use Rattle.curses_c.specs.Held.{Does, Hands, Loses, Makes, MakesUpTo, Plays, Says, fault_line, is_done};
-ghost use Rattle.curses_c.specs.Held.{line_left, noting};
+ghost use Rattle.curses_c.specs.Held.{Does, Hands, Loses, Makes, MakesUpTo, Plays, Recolors, Says, fault_line};
+ghost use Rattle.curses_c.specs.Held.{is_done, line_left, noting};
 
 use crate::codes::{Failure, answer_code, failure_code, script_code};
 use crate::lines::line_of;
@@ -82,6 +82,14 @@ impl Held {
             Some(call) => answer_code(self.call(&call)),
             None => failure_code(Failure::BadCall),
         }
+    }
+
+    /// Sets the colors of `pair`, of which -1 is the terminal's default color.
+    pub fn init_pair_or_default(&mut self, pair: i32, foreground: i32, background: i32) -> Answer
+        ensures { Recolors pair foreground background self.old result self.new }
+    {
+        self.session
+            .init_pair_or_default(pair, foreground, background)
     }
 
     /// Does `calls` up to the first that isn't done.

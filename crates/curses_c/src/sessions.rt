@@ -2,7 +2,7 @@
 ghost use Rattle.std.specs.Prelude.{◌≡◌, None, IfErr, IfOk, length, pos};
 ghost use Rattle.cur_calls.specs.declared.calls.Call.TheVariants.{Addstr};
 ghost use Rattle.curses_c.specs.Entries.{IsShown};
-ghost use Rattle.curses_c.specs.Held.{Does, Loses, MakesAlone, Says};
+ghost use Rattle.curses_c.specs.Held.{Does, Loses, MakesAlone, RecolorsAs, Says};
 ghost use Rattle.curses_c.specs.Sessions.{Answers, Fetches, IsOpened, IsOwnTable, IsTableFor, IsUnopened, LacksChecked};
 ghost use Rattle.curses_c.specs.Sessions.{LacksOwn, Opens, closed};
 
@@ -142,6 +142,28 @@ pub extern "C" fn ticurses_raw_make(alloc: Global, handle: &mut Handle, request:
     };
     let mut held = held;
     let code = held.make(request);
+    handle.put(held);
+    code
+}
+
+/// Sets the colors of `pair`, 1 to 63, to `foreground` and `background`, each 0 to 7, or -1 for the terminal's default
+/// color.
+#[unsafe(no_mangle)]
+pub extern "C" fn ticurses_raw_init_pair_or_default(
+    alloc: Global,
+    handle: &mut Handle,
+    pair: i32,
+    foreground: i32,
+    background: i32,
+) -> i32
+    ensures { Answers closed (RecolorsAs pair foreground background) (handle.old).slot.held result
+        (handle.new).slot.held }
+{
+    let Some(held) = handle.take(alloc) else {
+        return failure_code(Failure::Closed);
+    };
+    let mut held = held;
+    let code = answer_code(held.init_pair_or_default(pair, foreground, background));
     handle.put(held);
     code
 }
