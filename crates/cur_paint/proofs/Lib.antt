@@ -7,6 +7,5 @@ pub mod ModeFacts
 pub mod Agreeing
 pub mod Renewals
 pub mod UpdateFacts
-pub mod BellFacts
 pub mod EndingFacts
 pub mod Starts

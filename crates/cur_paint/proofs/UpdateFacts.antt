@@ -1,7 +1,6 @@
 -- From all that a refresh is to send to what it promises.
 use Rattle.std.proofs.Common.{◌≡◌, ℕ, ◌<◌, ◌≤◌, List, ◌++◌, length, Option, Some, Ok, Err, refl, ap, subst, ◌∙◌, inl, inr, arith, append_assoc, length-append}
 use Rattle.vt_term.specs.Screen.{State}
-use Rattle.vt_term.specs.Ends.{Ends}
 use Rattle.cur_wires.specs.Leads.{Leads}
 use Rattle.cur_wires.specs.Wire.{StopsIn}
 use Rattle.cur_wires.proofs.Completion.{ends_as}

@@ -1,5 +1,5 @@
 -- The terminal as it is known after all was erased.
-use Rattle.std.specs.Prelude.{ℕ, false, Option, Some}
+use Rattle.std.specs.Prelude.{false, Option, Some}
 use Rattle.vt_term.specs.Screen.{State}
 use Rattle.ti_conforms.specs.Certified.{Table, IsLost}
 use Rattle.cur_steps.specs.Inks.{plain_brush}

@@ -7,5 +7,4 @@ pub mod Rests
 pub mod Cleared
 pub mod Scenes
 pub mod Update
-pub mod Beep
 pub mod Finish

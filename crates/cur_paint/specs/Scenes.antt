@@ -72,10 +72,6 @@ IsBlankPast s row col = (k : ℕ) → col ≤ k → k < s.table.cols → s.new r
 abbrev pub IsSamePast : Scene → ℕ → ℕ → Type 0
 IsSamePast s row col = (k : ℕ) → col ≤ k → k < s.table.cols → s.old row k ≡ s.new row k
 
--- an answer Ok leaves what is believed as it was, if n, the number of cells that differ, is 0
-abbrev pub IsIdle : {T E : Type 0} → Result T E → ℕ → Belief → Belief → Type 0
-IsIdle answer n b c = OnOk answer (n ≡ 0 → c ≡ b)
-
 -- a step from the cells g to the cells h that sends at most n times the bytes of a cell
 abbrev pub Mends : {W T E : Type 0} → (W → W → List ℕ → Type 0) → (W → ℕ) → W → W → Result T E → Table → ℕ
     → (ℕ → ℕ → Ink) → (ℕ → ℕ → Ink) → Belief → Belief → Type 0

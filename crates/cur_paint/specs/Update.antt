@@ -64,7 +64,8 @@ pub record BeginsClear (t : Table) (bytes : List ℕ) : Type 0 where
 abbrev pub Begins : Table → Status → Bool → List ℕ → Type 0
 Begins t Known true bytes = BeginsClear t bytes
 Begins t Known false bytes = Unit {0}
-Begins t _ clear bytes = BeginsWith t.resync bytes
+Begins t Fresh clear bytes = BeginsWith t.resync bytes
+Begins t Lost clear bytes = BeginsWith t.resync bytes
 
 -- what a refresh begins with
 abbrev pub opening : Table → Status → Bool → List ℕ
@@ -90,7 +91,8 @@ pub record Lawful (t : Table) (kind : State → Type 0) (status : Status) (now :
 
 abbrev pub refresh_limit : Table → (ℕ → ℕ → Ink) → (ℕ → ℕ → Ink) → Status → Belief → Wanted → ℕ
 refresh_limit t shown g Known b w = if w.clear then fresh_limit t else paint_limit t shown g b w.cursor w.mode
-refresh_limit t shown g _ b w = fresh_limit t
+refresh_limit t shown g Fresh b w = fresh_limit t
+refresh_limit t shown g Lost b w = fresh_limit t
 
 -- what goes out in a refresh
 pub record Draws {W T E : Type 0} (went : W → W → List ℕ → Type 0) (failures : W → ℕ) (old new : W)

@@ -1,12 +1,12 @@
 //! Whether all is cleared before a known screen is painted.
 use crate::changes::Changes;
-use crate::parts::are_blank;
-use crate::rows::may_differ;
+use crate::runs::are_blank;
+use crate::tails::may_differ;
 use cur_steps::Picture;
 use ti_conforms::Certificate;
 use ti_rows::Row;
 
-/// What a move and a look take at least once more in a line of which cells are printed again.
+/// An estimate of the bytes of a move and of a change of attributes, for each line whose cells are printed again.
 const AGAIN: usize = 8;
 
 /// A line of two screens: whether it is blank on the new one, how many cells of its end become so, and how many others
@@ -143,7 +143,7 @@ pub(crate) fn may_become_blanks<N: Picture, D: Changes>(
     lines.end - lines.from > rows / 4 && two_may_become_blank(new, changes, rows, cols)
 }
 
-/// The same, however many lines may differ.
+/// Whether two of three lines become blank: those at a quarter, half and three quarters of the screen.
 #[inline(never)]
 fn two_may_become_blank<N: Picture, D: Changes>(
     new: &N,
@@ -156,6 +156,8 @@ fn two_may_become_blank<N: Picture, D: Changes>(
     match (middle, upper) {
         (true, true) => true,
         (false, false) => false,
-        _ => may_become_blank(new, changes, rows / 2 + rows / 4, rows, cols),
+        (true, false) | (false, true) => {
+            may_become_blank(new, changes, rows / 2 + rows / 4, rows, cols)
+        }
     }
 }

@@ -1,68 +1,104 @@
 //! Painting what differs, and ending in the default rendition with the cursor in its mode and place.
-ghost use Rattle.std.specs.Prelude.{◌≡◌, ◌≤◌, true, false, Some, OnOk};
-ghost use Rattle.ti_conforms.specs.Certified.{IsChecked, cell_limit};
-ghost use Rattle.cur_steps.specs.Beliefs.{Agrees, CanHide};
-ghost use Rattle.cur_steps.specs.Steps.{Acts, Keeps};
-ghost use Rattle.cur_paint.specs.Limits.{IsWithin, IsPlaced, cursor_limit, last_move, paint_limit, renewal_limit};
-ghost use Rattle.cur_paint.specs.Limits.{rest_limit};
+ghost use Rattle.std.specs.Prelude.{◌≡◌, OnOk, Some};
+ghost use Rattle.cur_paint.specs.Limits.{IsPlaced, IsWithin, cursor_limit, rest_limit};
 ghost use Rattle.cur_paint.specs.Modes.{move_limit};
 ghost use Rattle.cur_paint.specs.Rests.{IsAt, IsRested};
-ghost use Rattle.cur_paint.specs.Scenes.{IsPaintable, Renews, Sets, all_changed, scene};
+ghost use Rattle.cur_paint.specs.Scenes.{IsPaintable, Renews, Sets, scene};
+ghost use Rattle.cur_steps.specs.Beliefs.{Agrees, CanHide};
+ghost use Rattle.cur_steps.specs.Steps.{Acts, Keeps};
+ghost use Rattle.ti_conforms.specs.Certified.{IsChecked, cell_limit};
 
 use crate::changes::Changes;
-use crate::counts::differ_in_more;
-use crate::rows::mend_screen;
+use crate::mending::mend_screen;
 use crate::screens::Screens;
 use crate::updates::Wanted;
 use cur_moves::{Target, make_plain, reach};
-use cur_steps::{Belief, Picture, Place, is_mode, set_as, show_as};
+use cur_steps::{Belief, Picture, Place, set_as, show_as};
 use cur_wires::{Wire, WireFault};
 use ti_conforms::Certificate;
 
-/// Whether the cursor is at `at`, where its place `now` is believed on a screen of `cols` columns: with a wrap pending
-/// it is in the last one.
-fn is_seen(now: Place, cols: usize, at: Place) -> bool
-    ensures seen { result ≡ true → IsPlaced cols (Some at) now }
-    ensures counted { result ≡ false → last_move cols now (Some at) ≡ 1 }
-{
-    now.row == at.row && now.col.min(cols.saturating_sub(1)) == at.col
-}
-
-/// Whether the cursor is at the place `cursor`, if there is one.
-fn is_in_place(now: Place, cols: usize, cursor: Option<Place>) -> bool
-    ensures seen { result ≡ true → IsPlaced cols cursor now }
-    ensures counted { result ≡ false → last_move cols now cursor ≡ 1 }
-{
-    match cursor {
-        Some(at) => is_seen(now, cols, at),
-        None => true,
-    }
-}
-
-/// Whether nothing is to be sent from a known state: no cell differs, and the cursor is where `wanted` says and is
-/// shown so.
-pub(crate) fn is_still<C: Certificate, O: Picture, N: Picture, D: Changes>(
+/// Mends all that differs, in the columns that may by `changes`, and then makes the rendition the default one and sets
+/// the cursor as `wanted` says.
+pub(crate) fn paint<C: Certificate, O: Picture, N: Picture, D: Changes, W: Wire>(
     screens: &Screens<'_, C, O, N>,
-    belief: Belief,
+    belief: &mut Belief,
+    wire: &mut W,
     changes: &D,
     wanted: Wanted,
-) -> bool
+) -> Result<(), WireFault>
     requires scene { IsPaintable (scene C.table O.cells N.cells screens.now) }
     requires changes { D.between changes.now (O.cells screens.now.old.now) (N.cells screens.now.new.now) }
-    ensures there { result ≡ true → IsPlaced (C.table screens.now.checked.now).cols wanted.cursor belief.place }
-    ensures mode { result ≡ true → belief.mode ≡ Some wanted.mode }
-    ensures same { result ≡ true → all_changed (scene C.table O.cells N.cells screens.now) ≡ 0 }
-    ensures due { result ≡ false → renewal_limit (C.table screens.now.checked.now) (O.cells screens.now.old.now)
-        (N.cells screens.now.new.now) ≤ paint_limit (C.table screens.now.checked.now) (O.cells screens.now.old.now)
-        (N.cells screens.now.new.now) belief wanted.cursor wanted.mode }
+    requires cursor { IsWithin (C.table screens.now.checked.now) wanted.cursor }
+    requires lines { CanHide (C.table screens.now.checked.now) wanted.mode }
+    ensures there { OnOk result (IsPlaced (C.table screens.now.checked.now).cols wanted.cursor belief.new.place) }
+    ensures at { OnOk result (IsAt wanted.cursor belief.new.place) }
+    ensures rested { OnOk result (IsRested belief.new) }
+    ensures mode { OnOk result (belief.new.mode ≡ Some wanted.mode) }
+    ensures step { Renews W.went W.failures wire.old wire.new result (scene C.table O.cells N.cells screens.now)
+        wanted.cursor wanted.mode belief.old belief.new }
 {
-    if !is_in_place(belief.place, screens.checked.cols(), wanted.cursor) {
-        return false;
-    }
-    if !is_mode(belief.mode, wanted.mode) {
-        return false;
-    }
-    !differ_in_more(screens, changes, 0)
+    mend_screen(screens, belief, wire, changes)?;
+    settle(screens, belief, wire, wanted)
+}
+
+/// The end of a refresh that is not still: the default rendition and the plain set, and the cursor as `wanted` says.
+fn settle<C: Certificate, O: Picture, N: Picture, W: Wire>(
+    screens: &Screens<'_, C, O, N>,
+    belief: &mut Belief,
+    wire: &mut W,
+    wanted: Wanted,
+) -> Result<(), WireFault>
+    requires scene { IsPaintable (scene C.table O.cells N.cells screens.now) }
+    requires cursor { IsWithin (C.table screens.now.checked.now) wanted.cursor }
+    requires lines { CanHide (C.table screens.now.checked.now) wanted.mode }
+    ensures at { OnOk result (IsAt wanted.cursor belief.new.place) }
+    ensures mode { OnOk result (belief.new.mode ≡ Some wanted.mode) }
+    ensures rested { OnOk result (IsRested belief.new) }
+    ensures step { Sets W.went W.failures wire.old wire.new result (C.table screens.now.checked.now)
+        (cell_limit (C.table screens.now.checked.now)) belief.old.mode wanted.cursor wanted.mode
+        (Agrees (C.table screens.now.checked.now) (N.cells screens.now.new.now) belief.old)
+        (Agrees (C.table screens.now.checked.now) (N.cells screens.now.new.now) belief.new) }
+{
+    rest(screens.checked, belief, wire)?;
+    set_cursor(screens, belief, wire, wanted)
+}
+
+/// Makes the rendition the default one, and the plain set the active one, if they aren't.
+pub(crate) fn rest<C: Certificate, W: Wire>(
+    checked: &C,
+    belief: &mut Belief,
+    wire: &mut W,
+) -> Result<(), WireFault>
+    requires checked { IsChecked (C.table checked.now) }
+    ensures rested { OnOk result (IsRested belief.new) }
+    ensures mode { OnOk result (belief.new.mode ≡ belief.old.mode) }
+    ensures step { Keeps W.went W.failures wire.old wire.new result (C.table checked.now)
+        (rest_limit (C.table checked.now)) belief.old belief.new }
+{
+    make_plain(checked, belief, wire)?;
+    set_as(checked, belief, wire, false)
+}
+
+/// Gives the cursor its mode, and moves it to its place, both as `wanted` says.
+fn set_cursor<C: Certificate, O: Picture, N: Picture, W: Wire>(
+    screens: &Screens<'_, C, O, N>,
+    belief: &mut Belief,
+    wire: &mut W,
+    wanted: Wanted,
+) -> Result<(), WireFault>
+    requires scene { IsPaintable (scene C.table O.cells N.cells screens.now) }
+    requires cursor { IsWithin (C.table screens.now.checked.now) wanted.cursor }
+    requires lines { CanHide (C.table screens.now.checked.now) wanted.mode }
+    ensures at { OnOk result (IsAt wanted.cursor belief.new.place) }
+    ensures mode { OnOk result (belief.new.mode ≡ Some wanted.mode) }
+    ensures rested { IsRested belief.old → OnOk result (IsRested belief.new) }
+    ensures step { Sets W.went W.failures wire.old wire.new result (C.table screens.now.checked.now)
+        (cursor_limit (C.table screens.now.checked.now)) belief.old.mode wanted.cursor wanted.mode
+        (Agrees (C.table screens.now.checked.now) (N.cells screens.now.new.now) belief.old)
+        (Agrees (C.table screens.now.checked.now) (N.cells screens.now.new.now) belief.new) }
+{
+    show_as(screens.checked, belief, wire, wanted.mode)?;
+    place_cursor(screens, belief, wire, wanted.cursor)
 }
 
 /// Moves the cursor to the place `cursor`, if there is one, so that no wrap is pending there.
@@ -88,88 +124,4 @@ fn place_cursor<C: Certificate, O: Picture, N: Picture, W: Wire>(
         shown: screens.new,
     };
     reach(&target, belief, wire, at)
-}
-
-/// Gives the cursor its mode, and moves it to its place, both as `wanted` says.
-fn set_cursor<C: Certificate, O: Picture, N: Picture, W: Wire>(
-    screens: &Screens<'_, C, O, N>,
-    belief: &mut Belief,
-    wire: &mut W,
-    wanted: Wanted,
-) -> Result<(), WireFault>
-    requires scene { IsPaintable (scene C.table O.cells N.cells screens.now) }
-    requires cursor { IsWithin (C.table screens.now.checked.now) wanted.cursor }
-    requires lines { CanHide (C.table screens.now.checked.now) wanted.mode }
-    ensures at { OnOk result (IsAt wanted.cursor belief.new.place) }
-    ensures mode { OnOk result (belief.new.mode ≡ Some wanted.mode) }
-    ensures rested { IsRested belief.old → OnOk result (IsRested belief.new) }
-    ensures step { Sets W.went W.failures wire.old wire.new result (C.table screens.now.checked.now)
-        (cursor_limit (C.table screens.now.checked.now)) belief.old.mode wanted.cursor wanted.mode
-        (Agrees (C.table screens.now.checked.now) (N.cells screens.now.new.now) belief.old)
-        (Agrees (C.table screens.now.checked.now) (N.cells screens.now.new.now) belief.new) }
-{
-    show_as(screens.checked, belief, wire, wanted.mode)?;
-    place_cursor(screens, belief, wire, wanted.cursor)
-}
-
-/// Makes the rendition the default one, and the plain set the active one, if they aren't.
-fn rest<C: Certificate, W: Wire>(
-    checked: &C,
-    belief: &mut Belief,
-    wire: &mut W,
-) -> Result<(), WireFault>
-    requires checked { IsChecked (C.table checked.now) }
-    ensures rested { OnOk result (IsRested belief.new) }
-    ensures mode { OnOk result (belief.new.mode ≡ belief.old.mode) }
-    ensures step { Keeps W.went W.failures wire.old wire.new result (C.table checked.now)
-        (rest_limit (C.table checked.now)) belief.old belief.new }
-{
-    make_plain(checked, belief, wire)?;
-    set_as(checked, belief, wire, false)
-}
-
-/// The end of a refresh that is not still: the default rendition and the plain set, and the cursor as `wanted` says.
-fn settle<C: Certificate, O: Picture, N: Picture, W: Wire>(
-    screens: &Screens<'_, C, O, N>,
-    belief: &mut Belief,
-    wire: &mut W,
-    wanted: Wanted,
-) -> Result<(), WireFault>
-    requires scene { IsPaintable (scene C.table O.cells N.cells screens.now) }
-    requires cursor { IsWithin (C.table screens.now.checked.now) wanted.cursor }
-    requires lines { CanHide (C.table screens.now.checked.now) wanted.mode }
-    ensures at { OnOk result (IsAt wanted.cursor belief.new.place) }
-    ensures mode { OnOk result (belief.new.mode ≡ Some wanted.mode) }
-    ensures rested { OnOk result (IsRested belief.new) }
-    ensures step { Sets W.went W.failures wire.old wire.new result (C.table screens.now.checked.now)
-        (cell_limit (C.table screens.now.checked.now)) belief.old.mode wanted.cursor wanted.mode
-        (Agrees (C.table screens.now.checked.now) (N.cells screens.now.new.now) belief.old)
-        (Agrees (C.table screens.now.checked.now) (N.cells screens.now.new.now) belief.new) }
-{
-    rest(screens.checked, belief, wire)?;
-    set_cursor(screens, belief, wire, wanted)
-}
-
-/// Mends all that differs, in the columns that may by `changes`, and then makes the rendition the default one and sets
-/// the cursor as `wanted` says.
-pub(crate) fn paint<C: Certificate, O: Picture, N: Picture, D: Changes, W: Wire>(
-    screens: &Screens<'_, C, O, N>,
-    belief: &mut Belief,
-    wire: &mut W,
-    changes: &D,
-    wanted: Wanted,
-) -> Result<(), WireFault>
-    requires scene { IsPaintable (scene C.table O.cells N.cells screens.now) }
-    requires changes { D.between changes.now (O.cells screens.now.old.now) (N.cells screens.now.new.now) }
-    requires cursor { IsWithin (C.table screens.now.checked.now) wanted.cursor }
-    requires lines { CanHide (C.table screens.now.checked.now) wanted.mode }
-    ensures there { OnOk result (IsPlaced (C.table screens.now.checked.now).cols wanted.cursor belief.new.place) }
-    ensures at { OnOk result (IsAt wanted.cursor belief.new.place) }
-    ensures rested { OnOk result (IsRested belief.new) }
-    ensures mode { OnOk result (belief.new.mode ≡ Some wanted.mode) }
-    ensures step { Renews W.went W.failures wire.old wire.new result (scene C.table O.cells N.cells screens.now)
-        wanted.cursor wanted.mode belief.old belief.new }
-{
-    mend_screen(screens, belief, wire, changes)?;
-    settle(screens, belief, wire, wanted)
 }

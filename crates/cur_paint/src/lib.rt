@@ -1,22 +1,22 @@
 //! The painter's heart: from what a terminal is known to show to what it is to show.
 #![tactic(auto)]
 
-mod bells;
 mod changes;
+mod choices;
 mod clears;
 mod counts;
 mod cursors;
 mod endings;
+mod fronts;
 mod lasting;
 mod laws;
-mod parts;
-mod rows;
+mod mending;
+mod pieces;
+mod runs;
 mod screens;
-mod scrolls;
-mod spans;
+mod tails;
 mod updates;
 
-pub use bells::{BellFault, beep};
 pub use changes::{Changes, Columns, LineRange};
 pub use endings::finish;
 pub use laws::{bounded, reset_is_fresh};

@@ -10,13 +10,12 @@ use Rattle.cur_wires.specs.Wire.{Rose, last_count}
 use Rattle.cur_wires.specs.declared.wires.WireFault.{WireFault}
 use Rattle.cur_steps.specs.declared.beliefs.Mode.{Mode}
 use Rattle.cur_steps.specs.declared.inks.Ink.{Ink}
-use Rattle.cur_paint.specs.Beep.{RangShort}
 use Rattle.cur_paint.specs.Modes.{OnlyPaints, shown_mode}
 use Rattle.cur_paint.specs.Update.{Lawful, opening}
 use Rattle.cur_paint.specs.declared.updates.Status.{Status}
 use Rattle.cur_paint.specs.declared.updates.Status.TheVariants.{Fresh, Known, Lost}
 use Rattle.cur_paint.specs.declared.updates.Wanted.{Wanted}
-use Rattle.cur_update.specs.Beep.{Rings}
+use Rattle.cur_update.specs.Beep.{RangShort, Rings}
 use Rattle.cur_update.specs.Inks.{ink_at}
 use Rattle.cur_update.specs.Painters.{Painted, wanted_of}
 use Rattle.cur_update.specs.declared.bells.Unsent.{Unsent}

@@ -3,7 +3,7 @@ use Rattle.std.specs.Prelude.{ℕ, ◌≡◌, List, [], Option}
 use Rattle.cur_screens.specs.VirtualScreen.{Screen}
 use Rattle.ti_conforms.specs.Certified.{Table}
 use Rattle.cur_paint.specs.Update.{Refreshed, CutShort}
-use Rattle.cur_paint.specs.Beep.{Rang, RangShort}
+use Rattle.cur_update.specs.Beep.{Rang, RangShort}
 use Rattle.cur_paint.specs.Finish.{Finished, FinishedShort, finish_text}
 use Rattle.cur_update.specs.Inks.{ink_at}
 use Rattle.cur_update.specs.Painters.{Painted, wanted_of}

@@ -1,3 +1,4 @@
+pub mod BellFacts
 pub mod InkFacts
 pub mod Counts
 pub mod Likeness

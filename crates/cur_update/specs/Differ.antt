@@ -8,7 +8,8 @@ use Rattle.cur_update.specs.Inks.{content_at}
 abbrev pub same_number : Option ℕ → Option ℕ → Bool
 same_number None None = true
 same_number (Some a) (Some b) = a == b
-same_number _ _ = false
+same_number (Some m) None = false
+same_number None (Some n) = false
 
 abbrev pub same_colors : Colors → Colors → Bool
 same_colors p q = same_number p.foreground q.foreground && same_number p.background q.background

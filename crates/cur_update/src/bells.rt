@@ -1,10 +1,13 @@
 //! Ringing the bell.
+ghost use Rattle.std.specs.Prelude.{◌≡◌, true};
+ghost use Rattle.cur_paint.specs.declared.updates.Status.TheVariants.{Lost};
 ghost use Rattle.cur_update.specs.Beep.{Rings};
 
 use cur_drawing::Refusal;
-use cur_paint::Knowledge;
-use cur_wires::{Wire, WireFault};
+use cur_paint::{Knowledge, Status};
+use cur_wires::{Wire, WireFault, send_all};
 use ti_conforms::Certificate;
+use ti_rows::Row;
 
 /// Why nothing, or not all, was sent.
 #[derive(Clone, Copy)]
@@ -15,18 +18,36 @@ pub enum Unsent {
     Wire(WireFault),
 }
 
-/// Rings the bell.
+/// Rings the bell. It is refused where the entry has no `bel`, and then by a lost session; on a wire's fault a front of
+/// the string went out, and the session is lost.
 pub(crate) fn ring<C: Certificate, W: Wire>(
     checked: &C,
     session: &mut Knowledge,
     wire: &mut W,
 ) -> Result<(), Unsent>
-    ensures { Rings W.went W.failures wire.old wire.new result (C.table checked.now) session.old session.new }
+    ensures rings { Rings W.went W.failures wire.old wire.new result (C.table checked.now) session.old session.new }
 {
-    match cur_paint::beep(checked, session, wire) {
-        Ok(()) => Ok(()),
-        Err(cur_paint::BellFault::NoCap) => Err(Unsent::Refused(Refusal::NoCap)),
-        Err(cur_paint::BellFault::Stray) => Err(Unsent::Refused(Refusal::IsLost)),
-        Err(cur_paint::BellFault::Wire(fault)) => Err(Unsent::Wire(fault)),
+    // only this call's contract says that the certificate is verified
+    let _ = checked.rows();
+    let Some(line) = checked.line(Row::Bel) else {
+        return Err(Unsent::Refused(Refusal::NoCap));
+    };
+    if is_lost(session.status) {
+        return Err(Unsent::Refused(Refusal::IsLost));
     }
+    match send_all(wire, line) {
+        Ok(()) => Ok(()),
+        Err(fault) => {
+            session.status = Status::Lost;
+            Err(Unsent::Wire(fault))
+        }
+    }
+}
+
+/// Whether an output failed, and no refresh was done since.
+fn is_lost(status: Status) -> bool
+    ensures so { result ≡ true → status ≡ Lost }
+    ensures only { status ≡ Lost → result ≡ true }
+{
+    matches!(status, Status::Lost)
 }

@@ -1,24 +1,18 @@
 //! How cells of the virtual screen are printed.
-ghost use Rattle.std.specs.Prelude.{◌≡◌, ◌+◌, ◌<◌, ◌≤◌, ℕ, Option, IfSome, false, length, not, slice_index_or, true};
-ghost use Rattle.cur_drawing.specs.Cells.{space};
+//!
+//! What is true of a cell is `ink_of`, and whether it is printed like an ink `shows_ink`. Everything else that asks for
+//! that is a short cut (`shortcuts.rt`), which decides by the cell's own numbers and leaves the rest to these two.
+ghost use Rattle.std.specs.Prelude.{◌≡◌, ℕ, Option};
 ghost use Rattle.ti_rows.specs.declared.rows.Row.TheVariants.{Smacs, Op};
-ghost use Rattle.ti_conforms.specs.Certified.{has};
 ghost use Rattle.cur_steps.specs.Inks.{same, blank_ink};
 ghost use Rattle.cur_update.specs.Inks as spec;
-ghost use Rattle.cur_update.specs.declared.inks.Means.{Means};
 
+use crate::shortcuts::is_plain;
 use cur_drawing::{Attrs, Cell};
-use cur_steps::{Brush, Cells, Ink, is_same};
+use cur_steps::{Brush, Ink, has_line, is_same};
 use ti_conforms::{Certificate, Character, shown};
 use ti_rows::{Attributes, Row};
 use vt_term::{Color, color_of as color};
-
-/// Whether the entry has a string.
-pub(crate) fn has_line<C: Certificate>(checked: &C, row: Row) -> bool
-    ensures { result ≡ has (C.table checked.now) row }
-{
-    checked.line(row).is_some()
-}
 
 /// What an entry has for printing cells.
 #[derive(Clone, Copy)]
@@ -91,16 +85,6 @@ fn character_of<C: Certificate>(checked: &C, graphic: bool, cell: Cell) -> Chara
     }
 }
 
-/// Whether a cell has no attributes and default colours.
-#[inline(always)]
-#[tactic(auto, using(crate::proofs::Plainly::plain_is))]
-pub(crate) fn is_plain(cell: Cell, colors: (Option<u8>, Option<u8>)) -> bool
-    ensures { result ≡ true → (means : Means) (partners : ℕ → Option ℕ)
-        → spec.ink_with means partners (spec.pair_colors colors) cell ≡ spec.plain_ink cell.byte }
-{
-    cell.attrs() == Attrs::none() && colors.0.is_none() && colors.1.is_none()
-}
-
 /// A character of no attributes and default colours.
 #[inline(always)]
 fn plain_ink(byte: u8) -> Ink
@@ -139,7 +123,7 @@ pub(crate) fn ink_of<C: Certificate>(
     styled_ink(checked, means, colors, cell)
 }
 
-/// The same, also of a plain cell, without a look whether it is one.
+/// How any cell is printed. `ink_of` and `shows_ink` answer for a plain one without it.
 #[inline(never)]
 fn styled_ink<C: Certificate>(
     checked: &C,
@@ -198,91 +182,4 @@ pub(crate) fn is_blank_ink<C: Certificate>(
         return cell.byte() == b' ';
     }
     shows_ink(checked, means, colors, cell, Ink::blank())
-}
-
-/// Whether a cell is one of the plain set with another character.
-#[inline(always)]
-pub(crate) fn is_other(cell: Cell, byte: u8) -> bool
-    ensures { result ≡ spec.is_other cell byte }
-{
-    !cell.attrs().has(Attrs::ALTCHARSET) && cell.byte() != byte
-}
-
-/// Notes in `shown` which cells aren't known to have another character than `text` has for them: those of the
-/// alternate set, and those with this character. Whether each of these has no attributes, and pair 0.
-pub(crate) fn note_alike(line: &[Cell], text: &[u8], shown: &mut [bool]) -> bool
-    requires text { length line.now ≤ length text.now }
-    requires room { length line.now ≤ length shown.old }
-    ensures room { length shown.new ≡ length shown.old }
-    ensures alike { (k : ℕ) → k < length line.now → slice_index_or shown.new k false
-        ≡ not (spec.is_other (slice_index_or line.now k space) (slice_index_or text.now k 0)) }
-    ensures bare { result ≡ true → (k : ℕ) → k < length line.now → slice_index_or shown.new k false ≡ true
-        → spec.IsBare (slice_index_or line.now k space) }
-{
-    let mut are_bare = true;
-    for n in 0..line.len() {
-        let alike = may_have(line[n], text[n]);
-        shown[n] = alike;
-        are_bare = are_bare & (!alike | is_bare(line[n]));
-    }
-    are_bare
-}
-
-// Whether a cell has no attributes, and pair 0.
-#[inline(always)]
-fn is_bare(cell: Cell) -> bool
-    ensures { result ≡ true → spec.IsBare cell }
-{
-    cell.is_styled_like(Cell::space())
-}
-
-// Whether a cell is of the alternate set or has this character. Both are asked, so that there is no branch.
-#[inline(always)]
-fn may_have(cell: Cell, byte: u8) -> bool
-    ensures { result ≡ not (spec.is_other cell byte) }
-{
-    cell.attrs().has(Attrs::ALTCHARSET) | (cell.byte() == byte)
-}
-
-/// Whether a cell of the plain set has the attributes and the pair of another one.
-#[inline(always)]
-fn is_plain_like(cell: Cell, other: Cell) -> bool
-    ensures { result ≡ true → spec.IsPlainLike cell other cell.byte }
-{
-    cell.is_styled_like(other) && !other.attrs().has(Attrs::ALTCHARSET)
-}
-
-/// The character of a cell of the plain set, if another cell has its attributes and its pair.
-pub(crate) fn plain_byte(cells: &[Cell], at: usize, like: usize) -> Option<u8>
-    requires at { at < length cells.now }
-    requires like { like < length cells.now }
-    ensures { IfSome result
-        (spec.IsPlainLike (slice_index_or cells.now at space) (slice_index_or cells.now like space)) }
-{
-    let cell = cells[at];
-    is_plain_like(cell, cells[like]).then_some(cell.byte())
-}
-
-/// How many of the cells of `stretch` of a line come before the first one that isn't of the plain set with the
-/// attributes and the pair of the cell in the column `like`; no more than there is room for in `text`, which gets their
-/// characters.
-pub(crate) fn plain_text(line: &[Cell], stretch: Cells, like: usize, text: &mut [u8]) -> usize
-    requires like { like < length line.now }
-    requires within { stretch.from + stretch.count ≤ length line.now }
-    ensures within { result ≤ stretch.count }
-    ensures room { result ≤ length text.new }
-    ensures length { length text.new ≡ length text.old }
-    ensures text { spec.ArePlainLike line.now stretch.from like result text.new }
-{
-    let other = line[like];
-    let mut n = 0;
-    while n < stretch.count && n < text.len() {
-        let cell = line[stretch.from + n];
-        if !is_plain_like(cell, other) {
-            return n;
-        }
-        text[n] = cell.byte();
-        n += 1;
-    }
-    n
 }

@@ -8,6 +8,7 @@ mod laws;
 mod painters;
 mod screens;
 mod scrolls;
+mod shortcuts;
 
 pub use bells::Unsent;
 pub use cur_paint::{Knowledge, Status};

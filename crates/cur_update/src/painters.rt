@@ -12,12 +12,12 @@ ghost use Rattle.cur_update.specs.Beep.{Rings};
 
 use crate::bells::{Unsent, ring};
 use crate::changes::{Found, Shift};
-use crate::inks::{Means, has_line, means_of};
+use crate::inks::{Means, means_of};
 use crate::screens::{PrintedScreen, all_cells};
 use cur_drawing::{Refusal, place_below};
 use cur_paint::{Columns, Knowledge, Screens, Status, Wanted};
 use cur_screens::{Marks, Virtual};
-use cur_steps::{Mode, Place};
+use cur_steps::{Mode, Place, has_line};
 use cur_wires::{Wire, WireFault};
 use std::alloc::{AllocError, Global};
 use std::marker::Model;

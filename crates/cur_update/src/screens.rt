@@ -5,9 +5,8 @@ ghost use Rattle.cur_steps.specs.Inks.{blank_ink, same};
 ghost use Rattle.cur_steps.specs.Stretches.{AreLike};
 ghost use Rattle.cur_update.specs.Inks.{IsBare, content_at, ink_at_with, is_other, printed_cell};
 
-use crate::inks::{
-    Means, ink_of, is_blank_ink, is_other, is_plain, note_alike, plain_byte, plain_text, shows_ink,
-};
+use crate::inks::{Means, ink_of, is_blank_ink, shows_ink};
+use crate::shortcuts::{is_other, is_plain, note_alike, plain_byte, plain_text};
 use cur_drawing::Cell;
 use cur_screens::Virtual;
 use cur_steps::{Cells, Ink, Picture, byte_as, is_plain_ink, is_same};

@@ -1,0 +1,164 @@
+//! How a known screen is mended: not at all, after a scroll, or after all was cleared, by how many cells would differ.
+ghost use Rattle.std.specs.Prelude.{◌+◌, ◌<◌, ◌≡◌, ◌≤◌, IfSome, List, Some, false, length, true, ℕ};
+ghost use Rattle.cur_moves.specs.Scrolls.{CanScroll, shifted};
+ghost use Rattle.cur_paint.specs.Differ.{all_differ};
+ghost use Rattle.cur_paint.specs.Limits.{IsPlaced, last_move, paint_limit, renewal_limit};
+ghost use Rattle.cur_paint.specs.Scenes.{IsPaintable, all_changed, scene};
+ghost use Rattle.cur_steps.specs.Inks.{blank_ink};
+ghost use Rattle.ti_rows.specs.declared.rows.Row.TheVariants.{Clear};
+
+use crate::changes::{Changes, Moved, Whole};
+use crate::clears::{may_become_blanks, saves};
+use crate::counts::{count_cells, differ_in_more};
+use crate::screens::Screens;
+use crate::updates::Wanted;
+use cur_moves::{Scroll, Shifted, can_scroll};
+use cur_steps::{Belief, Blank, Picture, Place, is_mode};
+use ti_conforms::Certificate;
+use ti_rows::Row;
+
+/// By how many cells a scroll has to do better than by its lines: it sends margins twice, and moves.
+const BESIDE: usize = 4;
+
+/// Whether nothing is to be sent from a known state: no cell differs, and the cursor is where `wanted` says and is
+/// shown so.
+pub(crate) fn is_still<C: Certificate, O: Picture, N: Picture, D: Changes>(
+    screens: &Screens<'_, C, O, N>,
+    belief: Belief,
+    changes: &D,
+    wanted: Wanted,
+) -> bool
+    requires scene { IsPaintable (scene C.table O.cells N.cells screens.now) }
+    requires changes { D.between changes.now (O.cells screens.now.old.now) (N.cells screens.now.new.now) }
+    ensures there { result ≡ true → IsPlaced (C.table screens.now.checked.now).cols wanted.cursor belief.place }
+    ensures mode { result ≡ true → belief.mode ≡ Some wanted.mode }
+    ensures same { result ≡ true → all_changed (scene C.table O.cells N.cells screens.now) ≡ 0 }
+    ensures due { result ≡ false → renewal_limit (C.table screens.now.checked.now) (O.cells screens.now.old.now)
+        (N.cells screens.now.new.now) ≤ paint_limit (C.table screens.now.checked.now) (O.cells screens.now.old.now)
+        (N.cells screens.now.new.now) belief wanted.cursor wanted.mode }
+{
+    if !is_in_place(belief.place, screens.checked.cols(), wanted.cursor) {
+        return false;
+    }
+    if !is_mode(belief.mode, wanted.mode) {
+        return false;
+    }
+    !differ_in_more(screens, changes, 0)
+}
+
+/// Whether the cursor is at the place `cursor`, if there is one.
+fn is_in_place(now: Place, cols: usize, cursor: Option<Place>) -> bool
+    ensures seen { result ≡ true → IsPlaced cols cursor now }
+    ensures counted { result ≡ false → last_move cols now cursor ≡ 1 }
+{
+    match cursor {
+        Some(at) => is_seen(now, cols, at),
+        None => true,
+    }
+}
+
+/// Whether the cursor is at `at`, where its place `now` is believed on a screen of `cols` columns: with a wrap pending
+/// it is in the last one.
+fn is_seen(now: Place, cols: usize, at: Place) -> bool
+    ensures seen { result ≡ true → IsPlaced cols (Some at) now }
+    ensures counted { result ≡ false → last_move cols now (Some at) ≡ 1 }
+{
+    now.row == at.row && now.col.min(cols.saturating_sub(1)) == at.col
+}
+
+/// The scroll that `changes` name, if the terminal can do it and it leaves fewer cells to be mended, by at least 4 more
+/// than the lines that it moves by.
+#[inline(always)]
+pub(crate) fn useful_scroll<C: Certificate, O: Picture, N: Picture, D: Changes>(
+    screens: &Screens<'_, C, O, N>,
+    changes: &D,
+) -> Option<Scroll>
+    requires scene { IsPaintable (scene C.table O.cells N.cells screens.now) }
+    requires changes { D.between changes.now (O.cells screens.now.old.now) (N.cells screens.now.new.now) }
+    ensures can { IfSome result (λ x. CanScroll (C.table screens.now.checked.now) x) }
+    ensures fewer { IfSome result (λ x. (x.count + 4) + all_differ (shifted x (O.cells screens.now.old.now))
+        (N.cells screens.now.new.now) (C.table screens.now.checked.now).cols (C.table screens.now.checked.now).rows
+        ≤ all_changed (scene C.table O.cells N.cells screens.now)) }
+{
+    useful(screens, changes, changes.scroll()?)
+}
+
+/// The `scroll`, if it is a useful one: counts the cells that differ without it and after it.
+#[inline(never)]
+fn useful<C: Certificate, O: Picture, N: Picture, D: Changes>(
+    screens: &Screens<'_, C, O, N>,
+    changes: &D,
+    scroll: Scroll,
+) -> Option<Scroll>
+    requires scene { IsPaintable (scene C.table O.cells N.cells screens.now) }
+    requires changes { D.between changes.now (O.cells screens.now.old.now) (N.cells screens.now.new.now) }
+    ensures can { IfSome result (λ x. CanScroll (C.table screens.now.checked.now) x) }
+    ensures fewer { IfSome result (λ x. (x.count + 4) + all_differ (shifted x (O.cells screens.now.old.now))
+        (N.cells screens.now.new.now) (C.table screens.now.checked.now).cols (C.table screens.now.checked.now).rows
+        ≤ all_changed (scene C.table O.cells N.cells screens.now)) }
+{
+    if !can_scroll(screens.checked, scroll) {
+        return None;
+    }
+    let moved = Shifted {
+        old: screens.old,
+        scroll,
+    };
+    let then = Screens {
+        checked: screens.checked,
+        old: &moved,
+        new: screens.new,
+    };
+    let left = count_cells(&then, &Moved { changes, scroll });
+    let by = usize::from(scroll.count) + (BESIDE - 1);
+    if differ_in_more(screens, changes, left + by) {
+        Some(scroll)
+    } else {
+        None
+    }
+}
+
+/// Whether it is likely to take fewer bytes to clear all and paint it than to mend what differs, and whether that keeps
+/// within the bound.
+#[inline(always)]
+pub(crate) fn is_better_cleared<C: Certificate, O: Picture, N: Picture, D: Changes>(
+    screens: &Screens<'_, C, O, N>,
+    changes: &D,
+) -> bool
+    requires scene { IsPaintable (scene C.table O.cells N.cells screens.now) }
+    requires changes { D.between changes.now (O.cells screens.now.old.now) (N.cells screens.now.new.now) }
+    ensures fewer { result ≡ true → (line : List ℕ) → (C.table screens.now.checked.now).line_of Clear ≡ Some line
+        → length line + all_differ (λ i j. blank_ink) (N.cells screens.now.new.now)
+        (C.table screens.now.checked.now).cols (C.table screens.now.checked.now).rows
+        < all_changed (scene C.table O.cells N.cells screens.now) }
+{
+    let rows = screens.checked.rows();
+    let cols = screens.checked.cols();
+    may_become_blanks(screens.new, changes, rows, cols) && takes_fewer_cleared(screens, changes)
+}
+
+/// As `is_better_cleared`, where many lines become blank: counts the cells that differ before and after `clear`.
+#[inline(never)]
+fn takes_fewer_cleared<C: Certificate, O: Picture, N: Picture, D: Changes>(
+    screens: &Screens<'_, C, O, N>,
+    changes: &D,
+) -> bool
+    requires scene { IsPaintable (scene C.table O.cells N.cells screens.now) }
+    requires changes { D.between changes.now (O.cells screens.now.old.now) (N.cells screens.now.new.now) }
+    ensures fewer { result ≡ true → (line : List ℕ) → (C.table screens.now.checked.now).line_of Clear ≡ Some line
+        → length line + all_differ (λ i j. blank_ink) (N.cells screens.now.new.now)
+        (C.table screens.now.checked.now).cols (C.table screens.now.checked.now).rows
+        < all_changed (scene C.table O.cells N.cells screens.now) }
+{
+    let clear = screens.checked.line(Row::Clear).unwrap().len();
+    if !saves(screens.checked, &Blank, screens.old, screens.new, clear) {
+        return false;
+    }
+    let anew = Screens {
+        checked: screens.checked,
+        old: &Blank,
+        new: screens.new,
+    };
+    let left = count_cells(&anew, &Whole);
+    differ_in_more(screens, changes, clear + left)
+}

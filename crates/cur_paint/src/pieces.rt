@@ -1,0 +1,105 @@
+//! Which characters of a line go out in one piece.
+ghost use Rattle.std.specs.Prelude.{◌*◌, ◌+◌, ◌<◌, ◌≡◌, ◌≤◌, false, length, true, ℕ};
+ghost use Rattle.cur_paint.specs.Differ.{IsSameBy, span};
+ghost use Rattle.cur_paint.specs.Scenes.{AreInked, IsOn, IsPaintable, IsShort, scene};
+ghost use Rattle.cur_steps.specs.Gaps.{IsAlike};
+ghost use Rattle.cur_steps.specs.declared.inks.Ink.{Ink};
+
+use crate::screens::Screens;
+use cur_moves::{goes_on, line_bytes};
+use cur_steps::{Belief, Cells, Ink, Picture, Place};
+use ti_conforms::Certificate;
+
+/// How many characters at most go out in one piece after the first one.
+pub(crate) const TEXT: usize = 512;
+
+/// The fewest bytes of a move by a count or to a column.
+const FEW: usize = 3;
+
+/// How many of the first `cells` go out in one piece: they are printed in the set and the brush of `ink`, which is what
+/// their line has in the column `like`; those that stay as they are between two that differ are no more than a move
+/// over them has bytes. `text` gets their characters.
+pub(crate) fn piece_of<C: Certificate, O: Picture, N: Picture>(
+    screens: &Screens<'_, C, O, N>,
+    cells: Cells,
+    like: usize,
+    ink: Ink,
+    text: &mut [u8],
+) -> usize
+    requires scene { IsPaintable (scene C.table O.cells N.cells screens.now) }
+    requires cells { IsOn (C.table screens.now.checked.now) cells }
+    requires ink { ink ≡ N.cells screens.now.new.now cells.row like }
+    requires room { length text.old ≤ 512 }
+    ensures within { result ≤ cells.count }
+    ensures room { result ≤ length text.new }
+    ensures cells { AreInked (N.cells screens.now.new.now) cells ink result text.new }
+    ensures bytes { IsShort (scene C.table O.cells N.cells screens.now) (record cells { count = result }) }
+{
+    if cells.count == 0 {
+        return 0;
+    }
+    let count = screens.new.text_like(cells, like, text);
+    let mut same = [false; TEXT];
+    screens
+        .old
+        .shows_text(Cells { count, ..cells }, ink, text, &mut same);
+    let at = Place {
+        row: cells.row,
+        col: cells.from,
+    };
+    let few = line_bytes(screens.checked, None, at).min(FEW);
+    piece_end(&same[..count], few)
+}
+
+/// The length of the piece that goes out in one send, where `same` says of each cell whether it is as before. The piece
+/// ends with a cell that differs, and no more than `few` cells that are as before come between two that differ.
+fn piece_end(same: &[bool], few: usize) -> usize
+    requires few { few ≤ 3 }
+    requires short { length same.now ≤ 512 }
+    ensures within { result ≤ length same.now }
+    ensures few { (old new : ℕ → ℕ → Ink) (row from : ℕ) → IsSameBy old new row from same.now
+        → result ≤ span old new row from result * (few + 1) }
+{
+    let mut end = 0;
+    for k in 0..same.len() {
+        end = end_after(end, k, same[k]);
+        if k >= end + few {
+            return end;
+        }
+    }
+    end
+}
+
+/// The end of a piece after its cell `k`, which may be as before. There is no branch.
+#[inline(always)]
+fn end_after(end: usize, k: usize, is_same: bool) -> usize
+    requires { k < 512 }
+    ensures same { is_same ≡ true → result ≡ end }
+    ensures differs { is_same ≡ false → result ≡ k + 1 }
+{
+    if is_same { end } else { k + 1 }
+}
+
+/// Whether `count` is not 0, and the next character is known to go to line `row` and column `col` and to be printed
+/// in the set and the brush of `ink`.
+pub(crate) fn is_led_on(belief: &Belief, row: usize, col: usize, ink: Ink, count: usize) -> bool
+    ensures some { result ≡ true → 0 < count }
+    ensures place { result ≡ true → belief.now.place ≡ record { row = row; col = col } }
+    ensures alike { result ≡ true → IsAlike belief.now ink }
+{
+    count > 0 && goes_on(belief, Place { row, col }, ink)
+}
+
+/// Whether any of the `cells` differs.
+pub(crate) fn differs_in<O: Picture, N: Picture>(old: &O, new: &N, cells: Cells) -> bool
+    requires { cells.from + cells.count ≤ 1000 }
+    ensures { result ≡ true → 0 < span (O.cells old.now) (N.cells new.now) cells.row cells.from cells.count }
+{
+    for n in 0..cells.count {
+        let col = cells.from + n;
+        if !old.shows(cells.row, col, new.at(cells.row, col)) {
+            return true;
+        }
+    }
+    false
+}

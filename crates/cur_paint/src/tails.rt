@@ -1,0 +1,209 @@
+//! From where on a line, or the rest of the screen, is blank, and whether one erasure of that takes the fewest bytes.
+ghost use Rattle.std.specs.Prelude.{◌<◌, ◌≡◌, ◌≤◌, IfSome, Some, ℕ};
+ghost use Rattle.cur_paint.specs.Blanks.{IsBlankFrom};
+ghost use Rattle.cur_paint.specs.Scenes.{IsBlankPast, IsPaintable, changed_from, scene};
+ghost use Rattle.cur_steps.specs.Inks.{blank_ink};
+ghost use Rattle.ti_rows.specs.declared.rows.Row.TheVariants.{Ed, El};
+
+use crate::changes::{Changes, Columns};
+use crate::pieces::differs_in;
+use crate::runs::are_blank;
+use crate::screens::Screens;
+use cur_moves::{ErasedPart, erasing_line};
+use cur_steps::{Cells, Picture};
+use ti_conforms::Certificate;
+use ti_rows::Row;
+
+/// A line's column from which on the screen is blank, or past the line where it isn't worth knowing; and a line below
+/// that isn't blank, if there is one.
+#[derive(Clone, Copy)]
+pub(crate) struct Bottom {
+    pub col: usize,
+    pub solid: usize,
+}
+
+/// The column `tail` of the line `row`, if one `ed` from there on can erase the rest of the screen: everything there is
+/// to be blank, the end of the `columns` and the next line may differ, and `ed` is no longer than erasing line by line.
+/// The line `solid`, if it is below, isn't blank.
+#[inline(always)]
+pub(crate) fn bottom_from<C: Certificate, O: Picture, N: Picture, D: Changes>(
+    screens: &Screens<'_, C, O, N>,
+    changes: &D,
+    row: usize,
+    columns: Columns,
+    tail: usize,
+    solid: usize,
+) -> Bottom
+    requires scene { IsPaintable (scene C.table O.cells N.cells screens.now) }
+    requires row { row < (C.table screens.now.checked.now).rows }
+    requires within { columns.end ≤ (C.table screens.now.checked.now).cols }
+    requires blank { tail < columns.end → IsBlankPast (scene C.table O.cells N.cells screens.now) row tail }
+    ensures differs { result.col < (C.table screens.now.checked.now).cols
+        → 0 < changed_from (scene C.table O.cells N.cells screens.now) row result.col }
+    ensures blank { result.col < (C.table screens.now.checked.now).cols → IsBlankFrom (N.cells screens.now.new.now)
+        (C.table screens.now.checked.now).rows (C.table screens.now.checked.now).cols row result.col }
+    ensures tail { result.col < (C.table screens.now.checked.now).cols → result.col ≡ tail }
+{
+    let rows = screens.checked.rows();
+    let cols = screens.checked.cols();
+    if tail >= columns.end || row < solid || !may_differ(changes, row + 1, rows, cols) {
+        return Bottom { col: cols, solid };
+    }
+    if erasing_line(screens.checked, ErasedPart::Rest).is_none() {
+        return Bottom {
+            col: cols,
+            solid: rows,
+        };
+    }
+    let solid = first_solid(screens.new, row + 1, rows, cols);
+    let end = Cells {
+        row,
+        from: tail,
+        count: cols - tail,
+    };
+    if solid < rows || !differs_in(screens.old, screens.new, end) {
+        return Bottom { col: cols, solid };
+    }
+    if !rest_is_short(screens, row, tail) {
+        return Bottom { col: cols, solid };
+    }
+    Bottom { col: tail, solid }
+}
+
+/// Whether erasing all from the line `row` and the column `tail` on takes no more bytes than line by line.
+fn rest_is_short<C: Certificate, O: Picture, N: Picture>(
+    screens: &Screens<'_, C, O, N>,
+    row: usize,
+    tail: usize,
+) -> bool
+    requires scene { IsPaintable (scene C.table O.cells N.cells screens.now) }
+    requires row { row < (C.table screens.now.checked.now).rows }
+    requires tail { tail ≤ (C.table screens.now.checked.now).cols }
+{
+    let end = tail_bytes(screens.checked, screens.checked.cols() - tail);
+    match erasing_line(screens.checked, ErasedPart::Rest) {
+        Some(rest) => rest.len() <= end || lines_take(screens, row + 1, rest.len() - end),
+        None => false,
+    }
+}
+
+/// Whether it takes at least `bytes` bytes to make the lines from `from` on blank one by one, those that differ.
+fn lines_take<C: Certificate, O: Picture, N: Picture>(
+    screens: &Screens<'_, C, O, N>,
+    from: usize,
+    bytes: usize,
+) -> bool
+    requires scene { IsPaintable (scene C.table O.cells N.cells screens.now) }
+{
+    let cols = screens.checked.cols();
+    let line = tail_bytes(screens.checked, cols).saturating_add(1);
+    let mut left = bytes;
+    for row in from..screens.checked.rows() {
+        let cells = Cells {
+            row,
+            from: 0,
+            count: cols,
+        };
+        if differs_in(screens.old, screens.new, cells) {
+            left = left.saturating_sub(line);
+        }
+        if left == 0 {
+            return true;
+        }
+    }
+    false
+}
+
+/// How many bytes it takes to make the last `count` cells of a line blank.
+fn tail_bytes<C: Certificate>(checked: &C, count: usize) -> usize {
+    match short_tail(checked, count) {
+        Some(tail) => tail.len(),
+        None => count,
+    }
+}
+
+/// The first of the lines from `from` to the one before `rows` that isn't blank, or else the one after them.
+fn first_solid<N: Picture>(new: &N, from: usize, rows: usize, cols: usize) -> usize
+    ensures blank { (i j : ℕ) → from ≤ i → i < result → j < cols → N.cells new.now i j ≡ blank_ink }
+    ensures within { from ≤ rows → result ≤ rows }
+{
+    for row in from..rows {
+        if !are_blank(new, row, 0, cols) {
+            return row;
+        }
+    }
+    rows.max(from)
+}
+
+/// The string that erases the rest of the screen, if there is one and the column `col` is one of `cols`.
+pub(crate) fn rest_line<C: Certificate>(checked: &C, col: usize, cols: usize) -> Option<&[u8]>
+    ensures line { IfSome result (λ b. (C.table checked.now).line_of Ed ≡ Some b.now) }
+    ensures col { IfSome result (λ b. col < cols) }
+{
+    if col < cols {
+        erasing_line(checked, ErasedPart::Rest)
+    } else {
+        None
+    }
+}
+
+/// The string that erases a line's end, if there is one and it is no longer than `count` blanks.
+pub(crate) fn short_tail<C: Certificate>(checked: &C, count: usize) -> Option<&[u8]>
+    ensures value { IfSome result (λ b. (C.table checked.now).line_of El ≡ Some b.now) }
+{
+    match checked.line(Row::El) {
+        Some(tail) if tail.len() <= count => Some(tail),
+        _ => None,
+    }
+}
+
+/// The column from which on the line `row` of `cols` columns is blank, if the last of the `columns` is; else their end.
+#[inline(always)]
+pub(crate) fn tail_from<N: Picture>(new: &N, row: usize, columns: Columns, cols: usize) -> usize
+    requires order { columns.from ≤ columns.end }
+    requires within { columns.end ≤ cols }
+    ensures within { result ≤ columns.end }
+    ensures blank { result < columns.end → (k : ℕ) → result ≤ k → k < cols → N.cells new.now row k ≡ blank_ink }
+{
+    if columns.from == columns.end || !new.is_blank(row, columns.end - 1) {
+        return columns.end;
+    }
+    let tail = blank_from(new, row, cols);
+    if tail < columns.end {
+        tail
+    } else {
+        columns.end
+    }
+}
+
+/// The column from which on the line `row` of `cols` columns is blank.
+fn blank_from<N: Picture>(new: &N, row: usize, cols: usize) -> usize
+    ensures within { result ≤ cols }
+    ensures blank { (k : ℕ) → result ≤ k → k < cols → N.cells new.now row k ≡ blank_ink }
+{
+    let mut col = cols;
+    while col > 0 {
+        if !new.is_blank(row, col - 1) {
+            return col;
+        }
+        col -= 1;
+    }
+    col
+}
+
+/// The lesser of two columns.
+pub(crate) fn lesser(a: usize, b: usize) -> usize
+    ensures first { result ≤ a }
+    ensures second { result ≤ b }
+{
+    a.min(b)
+}
+
+/// Whether the line `row` is one of the screen's `rows` and may differ.
+pub(crate) fn may_differ<D: Changes>(changes: &D, row: usize, rows: usize, cols: usize) -> bool {
+    if row >= rows {
+        return false;
+    }
+    let columns = changes.columns(row, cols);
+    columns.from < columns.end
+}
