@@ -3,3 +3,4 @@ pub mod Numbers
 pub mod Shown
 pub mod Remarks
 pub mod Starts
+pub mod Wanted

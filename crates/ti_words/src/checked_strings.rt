@@ -6,7 +6,7 @@ use crate::remarks::Remarks;
 use crate::starts::{push_rendition, start_words};
 use crate::states::seen_words;
 use crate::strings::parm_words;
-use crate::wanted::wanted_words;
+use crate::wanted::wanted_line;
 use std::alloc::{AllocError, Global};
 use ti_caps::{Cap, Entry, name};
 use ti_conforms::{NO_LOOKS, SendFault, is_checked, misfit, send};
@@ -210,7 +210,7 @@ pub fn explain_unshown(
         remarks.add_words(NOT_TOGETHER);
         return Ok(());
     }
-    remarks.add_words(wanted_words(alloc, row)?.as_slice());
+    remarks.add_words(wanted_line(alloc, row)?.as_slice());
     remarks.add_words(NOT_SHOWN);
     Ok(())
 }
@@ -237,7 +237,7 @@ pub fn explain_look(
 ) -> Result<(), AllocError> {
     let mut terminal = Terminal::new(alloc, size)?;
     let _ = terminal.feed(bytes);
-    let wanted = wanted_words(alloc, row)?;
+    let wanted = wanted_line(alloc, row)?;
     let mut words = Vec::from_slice(alloc, b"seen: sent after a reset, it makes the rendition")?;
     push_rendition(terminal.rendition(), &mut words)?;
     remarks.add_words(wanted.as_slice());
@@ -261,7 +261,7 @@ pub fn explain_run(
     if terminal.feed(bytes).is_err() {
         return Ok(());
     }
-    let wanted = wanted_words(alloc, row)?;
+    let wanted = wanted_line(alloc, row)?;
     let seen = seen_words(alloc, &start, &terminal, fill)?;
     let mut began = Vec::from_slice(alloc, b"start: ")?;
     began.extend_from_slice(start_words(alloc, size, &start, fill)?.as_slice())?;

@@ -30,3 +30,4 @@ pub use strings::{
     explain_escape, explain_length, explain_parm, explain_size, explain_stuck, explain_token,
     explain_whole,
 };
+pub use wanted::wanted_words;

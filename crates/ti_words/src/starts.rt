@@ -34,7 +34,7 @@ pub const PENDING: &[u8] = b", and the next character wraps to the next line";
 pub const HIDDEN: &[u8] = b", the cursor is hidden";
 
 /// Appends `more` to `words` where something `is_so`.
-fn push_if(is_so: bool, more: &[u8], words: &mut Vec<u8>) -> Result<(), AllocError>
+pub fn push_if(is_so: bool, more: &[u8], words: &mut Vec<u8>) -> Result<(), AllocError>
     ensures { OnOk result (words.new.items ≡ words.old.items ++ spec.if_so is_so more.now) }
 {
     if is_so {
