@@ -1,4 +1,4 @@
--- The members of a report, put into an object one by one, stand there in the order of their names.
+-- The members of a report, put into an object one by one, are in the order of their names.
 use Rattle.std.proofs.Common.{◌≡◌, refl}
 use Rattle.serde_json.specs.Data.{no_members, object}
 use Rattle.ti_reports.specs.Reports.{report_data, with_entry, with_run, with_string}

@@ -1,4 +1,4 @@
--- What is shown is ASCII, and so it is text.
+-- Shown bytes are ASCII, and therefore text.
 use Rattle.std.proofs.Common.{◌≡◌, ◌<◌, ◌++◌, ◌&&◌, ◌+◌, ◌/◌, ◌%◌, ℕ, Bool, true, false, List, [], ◌∷◌, if◌then◌else◌, nat_le, refl, arith}
 use Rattle.std.specs.List.{AllByRecursion}
 use Rattle.std.specs.Str.{IsAscii, IsUtf8}

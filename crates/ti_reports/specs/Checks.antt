@@ -1,4 +1,4 @@
--- What `check --json` answers, by what its files hold.
+-- The answer of `check --json`, by the contents of its files.
 use Rattle.std.specs.Prelude.{◌≡◌, ℕ, Bool, List, [], ◌∷◌, Option, Some, None}
 use Rattle.ti_caps.specs.Entry.{Content}
 use Rattle.ti_checker.specs.declared.causes.No.{No}
@@ -25,7 +25,7 @@ abbrev pub EndsAsFirst : List No → Option Failure → Type 0
 EndsAsFirst [] failure = failure ≡ None
 EndsAsFirst (first ∷ others) failure = EndsAsNo first failure
 
--- the reply reports these faults, and fails as the first does
+-- the reply reports these faults, and fails as the first one does
 pub record TellsFound (entry : Content) (height width : ℕ) (file : List ℕ) (stands : Whereabouts) (nos : List No)
     (reply : Reply) : Type 0 where
   pub lines : AreFoundLines entry height width file stands nos reply.text.items

@@ -20,7 +20,7 @@ pair_text n = unit_text (55296 + n / 1024) ++ unit_text (56320 + n % 1024)
 abbrev pub escaped_char : ℕ → List ℕ
 escaped_char c = if nat_lt c 65536 then unit_text c else pair_text (c - 65536)
 
--- a character that can be printed stands for itself
+-- a character that can be printed is written as itself
 abbrev pub json_char : ℕ → List ℕ
 json_char c = if nat_le 32 c && nat_le c 126 then c ∷ [] else escaped_char c
 

@@ -1,4 +1,4 @@
--- What is found out about an entry: its first fault, or all of them.
+-- The faults that are reported of an entry: the first one, or all of them.
 use Rattle.std.specs.Prelude.{◌≡◌, ◌≢◌, ℕ, Bool, true, false, List, [], ◌∷◌}
 use Rattle.ti_caps.specs.Entry.{Content}
 use Rattle.ti_checker.specs.No.{IsNo}
@@ -6,7 +6,7 @@ use Rattle.ti_checker.specs.declared.causes.Cause.TheVariants.{NoMemory}
 use Rattle.ti_checker.specs.declared.causes.No.{No}
 use Rattle.ti_faults.specs.AllFaults.{AreAllFaults, HasCertificate}
 
--- there is a certificate, or this no alone is so, and is the first
+-- there is a certificate and no fault, or the list has one refusal, which is true and the first
 pub data AreFirst (entry : Content) (rows cols : ℕ) (nos : List No) : Type 0 where
   NoFault : nos ≡ [] → HasCertificate entry rows cols → AreFirst entry rows cols nos
   Faulty : (refusal : No) → IsNo entry rows cols refusal → refusal.cause ≢ NoMemory → nos ≡ refusal ∷ []

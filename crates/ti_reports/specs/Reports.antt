@@ -1,4 +1,4 @@
--- What a report says, and its JSON: an object with the same thirteen members each time, null where one doesn't apply.
+-- A report and its JSON: an object that always has the same thirteen members, null where one doesn't apply.
 use Rattle.std.specs.Prelude.{ℕ, List, [], ◌∷◌, ◌++◌, Option, Some, None, String, codes, map, string_bytes}
 use Rattle.std.specs.declared.alloc.Global.{Global}
 use Rattle.serde_json.specs.Data.{Data, Members, no_members, member, array, null, number, object, put, string, unsigned}
@@ -31,7 +31,7 @@ texts_data texts = array (items_of (map (λ text. string (string_bytes text)) te
 abbrev pub size_data : ℕ → ℕ → Data
 size_data height width = object (member (codes "cols") (number (unsigned width)) (member (codes "rows") (number (unsigned height)) no_members))
 
--- the members stand in the order of their names
+-- the members are in the order of their names
 abbrev pub report_data : Report → Data
 report_data report = object (
     member (codes "advice") (texts_data report.advice.items)

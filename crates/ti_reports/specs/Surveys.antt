@@ -1,4 +1,4 @@
--- What `survey --json` answers, by what its files hold.
+-- The answer of `survey --json`, by the contents of its files.
 use Rattle.std.specs.Prelude.{◌≡◌, ℕ, Bool, List, [], Option, Some, None, String, string_bytes}
 use Rattle.std.specs.declared.alloc.Global.{Global}
 use Rattle.ti_caps.specs.Entry.{Content}
@@ -24,7 +24,7 @@ abbrev pub IsTextIf : Option (List ℕ) → Option (String Global) → Type 0
 IsTextIf (Some bytes) text = HasWords bytes text
 IsTextIf None text = text ≡ None
 
--- nothing is had under this name, or of the whole file, and why
+-- the report that no entry of this name, or of the whole file, can be read, with the reason
 pub record ReportsRefused (height width : ℕ) (path : List ℕ) (name : Option (List ℕ)) (why : List ℕ) (report : Report)
     : Type 0 where
   pub entry : IsTextIf name report.entry
@@ -46,19 +46,19 @@ pub record AreOfEntry (height width : ℕ) (all : Bool) (path : List ℕ) (stand
   pub found : AreFaults all entry height width nos
   pub tells : AreFoundLines entry height width path stands nos lines
 
--- what is reported of an entry, and nothing beside it
+-- the reports on an entry, and nothing beside them
 abbrev pub Reports : ℕ → ℕ → Bool → Saying
 Reports height width all path stands name entry told =
     AreOfEntry height width all path (by_place stands) entry told.lines × (told.places ≡ [])
 
--- or of one that can't be had under its name, or of a whole file, and why
+-- the report on an entry that can't be read under its name, or on a whole file, with the reason
 abbrev pub ReportsLack : ℕ → ℕ → Refusing
 ReportsLack height width path name why told =
     IsRefusedReport height width path name why told.lines × (told.places ≡ [])
 
 -- ---- the reply
 
--- the lines of each path; it fails where a path can't be had
+-- the reply has the lines of each path; it fails if a path can't be read
 pub record AreSurveyed (held : Held) (words : SurveyWords) (reply : Reply) : Type 0 where
   pub height : ℕ
   pub width : ℕ

@@ -1,8 +1,8 @@
-//! What a survey reports on.
+//! The question that a survey asks about each entry.
 
 use vt_term::Size;
 
-/// What a survey reports on: the first fault of each entry at this size, or all.
+/// The faults that a survey reports: the first of each entry at this size, or all.
 #[derive(Clone, Copy)]
 pub struct Asked {
     pub size: Size,

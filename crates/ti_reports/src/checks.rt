@@ -17,9 +17,9 @@ use ti_verdicts::{explain_no, no_failure, notes_on};
 use ti_words::Remarks;
 use vt_term::Size;
 
-/// Replies with the notes on the entry that the `words` give and, in JSON, with what is wrong with it: its first fault,
-/// or all of them where `lists_all`; or that it has a certificate. The reply fails as the first fault does.
-/// Further lines go to `remarks`.
+/// Replies with the notes on the entry that the `words` give and, in JSON, with its faults: the first one, or all of
+/// them if `lists_all`; or with the report that it has a certificate. The reply fails as the first fault does. Further
+/// lines go to `remarks`.
 pub fn check_reports<F: Files>(
     alloc: Global,
     lists_all: bool,
@@ -79,7 +79,7 @@ fn failure_of(alloc: Global, nos: &[No]) -> Option<Failure>
     }
 }
 
-/// The path of the file that `word` names: that of the source, or else the whole word.
+/// The path of the file that `word` names: the path of `source`, or else the whole word.
 fn file_of<'a>(source: &'a Option<SourceText<'a>>, word: &'a str) -> &'a str
     ensures { result.now ≡ spec.file_of source.now word.now }
 {
@@ -89,7 +89,7 @@ fn file_of<'a>(source: &'a Option<SourceText<'a>>, word: &'a str) -> &'a str
     }
 }
 
-/// Where the entry that was found in this `source` stands.
+/// The origin of the entry that was found in this `source`.
 fn standing_of<'a>(source: &'a Option<SourceText<'a>>) -> Standing<'a>
     ensures stands { whereabouts_of result ≡ by_name source.now }
     ensures there { IsThere result }
@@ -100,7 +100,7 @@ fn standing_of<'a>(source: &'a Option<SourceText<'a>>) -> Standing<'a>
     }
 }
 
-/// Adds to `remarks` what explains the first of `nos`.
+/// Adds to `remarks` the explanation of the first of `nos`.
 fn explain_first(alloc: Global, entry: &Entry, size: Size, nos: &[No], remarks: &mut Remarks) {
     if let [first, ..] = nos {
         explain_no(alloc, entry, size, first, remarks);

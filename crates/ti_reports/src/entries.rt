@@ -40,7 +40,7 @@ impl Speaker for Asked {
     }
 }
 
-/// These `lines` alone.
+/// The statement that has only these `lines`.
 fn of_lines(alloc: Global, lines: Vec<u8>) -> Said
     ensures lines { result.lines ≡ lines }
     ensures places { result.places.items ≡ [] }
@@ -52,7 +52,7 @@ fn of_lines(alloc: Global, lines: Vec<u8>) -> Said
     }
 }
 
-/// The lines of what is found out about `entry`, which `stands` there in the file at `path`.
+/// The report lines of `entry`, which is at the place `stands` in the file at `path`.
 fn entry_lines(
     alloc: Global,
     asked: Asked,

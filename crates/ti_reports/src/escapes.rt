@@ -48,7 +48,7 @@ fn push_escaped(code: u32, line: &mut Vec<u8>) -> Result<(), AllocError>
     }
 }
 
-/// Appends the pair of surrogates for the character that is this far above the first 65536.
+/// Appends the pair of surrogates for the character whose code is 65536 + `above`.
 fn push_pair(above: u32, line: &mut Vec<u8>) -> Result<(), AllocError>
     requires { above < 1048576 }
     ensures { OnOk result (line.new.items ≡ line.old.items ++ spec.pair_text above) }

@@ -30,11 +30,11 @@ pub struct Subject<'a> {
     pub size: Size,
     /// The path of the file that has the entry.
     pub file: &'a str,
-    /// Where it stands there.
+    /// The origin of the entry.
     pub stands: Standing<'a>,
 }
 
-/// The lines of the faults `nos` of the `subject`; or that it has none.
+/// The lines of the faults `nos` of the `subject`, or the line that it has a certificate if there are none.
 pub fn found_lines(alloc: Global, subject: &Subject<'_>, nos: &[No]) -> Result<Vec<u8>, AllocError>
     requires { IsThere subject.now.stands }
     ensures { IfOk result (λ lines. spec.AreFoundLines subject.now.entry.now

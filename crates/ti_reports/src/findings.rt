@@ -1,4 +1,4 @@
-//! What is found out about an entry.
+//! The faults that are reported of an entry.
 
 ghost use Rattle.std.specs.Prelude.{◌≡◌, [], ◌∷◌, IfOk};
 ghost use Rattle.ti_reports.specs.Findings as spec;
@@ -9,7 +9,7 @@ use ti_checker::{No, check};
 use ti_faults::{faults, must_claim};
 use vt_term::Size;
 
-/// All faults of `entry` where `lists_all`, or else the first alone; none where it has a certificate.
+/// All faults of `entry` if `lists_all`, or else the first alone; none if it has a certificate.
 pub fn found_faults(
     alloc: Global,
     entry: &Entry,
@@ -25,7 +25,7 @@ pub fn found_faults(
     }
 }
 
-/// The no of `check` about `entry`, or none.
+/// The refusal by `check` of `entry`, or none.
 fn first_fault(alloc: Global, entry: &Entry, size: Size) -> Result<Vec<No>, AllocError>
     ensures { IfOk result (λ nos. spec.AreFirst entry.now size.rows size.cols nos.items) }
 {
@@ -38,7 +38,7 @@ fn first_fault(alloc: Global, entry: &Entry, size: Size) -> Result<Vec<No>, Allo
     }
 }
 
-/// `no` alone.
+/// A list of `no` alone.
 fn only(alloc: Global, no: No) -> Result<Vec<No>, AllocError>
     ensures { IfOk result (λ nos. nos.items ≡ no ∷ []) }
 {

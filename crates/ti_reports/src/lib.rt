@@ -1,4 +1,4 @@
-//! What the program reports to other programs: a JSON object a line for each entry, or for each of its faults.
+//! The program's reports to other programs: one JSON object on a line for each entry, or for each of its faults.
 #![tactic(auto)]
 
 mod asked;

@@ -1,4 +1,4 @@
-//! The line of a source text on which a value stands.
+//! The line of a source text that has a value.
 
 ghost use Rattle.std.specs.Prelude.{◌≡◌, ◌<◌, IfOk, IfSome, length};
 ghost use Rattle.ti_reports.specs.Sources as spec;
@@ -10,18 +10,18 @@ use ti_commands::SourceText;
 use ti_resolve::{origin, origin_at};
 use ti_verdicts::{SourcePlace, line_of_field};
 
-/// Where an entry stands.
+/// The origin of an entry.
 #[derive(Drop)]
 pub enum Standing<'a> {
-    /// In no source.
+    /// The entry is in no source.
     Unsourced,
-    /// In a source, as the entry that has a name.
+    /// The entry is in a source, found by its name.
     Named(&'a SourceText<'a>),
-    /// In a source, at a place.
+    /// The entry is in a source, at a place.
     Placed(&'a SourcePlace<'a>),
 }
 
-/// An entry that `stands` there in a source, or in none.
+/// The origin of an entry at the place `stands` of a source, or in no source.
 pub fn placed<'a>(stands: &'a Option<SourcePlace<'a>>) -> Standing<'a>
     requires { IfSome stands.now (λ there. there.place < length there.raws.now) }
     ensures stands { spec.whereabouts_of result ≡ spec.by_place (place_if stands.now) }
@@ -33,7 +33,7 @@ pub fn placed<'a>(stands: &'a Option<SourcePlace<'a>>) -> Standing<'a>
     }
 }
 
-/// The line on which the value of `cap` stands in the source of the entry that `stands` there; `None` where there is no
+/// The line that has the value of `cap`, in the source of the entry whose origin is `stands`; `None` if there is no
 /// source or no value.
 pub fn value_line(
     alloc: Global,
@@ -50,7 +50,7 @@ pub fn value_line(
     }
 }
 
-/// The line on which the value of `cap` stands in `source`.
+/// The line of `source` that has the value of `cap`.
 fn line_in(alloc: Global, source: &SourceText<'_>, cap: Cap) -> Result<Option<usize>, AllocError>
     ensures { IfOk result (λ line. spec.IsLineIn source.now cap line) }
 {
@@ -62,7 +62,7 @@ fn line_in(alloc: Global, source: &SourceText<'_>, cap: Cap) -> Result<Option<us
     }
 }
 
-/// The line on which the value of `cap` stands that the entry at `there` has.
+/// The line that has the value of `cap` of the entry at `there`.
 fn line_at(alloc: Global, there: &SourcePlace<'_>, cap: Cap) -> Result<Option<usize>, AllocError>
     requires { there.now.place < length there.now.raws.now }
     ensures { IfOk result (λ line. spec.IsLineAt (place_in there.now) cap line) }

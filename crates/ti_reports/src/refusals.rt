@@ -1,4 +1,4 @@
-//! Reports of what can't be had.
+//! Reports on entries and files that can't be read.
 
 ghost use Rattle.std.specs.Prelude.{◌≡◌, IfOk, option_map};
 ghost use Rattle.ti_reports.specs.Surveys as spec;
@@ -8,8 +8,8 @@ use crate::reports::{Report, Verdict, report_line};
 use crate::texts::text_of;
 use std::alloc::{AllocError, Global};
 
-/// The line that an entry of the file at `path` can't be had under this `name`, or that none of it can without one, and
-/// `why`.
+/// The line that the entry `name` of the file at `path` can't be read, or no entry of the file if there is no name,
+/// with `why`.
 pub fn refused_line(
     alloc: Global,
     asked: Asked,
@@ -23,7 +23,7 @@ pub fn refused_line(
     report_line(alloc, &refused_report(alloc, asked, path, name, why)?)
 }
 
-/// The report that an entry of the file at `path` can't be had under this `name`, and `why`.
+/// The report that the entry `name` of the file at `path` can't be read, with `why`.
 fn refused_report(
     alloc: Global,
     asked: Asked,
@@ -52,7 +52,7 @@ fn refused_report(
     })
 }
 
-/// The text of `bytes`, where there are any.
+/// The text of `bytes`, if there are any.
 fn text_if(alloc: Global, bytes: Option<&[u8]>) -> Result<Option<String>, AllocError>
     ensures { IfOk result (λ text. spec.IsTextIf (option_map (λ b. b.now) bytes.entry) text) }
 {

@@ -8,19 +8,19 @@ use crate::escapes::printable_json;
 use serde_json::{Map, Value, json, put};
 use std::alloc::{AllocError, Global};
 
-/// What is said of an entry.
+/// The verdict on an entry.
 #[derive(Clone, Copy, Debug, PartialEq, Eq)]
 pub enum Verdict {
-    /// It has a certificate.
+    /// The entry has a certificate.
     Yes,
-    /// It has a fault.
+    /// The entry has a fault.
     No,
-    /// It can't be had.
+    /// The entry can't be read.
     Refused,
 }
 
 impl Verdict {
-    /// The word for it.
+    /// The word for the verdict.
     pub fn word(self) -> &'static str
         ensures { result.now ≡ spec.word_of self }
     {
@@ -32,36 +32,36 @@ impl Verdict {
     }
 }
 
-/// What one object says: of an entry, or of one of its faults. What doesn't apply is `None`.
+/// The contents of one object, about an entry or one of its faults. A field that doesn't apply is `None`.
 #[derive(Debug, Drop)]
 pub struct Report {
-    /// The entry's first name; `None` where it is a file that has no entries.
+    /// The entry's first name; `None` for a file that has no entries.
     pub entry: Option<String>,
     /// The terminal's rows.
     pub rows: usize,
     /// The terminal's columns.
     pub cols: usize,
-    /// What is said of the entry.
+    /// The verdict on the entry.
     pub verdict: Verdict,
     /// The capability at fault.
     pub capability: Option<String>,
-    /// Its parameters.
+    /// The parameters of the capability.
     pub parameters: Vec<u16>,
-    /// What is wrong with it for these.
+    /// The fault of the capability for these parameters.
     pub cause: Option<String>,
-    /// What its string sends for these, in hexadecimal.
+    /// The bytes that its string sends for these parameters, in hexadecimal.
     pub bytes: Option<String>,
-    /// A state of the terminal from which that goes wrong.
+    /// A state of the terminal from which the string goes wrong.
     pub start: Option<String>,
-    /// What is wanted of it.
+    /// The wanted effect of the string.
     pub wanted: Option<String>,
-    /// What it does from that state.
+    /// The effect of the string from that state.
     pub seen: Option<String>,
     /// The path of the file that has the entry.
     pub file: String,
-    /// The line of that file on which the capability's value stands.
+    /// The line of that file that has the capability's value.
     pub line: Option<usize>,
-    /// What a user of an entry that has a certificate would want to know.
+    /// Advice for users of an entry that has a certificate.
     pub advice: Vec<String>,
 }
 
@@ -89,7 +89,7 @@ fn value_of(alloc: Global, report: &Report) -> Result<Value, AllocError>
     Ok(Value::Object(members))
 }
 
-/// Puts the entry of `report`, the size and what is said of them into `members`.
+/// Puts the entry of `report`, the size and the verdict into `members`.
 fn put_entry(
     alloc: Global,
     report: &Report,
@@ -108,7 +108,7 @@ fn put_entry(
     put(members, alloc, "verdict", verdict)
 }
 
-/// Puts the string at fault of `report`, and what is wrong with it, into `members`.
+/// Puts the string at fault of `report`, and its fault, into `members`.
 fn put_string(
     alloc: Global,
     report: &Report,
@@ -127,7 +127,7 @@ fn put_string(
     put(members, alloc, "bytes", bytes)
 }
 
-/// Puts what `report` says of a run of that string, the line on which it stands, and the advice, into `members`.
+/// Puts the parts of `report` about a run of that string, the string's line, and the advice, into `members`.
 fn put_run(
     alloc: Global,
     report: &Report,

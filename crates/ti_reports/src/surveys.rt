@@ -11,13 +11,13 @@ use ti_requests::SurveyWords;
 use ti_surveys::{Said, Surveyed, Watcher, survey_paths};
 use ti_words::Remarks;
 
-/// Reports in JSON on each entry of each file that the `words` name: its first fault, or all of them where the `words`
-/// ask for that, or that it has a certificate. What can't be read as an entry has its line too. The reply fails as the
-/// first file does that can't be had, and the others are surveyed all the same. The `watcher` sees how far the survey
-/// has come.
+/// Reports in JSON on each entry of each file that the `words` name: its first fault, or all of them if the `words` ask
+/// for that, or that it has a certificate. An entry that can't be read has its line too. If a file can't be read, the
+/// reply fails as the first such file does, and the others are surveyed all the same. The `watcher` sees how far the
+/// survey has come.
 ///
 /// # Errors
-/// Why the words give no size; out of memory.
+/// The reason why the words give no size; out of memory.
 pub fn survey_reports<F: Files, W: Watcher + Drop>(
     alloc: Global,
     words: &SurveyWords<'_>,

@@ -1,4 +1,4 @@
-//! Bytes as the text that a report has of them.
+//! The text of bytes in a report.
 
 ghost use Rattle.std.specs.Prelude.{◌≡◌, ◌<◌, IfOk, string_bytes};
 ghost use Rattle.std.specs.List.{AllByRecursion};
@@ -8,7 +8,7 @@ ghost use Rattle.ti_reports.specs.Texts as spec;
 use std::alloc::{AllocError, Global};
 use ti_words::push_shown;
 
-/// The text of `bytes`: themselves where they are UTF-8, else as `push_shown` appends them.
+/// The text of `bytes`: the bytes themselves if they are UTF-8, else as `push_shown` appends them.
 pub fn text_of(alloc: Global, bytes: &[u8]) -> Result<String, AllocError>
     ensures { IfOk result (λ text. spec.IsShownAs bytes.now (string_bytes text)) }
 {

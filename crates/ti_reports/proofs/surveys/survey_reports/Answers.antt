@@ -6,7 +6,7 @@ use Rattle.ti_surveys.specs.Told.{told_of}
 use Rattle.ti_reports.specs.Surveys.{Reports, ReportsLack}
 use Rattle.ti_reports.proofs.surveys.survey_reports.Goals as goal
 
--- what is said of the paths, as it is asked
+-- the reports on the paths, as the words ask for them
 pub returns-clause-reply : goal.returns-clause-reply
 returns-clause-reply g c =
     let said = c.in_ok-said.field-0.said in

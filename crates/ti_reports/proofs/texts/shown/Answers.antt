@@ -5,7 +5,7 @@ use Rattle.ti_words.specs.Shown.{shown}
 use Rattle.ti_reports.proofs.ShownFacts.{shown_is_text}
 use Rattle.ti_reports.proofs.texts.shown.Goals as goal
 
--- what is shown is text, so that none of it is replaced
+-- shown bytes are text, so that none of them is replaced
 pub returns : goal.returns
 returns c =
     let are : c.as_slice.result.now ≡ shown c.args.bytes.now = c.as_slice.ensures.value ∙ (c.in_ok-push_shown.ensures.shown ∙ ap (λ (front : List ℕ). front ++ shown c.args.bytes.now) c.new-text.ensures.items) in
