@@ -48,7 +48,7 @@ no_told text causes.NoMemory failure m h = absurd (m refl)
 
 -- ---- a certificate at a path
 
--- what is so of the bytes that a reader of a path has left
+-- a property of the bytes that a reader of a path has left
 pub known_left : (P : List ℕ → Type 0) (known remaining : Option (List ℕ)) → IsLeft known remaining → ((text : List ℕ) → remaining ≡ Some text → P text) → IfSome known P
 known_left P None remaining left h = tt
 known_left P (Some text) remaining left h = h text left

@@ -1,4 +1,4 @@
--- What `check` answers, by what its files hold and what a certifier promises.
+-- The answer of `check`, by the contents of its files and the promises of a certifier.
 use Rattle.std.specs.Prelude.{◌≡◌, ◌≢◌, ◌⊎◌, ℕ, List, [], Option, Some, None}
 use Rattle.std.specs.String.{string_bytes}
 use Rattle.ti_caps.specs.Entry.{Content}
@@ -24,7 +24,7 @@ pub record IsCertified (entry : Content) (rows cols : ℕ) (text : List ℕ) : T
   pub conforms : Conforms entry rows cols
   pub certificate : IsCertificateOf entry rows cols text
 
--- how the storing of a text at a path ends: where it fails, all files are as before
+-- the end of storing a text at a path: if it fails, all files are as before
 abbrev pub StoresText : List ℕ → List ℕ → Held → Held → Option Failure → Type 0
 StoresText text path before after None = Stored before after path text
 StoresText text path before after (Some (File told)) = (string_bytes told ≡ path) × (after ≡ before)
@@ -53,7 +53,7 @@ pub record DeliversSome (Certifies : List ℕ → Type 0) (out : Option (Bor (Li
   pub certified : Certifies text
   pub delivers : Delivers text out before after reply
 
--- the failure is that of a no which is so of an entry
+-- the failure is that of a refusal that is true of an entry
 pub record TellsSome (Refuses : No → Type 0) (failure : Failure) : Type 0 where
   pub refusal : No
   pub refuses : Refuses refusal
@@ -63,7 +63,7 @@ abbrev pub EndsInNo : (No → Type 0) → Option Failure → Type 0
 EndsInNo Refuses (Some failure) = TellsSome Refuses failure
 EndsInNo Refuses None = ⊥
 
--- the reply fails with a no, and all files are as before
+-- the reply fails with a refusal, and all files are as before
 abbrev pub Denies : (No → Type 0) → Held → Held → Reply → Type 0
 Denies Refuses before after reply = IsSilent reply (EndsInNo Refuses) × (after ≡ before)
 
@@ -83,8 +83,8 @@ pub record LacksNotes (entry : Content) (lines : List ℕ) : Type 0 where
 abbrev pub TellsNotes : Content → List ℕ → Type 0
 TellsNotes entry lines = HasNotes entry lines ⊎ LacksNotes entry lines
 
--- The entry that the word gives, at the size that the words give: the reply has its notes, also where it is refused,
--- and its certificate is delivered, or the reply fails with a no.
+-- The entry that the word gives, at the size that the words give: the reply has its notes, even if it is refused, and
+-- its certificate is delivered, or the reply fails with a refusal.
 pub record IsChecked (certifies : Content → ℕ → ℕ → List ℕ → Type 0) (refuses : Content → ℕ → ℕ → No → Type 0)
     (before after : Held) (words : CheckWords) (reply : Reply) : Type 0 where
   pub height : ℕ
@@ -96,7 +96,8 @@ pub record IsChecked (certifies : Content → ℕ → ℕ → List ℕ → Type 
   pub ends : DeliversSome (certifies entry height width) words.out before after reply
       ⊎ Denies (refuses entry height width) before after reply
 
--- Of the words for rows, columns and an entry those of the size come first; memory can run out at any time.
+-- The failure for words that give no size or no entry: the words of the size come first; memory can run out at any
+-- time.
 abbrev pub FailsForEntry : Held → List ℕ → List ℕ → List ℕ → Failure → Type 0
 FailsForEntry held rows cols word failure =
     LacksSize rows cols failure ⊎ FailsAtEntry held rows cols word failure ⊎ (failure ≡ NoMemory)

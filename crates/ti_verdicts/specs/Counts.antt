@@ -1,4 +1,4 @@
--- How many answers there are, and which.
+-- The number of answers, in all and of each kind.
 use Rattle.std.specs.Prelude.{◌==◌, ℕ, List, [], ◌∷◌, ◌++◌, if◌then◌else◌, codes, length}
 use Rattle.std.specs.Fmt.{decimal}
 use Rattle.std.specs.List.{count_by, flat_map}
@@ -18,19 +18,19 @@ cause_names =
 unfoldable pub answer_names : List (List ℕ)
 answer_names = codes "yes" ∷ (cause_names ++ codes "refused" ∷ [])
 
--- how many have this name
+-- the number of answers that have this name
 abbrev pub answer_count : List Answer → List ℕ → ℕ
 answer_count answers name = count_by (λ answer. bytes_eq (answer_name answer) name) answers
 
--- `, NAME N`, where there is one
+-- `, NAME N`, unless N is 0
 abbrev pub part_of : ℕ → List ℕ → List ℕ
 part_of count name = if count == 0 then [] else codes ", " ++ (name ++ (codes " " ++ decimal count))
 
--- the same of the answers that have this name
+-- `, NAME N` of the answers that have this name
 abbrev pub answer_part : List Answer → List ℕ → List ℕ
 answer_part answers name = part_of (answer_count answers name) name
 
--- `total N`, and how many are which
+-- `total N`, and the number of each kind
 abbrev pub answers_line : List Answer → List ℕ
 answers_line answers =
     codes "total " ++ (decimal (length answers) ++ (flat_map (answer_part answers) answer_names ++ 10 ∷ []))

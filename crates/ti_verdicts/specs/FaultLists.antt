@@ -1,4 +1,4 @@
--- What `check --all` answers: all faults of an entry, and how many there are.
+-- The answer of `check --all`: all faults of an entry, and their number.
 use Rattle.std.specs.Prelude.{◌≡◌, ℕ, List, [], ◌∷◌, ◌++◌, Option, Some, None, codes, map}
 use Rattle.std.specs.List.{AllByRecursion, flat_map}
 use Rattle.ti_caps.specs.Entry.{Content}
@@ -34,7 +34,7 @@ pub record AreIndented (lines : List ℕ) : Type 0 where
   pub remarks : AllByRecursion IsRemark each
   pub says : lines ≡ flat_map indented each
 
--- Its line; below it where its value stands in the source, further lines in free words, each of which begins with two
+-- The line of a fault; below it the place of its value in the source, further lines in free words, each after two
 -- spaces, and the line of the string that would be right.
 abbrev pub HasFaultLines : Content → Option SourceText → Mended → List No → No → List ℕ → Type 0
 HasFaultLines entry source mended nos refusal lines =
@@ -42,9 +42,9 @@ HasFaultLines entry source mended nos refusal lines =
     × AreIndented further × HasRemedy entry mended nos refusal.cap remedy
     × (lines ≡ no_text refusal ++ 10 ∷ (line ++ (further ++ remedy)))
 
--- ---- how many
+-- ---- counts
 
--- `total N`, and how many have which cause, as a survey counts its answers
+-- `total N`, and the number of faults of each cause, as a survey counts its answers
 abbrev pub counts_line : List No → List ℕ
 counts_line nos = answers_line (map fault_answer nos)
 
@@ -61,8 +61,8 @@ abbrev pub EndsAsNo : No → Option Failure → Type 0
 EndsAsNo refusal (Some failure) = TellsNo refusal failure
 EndsAsNo refusal None = ⊥
 
--- The reply lists these faults, with what is suggested by the entry in which all of them are mended at once, and fails
--- as the first does.
+-- The reply lists these faults, with the suggestions by the entry in which all of them are mended at once, and fails as
+-- the first does.
 pub record HasFaults (entry : Content) (source : Option SourceText) (rows cols : ℕ) (first : No) (others : List No)
     (reply : Reply) : Type 0 where
   pub mended : Mended
@@ -70,7 +70,7 @@ pub record HasFaults (entry : Content) (source : Option SourceText) (rows cols :
   pub text : IsFaultsText entry source mended (first ∷ others) reply.text.items
   pub ends : EndsAsNo first reply.failure
 
--- without a fault it is `yes`
+-- the reply is `yes` if there is no fault
 abbrev pub TellsFaults : Content → Option SourceText → ℕ → ℕ → List No → Reply → Type 0
 TellsFaults entry source rows cols [] reply = HasText (codes "yes\n") reply
 TellsFaults entry source rows cols (first ∷ others) reply = HasFaults entry source rows cols first others reply

@@ -1,4 +1,4 @@
--- Where the value of a capability stands in a source text, in the form that editors read.
+-- The place of a capability's value in a source text, in the form that editors read.
 use Rattle.std.specs.Prelude.{◌≡◌, ◌==◌, ℕ, List, [], ◌∷◌, ◌++◌, Option, Some, None, codes, slice_get}
 use Rattle.std.specs.Fmt.{decimal}
 use Rattle.std.specs.List.{before_first}
@@ -20,7 +20,7 @@ abbrev pub number_of : Option FieldLine → ℕ
 number_of None = 0
 number_of (Some field) = field.line
 
--- the line of the text on which a field stands
+-- the line of the text that has a field
 unfoldable pub line_of_field : List ℕ → Origin → ℕ
 line_of_field text origin = number_of (slice_get (field_lines_of text origin.entry) origin.field)
 
@@ -35,34 +35,35 @@ place_text path text raws cap origin =
     path
     ++ (codes ":" ++ (decimal (line_of_field text origin) ++ (codes ": " ++ (name_at cap ++ (codes " of " ++ first_name (names_at raws origin.entry))))))
 
--- the line that has this, as far as it can be shown; a capability without a value has none
+-- the line with these words, as far as they can be shown; none for a capability without a value
 abbrev pub origin_text : SourceText → ℕ → Option Origin → List ℕ
 origin_text source cap None = []
 origin_text source cap (Some origin) =
     shown (place_text source.path.now source.text.items source.raws.items cap origin) ++ 10 ∷ []
 
--- the field that gives the entry its value is the first one about it, of the entry's own or of those that it uses
+-- the field that gives the entry its value is the first one about it, among the entry's own and those that it uses
 pub record IsLocatedIn (source : SourceText) (cap : ℕ) (line : List ℕ) : Type 0 where
   pub origin : Option Origin
   pub first : IsOrigin source.raws.items source.name.now cap origin
   pub says : line ≡ origin_text source cap origin
 
--- the line that says where the value stands; a compiled file has none
+-- the line that says where the value is; none for a compiled file
 abbrev pub IsLocation : Option SourceText → ℕ → List ℕ → Type 0
 IsLocation None cap line = line ≡ []
 IsLocation (Some source) cap line = IsLocatedIn source cap line
 
 -- ---- an entry by its place
 
--- where an entry stands: the path and the text of a source, all entries of the text, and the place of this one
+-- the place of an entry: the path and the text of a source, all entries of the text, and the place of this one among
+-- them
 pub record PlaceInSource : Type 0 where
   pub path : List ℕ
   pub text : List ℕ
   pub raws : List RawEntry
   pub place : ℕ
 
--- Where the value stands that a fault is about, and then the fault under the name of its entry, as far as it can be
--- shown; there is no line for a capability without a value.
+-- The place of the value that a fault is about, and then the fault under the name of its entry, as far as it can be
+-- shown; no line for a capability without a value.
 abbrev pub placed_text : PlaceInSource → List ℕ → No → Option Origin → List ℕ
 placed_text stands name refusal None = []
 placed_text stands name refusal (Some origin) =
@@ -79,7 +80,7 @@ abbrev pub IsPlaced : Option PlaceInSource → List ℕ → No → List ℕ → 
 IsPlaced None name refusal line = line ≡ []
 IsPlaced (Some stands) name refusal line = IsPlacedIn stands name refusal line
 
--- (Serves the code alone.) the same without where it lies in memory
+-- (Serves the code alone.) the place without its memory
 abbrev pub place_in : SourcePlace → PlaceInSource
 place_in stands = record {
   path = stands.path.now;

@@ -20,7 +20,7 @@ use Rattle.ti_commands.specs.declared.failure.Failure.{Failure}
 use Rattle.ti_commands.specs.declared.failure.Failure.TheVariants as failures
 use Rattle.ti_commands.specs.declared.failure.CommandRefusal.TheVariants.{Verdict}
 
--- what of a kind's words comes before its capability
+-- the part of a kind's words that comes before its capability
 abbrev pub kind_name : CertFaultKind → List ℕ
 kind_name BadLine = codes "BadLine"
 kind_name (Missing cap numbers) = codes "Missing "
@@ -52,7 +52,7 @@ IsVerdict text (failures.Refused (Verdict words)) = words.items ≡ text
 IsVerdict text failures.NoMemory = Unit {0}
 IsVerdict text _ = ⊥
 
--- the failure that a kind of fault is
+-- the failure to report for a kind of fault
 abbrev pub IsOfKind : List ℕ → List ℕ → CertFaultKind → Failure → Type 0
 IsOfKind path text NoMemory failure = failure ≡ failures.NoMemory
 IsOfKind path text ReadFailed failure = IsFileFailure path failure
@@ -88,11 +88,11 @@ abbrev pub no_text : No → List ℕ
 no_text refusal = codes "no "
     ++ (name_at refusal.cap ++ (numbers_text refusal.params.items ++ (codes ": " ++ cause_name refusal.cause)))
 
--- the failure that a cause is
+-- the failure to report for a cause
 abbrev pub IsOfCause : List ℕ → Cause → Failure → Type 0
 IsOfCause text causes.NoMemory failure = failure ≡ failures.NoMemory
 IsOfCause text _ failure = IsVerdict text failure
 
--- the failure of a no
+-- the failure to report for a refusal
 abbrev pub TellsNo : No → Failure → Type 0
 TellsNo refusal failure = IsOfCause (no_text refusal) refusal.cause failure

@@ -1,4 +1,4 @@
--- The line of a string that would be right in the place of one that is at fault.
+-- The line with a string that would be right in place of one at fault.
 use Rattle.std.specs.Prelude.{◌≡◌, ℕ, Bool, true, false, List, [], ◌++◌, Option, Some, None, Ok, codes}
 use Rattle.ti_caps.specs.Entry.{Content}
 use Rattle.ti_caps.specs.Table.{name_at}
@@ -8,7 +8,7 @@ use Rattle.ti_faults.specs.Remedies.{IsSuggestion, is_of_another_kind}
 use Rattle.ti_source.specs.Escapes.{unescaped}
 use Rattle.ti_source.specs.Prints.{string_text}
 
--- a string as a source text has it: as it is printed there, and so that it is read as just these bytes
+-- the spelling of a string in a source text, which is printable and is read as exactly these bytes
 pub record IsSpelled (string spelled : List ℕ) : Type 0 where
   pub printed : spelled ≡ string_text string
   pub reads : unescaped spelled ≡ Ok string
@@ -21,12 +21,12 @@ abbrev pub TellsRemedy : ℕ → Option (List ℕ) → List ℕ → Type 0
 TellsRemedy cap None line = line ≡ []
 TellsRemedy cap (Some string) line = (spelled : List ℕ) × IsSpelled string spelled × (line ≡ remedy_line cap spelled)
 
--- where the faults show a terminal of another kind there is no string, and else what is suggested by the mended entry
+-- no string if the faults show a terminal of another kind, else the suggestion by the mended entry
 abbrev pub IsSuggestedBy : Bool → Content → Mended → ℕ → Option (List ℕ) → Type 0
 IsSuggestedBy true entry mended cap found = found ≡ None
 IsSuggestedBy false entry mended cap found = IsSuggestion entry mended cap found
 
--- the line of the string that was judged right in the place of the entry's own; none where there is no such string
+-- the line of the string that was judged right in place of the entry's own; none if there is no such string
 pub record HasRemedy (entry : Content) (mended : Mended) (nos : List No) (cap : ℕ) (line : List ℕ) : Type 0 where
   pub found : Option (List ℕ)
   pub judged : IsSuggestedBy (is_of_another_kind nos) entry mended cap found

@@ -16,7 +16,7 @@ rendition_of probe = record {
   background = probe.background;
 }
 
--- what there is beside the cells
+-- the settings, that is, everything but the cells
 abbrev pub settings_of : Probe → Settings
 settings_of probe = record {
   row = probe.row;

@@ -1,4 +1,4 @@
--- What `verify` answers, by what its files hold.
+-- The answer of `verify`, by the contents of its files.
 use Rattle.std.specs.Prelude.{◌≡◌, ◌⊎◌, ℕ, List, Option, IfSome, codes}
 use Rattle.ti_caps.specs.Entry.{Content, string_at}
 use Rattle.ti_conforms.specs.Entries.{EntryAgrees, acsc}
@@ -17,8 +17,8 @@ use Rattle.ti_commands.specs.declared.failure.Reply.{Reply}
 use Rattle.ti_verdicts.specs.Refusals.{TellsFault}
 use Rattle.ti_requests.specs.declared.request.VerifyWords.{VerifyWords}
 
--- The strings that are handed out are for this size, and just what the entry sends; and the bytes of the certificate,
--- where they are known, are a certificate of these strings.
+-- The strings that are handed out are for this size, and exactly those that the entry sends; the bytes of the
+-- certificate, if they are known, are a certificate of these strings.
 pub record HandsOut (known : Option (List ℕ)) (entry : Content) (height width : ℕ)
     (checked : CheckedTable) : Type 0 where
   pub rows : checked.known.strings.rows ≡ height
@@ -43,12 +43,12 @@ pub record IsVerified (held : Held) (words : VerifyWords) (reply : Reply) : Type
   pub proved : GivesConforming held words
   pub says : IsText (codes "yes\n") reply
 
--- it is the first fault of the text, or says how its certificate differs from the entry
+-- the fault is the first one of the text, or says how its certificate differs from the entry
 pub record IsFaultOf (height width : ℕ) (entry : Content) (text : List ℕ) (fault : VerifyFault) : Type 0 where
   pub first : IsCertRefused height width text ⊥ fault
   pub differs : IsAgreeRefused height width text entry fault
 
--- the certificate at a path can't be had, or has a fault, which is that of its bytes where they are known
+-- the certificate at a path can't be read, or has a fault, which is that of its bytes if they are known
 abbrev pub LacksCertificate : Option (List ℕ) → ℕ → ℕ → Content → List ℕ → Failure → Type 0
 LacksCertificate known height width entry path failure =
     IsFileFailure path failure ⊎ ((fault : VerifyFault) × IfSome known (λ text. IsFaultOf height width entry text fault)

@@ -1,4 +1,4 @@
-//! What is answered of entries, and how many answers there are of each kind.
+//! The answers about entries, and the number of answers of each kind.
 
 ghost use Rattle.std.specs.Prelude.{◌≡◌, ◌++◌, IfOk, OnOk, map};
 ghost use Rattle.std.specs.List.{flat_map};
@@ -11,19 +11,19 @@ use crate::refusals::cause_name;
 use std::alloc::{AllocError, Global};
 use ti_checker::{Cause, No};
 
-/// What a line answers of an entry.
+/// The answer of a line about an entry.
 #[derive(Clone, Copy, Debug, PartialEq, Eq)]
 pub enum Answer {
     /// The entry has a certificate.
     Yes,
-    /// It has none, for this cause.
+    /// The entry has no certificate, for this cause.
     No(Cause),
-    /// It can't be had.
+    /// The entry can't be read.
     Refused,
 }
 
 impl Answer {
-    /// The word by which it is counted.
+    /// The word by which the answer is counted.
     fn name(self) -> &'static [u8]
         ensures { result.now ≡ answer_name self }
     {
@@ -59,7 +59,7 @@ const ANSWERS: [&str; 20] = [
     "refused",
 ];
 
-/// The line of counts: how many `answers` there are, and how many of each one that comes.
+/// The line of counts: the number of `answers`, and the number of each kind that occurs.
 pub fn answers_line(alloc: Global, answers: &[Answer]) -> Result<Vec<u8>, AllocError>
     ensures { IfOk result (λ line. line.items ≡ spec.answers_line answers.now) }
 {
@@ -70,7 +70,7 @@ pub fn answers_line(alloc: Global, answers: &[Answer]) -> Result<Vec<u8>, AllocE
     Ok(line)
 }
 
-/// Appends how many of the `answers` are which.
+/// Appends the number of `answers` of each kind that occurs.
 fn push_answers(alloc: Global, answers: &[Answer], line: &mut Vec<u8>) -> Result<(), AllocError>
     ensures { OnOk result (line.new.items
         ≡ line.old.items ++ flat_map (spec.answer_part answers.now) spec.answer_names) }
@@ -78,7 +78,7 @@ fn push_answers(alloc: Global, answers: &[Answer], line: &mut Vec<u8>) -> Result
     push_named(alloc, answers, &ANSWERS, line)
 }
 
-/// Appends how many of the `answers` have each of these `names`, in their order.
+/// Appends the number of `answers` for each of these `names`, in their order.
 fn push_named(
     alloc: Global,
     answers: &[Answer],
@@ -94,7 +94,7 @@ fn push_named(
     Ok(())
 }
 
-/// Appends how many of the `answers` have this `name`, if any has.
+/// Appends the number of `answers` that have this `name`, if any has.
 fn push_count(
     alloc: Global,
     answers: &[Answer],
@@ -117,7 +117,7 @@ fn push_part(alloc: Global, count: usize, name: &str, line: &mut Vec<u8>) -> Res
     line.extend_from_slice(part.as_bytes())
 }
 
-/// How many of the `answers` have this `name`.
+/// The number of `answers` that have this `name`.
 fn count_of(answers: &[Answer], name: &str) -> usize
     ensures { result ≡ spec.answer_count answers.now name.now }
 {

@@ -8,7 +8,7 @@ use ti_commands::{FileCause, FileFault};
 use ti_lines::{ReadFault, Reader};
 use ti_words::Seen;
 
-/// A file that gives a certificate. It remembers the lines that it gave last, and why it failed.
+/// A file that gives a certificate. It keeps the lines that it gave last, and the reason of its last failure.
 #[derive(Drop)]
 pub struct CertificateFile<R> {
     file: R,
@@ -30,7 +30,7 @@ impl<R: Read> CertificateFile<R> {
         }
     }
 
-    /// Why it failed last.
+    /// The reason of its last failure.
     pub fn fault(&self) -> FileFault {
         self.fault
     }

@@ -1,4 +1,4 @@
-//! Who writes certificates.
+//! Writers of certificates.
 
 ghost use Rattle.std.specs.Prelude.{ℕ, List, IfErr, IfOk};
 ghost use Rattle.ti_caps.specs.Entry.{Content};
@@ -13,10 +13,10 @@ use vt_term::Size;
 
 /// Writes the certificates of entries.
 pub trait Certifier {
-    /// What holds of the text that it writes for an entry, rows and columns.
+    /// The relation that the text written for an entry, rows and columns satisfies.
     ghost certifies: { Self → Content → ℕ → ℕ → List ℕ → Type 0 };
 
-    /// What holds of its no for an entry, rows and columns.
+    /// The relation that a refusal for an entry, rows and columns satisfies.
     ghost refuses: { Self → Content → ℕ → ℕ → No → Type 0 };
 
     /// The certificate of `entry` for `size`.
@@ -28,8 +28,8 @@ pub trait Certifier {
         ensures refuses { IfErr result (λ refusal. refuses self.now entry.now size.rows size.cols refusal) };
 }
 
-/// The checker: a text that it writes is the certificate of the entry, which conforms, and each of its noes is true and
-/// the first.
+/// The checker: a text that it writes is the certificate of the entry, which conforms, and each of its refusals is true
+/// and the first.
 #[derive(Clone, Copy)]
 pub struct Checker;
 

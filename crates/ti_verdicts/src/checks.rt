@@ -16,8 +16,8 @@ use ti_words::Remarks;
 use vt_term::Size;
 
 /// Replies with the notes on the entry that the `words` give and with the certificate that the `certifier` writes of
-/// it, which goes to its path or to standard output, or with why there is none. Further lines go to `remarks`, advice
-/// on an entry with a certificate among them.
+/// it, which goes to its path or to standard output, or with the reason why there is none. Further lines go to
+/// `remarks`, advice on an entry with a certificate among them.
 pub fn check_entry<C: Certifier, F: Files>(
     alloc: Global,
     certifier: &C,
@@ -47,14 +47,14 @@ pub fn check_entry<C: Certifier, F: Files>(
     }
 }
 
-/// Adds advice on `entry` to `remarks`, where the `reply` has delivered its certificate.
+/// Adds advice on `entry` to `remarks`, if the `reply` has delivered its certificate.
 fn advise_on(alloc: Global, entry: &Entry, size: Size, reply: &Reply, remarks: &mut Remarks) {
     if reply.failure.is_none() {
         advise(alloc, entry, size, remarks);
     }
 }
 
-/// The lines of the notes on `entry`; none where one of its strings sends no whole tokens.
+/// The lines of the notes on `entry`; none if one of its strings sends no whole tokens.
 pub fn notes_on(alloc: Global, entry: &Entry, size: Size) -> Result<Vec<u8>, AllocError>
     ensures { IfOk result (λ lines. TellsNotes entry.now lines.items) }
 {
@@ -117,7 +117,7 @@ fn deliver<F: Files>(
     }
 }
 
-/// Stores `text` at `path`, or answers why not.
+/// Stores `text` at `path`, or returns the failure.
 fn store_text<F: Files>(
     alloc: Global,
     files: &mut F,

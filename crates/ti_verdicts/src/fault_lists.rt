@@ -22,9 +22,9 @@ use ti_requests::FaultsWords;
 use ti_words::Remarks;
 use vt_term::Size;
 
-/// Replies with the notes on the entry that the `words` give, and with all its faults, each with where it stands and
-/// what explains it, and how many there are; or with `yes` where there is none. The reply fails as the first of the
-/// faults does. Further lines go to `remarks`, advice on an entry without a fault among them.
+/// Replies with the notes on the entry that the `words` give, and with all its faults, each with its place and its
+/// explanation, and with their number; or with `yes` if there is none. The reply fails as the first of the faults does.
+/// Further lines go to `remarks`, advice on an entry without a fault among them.
 pub fn check_all<F: Files>(
     alloc: Global,
     words: &FaultsWords<'_>,
@@ -77,7 +77,7 @@ fn reply_of(
     }
 }
 
-/// The lines of the faults `nos` of the entry `found`, which is `mended`, and then how many there are.
+/// The lines of the faults `nos` of the entry `found`, which is `mended`, and then their counts.
 fn faults_text(
     alloc: Global,
     found: &Sourced<'_>,
@@ -93,7 +93,7 @@ fn faults_text(
     Ok(text)
 }
 
-/// The line of counts of the faults `nos`: how many there are, and how many of each cause that comes.
+/// The line of counts of the faults `nos`: the number of all, and of each cause that occurs.
 fn counts_line(alloc: Global, nos: &[No]) -> Result<Vec<u8>, AllocError>
     ensures { IfOk result (λ line. line.items ≡ spec.counts_line nos.now) }
 {
@@ -120,8 +120,8 @@ fn fault_lines(
     Ok(lines)
 }
 
-/// The line of `no`, one of the faults `nos` of the entry `found`, which is `mended`; where its value stands in the
-/// source, what explains it, and what would be right.
+/// The line of `no`, one of the faults `nos` of the entry `found`, which is `mended`; then the place of its value in
+/// the source, its explanation, and the string that would be right.
 fn own_lines(
     alloc: Global,
     found: &Sourced<'_>,

@@ -1,12 +1,12 @@
-//! Which words explain why a certificate is refused.
+//! The explanation of a certificate's refusal.
 
 use std::alloc::{AllocError, Global};
 use ti_cert::{CertFault, CertFaultKind};
 use ti_words::{Remarks, Seen, explain_line, first_line_words, missing_line_words};
 use vt_term::Size;
 
-/// Adds to `remarks` what was to stand in the line of the certificate at `path` that has `fault`, as far as there is
-/// memory. The line is shown where `seen` still has it.
+/// Adds to `remarks` what the line with `fault` of the certificate at `path` should say, as far as there is memory. The
+/// line is shown if `seen` still has it.
 pub fn explain_fault(
     alloc: Global,
     path: &str,
@@ -20,7 +20,7 @@ pub fn explain_fault(
     }
 }
 
-/// What was to stand in a line, or what is wrong with it.
+/// The text that a line should have, or the line's fault.
 fn wanted(alloc: Global, size: Size, fault: &CertFault) -> Result<Vec<u8>, AllocError> {
     match &fault.kind {
         CertFaultKind::BadLine if fault.line == 1 => first_line_words(alloc, size),

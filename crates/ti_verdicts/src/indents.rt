@@ -1,4 +1,4 @@
-//! Lines that stand below another one.
+//! Indented lines, which are printed below another one.
 
 ghost use Rattle.std.specs.Prelude.{◌≡◌, ◌++◌, IfOk, OnOk, map};
 ghost use Rattle.std.specs.List.{flat_map};

@@ -1,4 +1,4 @@
-//! What the program's commands about certificates reply: `check` and `verify`.
+//! The replies of the program's commands about certificates: `check` and `verify`.
 #![tactic(auto)]
 
 mod answers;

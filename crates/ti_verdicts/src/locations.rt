@@ -1,4 +1,4 @@
-//! Where the value of a capability stands in a source text.
+//! The place of a capability's value in a source text.
 
 ghost use Rattle.std.specs.Prelude.{◌≡◌, ◌<◌, ◌==◌, IfOk, IfSome, Some, length};
 ghost use Rattle.std.specs.List as List;
@@ -14,7 +14,7 @@ use ti_resolve::{Origin, origin, origin_at};
 use ti_source::{RawEntry, field_lines};
 use ti_words::push_shown;
 
-/// Where an entry of a source text stands.
+/// The place of an entry in a source text.
 #[derive(Drop)]
 pub struct SourcePlace<'a> {
     /// The file's path.
@@ -27,7 +27,7 @@ pub struct SourcePlace<'a> {
     pub place: usize,
 }
 
-/// Where the first of `names` ends, if another follows.
+/// The end of the first of `names`, if another follows.
 fn name_end(names: &[u8]) -> Option<usize>
     ensures { result ≡ List.position (λ byte. byte == 124) names.now }
 {
@@ -44,8 +44,8 @@ pub fn first_name(names: &[u8]) -> &[u8]
     }
 }
 
-/// The line that says where the value of `cap` stands in `source`, as `FILE:LINE: CAP of NAME`, as far as that can be
-/// shown; nothing where there is no source or no value.
+/// The line that says where `source` has the value of `cap`, as `FILE:LINE: CAP of NAME`, as far as that can be shown;
+/// empty if there is no source or no value.
 pub fn location(
     alloc: Global,
     source: &Option<SourceText<'_>>,
@@ -59,7 +59,7 @@ pub fn location(
     }
 }
 
-/// The line that says where the value of `cap` stands in `source`; nothing where there is no value.
+/// The line that says where `source` has the value of `cap`; empty if there is no value.
 fn location_in(alloc: Global, source: &SourceText<'_>, cap: Cap) -> Result<Vec<u8>, AllocError>
     ensures { IfOk result (λ line. spec.IsLocatedIn source.now cap line.items) }
 {
@@ -111,8 +111,8 @@ fn place_words(
     Ok(words)
 }
 
-/// The line that says where the value stands that `no` is about, and what `no` says of the entry of this name, which
-/// `stands` there; nothing where that is no source, or there is no value.
+/// The line with the place of the value that `no` is about, and the words of `no` about the entry of this name at the
+/// place `stands`; empty if the entry is in no source, or has no value.
 pub fn placed(
     alloc: Global,
     stands: &Option<SourcePlace<'_>>,
@@ -168,7 +168,7 @@ fn placed_line(
     Ok(line)
 }
 
-/// The line of `text` on which the field at `origin` stands.
+/// The line of `text` that has the field at `origin`.
 #[tactic(auto, unfolding(crate::specs::Locations::line_of_field))]
 pub fn line_of_field(alloc: Global, text: &[u8], origin: Origin) -> Result<usize, AllocError>
     ensures { IfOk result (λ line. line ≡ spec.line_of_field text.now origin) }

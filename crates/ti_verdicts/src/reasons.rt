@@ -1,4 +1,4 @@
-//! Which words explain why an entry gets no certificate.
+//! The explanation why an entry gets no certificate.
 
 use crate::starts::terminal_at;
 use std::alloc::{AllocError, Global};
@@ -12,7 +12,7 @@ use ti_words::{
 };
 use vt_term::Size;
 
-/// Adds to `remarks` what a maintainer of `entry` needs to know of `no`, as far as there is memory.
+/// Adds to `remarks` the facts that a maintainer of `entry` needs about `no`, as far as there is memory.
 pub fn explain_no(alloc: Global, entry: &Entry, size: Size, no: &No, remarks: &mut Remarks) {
     let _ = explain_cause(alloc, entry, size, no, remarks);
 }
@@ -48,7 +48,7 @@ fn row_of(no: &No) -> Option<Row> {
     Row::named(name(no.cap))?.with_params(no.params.as_slice())
 }
 
-/// What the string of `entry` for `row` sends, and what is wrong with that.
+/// Explains the bytes that the string of `entry` sends for `row`, and their fault.
 fn explain_string(
     alloc: Global,
     entry: &Entry,
@@ -68,7 +68,7 @@ fn explain_string(
     }
 }
 
-/// What is wrong with `bytes`, which a string sends for `row`.
+/// Explains the fault of `bytes`, which a string sends for `row`.
 fn explain_sent(
     alloc: Global,
     size: Size,

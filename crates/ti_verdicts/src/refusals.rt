@@ -46,7 +46,7 @@ pub fn no_words(alloc: Global, no: &No) -> Result<Vec<u8>, AllocError>
     Ok(words)
 }
 
-/// The failure that `no` is.
+/// The failure to report for `no`.
 pub fn no_failure(alloc: Global, no: &No) -> Failure
     ensures { spec.TellsNo no.now result }
 {
@@ -56,7 +56,7 @@ pub fn no_failure(alloc: Global, no: &No) -> Failure
     }
 }
 
-/// The refusal in `words`, or what is left if there was no memory for them.
+/// The refusal in `words`, or out of memory if there was no memory for them.
 pub fn verdict(words: Result<Vec<u8>, AllocError>) -> Failure
     ensures { (text : List ℕ) → IfOk words (λ words. words.items ≡ text) → spec.IsVerdict text result }
 {
@@ -66,7 +66,7 @@ pub fn verdict(words: Result<Vec<u8>, AllocError>) -> Failure
     }
 }
 
-/// The name of `cause` in the line of a no.
+/// The name of `cause` in the line of a refusal.
 pub fn cause_name(cause: Cause) -> &'static [u8]
     ensures { result.now ≡ spec.cause_name cause }
 {

@@ -1,4 +1,4 @@
-//! What would be right in the place of a string that is at fault.
+//! Strings that would be right in place of one at fault.
 
 ghost use Rattle.std.specs.Prelude.{◌≡◌, IfOk, IfSome, IsTrue, Some};
 ghost use Rattle.std.specs.Option.{option_copied};
@@ -13,7 +13,7 @@ use ti_faults::{Mended, is_of_another_kind, suggestion};
 use ti_source::escape;
 use ti_words::{OF_ANOTHER_KIND, Remarks};
 
-/// The string that is suggested in the place of the one that `no` is about, if there is one.
+/// The string that is suggested in place of the one that `no` is about, if there is one.
 fn suggested(entry: &Entry, mended: &Mended, no: &No, nos: &[No]) -> Option<&'static [u8]>
     ensures judged { spec.IsSuggestedBy (remedies.is_of_another_kind nos.now) entry.now mended.now no.now.cap
         (option_copied result) }
@@ -26,7 +26,7 @@ fn suggested(entry: &Entry, mended: &Mended, no: &No, nos: &[No]) -> Option<&'st
     }
 }
 
-/// The line of what would be right for `cap`, `spelled` as a source has it.
+/// The line with the string that would be right for `cap`, `spelled` as in a source.
 fn spelled_line(alloc: Global, cap: Cap, spelled: &[u8]) -> Result<Vec<u8>, AllocError>
     ensures { IfOk result (λ line. line.items ≡ spec.remedy_line cap spelled.now) }
 {
@@ -47,10 +47,9 @@ fn remedy_line(alloc: Global, cap: Cap, string: &[u8]) -> Result<Vec<u8>, AllocE
     spelled_line(alloc, cap, spelled.as_slice())
 }
 
-/// The line of the string that would be right in the place of the one that `no` is about; none if there is no such
-/// string. `nos` are all faults of `entry`, and `mended` is the entry with all of them mended, in which each string
-/// that is suggested is right beside the others. Where the faults show a terminal of another kind, nothing is
-/// suggested.
+/// The line with the string that would be right in place of the one that `no` is about; empty if there is no such
+/// string. `nos` are all faults of `entry`, and `mended` is the entry with all of them mended, in which each suggested
+/// string is right beside the others. If the faults show a terminal of another kind, nothing is suggested.
 pub fn suggestion_line(
     alloc: Global,
     entry: &Entry,

@@ -9,7 +9,7 @@ use ti_checker::Probe;
 use ti_words::start_words;
 use vt_term::{Rendition, Settings, Size, Terminal};
 
-/// A terminal of `size` in the state of `probe`; `None` where the probe's cursor or margins don't lie in the size.
+/// A terminal of `size` in the state of `probe`; `None` if the probe's cursor or margins aren't within the size.
 pub fn terminal_at(
     alloc: Global,
     size: Size,

@@ -36,7 +36,7 @@ pub fn verify_certificate<F: Files>(
     Ok(Reply::of_text(alloc, text))
 }
 
-/// What the certificate at `path` shows of `entry` for `size`. It is judged as it is read.
+/// The strings of `entry` that the certificate at `path` verifies for `size`. The certificate is judged as it is read.
 pub fn checked_at<F: Files>(
     alloc: Global,
     entry: &Entry,
