@@ -1,4 +1,4 @@
--- What is said of a capability, by its string.
+-- The faults of a capability, by its string.
 use Rattle.std.proofs.Common.{◌≡◌, ◌≢◌, ◌+◌, ℕ, suc, true, false, List, [], ◌∷◌, ◌++◌, Option, None, Some, IfNone, IfSome, refl, sym, ap, subst, ◌∙◌, append_assoc, add-one}
 use Rattle.std.proofs.lemmas.Bool.{false≢true}
 use Rattle.std.proofs.lemmas.List.{append-nil}
@@ -38,7 +38,7 @@ cap_fault_of entry rows cols place first string refusal same checked there f = r
   earlier = λ other range alike lt. stands entry rows cols other string (same_string entry other first (alike ∙ sym same) ∙ there) (f.earlier other range (alike ∙ sym same) lt);
 }
 
--- ---- one capability more
+-- ---- one more capability
 
 pub no_caps : (entry : Content) (rows cols : ℕ) (nos : List No) → AddsCaps entry rows cols 0 nos nos
 unfolding OfCaps
@@ -55,7 +55,7 @@ one_cap_more entry rows cols n old mid new a b = record {
   of_caps = subst (λ (m : ℕ). OfCaps entry rows cols m (a.own ++ b.own)) (sym (add-one n)) (caps_suc entry rows cols n a.own b.own a.of_caps b.of_cap);
 }
 
--- what is added of a capability
+-- the faults added for a capability
 pub stands_added : (entry : Content) (rows cols place : ℕ) (nos : List No) → CapStands entry rows cols place → AddsCap entry rows cols place nos nos
 stands_added entry rows cols place nos h = record { own = []; added = sym (append-nil nos); of_cap = Stands refl h }
 

@@ -1,4 +1,4 @@
--- What is said of the entry as a whole, and all faults.
+-- The faults of the entry as a whole, and all faults.
 use Rattle.std.proofs.Common.{◌≡◌, List, ◌++◌, map, ap, ◌∙◌}
 use Rattle.ti_caps.specs.Entry.{Content}
 use Rattle.ti_checker.specs.declared.causes.No.{No}

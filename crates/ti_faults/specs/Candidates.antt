@@ -1,4 +1,4 @@
--- Which string is taken in the place of one that is at fault.
+-- The string that is taken in place of one at fault.
 use Rattle.std.specs.Prelude.{ℕ, ◌/◌, ◌%◌, ◌==◌, Bool, false, if◌then◌else◌, List, Option, Some, None}
 use Rattle.ti_caps.specs.Entry.{Content}
 use Rattle.ti_rows.specs.declared.rows.Row.{Row}
@@ -19,11 +19,11 @@ abbrev pub or_other : Option (List ℕ) → Option (List ℕ) → Option (List �
 or_other None other = other
 or_other (Some string) other = Some string
 
--- the one that fits the entry's other strings, or else that of the standards
+-- the string that fits the entry's other strings, or else that of the standards
 abbrev pub candidate : Content → Choice → Row → Option (List ℕ)
 candidate entry choice row =
     if takes_second choice row then general entry row else or_other (matching entry row) (general entry row)
 
--- what a string at fault is mended with
+-- the string with which one at fault is mended
 abbrev pub stand_in : Content → Choice → Row → Option (List ℕ)
 stand_in entry choice row = or_other (candidate entry choice row) (standard row)

@@ -1,4 +1,4 @@
--- What an entry as a whole is at fault for, whatever its strings send (terminfo(5), "Predefined Capabilities").
+-- The faults of an entry as a whole, whatever its strings send (terminfo(5), "Predefined Capabilities").
 use Rattle.std.specs.Prelude.{ℕ, ◌≡◌, ◌<◌, ◌++◌, not, if◌then◌else◌, Bool, false, List, [], ◌∷◌, Some, is_some, map}
 use Rattle.ti_caps.specs.Entry.{Content, flag_at, number_at, string_at}
 use Rattle.ti_conforms.specs.Alternates.{is_misfit}
@@ -11,7 +11,7 @@ use Rattle.ti_checker.specs.declared.causes.Cause.{Cause}
 use Rattle.ti_checker.specs.declared.causes.Cause.TheVariants.{FlagOut, Absent, AcsByte}
 use Rattle.ti_checker.specs.declared.causes.No.{No}
 
--- what a no says: of which capability, with which parameters, and why
+-- the contents of a refusal: the capability, its parameters, and the cause
 pub record Said : Type 0 where
   pub cap : ℕ
   pub params : List ℕ
@@ -20,11 +20,11 @@ pub record Said : Type 0 where
 abbrev pub said_by : No → Said
 said_by refusal = record { cap = refusal.cap; params = refusal.params.items; cause = refusal.cause }
 
--- of a capability as a whole
+-- a fault of a capability as a whole
 abbrev pub said_of : ℕ → Cause → Said
 said_of cap cause = record { cap = cap; params = []; cause = cause }
 
--- it, where this is so
+-- the fault, if the condition is true
 abbrev pub if_so : Bool → Said → List Said
 if_so b said = if b then said ∷ [] else []
 
@@ -36,7 +36,7 @@ flags_out entry =
     ++ if_so (flag_at entry gn) (said_of gn FlagOut))
     ++ if_so (flag_at entry os) (said_of os FlagOut)
 
--- and each of `clear`, `cup` and `sgr0` that it lacks
+-- each of `clear`, `cup` and `sgr0` that the entry lacks
 abbrev pub lacking : Content → List Said
 lacking entry =
     ((flags_out entry
@@ -49,18 +49,18 @@ abbrev pub HasNoMisfit : Content → Type 0
 HasNoMisfit entry =
     (pairs : List ℕ) → string_at entry acsc ≡ Some pairs → (letter : ℕ) → letter < 256 → is_misfit pairs letter ≡ false
 
--- what is said of `acsc`
+-- the faults of `acsc`
 pub data OfPairs (entry : Content) (said : List Said) : Type 0 where
   Unprinted : said ≡ said_of acsc AcsByte ∷ [] → HasMisfit entry → OfPairs entry said
   Printed : said ≡ [] → HasNoMisfit entry → OfPairs entry said
 
--- all that is said of the entry as a whole
+-- all faults of the entry as a whole
 pub record Lacks (entry : Content) (nos : List No) : Type 0 where
   pub pairs : List Said
   pub of_pairs : OfPairs entry pairs
   pub are : map said_by nos ≡ lacking entry ++ pairs
 
--- ---- (Serves the code alone.) what is added
+-- ---- (Serves the code alone.) faults that are added
 
 abbrev pub Adds : List Said → List No → List No → Type 0
 Adds said old new = map said_by new ≡ map said_by old ++ said

@@ -1,4 +1,4 @@
--- An entry with all that is at fault mended at once.
+-- An entry with everything at fault mended at once.
 use Rattle.std.specs.Prelude.{ℕ, ◌≡◌, ◌≢◌, ◌<◌, ◌==◌, ◌&&◌, not, Bool, true, false, List, [], ◌∷◌, Option, Some, None}
 use Rattle.std.specs.List.{list_any}
 use Rattle.ti_caps.specs.Entry.{Content, with_value}
@@ -24,16 +24,16 @@ without_pairs entry = with_value entry acsc (Some (String []))
 abbrev pub names : List No → ℕ → Bool
 names faults cap = list_any (λ fault. fault.cap == cap) faults
 
--- the row's capability gets this string, or goes where there is none
+-- the row's capability gets this string, or is removed if there is none
 abbrev pub put_string : Content → Row → Option (List ℕ) → Content
 put_string before row None = with_value before (cap_of row) None
 put_string before row (Some string) = with_string before row string
 
--- A checked capability gets what its string is mended with, which depends on the strings that the entry has of its own.
+-- A checked capability gets the string with which it is mended, which depends on the entry's own strings.
 abbrev pub MendsRow : Content → Content → Choice → Row → Content → Type 0
 MendsRow own before choice row after = after ≡ put_string before row (stand_in own choice row)
 
--- `acsc` loses its pairs, and what rules every certificate out goes
+-- `acsc` loses its pairs, and a capability that rules every certificate out is removed
 pub data MendsOther (before : Content) (cap : ℕ) (after : Content) : Type 0 where
   Pairs : cap ≡ acsc → after ≡ without_pairs before → MendsOther before cap after
   Other : cap ≢ acsc → after ≡ with_value before cap None → MendsOther before cap after
@@ -42,7 +42,7 @@ pub data Mends (own : Content) (choice : Choice) (cap : ℕ) (before after : Con
   OfRow : (row : Row) → cap_of row ≡ cap → MendsRow own before choice row after → Mends own choice cap before after
   OfNone : ((row : Row) → cap_of row ≢ cap) → MendsOther before cap after → Mends own choice cap before after
 
--- each capability that one of these faults is of, one after another
+-- each capability with one of these faults is mended, one after another
 abbrev pub MendsAll : Content → Choice → List No → Content → Content → Type 0
 MendsAll own choice [] before after = after ≡ before
 MendsAll own choice (fault ∷ rest) before after =
@@ -57,7 +57,7 @@ pub record IsMended (entry : Content) (rows cols : ℕ) (nos : List No) (choice 
 abbrev pub switches_sets : List No → Bool
 switches_sets left = not (names left (cap_of Smacs)) && not (names left (cap_of Rmacs))
 
--- mended by the choice of this number, `smacs` or `rmacs` is at fault
+-- `smacs` or `rmacs` is at fault in the entry mended by the choice of this number
 pub record FailsToSwitch (entry : Content) (rows cols : ℕ) (nos : List No) (number : ℕ) : Type 0 where
   pub tried : Mended
   pub mended : IsMended entry rows cols nos (choice_of number) tried

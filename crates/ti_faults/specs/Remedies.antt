@@ -1,4 +1,4 @@
--- What would be right in the place of strings at fault: strings that were judged there, all of them together.
+-- Strings that would be right in place of those at fault: they were judged there, all of them together.
 use Rattle.std.specs.Prelude.{ℕ, ◌≡◌, ◌≢◌, ◌==◌, ◌&&◌, not, Bool, true, false, List, Option, Some, None}
 use Rattle.std.specs.List.{list_all}
 use Rattle.ti_caps.specs.Entry.{Content}
@@ -25,20 +25,20 @@ partner_of row = cap_of row
 abbrev pub may_stay : Row → No → Bool
 may_stay row fault = not (fault.cap == cap_of row) && not (fault.cap == partner_of row)
 
--- The string stands in the mended entry, the capability is checked there, and none of the faults that are left there
--- says anything against it.
+-- The mended entry has the string, the capability is checked there, and none of the faults that are left there says
+-- anything against it.
 pub record IsAccepted (m : Mended) (row : Row) (string : List ℕ) : Type 0 where
   pub checked : is_checked m.entry row ≡ true
   pub may_stay : list_all (may_stay row) m.left.items ≡ true
   pub there : string_of m.entry row ≡ Some string
 
--- or that isn't so
+-- the string isn't accepted
 pub data IsRejected (m : Mended) (row : Row) (string : List ℕ) : Type 0 where
   Unchecked : is_checked m.entry row ≡ false → IsRejected m row string
   AtFault : list_all (may_stay row) m.left.items ≡ false → IsRejected m row string
   NotThere : (string_of m.entry row ≡ Some string → ⊥) → IsRejected m row string
 
--- the string, if there is one, exactly where it is accepted
+-- the string, if there is one, exactly if it is accepted
 pub data IsIfAccepted (m : Mended) (row : Row) : Option (List ℕ) → Option (List ℕ) → Type 0 where
   Accepted : (string : List ℕ) (given found : Option (List ℕ)) → given ≡ Some string → found ≡ Some string
       → IsAccepted m row string → IsIfAccepted m row given found
@@ -46,24 +46,24 @@ pub data IsIfAccepted (m : Mended) (row : Row) : Option (List ℕ) → Option (L
       → IsRejected m row string → IsIfAccepted m row given found
   NoString : (given found : Option (List ℕ)) → given ≡ None → found ≡ None → IsIfAccepted m row given found
 
--- what is suggested for a capability: the string with which it was mended, or nothing where it isn't a checked one
+-- the suggestion for a capability: the string with which it was mended, or nothing if it isn't a checked one
 pub data IsSuggestion (entry : Content) (m : Mended) (cap : ℕ) (found : Option (List ℕ)) : Type 0 where
   OfChecked : (row : Row) → cap_of row ≡ cap → IsIfAccepted m row (candidate entry m.choice row) found
       → IsSuggestion entry m cap found
   OfOther : ((row : Row) → cap_of row ≢ cap) → found ≡ None → IsSuggestion entry m cap found
 
--- each row of the capability sends bytes that are whole, and do what is wanted from every start of the row
+-- each row of the capability sends whole bytes with a wanted end from every start of the row
 abbrev pub SendsAllRight : ℕ → ℕ → List ℕ → ℕ → Type 0
 SendsAllRight rows cols string place =
     (row : Row) → IsInRange rows cols row → order row ≡ place → (looks : Looks) × SendsRight rows cols looks string row
 
--- so does whatever is accepted, where the faults that are left are those that the mended entry shows
+-- an accepted string does so, if the faults that are left are those that the mended entry shows
 abbrev pub SuggestionsAreRight : Type 0
 SuggestionsAreRight =
     (rows cols : ℕ) (m : Mended) (row : Row) (string : List ℕ) → AreShown m.entry rows cols m.left.items
     → IsAccepted m row string → SendsAllRight rows cols string (order row)
 
--- An entry for a terminal of another kind: what every program needs first is wrong, how the screen is cleared and how a
--- place is reached.
+-- The faults of an entry for a terminal of another kind: both `clear` and `cup`, which every program needs first, are
+-- wrong.
 abbrev pub is_of_another_kind : List No → Bool
 is_of_another_kind faults = names faults (cap_of Clear) && names faults (cap_of (Cup 0 0))

@@ -11,7 +11,7 @@ use Rattle.ti_checker.specs.No.{IsFaulty, HasFaultyString}
 use Rattle.ti_checker.specs.declared.causes.Cause.TheVariants.{NoMemory}
 use Rattle.ti_checker.specs.declared.causes.No.{No}
 
--- each row stands of the capability at this place in the order of names
+-- each row of the capability at this place in the order of names stands
 abbrev pub CapStands : Content → ℕ → ℕ → ℕ → Type 0
 CapStands entry rows cols place =
     (row : Row) → IsInRange rows cols row → order row ≡ place → RowStands entry rows cols row
@@ -28,26 +28,26 @@ pub record IsCapFault (entry : Content) (rows cols place : ℕ) (refusal : No) :
   pub earlier : (other : Row) → IsInRange rows cols other → order other ≡ place
       → rank rows cols other < rank rows cols row → RowStands entry rows cols other
 
--- what is said of the capability at a place: nothing, where each row stands; or the first fault
+-- the faults of the capability at a place: none if each row stands; or the first fault
 pub data OfCap (entry : Content) (rows cols place : ℕ) (nos : List No) : Type 0 where
   Stands : nos ≡ [] → CapStands entry rows cols place → OfCap entry rows cols place nos
   Fails : (refusal : No) → nos ≡ refusal ∷ [] → refusal.cause ≢ NoMemory → IsCapFault entry rows cols place refusal
       → OfCap entry rows cols place nos
 
--- what is said of so many capabilities, the first ones in the order of names, one after another
+-- the faults of the first capabilities in the order of names, one after another
 unfoldable pub OfCaps : Content → ℕ → ℕ → ℕ → List No → Type 0
 OfCaps entry rows cols zero nos = nos ≡ []
 OfCaps entry rows cols (suc n) nos =
     (front : List No) × (own : List No) × (nos ≡ front ++ own) × OfCaps entry rows cols n front
     × OfCap entry rows cols n own
 
--- ---- (Serves the code alone.) the same of a string, and what is added
+-- ---- (Serves the code alone.) the rows of a string, and faults that are added
 
 abbrev pub SendsAllAsked : ℕ → ℕ → List ℕ → ℕ → Type 0
 SendsAllAsked rows cols string place =
     (row : Row) → IsInRange rows cols row → order row ≡ place → SendsAsked rows cols string row
 
--- before the row of this rank
+-- the rows before the one of this rank send what is asked for
 abbrev pub SendsAskedBefore : ℕ → ℕ → List ℕ → ℕ → ℕ → Type 0
 SendsAskedBefore rows cols string place k =
     (row : Row) → IsInRange rows cols row → order row ≡ place → rank rows cols row < k → SendsAsked rows cols string row

@@ -36,11 +36,11 @@ graphic_g0 = esc (codes "(0")
 abbrev pub plain_g0 : List ℕ
 plain_g0 = esc (codes "(B")
 
--- SGR 0 and what each attribute that is asked for adds (ECMA-48 8.3.117); standout is shown as negative
+-- SGR 0 and the parameter that each asked attribute adds (ECMA-48 8.3.117); standout is shown as negative
 abbrev pub attribute_string : List ℕ
 attribute_string = csi (codes "0%?%p1%p3%|%t;7%;%?%p2%t;4%;%?%p4%t;5%;%?%p5%t;2%;%?%p6%t;1%;%?%p7%t;8%;m")
 
--- ---- the string of each capability, where a standard has one: none has a second screen
+-- ---- the string of each capability, if a standard has one: none has a second screen
 
 abbrev pub standard : Row → Option (List ℕ)
 -- ECMA-48 8.3.3, BEL
@@ -101,12 +101,12 @@ standard Smul = Some (csi (codes "4m"))
 -- 8.3.158, VPA
 standard (Vpa row) = Some (csi (codes "%i%p1%dd"))
 
--- the same by the capability, of which there is none that isn't checked
+-- the standards' string by the capability; there is none for one that isn't checked
 pub data IsStandard (cap : ℕ) (found : Option (List ℕ)) : Type 0 where
   OfRow : (row : Row) → cap_of row ≡ cap → found ≡ standard row → IsStandard cap found
   OfNone : ((row : Row) → cap_of row ≢ cap) → found ≡ None → IsStandard cap found
 
--- ---- the string that fits the entry's other strings better, where there is one
+-- ---- the string that fits the entry's other strings better, if there is one
 
 -- the entry changes between ASCII and the line drawing characters by SO and SI
 abbrev pub has_byte : ℕ → Option (List ℕ) → Bool
@@ -116,7 +116,7 @@ has_byte byte (Some bytes) = list_any (λ b. b == byte) bytes
 abbrev pub shifts : Content → Bool
 shifts entry = has_byte 14 (string_of entry Smacs) || has_byte 15 (string_of entry Rmacs)
 
--- how many colours the entry has: the number `colors`
+-- the number of colors that the entry has: its number `colors`
 abbrev pub number_or_zero : Option ℕ → ℕ
 number_or_zero None = 0
 number_or_zero (Some n) = n
@@ -127,11 +127,11 @@ colors = 57
 abbrev pub colors_of : Content → ℕ
 colors_of entry = number_or_zero (number_at entry colors)
 
--- up to 256 colours by ITU-T T.416 13.1.8, and 8 to 15 as aixterm has them
+-- up to 256 colors by ITU-T T.416 13.1.8, and 8 to 15 as aixterm has them
 abbrev pub many_colors : Content → Bool
 many_colors entry = nat_lt 8 (colors_of entry) && nat_le (colors_of entry) 256
 
--- xterm's other screen, where the entry's other string uses it
+-- xterm's other screen, if the entry's other string uses it
 abbrev pub begins : Option (List ℕ) → List ℕ → Bool
 begins None text = false
 begins (Some bytes) text = starts_with (λ a b. a == b) bytes text
@@ -158,14 +158,13 @@ matching entry Smcup = where_so (begins (string_of entry Rmcup) (csi (codes "?10
 matching entry Rmcup = where_so (begins (string_of entry Smcup) (csi (codes "?1049h"))) (csi (codes "?1049l"))
 matching entry _ = None
 
--- The standards' strings for 8 colours are none for an entry with more than 256, whose colours are no numbers of a
--- palette.
+-- The standards' strings for 8 colors don't suit an entry with more than 256, whose colors aren't numbers of a palette.
 abbrev pub general : Content → Row → Option (List ℕ)
 general entry (Setaf c) = if nat_lt 256 (colors_of entry) then None else standard (Setaf c)
 general entry (Setab c) = if nat_lt 256 (colors_of entry) then None else standard (Setab c)
 general entry row = standard row
 
--- ---- what is tried, in this order
+-- ---- the strings that are tried, in this order
 
 abbrev pub as_list : Option (List ℕ) → List (List ℕ)
 as_list None = []

@@ -1,4 +1,4 @@
-//! Which string is taken in the place of one that is at fault.
+//! The string that is taken in place of one at fault.
 
 ghost use Rattle.std.specs.Prelude.{◌≡◌, ◌<◌, IfSome, IsTrue};
 ghost use Rattle.std.specs.Option.{option_copied};
@@ -9,7 +9,8 @@ use crate::standards::{general, matching, standard};
 use ti_caps::Entry;
 use ti_rows::Row;
 
-/// Which candidates of `smacs` and `rmacs` are taken, which are right only together: the second one, or else the first.
+/// The choice of candidates for `smacs` and `rmacs`, which are right only together: for each the second one, or else
+/// the first.
 #[derive(Clone, Copy, Debug, PartialEq, Eq)]
 pub struct Choice {
     second_smacs: bool,
@@ -52,7 +53,7 @@ impl Choice {
         }
     }
 
-    /// The string with which the row's capability is mended: the candidate, or else the standard's own.
+    /// The string with which the row's capability is mended: the candidate, or else the standards' own.
     pub(crate) fn stand_in(self, entry: &Entry, row: Row) -> Option<&'static [u8]>
         ensures value { option_copied result ≡ spec.stand_in entry.now self row }
         ensures fits { IfSome result (λ string. IsTrue (string_fits string.now)) }

@@ -1,11 +1,11 @@
-//! Whether a no claims something.
+//! Whether a refusal claims something.
 
 ghost use Rattle.std.specs.Prelude.{◌≡◌, ◌≢◌, OnErr, OnOk};
 
 use std::alloc::AllocError;
 use ti_checker::Cause;
 
-/// Fails where the `cause` of a no is that memory ran out, which claims nothing.
+/// Fails if `cause` is that memory ran out, which claims nothing.
 pub fn must_claim(cause: Cause) -> Result<(), AllocError>
     ensures claims { OnOk result (cause ≢ Cause.NoMemory) }
     ensures fails { OnErr result (cause ≡ Cause.NoMemory) }

@@ -1,4 +1,4 @@
-//! What an entry lacks as a whole, or may not have.
+//! Capabilities that an entry lacks, or may not have.
 
 ghost use Rattle.std.specs.Prelude.{◌≡◌, IfOk, OnOk, false, map, true};
 ghost use Rattle.ti_conforms.specs.Unfit.{HasMisfit};
@@ -10,7 +10,7 @@ use ti_checker::{Cause, No};
 use ti_conforms::{acsc, misfit};
 use ti_rows::Row;
 
-/// Adds a no about a capability as a whole, where this is so.
+/// Adds to `nos` a refusal about `cap` as a whole, with `cause`, if `is_so`.
 fn push_if(is_so: bool, cap: Cap, cause: Cause, nos: &mut Vec<No>) -> Result<(), AllocError>
     ensures { OnOk result (spec.Adds (spec.if_so is_so (spec.said_of cap cause)) nos.old.items nos.new.items) }
 {
@@ -20,7 +20,7 @@ fn push_if(is_so: bool, cap: Cap, cause: Cause, nos: &mut Vec<No>) -> Result<(),
     Ok(())
 }
 
-/// The flags and numbers that the entry may not have.
+/// The refusals for the flags and numbers that the entry has and may not have.
 #[tactic(auto, unfolding(ti_caps::specs::Table::kind_of, ti_caps::specs::Table::position_of, ti_caps::specs::Table::place_from))]
 fn flags_out(alloc: Global, entry: &Entry) -> Result<Vec<No>, AllocError>
     ensures { IfOk result (λ nos. map (λ no. spec.said_by no) nos.items ≡ spec.flags_out entry.now) }
@@ -42,7 +42,7 @@ fn flags_out(alloc: Global, entry: &Entry) -> Result<Vec<No>, AllocError>
     Ok(nos)
 }
 
-/// Adds the required strings that the entry lacks to those.
+/// The refusals of `flags_out`, and one for each required string that the entry lacks.
 fn lacking(alloc: Global, entry: &Entry) -> Result<Vec<No>, AllocError>
     ensures { IfOk result (λ nos. map (λ no. spec.said_by no) nos.items ≡ spec.lacking entry.now) }
 {
@@ -80,14 +80,14 @@ fn has_misfit(entry: &Entry) -> bool
     }
 }
 
-/// Adds what is said of `acsc`.
+/// Adds the faults of `acsc`.
 fn push_pairs(entry: &Entry, nos: &mut Vec<No>) -> Result<(), AllocError>
     ensures { OnOk result (spec.AddsPairs entry.now nos.old.items nos.new.items) }
 {
     push_if(has_misfit(entry), acsc(), Cause::AcsByte, nos)
 }
 
-/// All that is said of the entry as a whole, whatever its strings send.
+/// All faults of the entry as a whole, whatever its strings send.
 #[tactic(auto, using(crate::proofs::Whole::lacks_more))]
 pub(crate) fn lacks(alloc: Global, entry: &Entry) -> Result<Vec<No>, AllocError>
     ensures { IfOk result (λ nos. spec.Lacks entry.now nos.items) }

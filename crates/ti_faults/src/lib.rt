@@ -1,5 +1,5 @@
-//! All faults of an entry at once: what it lacks as a whole, the first faulty row of each checked capability, and what
-//! is wrong with all strings together once these are mended. The mended entry has the standards' strings.
+//! All faults of an entry at once: what it lacks as a whole, the first faulty row of each checked capability, and the
+//! faults of all strings together once these are mended. The mended entry has the standards' strings.
 #![tactic(auto)]
 
 mod all_faults;

@@ -1,4 +1,4 @@
-//! An entry with all that is at fault mended at once.
+//! An entry with everything at fault mended at once.
 
 ghost use Rattle.std.specs.Prelude.{◌≡◌, ◌<◌, IfOk, IsTrue, ◌≢◌};
 ghost use Rattle.ti_caps.specs.Entry.{with_value};
@@ -19,14 +19,14 @@ use ti_conforms::acsc;
 use ti_rows::Row;
 use vt_term::Size;
 
-/// An entry with a string of the standards in the place of each that is at fault, and what is at fault then.
+/// An entry with a string of the standards in place of each one at fault, and the faults that are left then.
 #[derive(Drop)]
 pub struct Mended {
     /// The mended entry.
     pub entry: Entry,
     /// The faults that it shows.
     pub left: Vec<No>,
-    /// Which candidates for `smacs` and `rmacs` it has.
+    /// The choice of its candidates for `smacs` and `rmacs`.
     pub choice: Choice,
 }
 
@@ -58,7 +58,7 @@ fn without_pairs(entry: Entry) -> Result<Entry, AllocError>
     Ok(changed)
 }
 
-/// The entry with the row's capability mended as `own`, the entry that it was, has it mended.
+/// The entry with the row's capability mended, as the strings of `own`, the unmended entry, determine it.
 fn mend_row(own: &Entry, entry: Entry, choice: Choice, row: Row) -> Result<Entry, AllocError>
     ensures { IfOk result (spec.MendsRow own.now entry choice row) }
 {
@@ -68,7 +68,7 @@ fn mend_row(own: &Entry, entry: Entry, choice: Choice, row: Row) -> Result<Entry
     }
 }
 
-/// The entry with a capability mended that isn't checked by itself: `acsc` loses its pairs, any other goes.
+/// The entry with a capability mended that isn't checked by itself: `acsc` loses its pairs, any other is removed.
 fn mend_other(entry: Entry, cap: Cap) -> Result<Entry, AllocError>
     requires { (row : rows.Row) → cap_of row ≢ cap }
     ensures { IfOk result (spec.MendsOther entry cap) }
@@ -90,7 +90,7 @@ fn mend(own: &Entry, entry: Entry, choice: Choice, cap: Cap) -> Result<Entry, Al
     }
 }
 
-/// The entry with the capabilities mended that these faults are of.
+/// The entry with the capabilities of the faults `nos` mended.
 fn mend_all(own: &Entry, choice: Choice, nos: &[No]) -> Result<Entry, AllocError>
     ensures { IfOk result (spec.MendsAll own.now choice nos.now own.now) }
 {
@@ -122,8 +122,8 @@ fn mended_by(
 }
 
 impl Mended {
-    /// The entry with all that `nos`, its faults, are of mended at once: by the first of four choices for `smacs` and
-    /// `rmacs` after which neither of them is at fault, or else by the first.
+    /// The entry with the capabilities of all its faults `nos` mended at once: by the first of four choices for `smacs`
+    /// and `rmacs` after which neither of them is at fault, or else by the first.
     ///
     /// # Errors
     /// Out of memory.

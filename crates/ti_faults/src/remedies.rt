@@ -1,4 +1,4 @@
-//! A string that was judged right in the place of the entry's own.
+//! A string that was judged right in place of the entry's own.
 
 ghost use Rattle.std.specs.Prelude.{◌≡◌, IfSome, IsTrue, Some, true, false};
 ghost use Rattle.std.specs.List.{list_all};
@@ -52,7 +52,7 @@ fn all_may_stay(left: &[No], row: Row) -> bool
     left.iter().all(|no| may_stay(no, row))
 }
 
-/// Whether the entry has just this string of the row's capability.
+/// Whether the entry has exactly this string for the row's capability.
 fn has_string(entry: &Entry, row: Row, string: &[u8]) -> bool
     ensures same { result ≡ true → string_of entry.now row ≡ Some string.now }
     ensures differs { result ≡ false → string_of entry.now row ≡ Some string.now → ⊥ }
@@ -89,9 +89,9 @@ fn accepted(mended: &Mended, row: Row, string: Option<&'static [u8]>) -> Option<
     }
 }
 
-/// The string that is suggested for `cap`, one of the capabilities at fault in `entry`, of which `mended` was made: the
-/// string with which it was mended, if no fault that is left there speaks against it. So all strings that are suggested
-/// by one mended entry hold together. There is none where a fault speaks against it, and where no standard has one.
+/// The string that is suggested for `cap`, one of the capabilities at fault in `entry`, from which `mended` was made:
+/// the string with which it was mended, if no fault that is left there speaks against it. So all suggestions by one
+/// mended entry are right together. `None` if a fault speaks against the string, or if no standard has one.
 pub fn suggestion(entry: &Entry, mended: &Mended, cap: Cap) -> Option<&'static [u8]>
     ensures found { spec.IsSuggestion entry.now mended.now cap (option_copied result) }
     ensures fits { IfSome result (λ bytes. IsTrue (string_fits bytes.now)) }

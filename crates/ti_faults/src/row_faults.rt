@@ -39,7 +39,7 @@ fn string_fault(
     }
 }
 
-/// The first faulty row of the capability at this place in the order of names, where it is checked.
+/// The first faulty row of the capability at this place in the order of names, if it is checked.
 fn cap_fault(
     alloc: Global,
     entry: &Entry,
@@ -60,7 +60,7 @@ fn cap_fault(
     }
 }
 
-/// Adds what is said of the capability at this place.
+/// Adds the fault of the capability at this place, if it has one.
 #[tactic(auto, using(crate::proofs::Caps::stands_added, crate::proofs::Caps::fault_added))]
 fn push_cap_fault(
     alloc: Global,
@@ -79,7 +79,7 @@ fn push_cap_fault(
     }
 }
 
-/// Adds a no, unless memory ran out.
+/// Adds `no` to `nos`, unless its cause is that memory ran out.
 fn push_claim(no: No, nos: &mut Vec<No>) -> Result<(), AllocError>
     ensures claims { OnOk result (no.cause ≢ Cause.NoMemory) }
     ensures added { OnOk result (nos.new.items ≡ nos.old.items ++ no ∷ []) }

@@ -90,7 +90,7 @@ fn shifts(entry: &Entry) -> bool
         || has_byte(entry.get_string(Row::Rmacs.cap()), 15)
 }
 
-/// How many colours the entry has.
+/// The number of colors that the entry has.
 #[tactic(auto, unfolding(ti_caps::specs::Table::kind_of, ti_caps::specs::Table::position_of, ti_caps::specs::Table::place_from))]
 fn colors_of(entry: &Entry) -> u32
     ensures { result ≡ spec.colors_of entry.now }
@@ -102,7 +102,7 @@ fn colors_of(entry: &Entry) -> u32
     }
 }
 
-/// Whether a string begins so.
+/// Whether `string` begins with `text`.
 fn begins(string: Option<&[u8]>, text: &[u8]) -> bool
     ensures { result ≡ spec.begins (option_copied string.entry) text.now }
 {
@@ -112,7 +112,7 @@ fn begins(string: Option<&[u8]>, text: &[u8]) -> bool
     }
 }
 
-/// Whether the colours of the entry are those of a palette of more than 8.
+/// Whether the colors of the entry are those of a palette of more than 8.
 fn has_many_colors(entry: &Entry) -> bool
     ensures { result ≡ spec.many_colors entry.now }
 {
@@ -120,7 +120,7 @@ fn has_many_colors(entry: &Entry) -> bool
     8 < colors && colors <= 256
 }
 
-/// The first string where the entry changes sets by SO and SI, the other one where it does by `rmacs` alone.
+/// The first string if the entry changes sets by SO and SI, the other one if it does so by `rmacs` alone.
 fn by_sets(
     entry: &Entry,
     shifted: &'static [u8],
@@ -140,7 +140,7 @@ fn by_sets(
     }
 }
 
-/// A string where this is so.
+/// `string` if `is_so`, else none.
 pub fn where_so(is_so: bool, string: &'static [u8]) -> Option<&'static [u8]>
     requires { IsTrue (string_fits string.now) }
     ensures value { option_copied result ≡ spec.where_so is_so string.now }
