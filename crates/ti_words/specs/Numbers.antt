@@ -1,4 +1,4 @@
--- Numbers as they stand in messages.
+-- Numbers as messages print them.
 use Rattle.std.specs.Prelude.{ℕ, List, [], ◌∷◌, ◌++◌}
 use Rattle.std.specs.Fmt.{decimal}
 

@@ -2,12 +2,12 @@
 use Rattle.std.specs.Prelude.{◌≡◌, ◌⊎◌, ◌==◌, ◌≤◌, ℕ, false, List, [], ◌∷◌, ◌++◌, codes}
 use Rattle.std.specs.List.{AllByRecursion, ends_with}
 
--- a character that a terminal prints, and never takes for a part of a sequence
+-- a character that a terminal prints and never takes for a part of a sequence
 pub record IsPrintable (byte : ℕ) : Type 0 where
   pub above : 32 ≤ byte
   pub below : byte ≤ 126
 
--- what the line of a suggestion ends with
+-- the end of a suggestion's line
 abbrev pub suggestion_end : List ℕ
 suggestion_end = codes " would be right on T"
 

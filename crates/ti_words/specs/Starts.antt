@@ -6,7 +6,7 @@ use Rattle.vt_term.specs.Color.{Color, Black, Red, Green, Yellow, Blue, Magenta,
 use Rattle.vt_term.specs.Look.{Rendition}
 use Rattle.vt_term.specs.Screen.{Charset, Settings}
 
--- the words where something is so
+-- the words if a condition is true, else none
 abbrev pub if_so : Bool → List ℕ → List ℕ
 if_so b words = if b then words else []
 
@@ -45,7 +45,7 @@ is_default (Some color) = false
 abbrev pub has_colors : Rendition → Bool
 has_colors r = not (is_default r.foreground && is_default r.background)
 
--- colors, where one is not the default
+-- the colors, if one isn't the default
 abbrev pub colors_text : Rendition → List ℕ
 colors_text r = if_so (has_colors r) (codes " in " ++ (color_name r.foreground ++ (codes " on " ++ color_name r.background)))
 
@@ -70,7 +70,7 @@ is_reset sets = not (sets.g0_graphic || (sets.g1_graphic || sets.shifted_out))
 
 -- ---- the state
 
--- the margins, where they aren't those of the whole screen
+-- the margins, if they aren't those of the whole screen
 abbrev pub region_text : ℕ → Settings → List ℕ
 region_text height start =
     if_so (not ((start.top == 0) && (start.bottom == height - 1))) (margins_text start.top start.bottom)
@@ -81,11 +81,11 @@ shown_text r = codes ", the rendition is" ++ rendition_text r
 unfoldable pub has_look : Rendition → Bool
 has_look r = has_mark r || has_colors r
 
--- the rendition, where it isn't plain
+-- the rendition, if it isn't plain
 abbrev pub look_text : Rendition → List ℕ
 look_text r = if_so (has_look r) (shown_text r)
 
--- the fill of the cells, the cursor, and what is not as after a reset on a terminal of this height
+-- the fill of the cells, the cursor, and the settings that aren't as after a reset on a terminal of this height
 abbrev pub start_text : ℕ → Settings → ℕ → List ℕ
 start_text height start fill =
     codes "every cell shows '" ++ (fill ∷ 39 ∷ (cursor_text start.row start.col

@@ -1,4 +1,4 @@
-//! Why a certificate is refused: its line, and what was to stand there.
+//! Explanations of a certificate's refusal: its line, and the text that it should have.
 
 use crate::checked_strings::{explain_absent, explain_flag, explain_pairs};
 use crate::numbers::push_numbers;
@@ -10,8 +10,8 @@ use ti_conforms::{Unfit, first_unfit};
 use ti_rows::Params;
 use vt_term::Size;
 
-/// Explains by `wanted`, which says what was to stand there, the line `number` of the certificate at `path`. The line
-/// is shown where `seen` still has it.
+/// Explains the line `number` of the certificate at `path` by `wanted`, which says what it should have. The line is
+/// shown if `seen` still has it.
 pub fn explain_line(
     alloc: Global,
     path: &str,
@@ -40,8 +40,8 @@ pub fn explain_line(
     Ok(())
 }
 
-/// Explains why the certificate at `path` isn't one of `entry`: no certificate can be, for a flag, a number or a string
-/// that is missing; or else what a disagreement about `cap` means.
+/// Explains why the certificate at `path` isn't one of `entry`: either no certificate can be one of it, because of a
+/// flag, a number or a missing string; or else what a disagreement about `cap` means.
 pub fn explain_disagreement(
     alloc: Global,
     path: &str,
@@ -66,7 +66,7 @@ fn explain_unfit(alloc: Global, entry: &Entry, why: Unfit, remarks: &mut Remarks
     }
 }
 
-/// What is other in an entry than in a certificate, in a string of the alternate characters or of a line.
+/// Words for the difference between an entry and a certificate: the alternate characters, or the string of a line.
 fn other_words(cap: Cap) -> &'static [u8] {
     match name(cap) {
         b"acsc" =>
@@ -78,12 +78,12 @@ fn other_words(cap: Cap) -> &'static [u8] {
     }
 }
 
-/// As much of `line` as is shown.
+/// The part of `line` that is shown.
 fn front(line: &[u8]) -> &[u8] {
     &line[..line.len().min(SHOWN)]
 }
 
-/// What stands after the part of `line` that is shown.
+/// The words after the shown part of `line`.
 fn cut_words(line: &[u8]) -> &'static str {
     if line.len() > SHOWN { " .." } else { "" }
 }
@@ -105,7 +105,7 @@ pub fn first_line_words(alloc: Global, size: Size) -> Result<Vec<u8>, AllocError
     Ok(words.into_bytes())
 }
 
-/// That the line of `cap` with `params` has to stand here.
+/// The words that the line of `cap` with `params` must come here.
 pub fn missing_line_words(alloc: Global, cap: Cap, params: &Params) -> Result<Vec<u8>, AllocError> {
     let mut words = Vec::from_slice(alloc, b"the line of `")?;
     words.extend_from_slice(name(cap))?;

@@ -7,13 +7,13 @@ use vt_term::{Cell, Rendition, Terminal};
 /// Cells that have changed.
 #[derive(Clone, Copy)]
 pub struct Changed {
-    /// How many.
+    /// The number of changed cells.
     pub count: usize,
     /// The row and the column of the first one in reading order.
     pub first: (usize, usize),
     /// The row and the column of the last one.
     pub last: (usize, usize),
-    /// Each of them is a space now.
+    /// Whether each of them is a space now.
     pub are_blank: bool,
 }
 
@@ -27,7 +27,7 @@ impl Changed {
         }
     }
 
-    /// These, and `cell` at `place` further on.
+    /// The changed cells with `cell` added, which is at `place`, after all of them.
     fn with(self, place: (usize, usize), cell: Cell) -> Changed {
         Changed {
             count: self.count.saturating_add(1),

@@ -7,7 +7,7 @@ use ti_source::letter_for;
 const SHOWN: usize = 300;
 
 /// Appends `bytes` to `text` as a source text writes them in a string. A byte without an escape letter is left as it
-/// is, and `Remarks` shows it in octal where it can't be printed.
+/// is, and `Remarks` shows it in octal if it can't be printed.
 pub fn push_spelled(text: &mut Vec<u8>, bytes: &[u8]) -> Result<(), AllocError> {
     for byte in bytes.iter().take(SHOWN) {
         push_byte(text, *byte)?;

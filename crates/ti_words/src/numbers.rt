@@ -1,4 +1,4 @@
-//! Numbers as they stand in messages.
+//! Numbers as messages print them.
 
 ghost use Rattle.std.specs.Prelude.{◌≡◌, ◌++◌, ◌∷◌, OnOk};
 ghost use Rattle.std.specs.Fmt.{decimal};

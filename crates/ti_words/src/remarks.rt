@@ -11,7 +11,7 @@ use std::io::Write;
 use std::marker::Model;
 use ti_source::octal;
 
-/// What the line of a suggestion ends with, and no remark.
+/// The end of each line with a suggestion, and of no remark.
 pub const SUGGESTION_END: &[u8] = b" would be right on T";
 
 /// Lines that explain a failure. One for which there is no memory is left out. Contracts see the list of them, without
@@ -89,7 +89,7 @@ impl Remarks {
     /// Writes the lines to `out`.
     ///
     /// # Errors
-    /// What `out` answers.
+    /// The error of `out`.
     pub fn write<W: Write>(&self, out: &mut W) -> io::Result<()> {
         for line in &self.lines {
             out.write_all(line.as_slice())?;

@@ -1,4 +1,4 @@
-//! What was read last of a file, so that a message can show the line that it is about.
+//! The part of a file that was read last, so that a message can show the line that it is about.
 
 ghost use Rattle.std.specs.Prelude.{◌≤◌, length, IfSome};
 
@@ -11,12 +11,12 @@ pub const SHOWN: usize = 200;
 #[derive(Drop)]
 pub struct Seen {
     tail: Vec<u8>,
-    /// How many lines end before the tail; `None` if memory ran out for it.
+    /// The number of lines that end before the tail; `None` if memory ran out for it.
     lines_before: Option<u64>,
 }
 
 impl Seen {
-    /// Nothing yet.
+    /// Nothing read yet.
     pub fn new(alloc: Global) -> Seen {
         Seen {
             tail: Vec::new(alloc),
@@ -24,7 +24,7 @@ impl Seen {
         }
     }
 
-    /// Adds the next `piece`. Of the line that it goes on with no more is kept than is shown.
+    /// Adds the next `piece`. Only the part that can be shown is kept of the line that it continues.
     pub fn add(&mut self, piece: &[u8]) {
         if self.pass_lines().is_none() || self.push(piece).is_err() {
             self.lines_before = None;
@@ -46,7 +46,7 @@ impl Seen {
         self.tail.extend_from_slice(piece)
     }
 
-    /// The line `number`, counted from 1, where it begins in the tail.
+    /// The line `number`, counted from 1, if it begins in the tail.
     pub fn line(&self, number: u64) -> Option<&[u8]> {
         let mut skipped = number.checked_sub(1)?.checked_sub(self.lines_before?)?;
         let mut rest = self.tail.as_slice();
@@ -64,7 +64,7 @@ impl Seen {
     }
 }
 
-/// Where the first line of `bytes` has ended, its LF included.
+/// The end of the first line of `bytes`, its LF included.
 fn line_end(bytes: &[u8]) -> Option<usize>
     ensures { IfSome result (λ end. 1 ≤ end × end ≤ length bytes.now) }
 {
@@ -72,7 +72,7 @@ fn line_end(bytes: &[u8]) -> Option<usize>
     Some(at + 1)
 }
 
-/// Where the last line of `bytes` begins.
+/// The start of the last line of `bytes`.
 fn open_line(bytes: &[u8]) -> usize
     ensures { result ≤ length bytes.now }
 {

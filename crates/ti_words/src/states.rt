@@ -1,11 +1,11 @@
-//! What has changed in the end of a run.
+//! The changes by a run.
 
 use crate::changes::{Changed, changed_cells};
 use crate::starts::{HIDDEN, PENDING, push_charset, push_cursor, push_margins, push_rendition};
 use std::alloc::{AllocError, Global};
 use vt_term::{Charset, Rendition, Settings, Size, Terminal};
 
-/// What a run from `start`, where every cell shows the character `fill`, has changed, and its `end`.
+/// The words for the changes by a run from `start`, where every cell shows the character `fill`, to `end`.
 pub fn seen_words(
     alloc: Global,
     start: &Settings,
@@ -43,7 +43,7 @@ fn at_rest(size: Size) -> Settings {
     }
 }
 
-/// Appends which cells have `changed`, and to what.
+/// Appends the words for the cells that have `changed`, and their new contents.
 fn push_changed(alloc: Global, changed: Changed, words: &mut Vec<u8>) -> Result<(), AllocError> {
     let count = changed.count;
     let now = if changed.are_blank {
@@ -66,7 +66,8 @@ fn push_changed(alloc: Global, changed: Changed, words: &mut Vec<u8>) -> Result<
     words.extend_from_slice(text.as_bytes())
 }
 
-/// Appends what of the settings `now`, but for the cursor's place, is not as it was `before`, or not as at `rest`.
+/// Appends the words for those of the settings `now`, except the cursor's place, that differ from those `before` or
+/// from those at `rest`.
 fn push_settings(
     alloc: Global,
     before: &Settings,

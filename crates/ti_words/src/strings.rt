@@ -1,4 +1,4 @@
-//! Why a string can't be read, expanded or run, and what is wrong with a size or a length.
+//! Explanations why a string can't be read, expanded or run, and of a wrong size or length.
 
 use crate::remarks::Remarks;
 use std::alloc::{AllocError, Global};
@@ -87,7 +87,7 @@ pub fn explain_parm(fault: ParmFault, remarks: &mut Remarks) {
     }
 }
 
-/// Why a string can't be expanded, with parameters of both kinds.
+/// The reason why a string can't be expanded, with parameters of both kinds.
 pub fn parm_words(fault: ParmFault) -> &'static [u8] {
     match fault {
         ParmFault::Underflow => b" has a code that takes a value from the empty stack",
@@ -100,7 +100,7 @@ pub fn parm_words(fault: ParmFault) -> &'static [u8] {
     }
 }
 
-/// Explains which sizes there are, where `rows` and `cols` are none.
+/// Explains the allowed sizes, for `rows` and `cols` that aren't one.
 pub fn explain_size(alloc: Global, rows: u32, cols: u32, remarks: &mut Remarks) {
     if let Ok(size) = format!(in alloc; "{rows} by {cols}") {
         remarks.add(
