@@ -1,4 +1,5 @@
-//! Advice about an entry that has a certificate: what a certificate allows, and users of the entry would want to know.
+//! Advice about an entry that has a certificate: facts that a certificate allows and users of the entry would want to
+//! know.
 
 use std::alloc::{AllocError, Global};
 use ti_caps::{Cap, Entry, by_name, name};
@@ -67,7 +68,7 @@ fn string_of<'a>(entry: &'a Entry, name: &[u8]) -> Option<&'a [u8]> {
     entry.get_string(by_name(name)?)
 }
 
-/// Adds which of the strings `needed` are missing beside `subject`, and the `outcome`, if any are.
+/// Adds the strings `needed` beside `subject` that are missing, and the `outcome`, if any are.
 fn add_missing(
     alloc: Global,
     entry: &Entry,
@@ -126,7 +127,7 @@ fn add_looks(
     Ok(())
 }
 
-/// Whether what `entry` sends for `row`, the string of one attribute, does what is wanted of it, and turns a mark on.
+/// Whether the bytes that `entry` sends for `row`, the string of one attribute, have a wanted end and turn a mark on.
 fn shows_itself(alloc: Global, entry: &Entry, size: Size, row: Row) -> bool {
     match effect_for(alloc, entry, size, row) {
         Some(effect) => {
@@ -137,7 +138,7 @@ fn shows_itself(alloc: Global, entry: &Entry, size: Size, row: Row) -> bool {
     }
 }
 
-/// Whether what `entry` sends for `row` turns a mark of the rendition on.
+/// Whether the bytes that `entry` sends for `row` turn a mark of the rendition on.
 fn shows_some(alloc: Global, entry: &Entry, size: Size, row: Row) -> bool {
     match effect_for(alloc, entry, size, row) {
         Some(effect) => has_mark(&effect.rendition),
@@ -151,7 +152,7 @@ fn effect_for(alloc: Global, entry: &Entry, size: Size, row: Row) -> Option<Effe
     effect_of(found.as_slice(), size, &row.start(size))
 }
 
-/// What the string of `entry` for `row` sends, whether it is checked or not.
+/// The bytes that the string of `entry` sends for `row`, whether it is checked or not.
 fn sent(alloc: Global, entry: &Entry, row: Row) -> Option<Vec<u8>> {
     send(alloc, entry.get_string(row.cap())?, row).ok()
 }
@@ -168,7 +169,7 @@ fn has_mark(rendition: &Rendering) -> bool {
     marks.iter().any(|mark| matches!(*mark, Switch::On))
 }
 
-/// That the own string of the attribute `word`, that of `cap`, shows it and `sgr` doesn't.
+/// The words that the string `cap` of the attribute `word` shows it and `sgr` doesn't.
 fn look_words(alloc: Global, entry: &Entry, cap: Cap, word: &[u8]) -> Result<Vec<u8>, AllocError> {
     let mut words = Vec::from_slice(alloc, b"sgr: ")?;
     words.extend_from_slice(name(cap))?;

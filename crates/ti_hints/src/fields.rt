@@ -8,21 +8,21 @@ use ti_source::FaultKind;
 pub struct FieldText<'a> {
     /// The whole field without its comma.
     pub text: &'a [u8],
-    /// What stands before its mark.
+    /// The part before its mark.
     pub name: &'a [u8],
     /// The first `@`, `#` or `=`, if it has one.
     mark: Option<u8>,
-    /// What follows the mark.
+    /// The part after its mark.
     value: &'a [u8],
 }
 
 impl FieldText<'_> {
-    /// Whether it has the form of a number.
+    /// Whether the field has the form of a number.
     pub fn is_number(&self) -> bool {
         self.mark == Some(b'#')
     }
 
-    /// Whether it is no capability's and includes no entry.
+    /// Whether the field belongs to no capability and includes no entry.
     pub fn is_unknown(&self) -> bool {
         let is_use = self.name == b"use".as_slice()
             && self.mark == Some(b'=')
@@ -30,12 +30,12 @@ impl FieldText<'_> {
         !is_use && !self.is_left_out() && by_name(self.name).is_none()
     }
 
-    /// Whether it is empty, or left out by a period.
+    /// Whether the field is empty, or left out by a period.
     pub fn is_left_out(&self) -> bool {
         self.text.is_empty() || self.text.first() == Some(&b'.')
     }
 
-    /// The first byte behind a backslash that has no meaning there, if it is a string of a capability and has one.
+    /// The first byte after a backslash that has no meaning there, if the field is a capability's string and has one.
     pub fn odd_escape(&self) -> Option<u8> {
         if self.mark != Some(b'=') || self.is_left_out() || by_name(self.name).is_none() {
             return None;
@@ -50,7 +50,7 @@ impl FieldText<'_> {
         None
     }
 
-    /// Whether it has the fault `fault`.
+    /// Whether the field has the fault `fault`.
     fn has(&self, fault: FaultKind) -> bool {
         let Some(cap) = by_name(self.name) else {
             return false;
@@ -73,7 +73,7 @@ fn has_meaning(byte: u8) -> bool {
     byte.is_ascii_digit() && byte < b'8' || b"Eenlrtbfas^\\,:".contains(&byte)
 }
 
-/// The line `number` of `text`, counted from 1; nothing where there is no such line.
+/// The line `number` of `text`, counted from 1; empty if there is no such line.
 pub fn line_of(text: &[u8], number: u32) -> &[u8] {
     let mut rest = text;
     for _ in 1..number {
@@ -104,7 +104,7 @@ pub fn faulty_field(line: &[u8], fault: FaultKind) -> Option<FieldText<'_>> {
     None
 }
 
-/// The first field of `rest`, which is what is left of a line, and what follows its comma.
+/// The first field of `rest`, the rest of a line, and the part after its comma.
 pub fn next_field(rest: &[u8]) -> (FieldText<'_>, &[u8]) {
     let mut is_escaped = false;
     for (at, byte) in rest.iter().enumerate() {

@@ -7,7 +7,7 @@ use ti_source::{Field, Hint, RawEntry, percent_carets};
 use ti_words::Remarks;
 
 /// Adds a hint, as far as there is memory, for each field of the entry `entry` among `raws`, and of the entries that it
-/// uses, that has a name of no capability or one that stood in its entry before, an escape without a meaning, or `%^`.
+/// uses, that has a name of no capability, a name that its entry has had before, an escape without a meaning, or `%^`.
 /// `raws` are the entries of the source text `text`.
 pub fn hint_entry(
     alloc: Global,
@@ -41,7 +41,7 @@ pub fn hint_entries(
 }
 
 /// Adds a hint for each `%^` in a string of the source text `text`, as far as there is memory: by the rules of escapes
-/// it is `%` and a control character, and some mean exclusive or.
+/// it is `%` and a control character, but some authors mean exclusive or.
 pub fn hint_carets(alloc: Global, text: &[u8], remarks: &mut Remarks) {
     if let Ok(hints) = percent_carets(alloc, text) {
         for hint in hints.as_slice() {
@@ -69,7 +69,7 @@ fn used_places(alloc: Global, raws: &[RawEntry], entry: &[u8]) -> Result<Vec<usi
     Ok(places)
 }
 
-/// Adds the places of the entries that `raw` uses itself to `places`, where they aren't there yet.
+/// Adds to `places` the places of the entries that `raw` itself uses, if they aren't there yet.
 fn add_uses(raws: &[RawEntry], raw: &RawEntry, places: &mut Vec<usize>) -> Result<(), AllocError> {
     for field in raw.fields.as_slice() {
         if let Field::Include(used) = field {
@@ -106,28 +106,28 @@ fn has_name(names: &[u8], name: &[u8]) -> bool {
     false
 }
 
-/// Which entries get hints.
+/// The entries that get hints.
 #[derive(Clone, Copy)]
 struct Scope<'a> {
     /// The path that each hint ends with, if there is one.
     path: Option<&'a str>,
-    /// The places of the entries; `None` where all get hints.
+    /// The places of the entries; `None` if all get hints.
     places: Option<&'a [usize]>,
 }
 
-/// The entry in which a line of a text stands, while the lines are gone over.
+/// The entry of the current line, while the lines of a text are read one after another.
 #[derive(Drop)]
 struct Reading<'a> {
     raws: &'a [RawEntry],
     scope: Scope<'a>,
-    /// How many entries have begun.
+    /// The number of entries that have begun.
     begun: usize,
-    /// Which capabilities have a field in this one.
+    /// The capabilities that have a field in this entry so far.
     seen: [bool; CAPABILITIES],
 }
 
 impl Reading<'_> {
-    /// Goes on to the line `number`; the answer is whether it begins an entry.
+    /// Moves on to the line `number`, and returns whether it begins an entry.
     fn begins(&mut self, number: usize) -> bool {
         let begins = self
             .raws
@@ -140,7 +140,7 @@ impl Reading<'_> {
         begins
     }
 
-    /// Whether the entry in which the line stands gets hints.
+    /// Whether the entry of the current line gets hints.
     fn is_hinted(&self) -> bool {
         match (self.begun.checked_sub(1), self.scope.places) {
             (None, _) => false,
@@ -223,7 +223,7 @@ fn add_line_hints(
     Ok(())
 }
 
-/// That a string has a backslash before `letter`, which has no meaning there.
+/// The words that a string has a backslash before `letter`, which has no meaning there.
 fn odd_words(alloc: Global, letter: u8) -> Result<Vec<u8>, AllocError> {
     let mut words = Vec::from_slice(alloc, b" has `\\")?;
     words.push(letter)?;
@@ -231,7 +231,7 @@ fn odd_words(alloc: Global, letter: u8) -> Result<Vec<u8>, AllocError> {
     Ok(words)
 }
 
-/// What is odd about the name of `field`, if anything is; `seen` are the capabilities before it in its entry.
+/// The words for an odd name of `field`, if it is odd; `seen` are the capabilities before it in its entry.
 fn field_words(field: &FieldText<'_>, seen: &mut [bool; CAPABILITIES]) -> Option<&'static [u8]> {
     if field.is_unknown() {
         return Some(b" is no capability");
@@ -280,7 +280,8 @@ fn add_caret(
 const CARET: &[u8] =
     b" `%^` is read as `%` and a control character; exclusive or is written `%\\^`";
 
-/// Adds the hint on the line `number` that `what` is so of the `subject`, with the `path` of the file, if there is one.
+/// Adds the hint on the line `number` with `what` about the `subject`, and with the `path` of the file, if there is
+/// one.
 fn add_hint(
     alloc: Global,
     number: usize,

@@ -1,5 +1,5 @@
-//! Words for people about a description's source text: hints, names that no capability has, why a text gives no entry,
-//! and advice about an entry.
+//! Words for people about a description's source text: hints, names that no capability has, reasons why a text gives no
+//! entry, and advice about an entry.
 #![tactic(auto)]
 
 mod advice;

@@ -6,7 +6,7 @@ use std::alloc::{AllocError, Global};
 /// The most names that are listed one by one.
 const LISTED: usize = 20;
 
-/// A name, and how many fields have it.
+/// A name, and the number of fields that have it.
 #[derive(Drop)]
 struct Counted<'a> {
     name: &'a [u8],
@@ -14,7 +14,7 @@ struct Counted<'a> {
 }
 
 /// A line that counts the unknown names of the source text `text` by name, in the order in which they first occur;
-/// nothing where there are none.
+/// empty if there are none.
 pub fn unknown_names(alloc: Global, text: &[u8]) -> Result<Vec<u8>, AllocError> {
     let mut listed = Vec::new(alloc);
     let mut others: usize = 0;
@@ -33,7 +33,7 @@ pub fn unknown_names(alloc: Global, text: &[u8]) -> Result<Vec<u8>, AllocError> 
     spell(alloc, listed.as_slice(), others)
 }
 
-/// Counts the unknown names of `line` in `listed`; the answer is how many of its fields have a name that is not listed.
+/// Counts the unknown names of `line` in `listed`; returns the number of its fields whose name isn't listed.
 fn count_line<'a>(line: &'a [u8], listed: &mut Vec<Counted<'a>>) -> Result<usize, AllocError> {
     let mut rest = match line.first() {
         None | Some(b'#') => return Ok(0),
@@ -55,7 +55,7 @@ fn count_line<'a>(line: &'a [u8], listed: &mut Vec<Counted<'a>>) -> Result<usize
     Ok(others)
 }
 
-/// Counts `name` in `listed`, and answers whether it stands there.
+/// Counts `name` in `listed`, and returns whether it is there.
 fn count_name<'a>(name: &'a [u8], listed: &mut Vec<Counted<'a>>) -> Result<bool, AllocError> {
     for counted in listed.iter_mut() {
         if counted.name == name {

@@ -1,4 +1,4 @@
-//! Why a file gives no entry: faults of a source text, of resolving, and of a compiled file.
+//! Explanations why a file gives no entry: faults of a source text, of resolving, and of a compiled file.
 
 use crate::fields::{FieldText, faulty_field, line_of};
 use std::alloc::Global;
@@ -8,7 +8,7 @@ use ti_resolve::ResolveFault;
 use ti_source::{FaultKind, SourceFault};
 use ti_words::Remarks;
 
-/// Explains the fault of the source text `text` at `path`, with the field that has it where that is one field's.
+/// Explains the fault of the source text `text` at `path`, with the field that has it, if it is the fault of one field.
 pub fn explain_source(
     alloc: Global,
     path: &str,
@@ -54,7 +54,7 @@ fn fault_words(kind: FaultKind) -> &'static str {
     }
 }
 
-/// How the capability of `field` is written, where `field` has the form of another kind.
+/// The form in which the capability of `field` is written, if `field` has the form of another kind.
 fn form_words(field: &FieldText<'_>) -> &'static str {
     if field.is_number() {
         return "";
@@ -110,7 +110,7 @@ fn packed_words(fault: PackFault, file: &[u8]) -> &'static [u8] {
     }
 }
 
-/// Whether `file` has no byte that source text doesn't have.
+/// Whether `file` has only bytes that source text can have.
 fn is_text(file: &[u8]) -> bool {
     !file.is_empty()
         && file.iter().all(|byte| *byte >= 32 || matches!(*byte, b'\t' | b'\n' | b'\r'))
