@@ -88,6 +88,6 @@ can_show t partners v cells i j = decide (nat_lt i v.rows && nat_lt j v.cols) re
         can_ink t partners (colors_at v (content_at v i j).pair) (content_at v i j) (cells i j (ltb-true i v.rows q.0) (ltb-true j v.cols q.1)).printed
     decide false e = blank_can t
 
--- what a screen is printed as, with what the certificate's entry has
+-- a screen as it is printed by the means of the certificate's entry
 pub as_table : (m : Means) (t : Table) (partners : ℕ → Option ℕ) (v : Screen) → m ≡ means_of t → ink_at_with m partners v ≡ ink_at t partners v
 as_table m t partners v e = ap (λ (x : Means). ink_at_with x partners v) e

@@ -32,7 +32,7 @@ equal_before old new at size from le before inside k zero lt = elim (cases_lt k 
   | inr high ↦ sym (part_cell old at size k high (omega arith)) ∙ inside (k - at) (omega arith) (omega arith) ∙ part_cell new at size k high (omega arith)
 ]
 
--- behind the last one
+-- after the last column of the part that differs
 pub equal_after : (old new : List Content) (at size end : ℕ) → length (slice_range new at (at + size)) ≡ size → AreEqualIn old new (at + size) (length new)
     → AreEqualIn (slice_range old at (at + size)) (slice_range new at (at + size)) end (length (slice_range new at (at + size))) → AreEqualIn old new (at + end) (length new)
 equal_after old new at size end long after inside k le lt = elim (cases_lt k (at + size)) [

@@ -1,4 +1,4 @@
--- Cells of no attributes and default colours.
+-- Cells without attributes, in default colors.
 use Rattle.std.proofs.Common.{◌≡◌, ◌==◌, ◌&&◌, ℕ, Bool, true, false, not, if◌then◌else◌, Option, None, refl, sym, ap, subst, ◌∙◌}
 use Rattle.cur_drawing.specs.Cells.{Content}
 use Rattle.cur_screens.specs.declared.virtual_screen.Colors.{Colors}
@@ -22,7 +22,7 @@ space_told m partners p c e = subst (λ (x : Ink). (c.byte == 32) ≡ same x bla
     decide true = refl
     decide false = refl
 
--- a cell of the plain set with another character is printed otherwise
+-- a cell of the plain set with another character is printed differently
 pub other_told : (m : Means) (partners : ℕ → Option ℕ) (p : Colors) (c : Content) (byte : ℕ) (ink : Ink) → is_other c byte ≡ true → same (ink_with m partners p c) (record ink { byte = byte }) ≡ false
 other_told m partners p c byte ink is = by_set (has_bit c.attrs 128) refl is
   where
@@ -48,7 +48,7 @@ off_told : (t : Bool) → not t ≡ false → t ≡ true
 off_told true e = refl
 off_told false e = absurd (cc)
 
--- a cell without attributes, of pair 0, which has default colours
+-- a cell without attributes, of pair 0, which has default colors
 pub bare_told : (m : Means) (partners : ℕ → Option ℕ) (v : Screen) (c : Content) (byte : ℕ) (ink : Ink) → (colors_at v 0).foreground ≡ None → (colors_at v 0).background ≡ None
     → same blank_ink (record ink { byte = 32 }) ≡ true → IsBare c → is_other c byte ≡ false → same (printed_cell m partners v c) (record ink { byte = byte }) ≡ true
 bare_told m partners v c byte ink no_f no_b plain (attrs, pair) told =

@@ -31,7 +31,7 @@ attributes_of a = record {
   invisible = has_bit a 64;
 }
 
--- colours only where the entry has strings for them
+-- colors only if the entry has strings for them
 abbrev pub color_of : Bool → Option ℕ → Option Color
 color_of colored None = None
 color_of colored (Some n) = if colored then Some (color n) else None
@@ -44,11 +44,11 @@ brush_of colored p c =
       background = color_of colored p.background;
     }
 
--- a partner counts where the entry has the strings for the graphic set, and the partner can be printed
+-- a partner counts if the entry has the strings for the graphic set and the partner can be printed
 abbrev pub partner_in : Bool → Option ℕ → Option ℕ
 partner_in graphic partner = if graphic then printed_only partner else None
 
--- a cell of the alternate set shows its letter's partner, or what stands for it; any other shows its byte
+-- a cell of the alternate set shows its letter's partner, or a substitute; any other shows its byte
 abbrev pub character_of : Bool → (ℕ → Option ℕ) → Content → Character
 character_of graphic partners c =
     if has_bit c.attrs 128 then shown (partner_in graphic (partners c.byte)) c.byte else in_plain_set c.byte
@@ -60,21 +60,21 @@ abbrev pub ink_with : Means → (ℕ → Option ℕ) → Colors → Content → 
 ink_with m partners p c = let x = character_of m.graphic partners c in
     record { byte = x.byte; graphic = x.graphic; brush = brush_of m.colored p c }
 
--- (Serves the code alone.) the colours of a pair, the foreground first
+-- (Serves the code alone.) the colors of a pair, the foreground first
 abbrev pub pair_colors : Option ℕ × Option ℕ → Colors
 pair_colors p = record { foreground = p.0; background = p.1 }
 
 abbrev pub ink_of : Table → (ℕ → Option ℕ) → Colors → Content → Ink
 ink_of t partners p c = ink_with (means_of t) partners p c
 
--- (Serves the code alone.) a character of no attributes and default colours
+-- (Serves the code alone.) a character without attributes, in default colors
 abbrev pub plain_ink : ℕ → Ink
 plain_ink byte = record blank_ink { byte = byte }
 
 abbrev pub content_at : Screen → ℕ → ℕ → Content
 content_at v i j = slice_index_or (line_at v.grid i) j space
 
--- a cell of the virtual screen as it is printed, in the colours that its pair has there
+-- a cell of the virtual screen as it is printed, in the colors that its pair has there
 abbrev pub printed_cell : Means → (ℕ → Option ℕ) → Screen → Content → Ink
 printed_cell m partners v c = ink_with m partners (colors_at v c.pair) c
 

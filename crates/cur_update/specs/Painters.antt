@@ -1,4 +1,4 @@
--- A painter as its caller sees it: its certificate, the screen that was shown last, what is known of the terminal, and
+-- A painter as its caller sees it: its certificate, the screen that was shown last, the knowledge of the terminal, and
 -- the cursor's mode that was set last (X/Open Curses Issue 7, refresh, curs_set, beep).
 use Rattle.std.specs.Prelude.{ℕ, ℤ, ◌≡◌, ◌==◌, ◌&&◌, Bool, Option, Some, None, Result, Ok, Err, if◌then◌else◌}
 use Rattle.grids.specs.declared.areas.Place.{Place as ScreenPlace}
@@ -33,7 +33,7 @@ abbrev pub place_of : Option ScreenPlace → Option Place
 place_of None = None
 place_of (Some p) = Some (record { row = p.row; col = p.col })
 
--- what is wanted of the terminal beside the cells
+-- the wanted state of the terminal beside the cells
 abbrev pub wanted_of : Screen → Mode → Wanted
 wanted_of v m = record { cursor = place_of v.cursor; mode = m; clear = v.clearok }
 
@@ -48,7 +48,7 @@ mode_of n = if n == 0 then Hidden else (if n == 1 then Normal else Prominent)
 abbrev pub Step : Type 0
 Step = Mode × Result ℕ Refusal
 
--- the mode after, and the mode before or the refusal
+-- the step to a mode: the mode after it, and the mode before or the refusal
 abbrev pub with_mode : Bool → Option ℕ → Mode → Step
 with_mode can None m = (m, Err BadRegion)
 with_mode can (Some n) m = if can then (mode_of n, Ok (mode_number m)) else (m, Err NoCap)

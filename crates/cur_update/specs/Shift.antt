@@ -15,7 +15,7 @@ pub record IsShift (t : Table) (partners : ℕ → Option ℕ) (v w : Screen) (s
   pub after : new ≡ ink_at t partners w
   pub pairs : same_pairs ≡ true → (p : ℕ) → p < pair_count → colors_at v p ≡ colors_at w p
 
--- a line of the one is that of the other before a column, and from another one on
+-- a line is the same on both screens before one column, and from another one on
 pub record AreAlikeOutside (old new : ℕ → ℕ → Ink) (i k from end cols : ℕ) : Type 0 where
   pub before : (j : ℕ) → j < from → old i j ≡ new k j
   pub after : (j : ℕ) → end ≤ j → j < cols → old i j ≡ new k j
@@ -23,16 +23,16 @@ pub record AreAlikeOutside (old new : ℕ → ℕ → Ink) (i k from end cols : 
 abbrev pub no_columns : Columns
 no_columns = record { from = 0; end = 0 }
 
--- the columns that were found of a line
+-- the columns found for a line
 abbrev pub found_at : List Columns → ℕ → Columns
 found_at columns i = slice_index_or columns i no_columns
 
--- of these lines their columns were found: outside of them a line is what it was
+-- the columns of these lines were found: outside of them a line is as it was
 abbrev pub AreFoundIn : List Columns → ℕ → ℕ → ℕ → (ℕ → ℕ → Ink) → (ℕ → ℕ → Ink) → Type 0
 AreFoundIn columns from end cols old new =
     (i : ℕ) → from ≤ i → i < end → AreAlikeOutside old new i i (found_at columns i).from (found_at columns i).end cols
 
--- of the first n lines those were found that may differ
+-- those of the first n lines were found that may differ
 pub record AreFound (lines : LineRange) (columns : List Columns) (n cols : ℕ) (old new : ℕ → ℕ → Ink) : Type 0 where
   pub found : AreFoundIn columns lines.from lines.end cols old new
   pub others : AreSameOutside old new lines.from lines.end n cols

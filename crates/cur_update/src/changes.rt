@@ -1,4 +1,4 @@
-//! Where the virtual screen differs from what was shown last.
+//! The places where the virtual screen differs from the screen shown last.
 ghost use Rattle.std.specs.Prelude.{◌≡◌, ◌<◌, ◌≤◌, ◌+◌, ℕ, true, length, IfSome};
 ghost use Rattle.cur_screens.specs.Differences.{AreEqualIn};
 ghost use Rattle.cur_screens.specs.Marks.{AreSame};
@@ -21,13 +21,13 @@ pub(crate) struct Shift<'a, C> {
     pub shown: &'a Virtual,
     pub screen: &'a Virtual,
     pub checked: &'a C,
-    /// Whether each pair has the same colours in both.
+    /// Whether each pair has the same colors on both screens.
     pub same_pairs: bool,
 }
 
 impl<'a, C: Certificate> Shift<'a, C> {
     /// Whether places with equal cells are printed alike: both screens have one size, with `cols` columns, and each
-    /// pair has the same colours in both.
+    /// pair has the same colors on both.
     fn is_told_by_cells(&self, cols: usize) -> bool
         ensures pairs { result ≡ true → self.now.same_pairs ≡ true }
         ensures rows { result ≡ true → (self.now.shown.now).rows ≡ (self.now.screen.now).rows }
@@ -39,8 +39,8 @@ impl<'a, C: Certificate> Shift<'a, C> {
         self.same_pairs && old_rows == new_rows && old_cols == new_cols && cols == new_cols as usize
     }
 
-    /// The columns in which the line `to` of the screen may be printed otherwise than the line `from` of the one that
-    /// was shown last.
+    /// The columns in which line `to` of the screen may be printed differently from line `from` of the screen shown
+    /// last.
     fn columns_between(&self, from: usize, to: usize, cols: usize) -> Columns
         ensures order { result.from ≤ result.end }
         ensures within { result.end ≤ cols }
@@ -56,8 +56,8 @@ impl<'a, C: Certificate> Shift<'a, C> {
         changed_columns(self.shown.row(from as u16), self.screen.row(to as u16))
     }
 
-    /// The columns in which the line `row` of the screen may be printed otherwise than that of the screen that was
-    /// shown last. Only what is marked is compared.
+    /// The columns in which line `row` of the screen may be printed differently from that of the screen shown last.
+    /// Only marked columns are compared.
     fn columns_marked(&self, marks: &Marks, row: usize, cols: usize) -> Columns
         requires marked { AreSame marks.now (self.now.shown.now).grid (self.now.screen.now).grid }
         ensures order { result.from ≤ result.end }
@@ -79,8 +79,8 @@ impl<'a, C: Certificate> Shift<'a, C> {
         )
     }
 
-    /// The lines of `rows` that may be printed otherwise than those of the screen that was shown last: those from the
-    /// first to the last one that is marked.
+    /// The lines of `rows` that may be printed differently from those of the screen shown last: from the first marked
+    /// line to the last one.
     fn lines_marked(&self, marks: &Marks, rows: usize, cols: usize) -> LineRange
         requires cells { (i j : ℕ) → i < (self.now.screen.now).rows → j < (self.now.screen.now).cols
             → IsCell (content_at self.now.screen.now i j) }
@@ -103,8 +103,8 @@ impl<'a, C: Certificate> Shift<'a, C> {
         }
     }
 
-    /// Finds the lines in which it may be printed otherwise, and for each of them the columns, among those that are
-    /// marked. What is kept of other lines stays.
+    /// Finds the marked lines that may be printed differently, and stores in `columns` the columns of each. The entries
+    /// of other lines stay.
     pub(crate) fn find(&self, marks: &Marks, columns: &mut [Columns], cols: usize) -> LineRange
         requires cells { (i j : ℕ) → i < (self.now.screen.now).rows → j < (self.now.screen.now).cols
             → IsCell (content_at self.now.screen.now i j) }
@@ -125,22 +125,22 @@ impl<'a, C: Certificate> Shift<'a, C> {
     }
 }
 
-/// The lines that may differ, and of each of them the columns, with what an earlier refresh left of other lines.
+/// The lines that may differ and the columns of each; the columns of other lines are left over from earlier refreshes.
 #[derive(Clone, Copy)]
 pub(crate) struct Findings<'a> {
     pub lines: LineRange,
     pub columns: &'a [Columns],
 }
 
-/// Where the virtual screen differs from what was shown last, which was found once.
+/// The places where the virtual screen differs from the screen shown last, found once.
 #[derive(Drop)]
 pub(crate) struct Found<'a, C> {
     pub shift: Shift<'a, C>,
-    /// As many as a line has.
+    /// The number of columns of a line.
     pub cols: usize,
     /// The lines that may differ.
     pub lines: LineRange,
-    /// The columns of these lines; what is kept of others isn't read.
+    /// The columns of these lines; the entries of other lines aren't read.
     pub columns: &'a [Columns],
 }
 
@@ -197,7 +197,7 @@ impl<'a, C: Certificate> Changes for Found<'a, C> {
     }
 }
 
-/// What was found of the line `row`, if it lies within `cols` columns.
+/// The columns found for line `row`, if they lie within `cols` columns.
 fn kept(columns: &[Columns], row: usize, cols: usize) -> Option<Columns>
     ensures order { IfSome result (λ c. c.from ≤ c.end) }
     ensures within { IfSome result (λ c. c.end ≤ cols) }
@@ -224,7 +224,7 @@ pub(crate) fn may_differ(found: &Findings<'_>, row: u16) -> bool {
     row < found.columns.len() && found.columns[row].from < found.columns[row].end
 }
 
-/// The columns in which two lines of one length may differ: none where they are equal.
+/// The columns in which two lines of one length may differ: none if they are equal.
 fn changed_columns(old: &[Cell], new: &[Cell]) -> Columns
     requires { length old.now ≡ length new.now }
     ensures order { result.from ≤ result.end }
@@ -250,8 +250,8 @@ fn changed_columns(old: &[Cell], new: &[Cell]) -> Columns
     }
 }
 
-/// The columns in which two lines of one length may differ that are equal outside the columns of `span`: only these are
-/// compared.
+/// The columns in which two lines of one length may differ. The lines must be equal outside the columns of `span`: only
+/// these are compared.
 fn changed_within(old: &[Cell], new: &[Cell], span: Span) -> Columns
     requires same_length { length old.now ≡ length new.now }
     requires within { span.at + span.size ≤ length new.now }

@@ -11,10 +11,9 @@ ghost use Rattle.cur_paint.specs.Limits.{IsCursor, paint_limit};
 ghost use Rattle.cur_update.specs.Differ.{in_lines};
 ghost use Rattle.cur_update.specs.Inks.{ink_at};
 
-/// What a refresh from one virtual screen to another sends at most, where the terminal is known: the limit of
-/// a cell for each cell that differs, and once more for the cursor. Nothing where no cell differs, the mode is the
-/// shown one, and the cursor of the terminal is where it is wanted, or is wanted nowhere: its cursor in any state that
-/// agrees with what is known.
+/// The most that a refresh from one virtual screen to another sends, if the terminal is known: the limit of a cell for
+/// each cell that differs, and once more for the cursor. Nothing if no cell differs, the mode is the shown one, and the
+/// terminal's cursor is in the wanted place or may be anywhere, in each state that agrees with what is known.
 pub fn cells_bounded()
     ensures most { (t : Table) (partners : ℕ → Option ℕ) (v w : Screen) (b : Belief) (cursor : Option Place)
         (mode : Mode) → v.rows ≡ w.rows → v.cols ≡ w.cols

@@ -1,11 +1,11 @@
-//! Lines that have moved, found by a look at few of them.
+//! Lines that have moved, found by comparing a few of them.
 ghost use Rattle.std.specs.Prelude.{◌≡◌, ◌+◌, ◌-◌, ◌<◌, ◌≤◌, IfSome};
 
 use crate::changes::{Findings, may_differ};
 use cur_moves::Scroll;
 use cur_screens::{Hint, Virtual, first_diff};
 
-/// The scroll that `hint` names, if it names one: by as many lines as the region has at most.
+/// The scroll that `hint` names, if it names one, by at most as many lines as the region has.
 pub(crate) fn scroll_of(hint: Hint) -> Option<Scroll> {
     let lines = u32::from(hint.bottom.saturating_sub(hint.top).saturating_add(1));
     let count = hint.up.unsigned_abs().min(lines) as u16;
@@ -29,7 +29,7 @@ fn differs(old: &Virtual, new: &Virtual, from: u16, to: u16) -> bool
     first_diff(old.row(from), new.row(to)).is_some()
 }
 
-/// The first line before line `end` that may differ by what was found of the lines.
+/// The first line before line `end` that may differ according to `found`.
 fn first_changed(found: &Findings<'_>, end: u16) -> Option<u16>
     ensures { IfSome result (λ y. y < end) }
 {
@@ -41,7 +41,7 @@ fn first_changed(found: &Findings<'_>, end: u16) -> Option<u16>
     None
 }
 
-/// The last line before line `end` that may differ by what was found of the lines.
+/// The last line before line `end` that may differ according to `found`.
 fn last_changed(found: &Findings<'_>, end: u16) -> Option<u16>
     ensures { IfSome result (λ y. y < end) }
 {
@@ -54,8 +54,8 @@ fn last_changed(found: &Findings<'_>, end: u16) -> Option<u16>
     None
 }
 
-/// By how many of the lines from `top` to `bottom` those of the screen `old` have moved on the screen `new`, as far as
-/// two lines show: at most half of them.
+/// The number of lines, at most half of those from `top` to `bottom`, by which the lines of the screen `old` have moved
+/// on the screen `new`, judged by two lines.
 fn moved_between(old: &Virtual, new: &Virtual, top: u16, bottom: u16) -> Option<Scroll>
     requires rows { (old.now).rows ≡ (new.now).rows }
     requires cols { (old.now).cols ≡ (new.now).cols }
@@ -81,8 +81,8 @@ fn moved_between(old: &Virtual, new: &Virtual, top: u16, bottom: u16) -> Option<
     None
 }
 
-/// Whether of three lines, in the upper part, the middle and the lower part, two may differ, so that it is worth a look
-/// at the others.
+/// Whether two of three lines, in the upper part, the middle and the lower part, may differ, so that the others are
+/// worth comparing.
 fn differ_much(found: &Findings<'_>, rows: u16) -> bool
     requires { 0 < rows }
 {
@@ -95,8 +95,8 @@ fn differ_much(found: &Findings<'_>, rows: u16) -> bool
     }
 }
 
-/// A scroll by which much of the screen `old` may have become the screen `new`, as far as few of their lines show; by
-/// `found` it is known which lines differ. None is looked for where that is no more than a quarter of the lines.
+/// A scroll that may turn much of the screen `old` into the screen `new`, judged by a few of their lines; `found` has
+/// the lines that may differ. None is sought if at most a quarter of the lines may differ.
 #[inline(always)]
 pub(crate) fn found_scroll(old: &Virtual, new: &Virtual, found: &Findings<'_>) -> Option<Scroll> {
     let lines = found.lines.end.saturating_sub(found.lines.from);
@@ -106,7 +106,7 @@ pub(crate) fn found_scroll(old: &Virtual, new: &Virtual, found: &Findings<'_>) -
     scroll_between(old, new, found)
 }
 
-/// The same, however many lines differ.
+/// Slow path of `found_scroll`: seeks a scroll, however many lines differ.
 #[inline(never)]
 fn scroll_between(old: &Virtual, new: &Virtual, found: &Findings<'_>) -> Option<Scroll> {
     let (rows, cols) = old.size();
