@@ -1,4 +1,4 @@
--- States that agree with what is believed, and what they show.
+-- States that agree with a belief, and the screens they show.
 use Rattle.std.proofs.Common.{◌≡◌, ℕ, Bool, true, List, Option, Some, None, is_some, refl, sym, ap, subst, ◌∙◌, arith}
 use Rattle.vt_term.specs.Screen.{State, is_graphic}
 use Rattle.cur_steps.specs.declared.beliefs.Belief.{Belief}
@@ -39,7 +39,7 @@ agrees_shows t g b w e f s h = record {
     seen_so : (m : Mode) (v : Bool) → b.mode ≡ Some m → IsSeen b.mode v → v ≡ is_shown m
     seen_so m v e h = subst (λ (o : Option Mode). IsSeen o v) e h
 
--- ---- beside what is shown
+-- ---- the state beside the cells
 
 pub agrees_plain : (t : Table) (g : ℕ → ℕ → Ink) (b : Belief) → IsRested b → (s : State) → Agrees t g b s → IsPlain s
 agrees_plain t g b r s h = record {
@@ -53,7 +53,7 @@ no_wrap t g b (Some p) w e s h =
     let so : IsHere t.cols p s.screen.row s.screen.col s.screen.pending = subst (λ (q : Place). IsHere t.cols q s.screen.row s.screen.col s.screen.pending) e h.place in
     (calmly t.cols p s.screen.row s.screen.col s.screen.pending w.1 so).2
 
--- what is believed is what is known between two refreshes
+-- the belief is the knowledge between two refreshes
 pub rested_as : (b : Belief) → IsRested b → b ≡ rested (cursor_of b)
 rested_as b r = ap (λ (x : Brush). record b { brush = x }) r.brush ∙ ap (λ (o : Option Bool). record b { brush = plain_brush; graphic = o }) r.set
 

@@ -33,7 +33,7 @@ most t old new b cursor mode =
 not_moved : (p : Place) → moves p p.row p.col ≡ 0
 not_moved p = grind (arith, nat_tests)
 
--- no move leads to where the cursor is
+-- no move is needed to the cursor's own place
 stays : (cols : ℕ) (now : Place) (cursor : Option Place) → IsPlaced cols cursor now → last_move cols now cursor ≡ 0
 stays cols now None h = refl
 stays cols now (Some p) h =
@@ -51,7 +51,7 @@ placed_at t (Some p) now w e = let Q : Place → Type 0 = λ q. IsPlaced t.cols 
 pub at_as : (cursor : Option Place) (at now : Place) → cursor ≡ Some at → now ≡ at → IsAt cursor now
 at_as cursor at now e f = subst (λ (o : Option Place). IsAt o now) (sym e) f
 
--- it is where every state that agrees has it
+-- the place is the one in every state that agrees
 pub placed_as : (t : Table) (g : ℕ → ℕ → Ink) (b : Belief) (cursor : Option Place) (s : State) → Agrees t g b s → IsCursor cursor s.screen.row s.screen.col → IsPlaced t.cols cursor b.place
 placed_as t g b cursor s h k =
     let P : ℕ → Type 0 = λ n. IsCursor cursor n (seen_at t.cols b.place).col in
@@ -146,7 +146,7 @@ one_more (suc d) l settled lt =
     let P : Bool → Type 0 = λ x. suc d * l + l ≤ suc d * l + (if x && settled then 0 else 1) * l in
     subst P (sym f) (omega arith)
 
--- some bytes, and then what fewer cells take by more than so many
+-- some bytes, followed by a repair that takes fewer cells, by more than these bytes
 pub fewer_enough : (t : Table) (n : ℕ) (blank old new : ℕ → ℕ → Ink) (b : Belief) (cursor : Option Place) (mode : Mode) → n + all_differ blank new t.cols t.rows < all_differ old new t.cols t.rows
     → n + renewal_limit t blank new ≤ paint_limit t old new b cursor mode
 fewer_enough t n blank old new b cursor mode lt =
@@ -160,7 +160,7 @@ fewer_enough t n blank old new b cursor mode lt =
     let m : y * l + l ≤ paint_limit t old new b cursor mode = one_more y l (is_settled t.cols b cursor mode) (omega (arith, lt)) in
     omega (arith, a, e, k, c, m)
 
--- a scroll, and then what fewer cells take by as many as it counts for
+-- a scroll, followed by a repair that takes fewer cells, by as many as the scroll counts for
 pub scrolled_enough : (t : Table) (k : ℕ) (moved old new : ℕ → ℕ → Ink) (b : Belief) (cursor : Option Place) (mode : Mode) → 0 < k → k + all_differ moved new t.cols t.rows ≤ all_differ old new t.cols t.rows
     → k * cell_limit t + renewal_limit t moved new ≤ paint_limit t old new b cursor mode
 scrolled_enough t k moved old new b cursor mode some le =

@@ -1,4 +1,4 @@
--- What ends a program's screen, and where it leads.
+-- The strings that end a program's screen, and the states they lead to.
 use Rattle.std.proofs.Common.{◌≡◌, ℕ, ◌-◌, true, false, List, [], ◌∷◌, ◌++◌, length, Option, Some, None, is_some, refl, sym, ap, subst, arith}
 use Rattle.std.proofs.lemmas.List.{append-nil}
 use Rattle.vt_term.specs.Screen.{State, IsOfSize}

@@ -154,7 +154,7 @@ some_times n l lt = grind arith
 pub mixed_run : (old new : ℕ → ℕ → Ink) (r c n i j : ℕ) → ((k : ℕ) → c ≤ k → k < c + n → new r k ≡ blank_ink) → erased (Part n) r c (mixed old new r c) i j ≡ mixed old new r (c + n) i j
 mixed_run old new r c n i j h = grind (arith, nat_tests, h j)
 
--- the front of a line, that was new as far as a column, erased as far as another one
+-- the start of a line, already new up to one column, erased up to another one
 pub mixed_head : (old new : ℕ → ℕ → Ink) (r c n i j : ℕ) → 0 < n → ((k : ℕ) → 0 ≤ k → k < c + n → new r k ≡ blank_ink) → erased Head r (c + n - 1) (mixed old new r c) i j ≡ mixed old new r (c + n) i j
 mixed_head old new r c n i j some h = grind (arith, nat_tests, h j, some)
 
@@ -183,7 +183,7 @@ span_first old new i from n =
     let here : differs old new i (from + 0) ≡ differs old new i from = ap (λ (j : ℕ). differs old new i j) place in
     omega (arith, more, none, here, span_join old new i from 1 n)
 
--- as an ink, but for the character
+-- like an ink, except for the character
 pub like_alike : (b : Belief) (x y : Ink) (n : ℕ) → IsAlike b y → x ≡ record y { byte = n } → IsAlike b x
 like_alike b x y n k f =
     let m : IsAlike b (record y { byte = n }) = record { brush = k.brush; set = k.set } in

@@ -44,7 +44,7 @@ span_within old new i from end cols h order within =
     let back : span old new i end (cols - end) ≡ 0 = span_none old new i end (cols - end) (λ j a b. h.after j a (omega (arith, b, within))) in
     omega (arith, front, back, span_parts old new i from cols (omega (arith, order, within)), span_split old new i from end cols order within)
 
--- a place more, of those from a column on
+-- one more place, of those from a column on
 pub span_on : (old new : ℕ → ℕ → Ink) (i from n count one : ℕ) → count ≡ span old new i from n → one ≡ differs old new i (from + n) → count + one ≡ span old new i from (n + 1)
 span_on old new i from n count one e f = omega (arith, e, f, span_more old new i from n)
 

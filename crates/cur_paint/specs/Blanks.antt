@@ -1,4 +1,4 @@
--- (Serves the code alone.) Where a screen is blank.
+-- (Serves the code alone.) The places where a screen is blank.
 use Rattle.std.specs.Prelude.{ℕ, ◌<◌, ◌≤◌, ◌≡◌}
 use Rattle.cur_steps.specs.Inks.{blank_ink}
 use Rattle.cur_steps.specs.declared.inks.Ink.{Ink}

@@ -1,4 +1,4 @@
--- In how many places two screens differ.
+-- The number of places in which two screens differ.
 use Rattle.std.specs.Prelude.{ℕ, ◌+◌, ◌<◌, ◌≤◌, ◌≡◌, Bool, false, if◌then◌else◌, zero, suc, List, length}
 use Rattle.std.specs.Prelude.{slice_index_or}
 use Rattle.cur_steps.specs.Inks.{same}
@@ -25,7 +25,7 @@ pub record IsSameOutside (old new : ℕ → ℕ → Ink) (i from end cols : ℕ)
   pub before : (j : ℕ) → j < from → old i j ≡ new i j
   pub after : (j : ℕ) → end ≤ j → j < cols → old i j ≡ new i j
 
--- in the first so many lines and columns the screens are the same above a line, and from another one on
+-- in these lines and columns the screens are the same above one line, and from another one on
 pub record AreSameOutside (old new : ℕ → ℕ → Ink) (from end rows cols : ℕ) : Type 0 where
   pub above : (i j : ℕ) → i < from → j < cols → old i j ≡ new i j
   pub below : (i j : ℕ) → end ≤ i → i < rows → j < cols → old i j ≡ new i j

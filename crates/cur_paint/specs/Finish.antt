@@ -1,4 +1,4 @@
--- What is sent at the end of a program's screen, and what that promises (X/Open Curses, endwin).
+-- The bytes sent at the end of a program's screen, and their promise (X/Open Curses, endwin).
 use Rattle.std.specs.Prelude.{ℕ, ◌-◌, ◌<◌, ◌≡◌, List, [], ◌++◌, length, Result, Ok, Err}
 use Rattle.vt_term.specs.Screen.{State}
 use Rattle.vt_term.specs.Ends.{Ends}
@@ -35,12 +35,12 @@ pub record Finished {W : Type 0} (went : W → W → List ℕ → Type 0) (old n
   pub sent : went old new (finish_text t before.status)
   pub fits : (g : ℕ → ℕ → Ink) (s : State) → Fits t g before.status before.cursor s
       → Ends s (finish_text t before.status) (IsFresh t)
-  -- a front of it leads to a state that fits a lost session
+  -- a prefix of it leads to a state that fits a lost session
   pub cut : (front back : List ℕ) → finish_text t before.status ≡ front ++ back → (g : ℕ → ℕ → Ink) (s : State)
       → Fits t g before.status before.cursor s → Ends s front (IsLost t)
   pub fresh : after.status ≡ Fresh
 
--- a front of that, and not all of it, went out, and the session is lost
+-- a proper prefix of it went out, and the session is lost
 pub record FinishedShort {W : Type 0} (went : W → W → List ℕ → Type 0) (failures : W → ℕ) (old new : W) (t : Table)
     (before after : Knowledge) : Type 0 where
   pub front : List ℕ
@@ -49,7 +49,7 @@ pub record FinishedShort {W : Type 0} (went : W → W → List ℕ → Type 0) (
   pub sent : went old new front
   pub failed : Rose (failures old) (failures new)
   pub fits : (g : ℕ → ℕ → Ink) (s : State) → Fits t g before.status before.cursor s → Ends s front (IsLost t)
-  -- and so does a front of this front
+  -- each prefix of this prefix leads to such a state as well
   pub cut : (x y : List ℕ) → front ≡ x ++ y → (g : ℕ → ℕ → Ink) (s : State) → Fits t g before.status before.cursor s
       → Ends s x (IsLost t)
   pub lost : after.status ≡ Lost

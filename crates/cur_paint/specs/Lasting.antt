@@ -1,4 +1,4 @@
--- (Serves the code alone.) A wire that takes all: from the first failure of the wire below it on, nothing goes out.
+-- (Serves the code alone.) A wire that takes everything: once the wire below it has failed, nothing goes out.
 use Rattle.std.specs.Prelude.{ℕ, ◌≡◌, Bool, true, false, List, [], ◌++◌, Err, refl}
 use Rattle.std.specs.Borrow.{MutBor}
 use Rattle.std.proofs.Common.{◌∙◌, le_refl, subst, sym}
@@ -6,7 +6,7 @@ use Rattle.cur_wires.specs.Wire.{IsWire, StopsIn}
 use Rattle.cur_wires.proofs.Paints.{sends_then, stops_more}
 
 -- these bytes were taken, by whether the wire below had failed before and has failed now: all of them went out, or a
--- front of them did, or nothing
+-- prefix of them, or nothing
 abbrev pub Goes : {W : Type 0} → (W → W → List ℕ → Type 0) → (W → ℕ) → MutBor W → MutBor W → Bool → Bool → List ℕ
     → Type 0
 Goes went failures old new false false bytes = went old.now new.now bytes
@@ -42,7 +42,7 @@ abbrev pub LastsOf : {W C : Type 0} → (W → W → List ℕ → Type 0) → (W
     → Type 0
 LastsOf went failures wire failed a b x = Lasts went failures (wire a) (wire b) (failed a) (failed b) x
 
--- it never fails itself
+-- this wire itself never fails
 pub lasts_lawful : {W C : Type 0} (went : W → W → List ℕ → Type 0) (failures : W → ℕ) → IsWire went failures
     → (wire : C → MutBor W) (failed : C → Bool) → IsWire (LastsOf went failures wire failed) (λ c. 0)
 lasts_lawful went failures laws wire failed = record {

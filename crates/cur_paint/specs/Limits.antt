@@ -1,4 +1,4 @@
--- Where the cursor is wanted, and the most that is sent.
+-- The wanted place of the cursor, and the most bytes that are sent.
 use Rattle.std.specs.Prelude.{ℕ, ◌+◌, ◌-◌, ◌*◌, ◌<◌, ◌≡◌, ◌==◌, ◌&&◌, Bool, Option, Some, None, length, min}
 use Rattle.std.specs.Prelude.{if◌then◌else◌}
 use Rattle.ti_conforms.specs.Certified.{Table, cell_limit}
@@ -18,15 +18,15 @@ abbrev pub IsCursor : Option Place → ℕ → ℕ → Type 0
 IsCursor None row col = Unit {0}
 IsCursor (Some p) row col = (row ≡ p.row) × (col ≡ p.col)
 
--- where the cursor of a terminal of so many columns is: where a wrap is pending, in the last one
+-- the place of the cursor of a terminal with this many columns: in the last one, if a wrap is pending
 abbrev pub seen_at : ℕ → Place → Place
 seen_at cols p = record { row = p.row; col = min p.col (cols - 1) }
 
--- it is known to be in the wanted place, if one is wanted
+-- the cursor is known to be in the wanted place, if one is wanted
 abbrev pub IsPlaced : ℕ → Option Place → Place → Type 0
 IsPlaced cols cursor now = IsCursor cursor (seen_at cols now).row (seen_at cols now).col
 
--- how many last moves there are: none or one
+-- the number of last moves: none or one
 abbrev pub last_move : ℕ → Place → Option Place → ℕ
 last_move cols now None = 0
 last_move cols now (Some p) = moves (seen_at cols now) p.row p.col
@@ -42,8 +42,8 @@ rest_limit t = plain_limit t + t.longest.sets
 abbrev pub is_settled : ℕ → Belief → Option Place → Mode → Bool
 is_settled cols b cursor mode = (last_move cols b.place cursor == 0) && (changes b.mode mode == 0)
 
--- a cell's limit for each place that differs and once more, and nothing where nothing differs, the mode is the shown
--- one and the cursor is right
+-- a cell's limit for each place that differs and once more, and nothing if nothing differs, the mode is the shown one
+-- and the cursor is right
 abbrev pub paint_limit : Table → (ℕ → ℕ → Ink) → (ℕ → ℕ → Ink) → Belief → Option Place → Mode → ℕ
 paint_limit t old new b cursor mode =
     let d = all_differ old new t.cols t.rows in
@@ -53,6 +53,6 @@ paint_limit t old new b cursor mode =
 abbrev pub renewal_limit : Table → (ℕ → ℕ → Ink) → (ℕ → ℕ → Ink) → ℕ
 renewal_limit t old new = (all_differ old new t.cols t.rows + 1) * cell_limit t
 
--- where all is painted anew
+-- the limit of a full repaint
 abbrev pub fresh_limit : Table → ℕ
 fresh_limit t = (t.rows * t.cols + 1) * cell_limit t + length t.resync

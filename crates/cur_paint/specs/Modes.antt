@@ -1,5 +1,5 @@
--- The strings of a refresh that show the cursor in the mode that is wanted, and the bytes around them (X/Open Curses
--- Issue 7, curs_set).
+-- The strings of a refresh that show the cursor in the wanted mode, and the bytes around them (X/Open Curses Issue 7,
+-- curs_set).
 use Rattle.std.specs.Prelude.{ℕ, ◌≤◌, ◌≡◌, List, ◌++◌, length, Option, Some, None}
 use Rattle.std.specs.List.{AllByRecursion, concat}
 use Rattle.ti_conforms.specs.Certified.{Table}
@@ -11,8 +11,7 @@ use Rattle.cur_steps.specs.declared.beliefs.Place.{Place}
 use Rattle.cur_paint.specs.declared.updates.Status.{Status}
 use Rattle.cur_paint.specs.declared.updates.Status.TheVariants.{Fresh, Known, Lost}
 
--- how the cursor is known to be shown: normally in a fresh session, in this mode in a known one, and in no known way in
--- a lost one
+-- the known mode of the cursor: the normal one in a fresh session, this mode in a known one, and none in a lost one
 abbrev pub shown_mode : Status → Option Mode → Option Mode
 shown_mode Fresh m = Some Normal
 shown_mode Known m = m
@@ -40,7 +39,7 @@ pub record PaintsAround (t : Table) (limit : ℕ) (first strings bytes : List �
   pub short : length back ≤ limit
 
 -- A refresh sends nothing that wasn't asked for: it begins with these bytes (first), and then it paints. The strings
--- that show the cursor in the mode that is wanted go out once, none if it is known to be shown so (now), and no more
--- than the move to the cursor's place goes out after them.
+-- that show the cursor in the wanted mode go out once, none if it is known to be in that mode (now), and only the move
+-- to the cursor's place may go out after them.
 abbrev pub OnlyPaints : Table → List ℕ → Option Mode → Option Place → Mode → List ℕ → Type 0
 OnlyPaints t first now cursor m bytes = PaintsAround t (move_limit t cursor) first (mode_text t now m) bytes

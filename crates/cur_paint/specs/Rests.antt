@@ -7,14 +7,14 @@ use Rattle.cur_steps.specs.declared.beliefs.Belief.{Belief}
 use Rattle.cur_steps.specs.declared.beliefs.Place.{Place}
 use Rattle.cur_paint.specs.declared.updates.Cursor.{Cursor}
 
--- what a refresh begins with where the cursor is known to be so
+-- the belief with which a refresh begins, from what is known of the cursor
 abbrev pub rested : Cursor → Belief
 rested c = record { place = c.place; brush = plain_brush; graphic = Some false; mode = c.mode }
 
 abbrev pub cursor_of : Belief → Cursor
 cursor_of b = record { place = b.place; mode = b.mode }
 
--- what is believed is what is known between two refreshes
+-- the belief is the knowledge between two refreshes
 pub record IsRested (b : Belief) : Type 0 where
   pub brush : b.brush ≡ plain_brush
   pub set : b.graphic ≡ Some false
@@ -25,7 +25,7 @@ pub record IsPlain (s : State) : Type 0 where
   pub rendition : s.screen.rendition ≡ plain
   pub set : is_graphic s.screen.charset ≡ false
 
--- no wrap is pending where a place is wanted for the cursor
+-- no wrap is pending if a place is wanted for the cursor
 abbrev pub HasNoWrap : Option Place → Bool → Type 0
 HasNoWrap None pending = Unit {0}
 HasNoWrap (Some p) pending = pending ≡ false
@@ -35,6 +35,6 @@ abbrev pub IsAt : Option Place → Place → Type 0
 IsAt None now = Unit {0}
 IsAt (Some p) now = now ≡ p
 
--- it is so, or no byte may have gone out
+-- the cursor is in the wanted place itself, or no byte may go out
 abbrev pub EndsAt : Option Place → ℕ → Place → Type 0
 EndsAt cursor limit now = IsAt cursor now ⊎ (limit ≡ 0)

@@ -1,23 +1,23 @@
-//! Which lines and columns may differ.
+//! The lines and columns that may differ.
 ghost use Rattle.std.specs.Prelude.{◌≡◌, ◌<◌, ◌≤◌, ℕ};
 
 use cur_moves::Scroll;
 
-/// Columns of a line: from one on, and before another.
+/// Columns of a line: from one on, up to but without another.
 #[derive(Clone, Copy)]
 pub struct Columns {
     pub from: usize,
     pub end: usize,
 }
 
-/// Lines of a screen: from one on, and before another.
+/// Lines of a screen: from one on, up to but without another.
 #[derive(Clone, Copy)]
 pub struct LineRange {
     pub from: usize,
     pub end: usize,
 }
 
-/// Where one screen may differ from another.
+/// The places where one screen may differ from another.
 pub trait Changes {
     ghost use Rattle.std.specs.Prelude.{◌≤◌, ℕ};
     ghost use Rattle.cur_steps.specs.declared.inks.Ink.{Ink};
@@ -43,7 +43,8 @@ pub trait Changes {
         ensures same { (old new : ℕ → ℕ → Ink) → between self.now old new
             → IsSameOutside old new row result.from result.end cols };
 
-    /// How lines may have moved from the one screen to the other, if that is known. Nothing is promised of it.
+    /// The scroll by which lines may have moved from one screen to the other, if that is known. Nothing is promised of
+    /// it.
     fn scroll(&self) -> Option<Scroll> {
         None
     }
@@ -59,7 +60,7 @@ pub trait Changes {
     }
 }
 
-/// From the first line of either to the last one.
+/// The lines from the first of either range to the last.
 fn joined(a: LineRange, b: LineRange) -> LineRange
     ensures from { result.from ≤ a.from }
     ensures also_from { result.from ≤ b.from }
@@ -85,7 +86,7 @@ fn region(scroll: Scroll, rows: usize) -> LineRange
     }
 }
 
-/// Where the screens differ after a scroll.
+/// The places where the screens differ after a scroll.
 #[derive(Drop)]
 pub(crate) struct Moved<'a, D> {
     pub changes: &'a D,

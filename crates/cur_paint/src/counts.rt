@@ -1,4 +1,4 @@
-//! In how many cells two screens differ.
+//! The number of cells in which two screens differ.
 ghost use Rattle.std.specs.Prelude.{◌≡◌, ◌+◌, ◌-◌, ◌<◌, ◌≤◌, true, false};
 ghost use Rattle.cur_paint.specs.Differ.{differs, span};
 ghost use Rattle.cur_paint.specs.Scenes.{IsPaintable, all_changed, scene};
@@ -20,7 +20,7 @@ fn differing<O: Picture, N: Picture>(old: &O, new: &N, row: usize, col: usize) -
     }
 }
 
-/// In how many of the `columns` the line `row` differs.
+/// The number of the `columns` in which line `row` differs.
 fn count_columns<O: Picture, N: Picture>(old: &O, new: &N, row: usize, columns: Columns) -> usize
     requires order { columns.from ≤ columns.end }
     requires few { columns.end ≤ 1000 }
@@ -34,7 +34,7 @@ fn count_columns<O: Picture, N: Picture>(old: &O, new: &N, row: usize, columns: 
     count
 }
 
-/// In how many cells the line `row` differs. Only the columns that may by `changes` are looked at.
+/// The number of cells in which line `row` differs. Only the columns that may differ by `changes` are compared.
 fn count_line<O: Picture, N: Picture, D: Changes>(
     old: &O,
     new: &N,
@@ -51,7 +51,7 @@ fn count_line<O: Picture, N: Picture, D: Changes>(
     count_columns(old, new, row, columns)
 }
 
-/// In how many cells the screens differ.
+/// The number of cells in which the screens differ.
 pub(crate) fn count_cells<C: Certificate, O: Picture, N: Picture, D: Changes>(
     screens: &Screens<'_, C, O, N>,
     changes: &D,
@@ -71,7 +71,7 @@ pub(crate) fn count_cells<C: Certificate, O: Picture, N: Picture, D: Changes>(
     count
 }
 
-/// Whether the screens differ in more than `least` cells. Lines are looked at until that is known.
+/// Whether the screens differ in more than `least` cells. Lines are compared until that is known.
 pub(crate) fn differ_in_more<C: Certificate, O: Picture, N: Picture, D: Changes>(
     screens: &Screens<'_, C, O, N>,
     changes: &D,

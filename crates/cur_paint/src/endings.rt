@@ -62,7 +62,7 @@ fn send_anew<C: Certificate, W: Wire>(checked: &C, wire: &mut W) -> Result<(), W
     send_end(checked, wire)
 }
 
-/// Sends what a session of the status `status` ends with.
+/// Sends the end of a session of this `status`.
 fn send_finish<C: Certificate, W: Wire>(
     checked: &C,
     status: Status,
@@ -77,9 +77,9 @@ fn send_finish<C: Certificate, W: Wire>(
     }
 }
 
-/// Ends a program's screen: sends `sgr0`, `rmacs`, `cup` to the last line's first column, `cnorm` and
-/// `rmcup`, those that the entry has, after the resynchronization if the session is lost; nothing if it is
-/// fresh. Then it is fresh. On a wire's fault a front of that went out, and the session is lost.
+/// Ends a program's screen: sends `sgr0`, `rmacs`, `cup` to the last line's first column, `cnorm` and `rmcup`, those
+/// that the entry has, after the resynchronization if the session is lost; nothing if it is fresh. The session is then
+/// fresh. If the wire fails, a proper prefix of this went out, and the session is lost.
 pub fn finish<C: Certificate, W: Wire>(
     checked: &C,
     session: &mut Knowledge,

@@ -1,8 +1,8 @@
-//! A wire that goes on where another one fails.
+//! A wire that goes on when another one fails.
 use cur_wires::{Wire, WireFault};
 
-/// A wire over another one, which never fails: once the inner one has failed, it takes all that it is handed, and
-/// nothing of that goes out. So a refresh is made up to its end, and only a front of it has gone out.
+/// A wire over another one, which itself never fails: once the inner one has failed, it takes everything, and nothing
+/// more goes out. So a refresh is made to its end, though only a prefix of it has gone out.
 #[derive(Drop)]
 pub(crate) struct Lasting<'a, W> {
     /// The wire that sends the bytes.
@@ -18,7 +18,7 @@ impl<'a, W: Wire> Wire for Lasting<'a, W> {
 
     ghost failures = { λ a. 0 };
 
-    /// Sends on the inner wire, unless that has failed, and takes all where it fails.
+    /// Sends `piece` on the inner wire, unless that has failed; takes all of it if it fails.
     fn send(&mut self, piece: &[u8]) -> Result<usize, WireFault> {
         if self.failed {
             return Ok(piece.len());

@@ -1,4 +1,4 @@
-//! Laws of the bound, and of where a session begins.
+//! Laws of the bound, and of the states in which a session begins.
 ghost use Rattle.std.specs.Prelude.{◌≡◌, ◌≤◌, ◌+◌, ◌*◌, ℕ, Option, Some};
 ghost use Rattle.ti_conforms.specs.Certified.{IsChecked, Table, cell_limit};
 ghost use Rattle.cur_steps.specs.Beliefs.{Agrees};
@@ -11,9 +11,9 @@ ghost use Rattle.cur_paint.specs.Limits.{IsCursor, paint_limit};
 ghost use Rattle.cur_paint.specs.Update.{IsFresh};
 ghost use Rattle.vt_term.specs.Screen.{State, reset};
 
-/// What a refresh of a known terminal sends at most: the bytes of a cell for each cell that differs, and once
-/// more for the cursor. Nothing where no cell differs, the mode is the shown one, and the cursor of the terminal is
-/// where it is wanted, or is wanted nowhere: its cursor in any state that agrees with what is known.
+/// The most that a refresh of a known terminal sends: the bytes of a cell for each cell that differs, and once more for
+/// the cursor. Nothing if no cell differs, the mode is the shown one, and the terminal's cursor is in the wanted place
+/// or may be anywhere, in each state that agrees with what is known.
 pub fn bounded()
     ensures most { (t : Table) (old new : ℕ → ℕ → Ink) (b : Belief) (cursor : Option Place) (mode : Mode)
         → paint_limit t old new b cursor mode ≤ (all_differ old new t.cols t.rows + 1) * cell_limit t }

@@ -1,7 +1,7 @@
-//! What the painter works on: two screens and the certificate.
+//! The painter's input: two screens and the certificate.
 
-/// The screen `old`, which the terminal shows, the screen `new`, which it is to show, and the certificate
-/// `checked`, which says how.
+/// The screen `old`, which the terminal shows, the screen `new`, which it must show next, and the certificate
+/// `checked`, which has the strings for that.
 #[derive(Drop)]
 pub struct Screens<'a, C, O, N> {
     pub checked: &'a C,
