@@ -1,4 +1,4 @@
--- What each erasure does to a state that agrees with what is believed.
+-- The effect of each erasure on a state that agrees with a belief.
 use Rattle.std.proofs.Common.{◌≡◌, ℕ, ◌<◌, ◌≤◌, true, false, ap, subst, ◌∙◌, refl, arith, if◌then◌else◌}
 use Rattle.vt_term.specs.Look.{Rendition, blank}
 use Rattle.vt_term.specs.Grid.{look_at, drawn}

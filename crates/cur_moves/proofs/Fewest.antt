@@ -1,4 +1,4 @@
--- No line that leads to a place is shorter than the one that was found.
+-- No line that leads to a place is shorter than the one found.
 use Rattle.std.proofs.Common.{◌≡◌, ℕ, ◌≤◌, length, Option, Some, None, refl, ap, subst, ◌∙◌, arith}
 use Rattle.std.specs.Prelude.{IfSome}
 use Rattle.ti_rows.specs.declared.rows.Row.{Row}
@@ -7,7 +7,7 @@ use Rattle.ti_conforms.specs.Certified.{Table, text_of}
 use Rattle.cur_steps.specs.declared.beliefs.Place.{Place}
 use Rattle.cur_moves.specs.Moves.{Moves, MovesFrom, IsAtMost}
 
--- what was no longer than a row's line, if one was looked at, and this is that row
+-- a way no longer than the best of the rows tried is no longer than this row's line, if it was tried
 pub picked : (t : Table) (n m : ℕ) (o : Option Row) (line : Row) → n ≤ m → IfSome o (λ line. IsAtMost t m line) → o ≡ Some line → IsAtMost t n line
 picked t n m o line le h e there = let k : m ≤ length (text_of t line) = subst (λ (p : Option Row). IfSome p (λ line. IsAtMost t m line)) e h there in omega arith
 

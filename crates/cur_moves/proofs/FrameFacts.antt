@@ -1,4 +1,4 @@
--- What each line does to a state whose margins may be set.
+-- The effect of each line on a state whose margins may be set.
 use Rattle.std.proofs.Common.{◌≡◌, ℕ, ◌+◌, ◌-◌, ◌*◌, ◌<◌, ◌≤◌, ◌&&◌, Bool, true, false, nat_le, List, [], length, Some, None, Result, refl, sym, ap, subst, ◌∙◌, arith, if◌then◌else◌}
 use Rattle.std.proofs.lemmas.Bool.Decides.{nat_tests}
 use Rattle.std.proofs.lemmas.List.{get_or_default}
@@ -32,7 +32,7 @@ use Rattle.cur_moves.proofs.Shifts.{choice, shifted_next, shifted_none, times_gr
 
 -- ---- a line, sent
 
--- margins may be set where a line makes them whole again
+-- margins may be set if a line makes them whole again
 pub framed_lost : (t : Table) → IsChecked t → has t (widening t) ≡ true → (f : Frame) (b : Belief) (s : State) → Framed t f b s → IsLost t s
 framed_lost t checked widens f b s h = record {
   sized = h.sized;
@@ -283,7 +283,7 @@ screen_left t top bottom g b row some is_top is_bottom plain at s x = record {
   seen = x.seen;
 }
 
--- what all lines of a scroll take together
+-- the bytes of all lines of a scroll together
 pub scroll_enough : (t : Table) (count : ℕ) → brush_limit t + ((count + 2) * t.longest.scroll + 2 * t.longest.cup) ≤ (count + 4) * cell_limit t
 scroll_enough t count =
     let l = t.longest.scroll in
@@ -308,7 +308,7 @@ move_enough p row col l n = omega (arith, times_grows (moves p row col) 1 l (mov
 pub none_yet : (t : Table) (x : Scroll) (g : ℕ → ℕ → Ink) (b : Belief) (s : State) → Framed t (at_edge x g) b s → Framed t (at_edge x (shifted (record x { count = 0 }) g)) b s
 none_yet t x g b s h = framed_as t x.top x.bottom (edge x) g (shifted (record x { count = 0 }) g) b (shifted_none x.top x.bottom x.up g) s h
 
--- one line more
+-- one more line
 pub one_more : (t : Table) (x : Scroll) (n : ℕ) (g : ℕ → ℕ → Ink) (b : Belief) (s : State)
     → Framed t (at_edge x (shifted (record x { count = 1 }) (shifted (record x { count = n }) g))) b s → Framed t (at_edge x (shifted (record x { count = n + 1 }) g)) b s
 one_more t x n g b s h = framed_as t x.top x.bottom (edge x) (shifted (record x { count = 1 }) (shifted (record x { count = n }) g)) (shifted (record x { count = n + 1 }) g) b (shifted_next x.top x.bottom n x.up g) s h

@@ -25,7 +25,7 @@ reprinted t h b r c x e s a = record {
   seen = a.seen;
 }
 
--- one cell more
+-- one more cell
 pub alike_more : (b : Belief) (f : ℕ → Ink) (n : ℕ) → ((k : ℕ) → k < n → IsAlike b (f k)) → IsAlike b (f n) → (k : ℕ) → k < n + 1 → IsAlike b (f k)
 alike_more b f n before last k lt = elim (cases_lt k n) [
   | inl less ↦ before k less

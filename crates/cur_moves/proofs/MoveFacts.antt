@@ -1,4 +1,4 @@
--- Each row that moves leads where it is said to, from every state that agrees with what is believed.
+-- Each row that moves leads to its stated place, from every state that agrees with the belief.
 use Rattle.std.proofs.Common.{◌≡◌, ℕ, ◌+◌, ◌-◌, ◌<◌, ◌≤◌, Bool, true, false, List, [], length, Option, Some, None, refl, ap, subst, ◌∙◌, arith}
 use Rattle.vt_term.specs.Screen.{Screen, State, IsOfSize}
 use Rattle.ti_rows.specs.declared.rows.Row.{Row}
@@ -20,7 +20,7 @@ put s r c p = record s { row = r; col = c; pending = p }
 same_put : (s : Screen) (r c row col : ℕ) (p : Bool) → r ≡ row → c ≡ col → p ≡ false → put s r c p ≡ put s row col false
 same_put s r c row col p e f k = ap (λ (n : ℕ). put s n c p) e ∙ ap (λ (n : ℕ). put s row n p) f ∙ ap (λ (q : Bool). put s row col q) k
 
--- the same, where the line says in its own terms where the cursor ends
+-- a line leads to a place, if it states the cursor's end in its own terms
 arrives : (t : Table) (g : ℕ → ℕ → Ink) (b : Belief) (row col : ℕ) → col < t.cols → (s u : State) → Agrees t g b s → IsOfSize t.rows t.cols u → u.rest ≡ [] → (r c : ℕ) (p : Bool) → u.screen ≡ put s.screen r c p
     → r ≡ row → c ≡ col → p ≡ false → Agrees t g (record b { place = record { row = row; col = col } }) u
 arrives t g b row col lc s u h sized closed r c p e f k l = placed t g b row col lc s u h sized closed (e ∙ same_put s.screen r c row col p f k l)
@@ -28,7 +28,7 @@ arrives t g b row col lc s u h sized closed r c p e f k l = placed t g b row col
 here : (t : Table) (g : ℕ → ℕ → Ink) (b : Belief) (p : Place) → b.place ≡ p → (s : State) → Agrees t g b s → IsHere t.cols p s.screen.row s.screen.col s.screen.pending
 here t g b p e s h = subst (λ (o : Place). IsHere t.cols o s.screen.row s.screen.col s.screen.pending) e h.place
 
--- the same on the screen
+-- a line leads to a place on the screen
 at : (t : Table) (g : ℕ → ℕ → Ink) (b : Belief) (p : Place) → b.place ≡ p → p.col < t.cols → (s : State) → Agrees t g b s → (s.screen.row ≡ p.row) × (s.screen.col ≡ p.col) × (s.screen.pending ≡ false)
 at t g b p e lt s h = calmly t.cols p s.screen.row s.screen.col s.screen.pending lt (here t g b p e s h)
 
@@ -103,7 +103,7 @@ turned t g b row col lr lc Home m = record {
 }
 turned t g b row col lr lc line m = from_place t g b row col lr lc b.place refl line m
 
--- what leads to a place paints
+-- lines that lead to a place paint
 straight_paints : (cols : ℕ) (p : Place) (row col : ℕ) (line : Row) → MovesFrom cols p row col line → paints line ≡ true
 straight_paints cols p row col Cr m = refl
 straight_paints cols p row col (Hpa c) m = refl

@@ -1,4 +1,4 @@
--- One line after another, and what a scroll makes of a place.
+-- A scroll line by line, and its effect on a place.
 use Rattle.std.proofs.Common.{◌≡◌, ℕ, ◌+◌, ◌*◌, ◌≤◌, Bool, true, false, if◌then◌else◌, zero, suc, refl, arith}
 use Rattle.std.proofs.lemmas.Bool.Decides.{nat_tests}
 use Rattle.vt_term.specs.Look.{Look}
@@ -12,7 +12,7 @@ pub shifted_none : (top bottom : ℕ) (up : Bool) (g : ℕ → ℕ → Ink) (i j
 shifted_none top bottom true g i j = grind (arith, nat_tests)
 shifted_none top bottom false g i j = grind (arith, nat_tests)
 
--- by one line more
+-- by one more line
 pub shifted_next : (top bottom n : ℕ) (up : Bool) (g : ℕ → ℕ → Ink) (i j : ℕ)
     → shifted (record { top = top; bottom = bottom; count = 1; up = up }) (shifted (record { top = top; bottom = bottom; count = n; up = up }) g) i j
     ≡ shifted (record { top = top; bottom = bottom; count = n + 1; up = up }) g i j

@@ -1,4 +1,4 @@
--- What an erasure makes blank, by where the cursor is (ECMA-48 8.3.38 ECH, 8.3.39 ED, 8.3.41 EL).
+-- The places that an erasure makes blank, by the cursor's place (ECMA-48 8.3.38 ECH, 8.3.39 ED, 8.3.41 EL).
 use Rattle.std.specs.Prelude.{ℕ, ◌+◌, ◌==◌, ◌&&◌, ◌||◌, nat_le, nat_lt, Bool, if◌then◌else◌}
 use Rattle.ti_rows.specs.declared.rows.Row.{Row}
 use Rattle.ti_rows.specs.declared.rows.Row.TheVariants.{El1, Ed, Ech}
@@ -13,7 +13,7 @@ erasure_row Head = El1
 erasure_row (Part n) = Ech n
 erasure_row Rest = Ed
 
--- the places that become blank where the cursor is at (r, c)
+-- the places that become blank if the cursor is at (r, c)
 abbrev pub is_erased : ErasedPart → ℕ → ℕ → ℕ → ℕ → Bool
 is_erased Head r c i j = (i == r) && nat_le j c
 is_erased (Part n) r c i j = (i == r) && (nat_le c j && nat_lt j (c + n))

@@ -17,7 +17,7 @@ use Rattle.cur_steps.specs.declared.inks.Ink.{Ink}
 use Rattle.cur_moves.specs.Scrolls.{edge}
 use Rattle.cur_moves.specs.declared.scrolls.Scroll.{Scroll}
 
--- the margins, the cells, and where the cursor is, if that is known
+-- the margins, the cells, and the cursor's place, if that is known
 pub record Frame : Type 0 where
   pub top : ℕ
   pub bottom : ℕ
@@ -28,8 +28,8 @@ abbrev pub IsThere : ℕ → Option Place → Screen → Type 0
 IsThere cols None s = Unit {0}
 IsThere cols (Some p) s = IsHere cols p s.row s.col s.pending
 
--- ready but for the margins, which are these, with these cells on the screen; the brush is the plain one, and of the
--- sets and the cursor's mode that is so which is believed
+-- a state that is ready except for its margins, which are these, with these cells on the screen; the brush is the plain
+-- one, and the sets and the cursor's mode agree with the belief
 pub record Framed (t : Table) (f : Frame) (b : Belief) (s : State) : Type 0 where
   pub sized : IsOfSize t.rows t.cols s
   pub rest : s.rest ≡ []
@@ -60,7 +60,7 @@ Moves went failures before after answer t limit f h b =
 abbrev pub framed : ℕ → ℕ → (ℕ → ℕ → Ink) → ℕ → Frame
 framed top bottom g row = record { top = top; bottom = bottom; cells = g; place = Some (record { row = row; col = 0 }) }
 
--- a scroll's margins, with the cursor where it makes the region scroll
+-- a scroll's margins, with the cursor at the edge from which the region scrolls
 abbrev pub at_edge : Scroll → (ℕ → ℕ → Ink) → Frame
 at_edge x g = framed x.top x.bottom g (edge x)
 

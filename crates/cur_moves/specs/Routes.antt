@@ -1,5 +1,5 @@
--- (Serves the code alone.) How the cursor goes to a place: perhaps by one line to a stop, and then by a line or over
--- cells printed once more.
+-- (Serves the code alone.) The cursor's way to a place: perhaps by one line to a stop, and then by a line or over cells
+-- that are printed again.
 use Rattle.std.specs.Prelude.{ℕ, ◌+◌, ◌-◌, ◌<◌, ◌≤◌, ◌≡◌, true, length, Option, Some, None, IfSome}
 use Rattle.ti_conforms.specs.Certified.{Table, has, text_of}
 use Rattle.cur_steps.specs.declared.beliefs.Belief.{Belief}
@@ -12,7 +12,7 @@ pub use Rattle.cur_moves.specs.declared.routes.Leg.TheVariants.{By, Over}
 pub use Rattle.cur_moves.specs.declared.routes.Stop.{Stop}
 pub use Rattle.cur_moves.specs.declared.routes.Route.{Route}
 
--- how many bytes the last leg takes
+-- the number of bytes of the last leg
 abbrev pub leg_bytes : Table → Leg → ℕ → ℕ
 leg_bytes t (By line) col = length (text_of t line)
 leg_bytes t (Over from) col = col - from
@@ -29,12 +29,12 @@ pub record IsStop (t : Table) (from : Place) (stop : Stop) : Type 0 where
   pub row : stop.place.row < t.rows
   pub col : stop.place.col < t.cols
 
--- how many bytes the way to the stop takes
+-- the number of bytes of the way to the stop
 abbrev pub stop_bytes : Table → Option Stop → ℕ
 stop_bytes t None = 0
 stop_bytes t (Some stop) = length (text_of t stop.line)
 
--- what is believed at the stop
+-- the belief at the stop
 abbrev pub at_stop : Option Stop → Belief → Belief
 at_stop None b = b
 at_stop (Some stop) b = record b { place = stop.place }

@@ -9,7 +9,7 @@ use Rattle.cur_steps.specs.Inks.{blank_ink}
 use Rattle.cur_steps.specs.declared.inks.Ink.{Ink}
 pub use Rattle.cur_moves.specs.declared.scrolls.Scroll.{Scroll}
 
--- where the cursor makes the region scroll
+-- the line of the cursor from which the region scrolls
 abbrev pub edge : Scroll → ℕ
 edge x = if x.up then x.bottom else x.top
 
@@ -17,8 +17,7 @@ edge x = if x.up then x.bottom else x.top
 abbrev pub scroll_row : Scroll → Row
 scroll_row x = if x.up then Ind else Ri
 
--- the region's lines this many lines further up or down, blank ones where there is none to come, and all others as they
--- were
+-- the region's lines this many lines further up or down, blank lines at the free end, and all other lines as they were
 abbrev pub shifted : Scroll → (ℕ → ℕ → Ink) → ℕ → ℕ → Ink
 shifted x g i j =
     if nat_le x.top i && nat_le i x.bottom then
@@ -26,7 +25,7 @@ shifted x g i j =
     else (if nat_le (x.top + x.count) i then g (i - x.count) j else blank_ink))
     else g i j
 
--- (Serves the code alone.) a cell of a line, or a blank where there is none
+-- (Serves the code alone.) a cell of a line, or a blank if there is no line
 abbrev pub cell_of : (ℕ → ℕ → Ink) → Option ℕ → ℕ → Ink
 cell_of g None j = blank_ink
 cell_of g (Some i) j = g i j

@@ -1,4 +1,4 @@
-//! Erasures but for that of a line's end, each from a place and in the plain brush.
+//! Erasures other than that of a line's end, each from a place and in the plain brush.
 ghost use Rattle.std.specs.Prelude.{◌≡◌, ◌<◌, ℕ, Some, None, OnOk, IfSome};
 ghost use Rattle.ti_conforms.specs.Certified.{IsChecked, cell_limit};
 ghost use Rattle.cur_steps.specs.Inks.{CanShow, plain_brush};
@@ -14,7 +14,7 @@ use cur_wires::{Wire, WireFault};
 use ti_conforms::Certificate;
 use ti_rows::Row;
 
-/// What is erased.
+/// The part that is erased.
 #[derive(Clone, Copy)]
 pub enum ErasedPart {
     /// The cursor's line as far as the cursor, its place included.

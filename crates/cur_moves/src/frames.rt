@@ -11,8 +11,8 @@ use cur_wires::{Wire, WireFault, send_all};
 use ti_conforms::Certificate;
 use ti_rows::Row;
 
-/// Sends the line of `row`, which leads from whatever frame the row starts from to what the row makes of it,
-/// and is a step of a painter if the row paints.
+/// Sends the line of `row`, which leads from each frame in which the row may start to the frame that the row makes of
+/// it, and is a step of a painter if the row paints.
 pub(crate) fn send_row<C: Certificate, W: Wire>(
     checked: &C,
     wire: &mut W,

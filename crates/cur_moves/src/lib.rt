@@ -1,4 +1,4 @@
-//! Ways to a cell, texts, erasures and scrolls: what a painter makes of several steps.
+//! Ways to a cell, texts, erasures and scrolls: a painter's actions of several steps.
 #![tactic(auto)]
 
 mod cells;

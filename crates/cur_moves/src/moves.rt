@@ -11,7 +11,7 @@ use cur_steps::Place;
 use ti_conforms::Certificate;
 use ti_rows::Row;
 
-/// A row, and how many bytes its line has.
+/// A row, and the number of bytes of its line.
 #[derive(Clone, Copy)]
 pub(crate) struct Way {
     pub line: Row,
@@ -41,7 +41,7 @@ pub(crate) fn shortest<C: Certificate>(checked: &C, from: Option<Place>, row: u1
     shorter(checked, best, by_row_name(at, row, col))
 }
 
-/// `cup`.
+/// The way by `cup`, which leads there from every place.
 fn straight<C: Certificate>(checked: &C, row: u16, col: u16) -> Way
     requires checked { IsChecked (C.table checked.now) }
     requires row { row < (C.table checked.now).rows }
@@ -57,7 +57,7 @@ fn straight<C: Certificate>(checked: &C, row: u16, col: u16) -> Way
     }
 }
 
-/// How many bytes the line of the row `line` has.
+/// The number of bytes of the line of the row `line`.
 fn line_length<C: Certificate>(checked: &C, line: Row) -> usize
     ensures { result ≡ length (text_of (C.table checked.now) line) }
 {
@@ -113,7 +113,7 @@ fn by_line_start(at: Place, row: u16, col: u16) -> Option<Row>
     }
 }
 
-/// A move by one from `at` to line `row` and column `col`, if that is a neighbour and no wrap is pending.
+/// A move by one from `at` to line `row` and column `col`, if that is a neighbor and no wrap is pending.
 fn by_one(at: Place, row: u16, col: u16, cols: usize) -> Option<Row>
     ensures moves { IfSome result (λ line. Moves cols (Some at) row col line) }
     ensures left { Moves cols (Some at) row col Cub1 → result ≡ Some Cub1 }

@@ -1,4 +1,4 @@
-//! A screen of which lines have moved.
+//! A screen whose lines have moved.
 ghost use Rattle.std.specs.Prelude.{◌≡◌};
 
 use crate::scrolls::{Scroll, line_before};

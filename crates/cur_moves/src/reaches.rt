@@ -1,4 +1,4 @@
-//! The way to a place, gone: by a line, over cells printed once more, or by a line to a stop and then so.
+//! Moving to a place along a way: by a line, over cells that are printed again, or first by a line to a stop.
 ghost use Rattle.std.specs.Prelude.{◌≡◌, ◌+◌, ◌*◌, ◌<◌, ◌≤◌, ℕ, length, Some, OnOk};
 ghost use Rattle.ti_conforms.specs.Certified.{IsChecked, text_of};
 ghost use Rattle.cur_steps.specs.Inks.{CanShow};
@@ -15,7 +15,7 @@ use cur_steps::{Belief, Picture, Place, print_at, send_line, stands};
 use cur_wires::{Wire, WireFault};
 use ti_conforms::Certificate;
 
-/// Prints once more the `count` cells from `from` on, where the cursor is known to be.
+/// Prints the `count` cells from `from` on again. The cursor must be known to be at `from`.
 fn reprint<C: Certificate, N: Picture, W: Wire>(
     target: &Target<'_, C, N>,
     belief: &mut Belief,
@@ -166,7 +166,7 @@ pub(crate) fn reach_by_line<C: Certificate, W: Wire>(
     send_line(checked, way.line, checked.line(way.line).unwrap(), wire)
 }
 
-/// How many bytes a shortest line has that leads to `at` from what is known of the cursor's place, `from`.
+/// The number of bytes of a shortest line that leads to `at` from what is known of the cursor's place, `from`.
 pub fn line_bytes<C: Certificate>(checked: &C, from: Option<Place>, at: Place) -> usize
     requires row { at.row < (C.table checked.now).rows }
     requires col { at.col < (C.table checked.now).cols }

@@ -17,7 +17,8 @@ use cur_steps::{Belief, Blank, Brush, Place};
 use cur_wires::{Wire, WireFault};
 use ti_conforms::Certificate;
 
-/// Moves the region's lines as `scroll` says, one line after the other, from where that is done.
+/// Moves the region's lines as `scroll` says, one line after the other. The cursor must be at the edge from which the
+/// region scrolls.
 fn scroll_at_edge<C: Certificate, W: Wire>(
     checked: &C,
     wire: &mut W,

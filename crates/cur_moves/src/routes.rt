@@ -1,5 +1,5 @@
-//! The way to a place, chosen by its bytes: by a line, over the cells between, printed once more, or by a line to a
-//! stop and then so.
+//! The way to a place, chosen by its bytes: by a line, over the cells between, which are printed again, or first by a
+//! line to a stop.
 ghost use Rattle.std.specs.Prelude.{◌≡◌, ◌+◌, ◌<◌, ◌≤◌, ℕ, true, Option, Some, None, IfSome};
 ghost use Rattle.ti_conforms.specs.Certified.{IsChecked};
 ghost use Rattle.cur_steps.specs.Gaps.{IsAlike, IsGap};
@@ -14,15 +14,15 @@ use cur_steps::{Belief, Ink, Picture, Place, is_active, same_brush};
 use ti_conforms::Certificate;
 use ti_rows::Row;
 
-/// A way with a stop has so many bytes at least.
+/// The fewest bytes of a way with a stop.
 const LEAST: usize = 2;
 
 /// The last part of a way.
 #[derive(Clone, Copy)]
 pub enum Leg {
-    /// By a row's line.
+    /// A move by a row's line.
     By(Row),
-    /// Over the cells of the line from that column on, printed once more.
+    /// A move over the cells of the line from this column on, which are printed again.
     Over(usize),
 }
 
@@ -33,7 +33,7 @@ pub struct Stop {
     pub place: Place,
 }
 
-/// A way to a place, and how many bytes it takes.
+/// A way to a place, and the number of its bytes.
 #[derive(Clone, Copy)]
 pub struct Route {
     pub stop: Option<Stop>,
@@ -41,7 +41,7 @@ pub struct Route {
     pub bytes: usize,
 }
 
-/// A leg, and how many bytes it takes.
+/// A leg, and the number of its bytes.
 #[derive(Clone, Copy)]
 struct Measured {
     leg: Leg,
@@ -69,8 +69,8 @@ fn are_alike<N: Picture>(belief: &Belief, shown: &N, from: Place, count: usize) 
     true
 }
 
-/// The column where the cursor stands in the line of `at`, if the cells from there to `at` are fewer than the bytes of
-/// the move, `bytes`, and are printed like this now.
+/// The column of the cursor in the line of `at`, if the cells from there to `at` are fewer than `bytes`, the bytes of
+/// the move, and would be printed in the current brush and set.
 fn gap_start<C: Certificate, N: Picture>(
     target: &Target<'_, C, N>,
     belief: &Belief,
@@ -94,7 +94,7 @@ fn gap_start<C: Certificate, N: Picture>(
     }
 }
 
-/// A leg to `at` from where the cursor is believed to be.
+/// A leg to `at` from the believed place of the cursor.
 fn leg_to<C: Certificate, N: Picture>(
     target: &Target<'_, C, N>,
     belief: &Belief,

@@ -20,8 +20,8 @@ pub fn goes_on(belief: &Belief, at: Place, ink: Ink) -> bool
     stands(belief.place, at) && is_alike(belief, ink)
 }
 
-/// Prints the first `count` bytes of `text`, which are the characters of the target's line from `at` on, where the
-/// cursor is known to be. All of them are printed in the brush and the set that are known.
+/// Prints the first `count` bytes of `text`, which are the characters of the target's line from `at` on. The cursor
+/// must be known to be at `at`, and all of them must be printed in the known brush and set.
 pub fn print_text<C: Certificate, N: Picture, W: Wire>(
     target: &Target<'_, C, N>,
     belief: &mut Belief,
