@@ -1,11 +1,11 @@
 #!/bin/sh
 # The processor time and the memory of `ticurses check`, with `tic -c` of the same entries in the same run as context:
-# it looks for other faults, at no size, and of samples.ti it reads all entries. Checked are the system's xterm-256color and
-# `xc` at 24 by 80, `mini` at growing sizes, and, where the program has the command `survey`, all of the system's compiled
-# descriptions at 24 by 80. Times are the best of five, in turn, of `survey` the best of two, less those of
-# `ticurses --version` and `tic -V`. Memory is the peak of the process, the least of the runs, as a multiple of the
-# certificate's bytes, and the same less the peak of `ticurses --version`.
-# check.sh ROWSxCOLS..: those sizes of `mini` alone.
+# `tic -c` looks for other faults, at no size, and reads all entries of samples.ti. The script checks the system's
+# xterm-256color and `xc` at 24 by 80, `mini` at growing sizes, and, where the program has the command `survey`, all of
+# the system's compiled descriptions at 24 by 80. Times are the best of five, in turn (of `survey` the best of two),
+# less those of `ticurses --version` and `tic -V`. Memory is the lowest peak of the process, as a multiple of the
+# certificate's bytes, with and without the peak of `ticurses --version`.
+# check.sh ROWSxCOLS..: only these sizes of `mini`.
 set -eu
 cd -- "$(dirname -- "$0")"
 work=$(mktemp -d)

@@ -1,9 +1,9 @@
 #!/bin/sh
-# The processor time of `ticurses play`, beside ncurses for the same calls with the same entry in the same run: the
-# long scripts of scripts.awk with `xt` and `vt` of samples.ti, the output to a file; calls and texts at 24 by 80, cells,
-# typing and log at the sizes that are given as ROWSxCOLS, or 24x80 50x132 200x500. Times are the best of twenty, in turn, less
-# those of an empty script (the certificate, which ncurses has none of, is verified there too). Where the
-# two leave different screens, a line says so.
+# The processor time of `ticurses play`, beside ncurses for the same calls with the same entry in the same run: the long
+# scripts of scripts.awk with `xt` and `vt` of samples.ti, the output to a file; calls and texts at 24 by 80, cells,
+# typing and log at the sizes given as ROWSxCOLS, or 24x80 50x132 200x500. Times are the best of twenty, in turn, less
+# those of an empty script (which includes verifying the certificate; ncurses has none). If the two leave different
+# screens, a line says so.
 set -eu
 cd -- "$(dirname -- "$0")"
 work=$(mktemp -d)

@@ -1,9 +1,9 @@
 #!/bin/sh
 # How many bytes a refresh of `ticurses play` sends, beside ncurses for the same calls with the same entry: the scenes
-# of scripts.awk at 24 by 80 and 50 by 132 with the entries of samples.ti. Counted is what the calls of a scene add to
-# the bytes of those before them, without padding; in the first two scenes that is all that is sent. ncurses sends
-# colors only where an entry has their number, so its `xc` has colors#8 and pairs#64. Where the two leave different
-# screens, a line says so.
+# of scripts.awk at 24 by 80 and 50 by 132 with the entries of samples.ti. The count is the number of bytes that the
+# calls of a scene add to those of the calls before them, without padding; in the first two scenes these are all bytes.
+# ncurses sends colors only where an entry has their number, so its `xc` has colors#8 and pairs#64. If the two leave
+# different screens, a line says so.
 set -eu
 cd -- "$(dirname -- "$0")"
 work=$(mktemp -d)

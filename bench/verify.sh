@@ -1,10 +1,10 @@
 #!/bin/sh
 # The processor time and the memory of `ticurses verify`, beside sha256sum of the same certificate in the same run.
 # `./ticurses check` writes the certificates: of `mini` at growing sizes, of `xc`, and of the system's xterm-256color.
-# Times are the best of five, in turn, less those of `ticurses --version` and of sha256sum of an empty file. Memory is the
-# peak of the process, the least of the five, as a multiple of the certificate's bytes, and the same less the peak of
-# `ticurses --version`.
-# verify.sh ROWSxCOLS..: those sizes of `mini` alone.
+# Times are the best of five, in turn, less those of `ticurses --version` and of sha256sum of an empty file. Memory is
+# the lowest peak of the process, as a multiple of the certificate's bytes, with and without the peak of `ticurses
+# --version`.
+# verify.sh ROWSxCOLS..: only these sizes of `mini`.
 set -eu
 cd -- "$(dirname -- "$0")"
 work=$(mktemp -d)
