@@ -254,7 +254,7 @@ def area_of(path):
 
 
 def found_in(kind, text):
-    """What counts in a file, each with its kind, its line and its words; and how many paragraphs the file has."""
+    """The counted places of a file, each with its kind, line and words; and the number of its paragraphs."""
     texts_of, functions_of = READERS[kind]
     texts = list(texts_of(text))
     found = [(what, at, shown) for at, part in texts for what, shown in kinds_in(part)]
@@ -342,7 +342,7 @@ def printed(counts):
 
 
 def over(areas, read):
-    """What is above its limit, or was hardly read."""
+    """The areas above their limits, and the kinds of files of which hardly anything was read."""
     for area, limit in {**NOT_REWRITTEN, "all else": LIMIT}.items():
         if areas[area] > limit:
             yield f"{area}: {areas[area]} places, and {limit} is the limit; `english.py --list` shows them"
@@ -367,7 +367,8 @@ def main():
             if is_listed:
                 print(f"{path}:{at}: {what}: {shown[:160]}")
     if is_listed:
-        print(f"by kind: {printed(kinds)}\nby place: {printed(places)}\nread: {printed(read)}")
+        for name, counts in (("by kind", kinds), ("by place", places), ("by area", areas), ("read", read)):
+            print(f"{name}: {printed(counts)}")
     wrong = list(over(areas, read))
     if wrong:
         sys.exit("english: " + "\nenglish: ".join(wrong))
