@@ -7,8 +7,9 @@ toolchain lets no two runs work in one folder, and most crates depend on the sam
 go back to the crate's out/, so that an interrupted build can continue. If an earlier build of the same sources is kept,
 from any checkout of this user, its files are taken.
 
-Standard error gets what is built, how far it is and how long it took. The status is 0, 125 if the toolchain refused a
-crate or the checkout can't be written, 127 without the toolchain, and 128 and the number of a signal that ended it."""
+It reports on standard error what it builds, how far it is and how long it took. The status is 0, 125 if the toolchain
+refused a crate or the checkout can't be written, 127 without the toolchain, and 128 and the number of a signal that
+ended it."""
 
 import contextlib
 import fcntl
@@ -252,7 +253,7 @@ def alone():
 
 
 def is_there(made):
-    """Whether it is current, as it is or as it was kept, so that nothing has to be built."""
+    """Whether it is current, in its place or among the kept files, so that nothing has to be built."""
     if made.is_current():
         return True
     with alone():

@@ -49,7 +49,7 @@ def _shortened(held):
 
 
 def _place(made, sources):
-    """The folder in which it would be kept; None where there is none, or no toolchain."""
+    """The folder in which it would be kept; None if there is none, or no toolchain."""
     at, beginning = store(), f"{made.name}-{_shortened(sources.encode('utf-8', 'surrogateescape'))}"
     if at is None or not is_own(at):
         return None

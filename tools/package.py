@@ -75,7 +75,7 @@ def needs(path):
 
 
 class Tree:
-    """The files of a package, by their paths: what they hold and their modes; a link holds where it leads."""
+    """The files of a package, by their paths: their content and their modes; the content of a link is its target."""
 
     def __init__(self):
         self.files, self.links = {}, {}

@@ -1,5 +1,5 @@
 #!/usr/bin/env python3
-"""Prints the table of docs/PROVING.md: each crate's lines without blanks, comments and imports, those of code with and
+"""Prints a table: each crate's lines without blanks, comments and imports, those of code with and
 without its clauses, and its must-fail edits."""
 
 import os

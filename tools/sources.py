@@ -1,6 +1,6 @@
 """The sources of the program and of the library for C, and whether the built files were made from the present sources.
 
-Beside what is built lies its record: the checksum of each source and of each file that was made, as sha256sum prints
+Built files have a record beside them: the checksum of each source and of each file that was made, as sha256sum prints
 them. Built files are current if their record is the one that would be written now. Times don't show that: a source may
 be replaced by an older one, or removed."""
 
