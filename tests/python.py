@@ -44,13 +44,14 @@ def raises(made, code, call, *words):
 def check_names(made, prefix, work):
     """The codes, their words and the attributes are those of the header."""
     header = held_in(f"{prefix}/include/ticurses.h").decode()
+    enums = dict(re.findall(r"^enum ticurses_(\w+) \{(.*?)^\}", header, re.M | re.S))
     codes, attrs = (
-        {name: int(number) for name, number in re.findall(r"^    TICURSES_(\w+) = (\d+)", enum, re.M)}
-        for enum in re.findall(r"^enum ticurses_\w+ \{(.*?)^\}", header, re.M | re.S)
+        {name: int(number) for name, number in re.findall(r"^    TICURSES_(\w+) = (\d+)", enums[it], re.M)}
+        for it in ("code", "attrs")
     )
     hold(attrs == {it.name: it.value for it in made.Attrs}, "the attributes differ", attrs)
     hold(codes == {it.name: it.value for it in made.Code}, "the codes differ", codes)
-    loop = "for (int i = 0; i < 27; i++) puts(ticurses_text(i));"
+    loop = f"for (int i = 0; i < {len(codes)}; i++) puts(ticurses_text(i));"
     write(f"{work}/texts.c", f"#include <ticurses.h>\nint main(void) {{ {loop} }}\n".encode())
     texts = subprocess.run([compiled(prefix, f"{work}/texts.c", f"{work}/texts")], stdout=subprocess.PIPE, text=True)
     hold(texts.stdout.splitlines() == [made.TEXTS[it] for it in made.Code], "the words differ", texts.stdout)
