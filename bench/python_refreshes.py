@@ -1,11 +1,12 @@
-"""Refreshes of a full screen from Python: the standard module `curses` beside `ticurses.curses`, on a terminal that takes
-all that is sent at once.
+"""Refreshes of a full screen from Python: the standard module `curses` beside `ticurses.curses`, on a terminal that
+takes all that is sent at once.
 
     python3 -B bench/python_refreshes.py [ROWSxCOLS..]
 
 Each run is a process of its own: 1,000 times each cell of the screen is written with a letter that is drawn by lot, a
-line a call, and the screen is refreshed. A line of figures is the processor time of the fastest of five runs, in milliseconds, and the bytes that were
-sent. The package and its library have to be where Python finds them (PYTHONPATH, TICURSES_LIBRARY)."""
+line a call, and the screen is refreshed. A line of figures is the processor time of the fastest of five runs, in
+milliseconds, and the bytes that were sent. The package has to be where Python finds it (PYTHONPATH), and its library where
+the package does (TICURSES_LIBRARY)."""
 
 import fcntl
 import importlib

@@ -4,7 +4,7 @@ programs that other people wrote for `curses`, beside ncurses; and what python_s
     python3 -B tests/python_curses.py FOLDER [PREFIX]
 
 takes the package from this folder, and the library from where ./install put it, or from below the prefix.
-PYTHON_PROGRAMS names a folder with the files of Debian's packages python3.11-examples and percol (docs/CURSES.md), which
+PYTHON_PROGRAMS names a folder with the files of Debian's packages python3.11-examples and percol (docs/CURSES.md); they
 are no part of this repository."""
 
 import json
@@ -29,16 +29,20 @@ if sys.version_info < (3, 10):
     EXPLAINED |= {"test_color_content", "test_init_pair", "test_pair_content"}
 LEAST = 50
 
-# what a program begins with here, whose numbers are drawn by lot
+# runs a program that draws by lot, each time with the same numbers
 SEEDED = """import random, runpy, sys
 random.seed(7)
 sys.argv = sys.argv[1:]
 runpy.run_path(sys.argv[0], run_name="__main__")
 """
+DEMOS = "{debian}/usr/share/doc/python3.11/examples/demo"
 # programs by their paths, their words and keys (as in tests/curses.py); {debian} is the folder of Debian's files
 PROGRAMS = {
-    "textpad": (f"{STANDARD}/curses/textpad.py", [], "=hello =world Left Left BSpace C-n =more C-a C-k C-o =x C-p C-e C-g"),
-    "life": ("{debian}/usr/share/doc/python3.11/examples/demo/life.py", [], "Space Up Space Up Space s s r s s Left Space e q"),
+    "textpad": (
+        f"{STANDARD}/curses/textpad.py", [],
+        "=hello =world Left Left BSpace C-n =more C-a C-k C-o =x C-p C-e C-g",
+    ),
+    "life": (f"{DEMOS}/life.py", [], "Space Up Space Up Space s s r s s Left Space e q"),
     "percol": ("{debian}/usr/bin/percol", [f"{TOP}/crates.txt"], "Down Down =cur C-Space Down BSpace =r_ C-k Enter"),
 }
 
@@ -57,7 +61,7 @@ class Package:
             self.variables["TICURSES_LIBRARY"] = f"{prefix}/lib/libticurses.so.1"
 
     def words(self, *own):
-        """What runs a program over the package."""
+        """The words that run a program over the package."""
         return [sys.executable, "-m", "ticurses.curses", *own]
 
     def environment(self):
@@ -77,7 +81,7 @@ class Package:
         return Terminal(24, 80, words, {**self.variables, **more})
 
     def printed(self, program):
-        """What a program prints that needs no terminal."""
+        """The output of a program that needs no terminal."""
         words = [sys.executable, "-c", program]
         ran = subprocess.run(words, env={**os.environ, **self.variables}, capture_output=True, text=True)
         hold(ran.returncode == 0, "a program fails", program, ran.stderr)
@@ -105,7 +109,8 @@ def check_numbers(package):
     differing = {name: (numbers.get(name), it) for name, it in wanted.items() if numbers.get(name) != it}
     hold(len(wanted) > 200 and not differing, "numbers differ from the header's", differing)
     hold(acs == letters and len(acs) > 40, "line drawing differs from the header's", acs, letters)
-    print(f"python: ticurses.curses has {len(wanted)} numbers and {len(letters)} line drawing characters as the header has them")
+    counts = f"{len(wanted)} numbers and {len(letters)} line drawing characters"
+    print(f"python: ticurses.curses has {counts} as the header has them")
 
 
 # -- the interpreter's own tests --
@@ -138,7 +143,7 @@ def check_own_tests(package, work):
 
 
 def shots(package, work, name, words, keys):
-    """What a program shows after each key, over the standard module and over the package."""
+    """The screens of a program after each key, over the standard module and over the package."""
     one = package.pane(work, f"{name}-ncurses", [sys.executable, *words])
     other = package.pane(work, f"{name}-ticurses", package.words(*words))
     return one.shots(keys), other.shots(keys)
@@ -151,8 +156,8 @@ def check_programs(package, work):
     write(f"{work}/seeded.py", SEEDED.encode())
     subprocess.run(["cc", "-shared", "-fPIC", "-o", f"{work}/still.so", f"{panes.HERE}/still.c"], check=True)
     for name, (path, words, keys) in PROGRAMS.items():
-        path = path.replace("{debian}", debian)
-        if not debian and path.startswith("/usr") or not os.path.exists(path):
+        path = path.replace("{debian}", debian or "/nonexistent")
+        if not os.path.exists(path):
             continue
         one, other = shots(package, work, name, [f"{work}/seeded.py", path, *words], keys.split())
         bad = panes.differing(one, other)

@@ -1,4 +1,4 @@
-"""What the Python package's `ticurses.curses` does on a terminal: answers and errors beside the standard module; keys,
+"""The Python package's `ticurses.curses` on a terminal: answers and errors beside the standard module; keys,
 signals, threads and processes; what ends the demo."""
 
 import os
@@ -9,8 +9,9 @@ import termios
 import time
 
 from linked import PATIENCE, fed
-from trying import held_in, write
+from trying import TOP, held_in, write
 
+CALLS = f"{TOP}/tests/python_calls.txt"
 # a program says what it sees in a file, since the terminal is the screen
 BEGINNING = """
 import copy, os, pickle, signal, sys, threading, time
@@ -26,66 +27,25 @@ def raised(call, *words):
         return type(refused).__name__
 """
 
-# what each of these answers, or of which type its error is, for both modules
+# the calls of a file, with both modules: the answer of each, or the type of its error
 ANSWERS = """
-TRIES = '''
-curses.initscr().getmaxyx()
-(curses.LINES, curses.COLS)
-screen.addch() ; screen.addch(1, 2, 3, 4, 5) ; screen.addch('ab') ; screen.addch(b'') ; screen.addch(None) ; screen.addch(1.5)
-screen.addch(2**64) ; screen.addch('x', 'y') ; screen.addch('x', 2**70) ; screen.addch(0, 0, 'x') ; screen.addch(b'x')
-screen.addch(100, 0, 'x') ; screen.addch(0, 100, 'x') ; screen.addch(2**40, 0, 'x') ; screen.addch(-1, 0, 'x')
-screen.addstr() ; screen.addstr(5) ; screen.addstr('a', 'b') ; screen.addstr(1, 2) ; screen.addstr('a\\\\0b')
-screen.addstr(1, 2, 'text', 0, 0) ; screen.addstr(23, 70, 'more than fits here') ; screen.addstr(b'bytes') ; screen.addstr(None)
-screen.addstr(bytearray(b'bytes')) ; screen.addstr(5, 5, 'text', curses.A_BOLD) ; screen.addstr(99, 0, 'text')
-screen.addnstr('text') ; screen.addnstr('text', 2) ; screen.addnstr('text', 'x') ; screen.addnstr('text', 2**31)
-screen.insstr(3, 3, 'in') ; screen.insstr('a\\\\0') ; screen.insnstr(3, 3, 'text', 2) ; screen.insch('i') ; screen.insch()
-screen.getyx() ; screen.getbegyx() ; screen.getparyx() ; screen.getyx(1)
-screen.move(3, 4) ; screen.move(3) ; screen.move(99, 4) ; screen.move('a', 4) ; screen.move(2**31, 4) ; screen.move(-2**40, 0)
-screen.instr(5, 5, 4) ; screen.instr(-1) ; screen.instr(0, 0, -1) ; screen.instr('x') ; screen.instr(1, 2, 3, 4)
-chr(screen.inch(5, 5) & 255) ; screen.inch(5, 5) & curses.A_BOLD == curses.A_BOLD ; screen.inch(1) ; screen.inch(1, 2, 3)
-screen.delch() ; screen.delch(5, 5) ; screen.delch(5) ; screen.deleteln() ; screen.insertln() ; screen.insdelln(2)
-screen.hline('-', 5) ; screen.hline(2, 2, '-', 5) ; screen.hline('-') ; screen.vline(2, 2, '|', 5, curses.A_BOLD) ; screen.hline('--', 5)
-screen.border('a', 'b') ; screen.border(1, 2, 3, 4, 5, 6, 7, 8, 9) ; screen.border('ab') ; screen.box('a', 'b') ; screen.box('a')
-screen.attron(curses.A_BOLD) ; screen.attroff(curses.A_BOLD) ; screen.attrset('x') ; screen.attrset(2**80) ; screen.attrset(0)
-screen.chgat(0, 0, 5, curses.A_REVERSE) ; screen.chgat() ; screen.chgat('a') ; screen.chgat(1, 2, 3, 4, 5)
-screen.bkgd(' ') ; screen.bkgd('ab') ; screen.bkgdset('.', curses.A_BOLD) ; screen.bkgdset(' ') ; screen.getbkgd() & 255
-screen.scroll() ; screen.scrollok(True) ; screen.scroll(1) ; screen.scroll(1, 2) ; screen.setscrreg(1, 5) ; screen.setscrreg(5, 1)
-screen.touchline(1, 2) ; screen.touchline(1) ; screen.is_linetouched(1) ; screen.is_linetouched(99) ; screen.is_linetouched(-2)
-screen.redrawln(1, 2) ; screen.enclose(1, 2) ; screen.enclose(99, 2) ; screen.enclose(1)
-screen.refresh(1, 2, 3, 4, 5, 6) ; screen.refresh() ; screen.noutrefresh() ; screen.noutrefresh(1)
-curses.newwin(5, 10).getmaxyx() ; curses.newwin(5) ; curses.newwin(0, 0, 3, 4).getmaxyx() ; curses.newwin(-1, 5) ; curses.newwin(2**40, 1)
-curses.newpad(50, 60).getmaxyx() ; curses.newpad(0, 5) ; curses.newpad(5) ; curses.newpad(50, 60).refresh() ; curses.newpad(50, 60).noutrefresh(1, 2)
-curses.newpad(50, 60).refresh(0, 0, 1, 1, 5, 5) ; curses.newpad(50, 60).subpad(5, 6, 1, 2).getmaxyx() ; screen.subpad(1, 1, 1, 1).getmaxyx()
-screen.subwin(3, 4).getmaxyx() ; screen.subwin(5, 6, 3, 4).getparyx() ; screen.subwin(5) ; screen.derwin(99, 99, 1, 1) ; screen.derwin(5, 6, 3, 4).getbegyx()
-curses.newwin(5, 10).mvwin(2, 3) ; curses.newwin(5, 10).mvwin(22, 3) ; curses.newwin(5, 10).mvderwin(1, 1) ; curses.newwin(5, 10).resize(4, 4)
-curses.newwin(5, 10).resize(0, 4) ; curses.newwin(5, 10).overlay(screen) ; screen.overlay(5) ; screen.overwrite(screen, 1) ; curses.newwin(3, 3).overwrite(screen, 0, 0, 1, 1, 2, 2)
-screen.keypad(1) ; screen.keypad(0) ; screen.nodelay(True) ; screen.getch() ; screen.getkey() ; screen.get_wch() ; screen.getch(1) ; screen.getch(1, 2)
-screen.getstr(-1) ; screen.getstr(1, 2, 3, 4) ; screen.nodelay(False) ; screen.timeout(10) ; screen.getch() ; screen.timeout(-1) ; screen.timeout('x')
-curses.ungetch('x') ; screen.getch() ; curses.ungetch(b'y') ; screen.getkey() ; curses.ungetch(curses.KEY_UP) ; screen.getkey() ; curses.ungetch('xy')
-curses.unget_wch('z') ; screen.get_wch() ; curses.unget_wch('') ; curses.ungetch(curses.KEY_DOWN) ; screen.get_wch() == curses.KEY_DOWN
-curses.keyname(10) ; curses.keyname(curses.KEY_F1) ; curses.keyname(-1) ; curses.keyname(2**40) ; curses.unctrl(7) ; curses.unctrl('ab') ; curses.has_key('x')
-curses.has_key(curses.KEY_UP) ; curses.has_key(curses.KEY_F63)
-curses.color_pair(1) ; curses.start_color() ; curses.init_pair(1, 2, 3) ; curses.pair_content(1) ; curses.COLORS
-curses.pair_number(curses.color_pair(5)) ; curses.init_pair(0, 1, 1) ; curses.init_pair(1, 99, 1) ; curses.init_pair('x', 1, 1) ; curses.pair_content(-1)
-curses.color_content(99) ; curses.color_pair(-1) ; curses.pair_number('x') ; curses.init_color(0, 2000, 0, 0) ; curses.color_content('x')
-curses.curs_set(0) ; curses.curs_set(1) ; curses.curs_set(5) ; curses.curs_set('x') ; curses.napms(1) ; curses.napms('x') ; curses.beep() ; curses.flash()
-curses.halfdelay(0) ; curses.halfdelay(300) ; curses.cbreak() ; curses.nocbreak() ; curses.raw() ; curses.noraw() ; curses.echo() ; curses.noecho() ; curses.cbreak()
-curses.setsyx(4, 5) ; curses.isendwin() ; curses.is_term_resized(24, 80) ; curses.is_term_resized(25, 80)
-curses.termname() ; curses.longname() ; curses.has_ic() ; curses.has_il() ; curses.erasechar() ; curses.killchar()
-curses.tigetnum('cols') ; curses.tigetnum('bold') ; curses.tigetstr('bold') ; curses.tigetflag('am') ; curses.tigetflag('bold') ; curses.tigetstr('xyz') ; curses.tigetstr(5)
-curses.set_escdelay(0) ; curses.set_escdelay(30) ; curses.get_escdelay() ; curses.set_tabsize(0) ; curses.get_tabsize()
-type(screen)() ; screen.nothing ; curses.nothing ; curses.window ; curses.endwin() ; curses.isendwin() ; curses.doupdate() ; curses.isendwin() ; curses.endwin()
-'''
-for it in ("curses.doupdate", "curses.endwin", "curses.isendwin", "curses.beep", "curses.start_color", "curses.cbreak"):
-    say(it, raised(eval(it)))
-for it in ("curses.newwin(5, 5)", "curses.ungetch(5)", "curses.keyname(5)", "curses.napms(5)", "curses.color_pair(1)"):
-    say(it, raised(eval, it))
+def answer(line):
+    try:
+        found = eval(line)
+    except Exception as refused:
+        return type(refused).__name__
+    return "a class" if isinstance(found, type) else repr(found)
+
+# before there is a screen
+for it in ("doupdate()", "endwin()", "isendwin()", "beep()", "start_color()", "cbreak()", "newwin(5, 5)", "ungetch(5)",
+           "keyname(5)", "napms(5)", "color_pair(1)"):
+    say(it, answer(f"curses.{it}"))
 curses.setupterm()
 screen = curses.initscr()
-for line in TRIES.strip().splitlines():
-    for it in line.split(" ; "):
-        answer = raised(eval, it.strip())
-        say(it.strip(), "a class" if isinstance(answer, type) else repr(answer))
+with open(sys.argv[2]) as file:
+    for line in file:
+        if line.strip() and not line.startswith("#"):
+            say(line.strip(), answer(line))
 """
 
 # a key that is waited for: signals whose handlers raise and don't, other threads, other sizes, times
@@ -137,7 +97,8 @@ def main(screen):
     say("line by line", [screen.getch() for _ in range(4)])
     curses.cbreak()
     curses.noecho()
-    say("pickled", raised(pickle.dumps, screen), raised(copy.copy, screen), repr(pickle.loads(pickle.dumps(curses.error("x")))))
+    say("pickled", raised(pickle.dumps, screen), raised(copy.copy, screen))
+    say("pickled", repr(pickle.loads(pickle.dumps(curses.error("x")))))
 
 curses.wrapper(main)
 say("over")
@@ -158,7 +119,8 @@ ready 4
 line b'hullo' b'   hullo    '
 ready 5
 line by line [120, 121, 122, 10]
-pickled TypeError TypeError error('x')
+pickled TypeError TypeError
+pickled error('x')
 over
 """
 
@@ -211,7 +173,8 @@ class Run:
         self.log = f"{work}/{name}.log"
         write(f"{work}/{name}.py", f"import {module} as curses\n{BEGINNING}{program}".encode())
         write(self.log, b"")
-        self.terminal = package.terminal([sys.executable, f"{work}/{name}.py", self.log], TERM="xterm")
+        words = [sys.executable, f"{work}/{name}.py", self.log, CALLS]
+        self.terminal = package.terminal(words, TERM="xterm")
 
     def told(self):
         return held_in(self.log).decode()
@@ -235,7 +198,8 @@ def check_answers(package, work):
         hold(run.ends() == 0, "the calls don't come to an end", run.told()[-300:], run.terminal.sent[-500:])
         told.append(run.told().splitlines())
     differing = [f"{one} | {other}" for one, other in zip(*told) if one != other]
-    hold(len(told[0]) == len(told[1]) > 200 and not differing, "calls answer otherwise than the standard module's", differing)
+    counts = [len(it) for it in told]
+    hold(counts[0] == counts[1] > 200 and not differing, "calls answer otherwise than the standard module's", differing)
     print(f"python: {len(told[0])} calls of ticurses.curses answer, or are refused, as those of the standard module")
 
 
@@ -333,7 +297,8 @@ def check_stopped(package, work):
     shots = [re.sub(r"\x1b\[[\d;]*m", "", text) for text, _ in pane.shots(["C-z", "Enter", "x", "q"])]
     shows = ["24 lines, 80 columns" in it for it in shots]
     hold(shows == [True, False, True, True, False], "stopped, the demo shows", shots)
-    hold("stopped 148\nopost icanon echo" in shots[1] and "over 0\nopost icanon echo" in shots[4], "the shell is left", shots)
+    left = ["stopped 148\nopost icanon echo" in shots[1], "over 0\nopost icanon echo" in shots[4]]
+    hold(all(left), "the demo leaves the shell", shots)
     print("python: ^Z stops the demo with the terminal as it was before, and it goes on")
 
 
@@ -346,7 +311,8 @@ def over(terminal, before, status, end):
     now = modes(terminal)
     seen = terminal.ends()
     hold(seen == status and now == before, "the demo ends otherwise", end, seen, now == before)
-    hold("hidden" not in fed(terminal.rows, terminal.cols, terminal.sent[terminal.begun :]), "the cursor is hidden", end)
+    screen = fed(terminal.rows, terminal.cols, terminal.sent[terminal.begun :])
+    hold("hidden" not in screen, "the cursor is hidden", end)
 
 
 def check(package, work):

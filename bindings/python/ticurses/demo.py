@@ -21,7 +21,7 @@ ADVICE = "press keys, change the size; q ends it"
 
 
 def name_of(key: int) -> str:
-    """What a key is called."""
+    """The name of a key."""
     name = curses.keyname(key).decode("ascii", "replace")
     return name[4:].lower() if name.startswith("KEY_") else name
 

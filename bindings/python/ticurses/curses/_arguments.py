@@ -79,7 +79,7 @@ def place_of(name: str, given: Sequence[Any]) -> tuple[int, int] | None:
 
 
 def split(name: str, given: Sequence[Any], own: int) -> tuple[tuple[int, int] | None, Sequence[Any], int | None]:
-    """The arguments of a call that takes so many of its own: before them may be a row and a column, and behind them
+    """The arguments of a call that has `own` arguments: before them may be a row and a column, and behind them
     attributes."""
     if not own <= len(given) <= own + 3:
         raise TypeError(f"{name} requires {own} to {own + 3} arguments")

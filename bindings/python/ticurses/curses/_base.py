@@ -1,4 +1,4 @@
-"""What each part of a window's methods stands on: its address in the library, and methods of one form."""
+"""The base of a window's methods: its address in the library, and methods of one form."""
 
 from __future__ import annotations
 

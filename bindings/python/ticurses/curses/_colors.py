@@ -81,7 +81,7 @@ def pair_number(attr: int) -> int:
 def init_pair(pair_number: int, fg: int, bg: int) -> None:
     """Gives a pair its two colors."""
     _begun()
-    # -1, the terminal's own, is refused by the library where it isn't to be had
+    # -1, the terminal's own, is refused by the library where it has no such pairs
     check(LIBRARY.init_pair(_pair(pair_number), _color(fg, -1), _color(bg, -1)), "init_pair")
 
 

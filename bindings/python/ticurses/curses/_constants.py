@@ -17,7 +17,7 @@ A_DIM = 0x00100000
 A_BOLD = 0x00200000
 A_INVIS = 0x00400000
 A_ALTCHARSET = 0x00800000
-# what the terminal of the proofs doesn't have, programs may ask for all the same
+# programs may ask for attributes that the terminal of the proofs doesn't have; they mean nothing
 A_PROTECT = A_ITALIC = A_HORIZONTAL = A_VERTICAL = A_LEFT = A_RIGHT = A_TOP = A_LOW = 0
 
 COLOR_BLACK = 0
@@ -41,7 +41,7 @@ ACS = {
     "ACS_SSBS": "v", "ACS_BSSS": "w", "ACS_BSBS": "q", "ACS_SBSB": "x", "ACS_SSSS": "n",
 }
 
-# what a button of a mouse can do, in the five bits that each has
+# the events of a mouse's buttons, in the five bits that each button has
 _BUTTON = {"RELEASED": 1, "PRESSED": 2, "CLICKED": 4, "DOUBLE_CLICKED": 8, "TRIPLE_CLICKED": 16}
 MOUSE = {f"BUTTON{button}_{name}": bit << 5 * (button - 1) for button in range(1, 6) for name, bit in _BUTTON.items()}
 MOUSE.update(

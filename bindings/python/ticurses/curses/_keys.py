@@ -22,14 +22,14 @@ __all__ = [
     "unget_wch", "ungetch", "ungetmouse",
 ]
 
-# what is read is a descriptor of this number, C's standard input
+# the descriptor that is read, C's standard input
 INPUT = 0
 LINE_MAX = 511
 GIVEN_MAX = 1024
 _ENDS = (10, 13, KEY_DOWN, KEY_UP, KEY_ENTER)
 
-# what was given back, and the rest of a line where keys come line by line; the next one is first. They aren't shown again,
-# as the library would
+# keys that were given back, and the rest of a line where keys come line by line; the next one is first. The library
+# would show them once more
 _given: list[int] = []
 
 
@@ -69,7 +69,7 @@ def _awaited(shown: Showing, delay: int) -> int:
             if left is not None and left <= 0:
                 return ERR
             with held_signals() as mask:
-                # what a signal has asked for meanwhile, the library does here
+                # here the library does all that a signal has asked for meanwhile
                 key = LIBRARY.wgetch(at)
                 if key == ERR and has_come:
                     # there was something to read, and nothing was read: the terminal is gone
@@ -130,7 +130,7 @@ class _Line:
 
 
 def read_text(shown: Showing, most: int) -> bytes | None:
-    """A line of at most so many bytes, with its editing keys; None where no key comes in time, or another size does."""
+    """A line of at most `most` bytes, with its editing keys; None where no key comes in time, or another size does."""
     line = _Line(shown, most, MODES.echoes)
     was = MODES.is_cbreak, MODES.is_raw, MODES.half_delay, MODES.reads_newlines
     erasing, killing = (it[0] for it in (erasechar(), killchar()))

@@ -17,7 +17,7 @@ __all__ = [
 
 
 class Modes:
-    """What the library has, and doesn't say: how keys come, whether they are shown, and how long one is waited for."""
+    """Modes that the library doesn't answer: how keys come, whether they are shown, and how long one is waited for."""
 
     def __init__(self) -> None:
         self.is_cbreak = self.echoes = self.reads_newlines = True
@@ -84,7 +84,7 @@ def nonl() -> None:
 
 
 def halfdelay(tenths: int) -> None:
-    """As cbreak, and a key is waited for so many tenths of a second."""
+    """As cbreak, and a key is waited for at most `tenths` tenths of a second, 1 to 255."""
     SCREEN.begun()
     wanted = c_byte(tenths)
     check(LIBRARY.halfdelay(wanted), "halfdelay")

@@ -12,7 +12,7 @@ from ._errors import ERR, error
 from ._library import LIBRARY
 from ._showing import Showing
 
-# a line, or what a window holds, is at most so many bytes
+# the most bytes of a line, or of what a window holds
 TEXT_MAX = 1023
 _ASCII = 128
 _BYTES = 256

@@ -28,12 +28,12 @@ __all__ = [
     "termattrs", "termname", "update_lines_cols", "use_env", "wrapper",
 ]
 
-# what the library handles by itself, unless the program does
+# signals that the library handles by itself, unless the program does
 _HANDLED = (signal.SIGHUP, signal.SIGINT, signal.SIGQUIT, signal.SIGTERM, signal.SIGTSTP, signal.SIGWINCH)
 
 
 class Screen:
-    """What is known of it beside the library."""
+    """The state of the screen that the library doesn't answer."""
 
     def __init__(self) -> None:
         self.stdscr: window | None = None
@@ -52,15 +52,15 @@ class Screen:
             raise error("must call initscr() first")
 
     def leave(self) -> None:
-        """In a process that was forked: the one that called initscr knows what is shown, so that here no call is made any
-        more, and no signal sets the terminal back."""
+        """In a process that was forked: the one that called initscr knows what is shown, so that here no call is made
+        any more, and no signal sets the terminal back."""
         if self.stdscr is None:
             return
         self.is_inherited = True
         for it in list(self.windows):
             it.leave()
         for number in _HANDLED:
-            # what isn't handled in Python, the library may handle
+            # the library may handle a signal that isn't handled in Python
             if signal.getsignal(number) in (None, signal.SIG_DFL):
                 signal.signal(number, signal.SIG_DFL)
 
@@ -228,7 +228,7 @@ def curs_set(visibility: int) -> int:
 
 
 def napms(ms: int) -> int:
-    """Waits so many milliseconds, while other threads run."""
+    """Waits `ms` milliseconds, while other threads run."""
     SCREEN.begun()
     end = time.monotonic() + c_int(ms) / 1000
     while True:
@@ -242,7 +242,7 @@ def napms(ms: int) -> int:
 
 
 def delay_output(ms: int) -> None:
-    """Waits so many milliseconds."""
+    """Waits `ms` milliseconds, as napms; no padding is sent."""
     napms(ms)
 
 

@@ -1,4 +1,4 @@
-"""What the terminal's entry says, read by the library of ticurses."""
+"""Capabilities of the terminal's entry, read by the library of ticurses."""
 
 from __future__ import annotations
 
@@ -32,7 +32,7 @@ def setupterm(term: str | None = None, fd: int = -1) -> None:
 
 
 def _asked(kind: str, capname: str, *room: Any) -> int:
-    """What the library answers of a capability."""
+    """The library's answer about a capability."""
     if not isinstance(capname, str):
         raise TypeError(f"capname must be str, not {type(capname).__name__}")
     if not _entry:

@@ -14,7 +14,7 @@ from typing import Any, Iterator
 # other threads are given signals that this one waits for, so that it looks at what the library has noted now and then
 LOOKING = 0.25
 POLLIN = 1
-# a set of signals of the system has so many bytes
+# the bytes of a set of signals
 MASK_LEN = 128
 
 
@@ -43,7 +43,7 @@ def held_signals() -> Iterator[bytes]:
 
 
 def ready(fd: int, seconds: float | None, mask: bytes) -> bool:
-    """Waits until the descriptor has something to read, so many seconds have passed, or a signal has come. It answers
+    """Waits until the descriptor has something to read, the seconds have passed, or a signal has come. It answers
     whether there is something. Below 0 there is no descriptor; None is no end of time."""
     if threading.active_count() > 1:
         seconds = LOOKING if seconds is None else min(seconds, LOOKING)

@@ -169,6 +169,6 @@ class Writing(Base):
     clrtoeol = plain("clrtoeol", "wclrtoeol", "Makes the line from the cursor on blank.")
     deleteln = plain("deleteln", "wdeleteln", "Deletes the cursor's line.")
     insertln = plain("insertln", "winsertln", "Inserts a blank line above the cursor's.")
-    insdelln = numbered("insdelln", "winsdelln", "nlines", "Inserts so many lines, or below 0 deletes them.")
+    insdelln = numbered("insdelln", "winsdelln", "nlines", "Inserts nlines lines, or below 0 deletes them.")
     move = numbered("move", "wmove", "new_y, new_x", "Puts the cursor there.")
     setscrreg = numbered("setscrreg", "wsetscrreg", "top, bottom", "Says which lines scroll.")
