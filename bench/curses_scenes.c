@@ -1,9 +1,10 @@
 /* curses_scenes ENTRY ROWS COLS SCENE OUTPUT: draws a scene some hundred times on a terminal of this
  * size, into a file, and prints the processor time and the bytes of a refresh, with the calls before
- * it: `NANOSECONDS BYTES REFRESHES`. Built with -DCURSES it draws by the calls of curses.h, with ncurses
- * or with the library of ticurses for such programs, and ENTRY is a terminal's name. Else it draws with
- * the sessions of ticurses, and ENTRY is a compiled file. The scene `open` opens a session instead,
- * which for ticurses has the check of the entry in it. */
+ * it: `NANOSECONDS BYTES REFRESHES`. Built with PEER, a file with the functions that the scenes call, it
+ * draws with that file's library, and ENTRY is a terminal's name. Built with -DCURSES it draws by the
+ * calls of curses.h, with ncurses or with the library of ticurses for such programs, and ENTRY is a
+ * terminal's name. Otherwise it draws with the sessions of ticurses, and ENTRY is a compiled file. The
+ * scene `open` opens a session instead, which for ticurses includes the check of the entry. */
 #define _XOPEN_SOURCE 700
 #include <fcntl.h>
 #include <stdarg.h>
@@ -16,7 +17,11 @@
 
 static int rows, cols;
 
-#ifdef CURSES
+#ifdef PEER
+
+#include PEER
+
+#elif defined CURSES
 
 #define NCURSES_NOMACROS
 #include <curses.h>
@@ -211,6 +216,11 @@ static void prepare(const char *entry, const char *output) {
 
 #endif
 
+#ifndef PEER
+/* A library with windows keeps what is drawn in them. */
+static void keep_page(void) {}
+#endif
+
 /* -- the scenes -- */
 
 static uint32_t state = 4711;
@@ -294,6 +304,7 @@ static void typed(int step) {
 }
 
 static void set_log(void) {
+    keep_page();
     set_scroll(0);
     set_page();
 }
@@ -310,6 +321,7 @@ static void logged(int step) {
 }
 
 static void set_windows(void) {
+    keep_page();
     set_page();
     for (int w = 1; w <= 2; w++) {
         make_window(w, rows / 3, cols / 3, w, w);
