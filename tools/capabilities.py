@@ -96,22 +96,30 @@ def start_words(answer):
     return f"{words[0]}{room}; margins: {MARGINS[margins]}"
 
 
+def equations(text):
+    """The equations of a definition file: what stands to the left of each, with its right side on one line."""
+    found = re.findall(r"^(\w[^:\n=]*?) =((?: [^\n]+)?(?:\n +[^\n]+)*)", text, re.M)
+    return {left: " ".join(right.split()) for left, right in found}
+
+
+def spoken(right, constants):
+    """The words of a right side: its strings in their order, and a letter for each number."""
+    right = re.sub(r'number_text \((codes "[^"]*")\) (?:\w+|\(color_number c\))', r"\1 decimal n", right)
+    parts = re.findall(rf'codes "([^"]*)"|decimal (\w)|\b({"|".join(constants) or "(?!)"})\b', right)
+    return "".join(string or constants.get(name) or f"*{number}*" for string, number, name in parts)
+
+
 def wanted_words(text):
-    """The wanted effect of each capability, in the words of a refusal."""
-    string = r'b"([^"]*)"'
-    moves = re.search(r"const LIKE_MOVES: &\[u8\] = " + string, text).group(1)
+    """The wanted effect of each capability, in the words of a refusal, from the definition of these."""
+    found = equations(text)
+    constants = {name: spoken(found[name], {}) for name in ("no_more", "around")}
     wanted = {}
-    for name in ("fixed_words", "rendition_words", "mode_words"):
-        for row, answer in arms(function(text, name)).items():
-            wanted[row if row != "_" else name] = re.search(string, answer).group(1)
-    for row, front, behind in re.findall(rf"Row::(\w+)\(_\) => \(\s*{string},\s*(?:{string}|LIKE_MOVES),?\s*\)", text):
-        wanted[row.lower()] = front + " *n*" + (behind or moves)
-    wanted["cup"] = re.search(r'"(the cursor is at[^"]*)"', text).group(1).replace("{row}", "*r*").replace("{col}", "*c*")
-    wanted["csr"] = re.search(r'"(the scrolling region is[^"]*)"', text).group(1).replace("{top}", "*t*").replace("{bottom}", "*b*")
-    parts = re.findall(string, function(text, "push_attributes"))
-    wanted["sgr"] = parts[-3] .rstrip(":").replace("these attributes", "the attributes asked for") + parts[-1]
-    for row, name in (("bel", "fixed_words"), ("smso", "rendition_words"), ("smcup", "mode_words"), ("rmcup", "mode_words")):
-        wanted.setdefault(row, wanted[name])
+    for left, right in found.items():
+        row = re.match(r"\w+_text \(?([A-Z]\w*)", left)
+        if row:
+            wanted[row[1].lower()] = spoken(found.get(right, right), constants)
+    front, behind = re.findall(r'codes "([^"]*)"', found["listed_text names"])
+    wanted["sgr"] = front.rstrip(":").replace("these attributes", "the attributes asked for") + behind
     return wanted
 
 
@@ -151,11 +159,16 @@ def source(crate, name):
     return read(os.path.join(CRATES, crate, "src", name))
 
 
+def definition(crate, name):
+    """The text of a file of a crate's specs/."""
+    return read(os.path.join(CRATES, crate, "specs", name))
+
+
 def table(names):
     """The rows of the page's table, one for each of these capabilities."""
     starts = arms(function(source("ti_rows", "starts.rt"), "start"))
     groups = arms(function(source("ti_conforms", "entries.rt"), "group_of"))
-    wanted = wanted_words(source("ti_words", "wanted.rt"))
+    wanted = wanted_words(definition("ti_words", "Wanted.antt"))
     for name in names:
         params, cause = SAID[name]
         start = start_words(starts.get(name, starts["_"]))
