@@ -25,13 +25,13 @@ ready_lost t checked s h = record {
 pub agrees_lost : (t : Table) → IsChecked t → (g : ℕ → ℕ → Ink) (b : Belief) (s : State) → Agrees t g b s → IsLost t s
 agrees_lost t checked g b s h = ready_lost t checked s h.ready
 
--- what a line does
+-- the end of a line's run
 pub line_ends : (t : Table) → IsChecked t → (row : Row) (bytes : List ℕ) → t.line_of row ≡ Some bytes → (g h : ℕ → ℕ → Ink) (b c : Belief) → Turns t row g b h c → (s : State) → Agrees t g b s → Ends s bytes (Agrees t h c)
 line_ends t checked row bytes is g h b c turns s x =
     let line : IsCheckedLine t row bytes = checked.lines row bytes is in
     ends_sized t.rows t.cols s bytes (Closed (Ended t row s.screen)) (Agrees t h c) x.ready.sized (λ u sized k. turns.ends s u x sized k.rest k.screen) (line.drives.right s x.ready.rest (turns.starts s x))
 
--- one line, of which a front leaves a lost state
+-- one line, each prefix of which leaves a lost state
 pub line_leads : (P : List ℕ → Type 0) (t : Table) → IsChecked t → (row : Row) (bytes : List ℕ) → t.line_of row ≡ Some bytes → P bytes → (n : ℕ) → length bytes ≤ n → (g h : ℕ → ℕ → Ink) (b c : Belief) → Turns t row g b h c → Leads P n (IsLost t) (Agrees t g b) bytes (Agrees t h c)
 line_leads P t checked row bytes is sort n le g h b c turns =
     leads_line P n (IsLost t) (Agrees t g b) (Agrees t h c) bytes sort le (line_ends t checked row bytes is g h b c turns)
@@ -44,14 +44,14 @@ pub line_sent : {W T E : Type 0} (went : W → W → List ℕ → Type 0) (failu
 line_sent went failures a z answer t checked row bytes is paint n g h b c le turns sends =
     steps_sent went failures a z answer (IsPaint t) n (IsLost t) (Agrees t g b) (Agrees t h c) bytes (line_leads (IsPaint t) t checked row bytes is (Stroke row paint is) n le g h b c turns) (agrees_lost t checked h c) sends
 
--- the same under the row's limit
+-- a line that paints, within the row's limit
 pub line_steps : {W T E : Type 0} (went : W → W → List ℕ → Type 0) (failures : W → ℕ) (a z : W) (answer : Result T E) (t : Table) → IsChecked t → (row : Row) (bytes : List ℕ) → t.line_of row ≡ Some bytes → paints row ≡ true
     → (n : ℕ) (g h : ℕ → ℕ → Ink) (b c : Belief) → limit_of t row ≤ n → Turns t row g b h c → Sends went failures a z bytes answer
     → Steps went failures a z answer (IsPaint t) n (IsLost t) (Agrees t g b) (Agrees t h c)
 line_steps went failures a z answer t checked row bytes is paint n g h b c le turns sends =
     line_sent went failures a z answer t checked row bytes is paint n g h b c (omega (arith, (checked.lines row bytes is).short, le)) turns sends
 
--- the same, of which all is known that goes out
+-- a line that paints, with exactly the bytes that go out
 pub line_spelled : {W T E : Type 0} (went : W → W → List ℕ → Type 0) (failures : W → ℕ) (a z : W) (answer : Result T E) (t : Table) → IsChecked t → (row : Row) (bytes : List ℕ) → t.line_of row ≡ Some bytes
     → (g : ℕ → ℕ → Ink) (b c : Belief) → Turns t row g b g c → Sends went failures a z bytes answer
     → Spells went failures a z answer (text_of t row) (IsPiece t) (limit_of t row) (IsLost t) (Agrees t g b) (Agrees t g c)

@@ -32,7 +32,7 @@ pub changes_few : (p : Option Mode) (m : Mode) → changes p m ≤ 1
 changes_few None m = omega arith
 changes_few (Some n) m = few (same_mode n m)
 
--- nothing shows the cursor as it is known to be shown
+-- no bytes are needed for a mode that the cursor is known to have
 pub text_same : (t : Table) (now : Option Mode) (m : Mode) → now ≡ Some m → mode_text t now m ≡ []
 text_same t now m e = let P : Option Mode → Type 0 = λ o. mode_text t o m ≡ [] in subst P (sym e) (itself m)
   where

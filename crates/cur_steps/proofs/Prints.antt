@@ -1,4 +1,4 @@
--- What a printed character does to a state that agrees with what is believed.
+-- The effect of a printed character on a state that agrees with a belief.
 use Rattle.std.proofs.Common.{◌≡◌, ℕ, ◌+◌, ◌-◌, ◌<◌, ◌≤◌, ◌==◌, ◌&&◌, Bool, true, false, nat_le, nat_lt, min, List, [], ◌∷◌, ◌++◌, Option, Some, Result, refl, sym, ap, subst, ◌∙◌, inl, inr, arith, if◌then◌else◌}
 use Rattle.std.proofs.lemmas.List.{append-nil}
 use Rattle.std.proofs.lemmas.Bool.Decides.{nat_tests}
@@ -28,7 +28,7 @@ use Rattle.cur_steps.specs.Beliefs.{Agrees, Belief, Place, IsHere, IsNext, IsSo}
 use Rattle.cur_steps.proofs.Actions.{agrees_lost}
 use Rattle.cur_steps.proofs.Turns.{drawn_look, look_at-drawn, one_place, stands_at, calmly}
 
--- a token is run where nothing is open
+-- a token is run if nothing is open
 pub token_runs : (s : State) (token : List ℕ) (x : Screen) → s.rest ≡ [] → IsWhole token → act (function_of token) s.screen ≡ x → Runs s token (record { screen = x; rest = [] })
 token_runs s token x e h is =
     subst (λ (x : Screen). Runs s token (record { screen = x; rest = [] })) is
@@ -43,7 +43,7 @@ single_print b h =
     below : (m n : ℕ) → m ≤ n → nat_le m n ≡ true
     below m n le = grind (arith, nat_tests)
 
--- a character printed where none is pending and none are inserted
+-- a character printed with no pending wrap and no insertion
 typed : Screen → ℕ → Screen
 typed s b = record s { grid = put s.row s.col (step.shown s b) s.grid; col = min (s.col + 1) (s.cols - 1); pending = (s.col + 1 == s.cols) && s.autowrap }
 
@@ -69,7 +69,7 @@ here_after cols r c s e p q lt on = (
   ap (λ (n : ℕ). (n + 1 == s.cols) && s.autowrap) q ∙ ap (λ (n : ℕ). (c + 1 == n) && s.autowrap) e ∙ last_column c cols s.autowrap lt on,
 )
 
--- what is believed where the cursor is known to be in a place
+-- the belief with the cursor known to be in a place
 abbrev pub standing : Belief → ℕ → ℕ → Belief
 standing b r c = record b { place = record { row = r; col = c } }
 
@@ -167,7 +167,7 @@ typed_agrees t g b r c x lr lc printed poised s h = by_place poised.place
           seen = h.seen;
         })
 
--- a front of one byte is nothing or that byte
+-- a prefix of one byte is nothing or that byte
 front_lost : (t : Table) (s : State) (x : ℕ) (front back : List ℕ) → x ∷ [] ≡ front ++ back → IsLost t s → s.rest ≡ [] → Ends s (x ∷ []) (IsLost t) → Ends s front (IsLost t)
 front_lost t s x [] back e h r k = stays s (IsLost t) r h
 front_lost t s x (y ∷ []) back e h r k = let same : x ≡ y = cc in subst (λ (n : ℕ). Ends s (n ∷ []) (IsLost t)) same k

@@ -1,4 +1,4 @@
--- What the strings of single attributes do to a state that agrees with what is believed.
+-- The effect of the strings of single attributes on a state that agrees with a belief.
 use Rattle.std.proofs.Common.{◌≡◌, ℕ, ◌+◌, ◌<◌, ◌≤◌, ◌&&◌, ◌||◌, Bool, true, false, List, [], ◌∷◌, length, get_or, drop, take, Option, None, refl, sym, ap, subst, ◌∙◌, arith, if◌then◌else◌}
 use Rattle.std.proofs.lemmas.Bool.{false≢true}
 use Rattle.std.proofs.lemmas.List.{at_drop_more}
@@ -33,7 +33,7 @@ stripped t g b = record {
 abbrev pub with_attributes : Belief → Attributes → Belief
 with_attributes b a = record b { brush = record b.brush { attributes = a } }
 
--- a line that makes of any rendition what f does
+-- a line that changes every rendition as f does
 by_rendition : (t : Table) (g : ℕ → ℕ → Ink) (b : Belief) (a : Attributes) (row : Row) (f : Rendition → Rendition) → b.graphic ≡ None → settles row ≡ true
     → ((s : State) → IsReady t s → Starts t.rows t.cols row s.screen) → ((s u : Screen) → Wants t.looks row s u → Renders (f s.rendition) s u)
     → f (rendition_of t.looks b.brush) ≡ rendition_of t.looks (record b.brush { attributes = a }) → Turns t row g b g (with_attributes b a)
@@ -157,7 +157,7 @@ single_paints wanted Invis on = refl
 single_paints wanted Smso on = refl
 single_paints wanted row on = absurd (false≢true on)
 
--- from none, all that are wanted
+-- from no attributes, all the wanted ones
 pub all_singles : (w : Attributes) → with_singles w singles no_attributes ≡ w
 all_singles w =
     let x1 = record no_attributes { underline = w.underline } in
@@ -210,7 +210,7 @@ sgr_absent t every a none = decide (has t (Sgr no_attributes)) refl
     decide false e = refl
     decide true e = absurd (false≢true (sym none ∙ every e a))
 
--- one row further
+-- one more row
 pub ahead_more : (w : Attributes) (rows : List Row) (n : ℕ) (d : Row) (start b c : Belief) → n < length rows → c ≡ with_attributes b (with_single w (get_or rows n d) b.brush.attributes)
     → with_attributes b (with_singles w (drop n rows) b.brush.attributes) ≡ with_attributes start (with_singles w rows start.brush.attributes)
     → with_attributes c (with_singles w (drop (n + 1) rows) c.brush.attributes) ≡ with_attributes start (with_singles w rows start.brush.attributes)

@@ -1,4 +1,4 @@
--- What each line does to a state that agrees with what is believed.
+-- The effect of each line on a state that agrees with a belief.
 use Rattle.std.proofs.Common.{◌≡◌, ℕ, ◌<◌, ◌≤◌, ◌==◌, ◌&&◌, ◌⊎◌, Bool, true, false, nat_le, List, [], length, Option, Some, None, refl, sym, ap, subst, ◌∙◌, inl, inr, arith, if◌then◌else◌}
 use Rattle.std.proofs.lemmas.Bool.Decides.{nat_tests}
 use Rattle.vt_term.specs.Look.{Rendition, Look, blank, space}
@@ -32,7 +32,7 @@ any_of t s h = record { screen = h.sized.state.screen; rows_are = h.sized.rows; 
 pub free_of : (t : Table) (s : State) → IsReady t s → IsFree t.rows t.cols s.screen
 free_of t s h = record { any = any_of t s h; top = h.whole.top; bottom = h.whole.bottom }
 
--- a state that a line led to, by the screen that is wanted
+-- a state that a line led to, by the wanted screen
 pub by_screen : (t : Table) (Q : State → Type 0) (u : State) (x : Screen) → IsOfSize t.rows t.cols u → u.rest ≡ [] → u.screen ≡ x
     → (IsOfSize t.rows t.cols (record { screen = x; rest = [] }) → Q (record { screen = x; rest = [] })) → Q u
 by_screen t Q u x sized closed e f =
@@ -50,7 +50,7 @@ stands_at cols row col lt = (refl, omega (arith, lt), before_end cols col lt)
 pub calmly : (cols : ℕ) (p : Place) (row col : ℕ) (pending : Bool) → p.col < cols → IsHere cols p row col pending → (row ≡ p.row) × (col ≡ p.col) × (pending ≡ false)
 calmly cols p row col pending lt h = (h.0, omega (arith, h.1, lt), h.2 ∙ sym (stands_at cols p.row p.col lt).2)
 
--- the same state with its cursor at a place, and no wrap pending
+-- a state with its cursor moved to a place, and no wrap pending
 pub placed : (t : Table) (g : ℕ → ℕ → Ink) (b : Belief) (r c : ℕ) → c < t.cols → (s u : State) → Agrees t g b s → IsOfSize t.rows t.cols u → u.rest ≡ [] → u.screen ≡ record s.screen { row = r; col = c; pending = false }
     → Agrees t g (record b { place = record { row = r; col = c } }) u
 placed t g b r c lc s u h sized closed e =
@@ -72,7 +72,7 @@ moved t g b r c lc = record {
   ends = λ s u h sized closed w. placed t g b r c lc s u h sized closed w.wants;
 }
 
--- the same cells under another rendition, with the sets as they were
+-- unchanged cells under another rendition, with the sets as they were
 inked : (t : Table) (g : ℕ → ℕ → Ink) (b : Belief) (x : Brush) → IsColored t x → (s u : State) → Agrees t g b s → IsOfSize t.rows t.cols u → u.rest ≡ []
     → u.screen ≡ record s.screen { rendition = rendition_of t.looks x } → Agrees t g (record b { brush = x }) u
 inked t g b x colored s u h sized closed e =
@@ -111,7 +111,7 @@ colors_gone t g b = record {
       (w.wants ∙ ap (λ (r : Rendition). record s.screen { rendition = record r { foreground = None; background = None } }) h.brush);
 }
 
--- a brush without colours is that brush
+-- a brush without colors is that brush
 uncolored : (b : Brush) → b.foreground ≡ None → b.background ≡ None → b ≡ record b { foreground = None; background = None }
 uncolored b e f = ap (λ (c : Option Color). record b { foreground = c }) e ∙ ap (λ (c : Option Color). record b { foreground = None; background = c }) f
 
@@ -124,7 +124,7 @@ no_colors t g b e f s h = brush_as t g b (record b.brush { foreground = None; ba
 pub no_color_lines : (t : Table) (g : ℕ → ℕ → Ink) (b : Belief) → has t Op ≡ false → (s : State) → Agrees t g b s → Agrees t g (record b { brush = record b.brush { foreground = None; background = None } }) s
 no_color_lines t g b none s h = no_colors t g b (h.colored.foreground none) (h.colored.background none) s h
 
--- attributes, from default colours to default colours
+-- attributes, from default colors to default colors
 either : (t : Table) (a : Attributes) (b : Brush) (s : Screen) → s.rendition ≡ rendition_of t.looks b → b.foreground ≡ None → b.background ≡ None
     → (u : Screen) → Renders (marked (shown t.looks a) s.rendition.foreground s.rendition.background) s u ⊎ Renders (marked (shown t.looks a) None None) s u
     → Renders (marked (shown t.looks a) b.foreground b.background) s u
@@ -133,7 +133,7 @@ either t a b s e f k u (inr h) =
     h ∙ ap (λ (x : Option Color). record s { rendition = marked (shown t.looks a) x None; charset = u.charset }) (sym f)
     ∙ ap (λ (x : Option Color). record s { rendition = marked (shown t.looks a) b.foreground x; charset = u.charset }) (sym k)
 
--- the same cells under another rendition, with the sets settled
+-- unchanged cells under another rendition, with the sets settled
 pub rendered : (t : Table) (g : ℕ → ℕ → Ink) (b : Belief) (x : Brush) → IsColored t x → (s u : State) → Agrees t g b s → IsOfSize t.rows t.cols u → u.rest ≡ [] → t.settled u.screen.charset ≡ true
     → u.screen ≡ record s.screen { rendition = rendition_of t.looks x; charset = u.screen.charset } → Agrees t g (record b { brush = x; graphic = None }) u
 rendered t g b x colored s u h sized closed settled e =
@@ -181,7 +181,7 @@ set_chosen t g b false = record {
   ends = λ s u h sized closed w. active_as t g b false s u h sized closed w.wants (w.settled refl h.ready.settled) (w.active h.ready.settled);
 }
 
--- where there is no line for it, the plain set is active
+-- if there is no line for it, the plain set is active
 pub set_plain : (t : Table) → IsChecked t → has t Rmacs ≡ false → (g : ℕ → ℕ → Ink) (b : Belief) (s : State) → Agrees t g b s → Agrees t g (record b { graphic = Some false }) s
 set_plain t checked none g b s h = record { ready = h.ready; cells = h.cells; place = h.place; brush = h.brush; colored = h.colored; set = checked.plain_sets none s.screen.charset h.ready.settled; seen = h.seen }
 
@@ -221,7 +221,7 @@ tail_erased t g b r c lc p q = record {
       }));
 }
 
--- a colour that is wanted has its lines
+-- a wanted color has its lines
 pub colored_has : (x : Bool) (c : Color) → (x ≡ false → Some c ≡ None) → x ≡ true
 colored_has true c h = refl
 colored_has false c h = absurd (bad (h refl))
@@ -275,7 +275,7 @@ normal t g b = record {
   ends = λ s u h sized closed w. visible_as t g b Normal (λ e. refl) s u h sized closed w.wants;
 }
 
--- the mode is believed where it is so
+-- a mode that the cursor has may be believed
 pub mode_as : (t : Table) (g : ℕ → ℕ → Ink) (b : Belief) (m : Mode) (s : State) → s.screen.visible ≡ is_shown m → Agrees t g b s → Agrees t g (record b { mode = Some m }) s
 mode_as t g b m s e h = record { ready = h.ready; cells = h.cells; place = h.place; brush = h.brush; colored = h.colored; set = h.set; seen = e }
 

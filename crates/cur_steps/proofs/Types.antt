@@ -20,14 +20,14 @@ use Rattle.cur_steps.specs.Gaps.{IsAlike}
 use Rattle.cur_steps.proofs.Actions.{agrees_lost}
 use Rattle.cur_steps.proofs.Prints.{standing, print_leads}
 
--- one place more
+-- one more place
 mixed_put : (old new : ℕ → ℕ → Ink) (r c i j : ℕ) → put_at r c (new r c) (mixed old new r c) i j ≡ mixed old new r (c + 1) i j
 mixed_put old new r c i j = grind (arith, nat_tests)
 
 agrees_mixed : (t : Table) (old new : ℕ → ℕ → Ink) (r c : ℕ) (b : Belief) (s : State) → Agrees t (put_at r c (new r c) (mixed old new r c)) b s → Agrees t (mixed old new r (c + 1)) b s
 agrees_mixed t old new r c b s a = record { ready = a.ready; cells = λ i j li lj. rw (sym (mixed_put old new r c i j)) (a.cells i j li lj); place = a.place; brush = a.brush; colored = a.colored; set = a.set; seen = a.seen }
 
--- new as far as a column, where the cursor is
+-- new up to the column of the cursor
 abbrev pub Typed : Table → (ℕ → ℕ → Ink) → (ℕ → ℕ → Ink) → Belief → ℕ → ℕ → State → Type 0
 Typed t old new b r c = Agrees t (mixed old new r c) (standing b r c)
 

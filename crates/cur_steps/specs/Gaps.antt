@@ -1,16 +1,16 @@
--- (Serves the code alone.) Cells of a line that the cursor passes over by printing them once more.
+-- (Serves the code alone.) Cells of a line that the cursor passes by printing them again.
 use Rattle.std.specs.Prelude.{ℕ, ◌+◌, ◌<◌, ◌≤◌, ◌≡◌, Some}
 use Rattle.ti_conforms.specs.Certified.{Table}
 use Rattle.cur_steps.specs.Beliefs.{Belief, Place}
 use Rattle.cur_steps.specs.declared.inks.Ink.{Ink}
 
--- a character is printed like this now
+-- the character's brush and set are the current ones
 pub record IsAlike (b : Belief) (x : Ink) : Type 0 where
   pub brush : b.brush ≡ x.brush
   pub set : b.graphic ≡ Some x.graphic
 
--- from the cursor to a column ahead in its line: no more cells than the longest `cup` has bytes, each printed like
--- this now
+-- from the cursor to a column ahead in its line: no more cells than the longest `cup` has bytes, each in the current
+-- brush and set
 pub record IsGap (t : Table) (b : Belief) (g : ℕ → ℕ → Ink) (row from col : ℕ) : Type 0 where
   pub place : b.place ≡ record { row = row; col = from }
   pub ahead : from < col

@@ -9,7 +9,7 @@ use Rattle.ti_rows.specs.declared.rows.Row.TheVariants.{Ind, Ri, Enacs, Civis, C
 use Rattle.ti_conforms.specs.Certified.{Table}
 
 -- Moves, erasures, scrolls, attributes, colors and sets paint (terminfo(5), "Basic Capabilities" to "Line Graphics").
--- The bell, what begins and ends a program's screen, and how the cursor is shown don't.
+-- The bell, the strings that begin and end a program's screen, and those that show or hide the cursor don't.
 abbrev pub paints : Row → Bool
 paints Clear = true
 paints (Cup row col) = true

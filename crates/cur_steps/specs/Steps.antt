@@ -1,5 +1,5 @@
--- (Serves the code alone.) What a single step promises: bytes that lead from what is shown and believed to what then
--- is.
+-- (Serves the code alone.) The promise of a single step: its bytes lead from the cells shown and the belief before it
+-- to those after it.
 use Rattle.std.specs.Prelude.{ℕ, ◌<◌, List, Result}
 use Rattle.cur_wires.specs.Steps.{Spells, Steps}
 use Rattle.ti_conforms.specs.Certified.{Table, IsChecked, IsPiece, IsLost}
@@ -8,13 +8,14 @@ use Rattle.cur_steps.specs.Pieces.{IsPaint}
 use Rattle.cur_steps.specs.Gaps.{BeginsAs}
 use Rattle.cur_steps.specs.declared.inks.Ink.{Ink}
 
--- where a step is to end: the certificate is verified, and the place is on its screen
+-- the end of a step: the certificate is verified, and the place is on its screen
 pub record IsGoal (t : Table) (at : Place) : Type 0 where
   pub checked : IsChecked t
   pub row : at.row < t.rows
   pub col : at.col < t.cols
 
--- A step from a terminal that shows the cells g to one that shows h. It sends what paints, and at most limit bytes.
+-- A step from a terminal that shows the cells g to one that shows h. It sends only bytes that paint, at most `limit` of
+-- them.
 abbrev pub Acts : {W T E : Type 0} → (W → W → List ℕ → Type 0) → (W → ℕ) → W → W → Result T E → Table → ℕ
     → (ℕ → ℕ → Ink) → (ℕ → ℕ → Ink) → Belief → Belief → Type 0
 Acts went failures before after answer t limit g h b c =
@@ -26,7 +27,7 @@ abbrev pub Keeps : {W T E : Type 0} → (W → W → List ℕ → Type 0) → (W
 Keeps went failures before after answer t limit b c =
     (g : ℕ → ℕ → Ink) → Acts went failures before after answer t limit g g b c
 
--- all cells stay, whatever they are, and just this text goes out where nothing fails
+-- all cells stay, whatever they are, and exactly this text goes out if nothing fails
 abbrev pub KeepsBy : {W T E : Type 0} → (W → W → List ℕ → Type 0) → (W → ℕ) → W → W → Result T E → Table → ℕ
     → List ℕ → Belief → Belief → Type 0
 KeepsBy went failures before after answer t limit text b c =
@@ -39,13 +40,13 @@ abbrev pub Makes : {W T E : Type 0} → (W → W → List ℕ → Type 0) → (W
 Makes went failures before after answer t limit change b c =
     (g : ℕ → ℕ → Ink) → Acts went failures before after answer t limit g (change g) b c
 
--- all cells stay, if those ahead of a place in its line are as they are to be
+-- no cell changes, provided the cells left of the place already show the target
 abbrev pub KeepsFrom : {W T E : Type 0} → (W → W → List ℕ → Type 0) → (W → ℕ) → W → W → Result T E → Table → ℕ
     → (ℕ → ℕ → Ink) → Place → Belief → Belief → Type 0
 KeepsFrom went failures before after answer t limit shown at b c =
     (g : ℕ → ℕ → Ink) → BeginsAs g shown at.row at.col → Acts went failures before after answer t limit g g b c
 
--- the cells change, if those ahead of a place in its line are as they are to be
+-- the cells change, provided the cells left of the place already show the target
 abbrev pub MakesFrom : {W T E : Type 0} → (W → W → List ℕ → Type 0) → (W → ℕ) → W → W → Result T E → Table → ℕ
     → (ℕ → ℕ → Ink) → Place → ((ℕ → ℕ → Ink) → ℕ → ℕ → Ink) → Belief → Belief → Type 0
 MakesFrom went failures before after answer t limit shown at change b c =

@@ -1,4 +1,4 @@
-//! What is known of the terminal.
+//! The painter's knowledge of the terminal.
 use crate::inks::Brush;
 
 /// A place of the screen.
@@ -8,7 +8,7 @@ pub struct Place {
     pub col: usize,
 }
 
-/// How the cursor is shown (X/Open Curses, `curs_set`).
+/// The mode in which the cursor is shown (X/Open Curses, `curs_set`).
 #[derive(Clone, Copy)]
 pub enum Mode {
     Hidden,
@@ -16,8 +16,8 @@ pub enum Mode {
     Prominent,
 }
 
-/// What is known of the terminal: where the cursor is, past the last column where a wrap is pending; how characters are
-/// printed; whether the graphic set is active; how the cursor is shown.
+/// The knowledge of the terminal: the cursor's place, past the last column if a wrap is pending; the brush in which
+/// characters are printed; whether the graphic set is active; and the cursor's mode.
 #[derive(Clone, Copy)]
 pub struct Belief {
     pub place: Place,

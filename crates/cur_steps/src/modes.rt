@@ -1,4 +1,4 @@
-//! How the cursor is shown.
+//! The cursor's modes.
 ghost use Rattle.std.specs.Prelude.{◌≡◌, ◌*◌, ℕ, true, false, Some, OnOk};
 ghost use Rattle.ti_rows.specs.declared.rows.Row.TheVariants.{Civis, Cnorm, Cvvis};
 ghost use Rattle.ti_conforms.specs.Certified.{IsChecked, has, text_of};
@@ -50,7 +50,7 @@ fn show<C: Certificate, W: Wire>(
     }
 }
 
-/// Makes the cursor, which is shown, very visible.
+/// Makes the cursor very visible; it must be shown already.
 fn make_prominent<C: Certificate, W: Wire>(
     checked: &C,
     belief: &mut Belief,

@@ -1,4 +1,4 @@
-//! Which set is active behind a string of attributes.
+//! The set that is active after a string of attributes.
 ghost use Rattle.std.specs.Prelude.{◌≡◌, true};
 ghost use Rattle.std.specs.List.{list_all};
 ghost use Rattle.vt_term.specs.Parameters as parameters;
@@ -35,7 +35,7 @@ fn is_rendition(bytes: &[u8]) -> bool
     }
 }
 
-/// Whether `bytes` are `other` and one SGR behind it.
+/// Whether `bytes` are `other` followed by one SGR.
 fn begins_with(bytes: &[u8], other: &[u8]) -> bool
     ensures { result ≡ true → IsBeside bytes.now other.now }
 {
@@ -45,7 +45,7 @@ fn begins_with(bytes: &[u8], other: &[u8]) -> bool
     }
 }
 
-/// Whether `bytes` are `other` and one SGR before it.
+/// Whether `bytes` are one SGR followed by `other`.
 fn ends_with(bytes: &[u8], other: &[u8]) -> bool
     ensures { result ≡ true → IsBeside bytes.now other.now }
 {
@@ -55,15 +55,15 @@ fn ends_with(bytes: &[u8], other: &[u8]) -> bool
     }
 }
 
-/// Whether `bytes` are `other` and one SGR before or behind it.
+/// Whether `bytes` are `other` with one SGR before or after it.
 fn is_beside(bytes: &[u8], other: &[u8]) -> bool
     ensures { result ≡ true → IsBeside bytes.now other.now }
 {
     begins_with(bytes, other) || ends_with(bytes, other)
 }
 
-/// Which set is active behind `bytes`, if that is known, where `before` is known of the set before them. One SGR
-/// changes none, and beside the string for the plain set it leaves that one.
+/// The set that is active after `bytes`, if that is known; `before` is the set known before them. One SGR changes no
+/// set, and beside the string for the plain set it leaves that set active.
 pub(crate) fn set_behind<C: Certificate>(
     checked: &C,
     bytes: &[u8],
