@@ -1,4 +1,4 @@
--- A box taken apart is, for the machine, a pointer and what the allocator's handle is.
+-- A box taken apart is, for the machine, a pointer and the value of the allocator's handle.
 use Rattle.std.proofs.Common.{◌≡◌, ℕ, List, [], ◌∷◌, ◌++◌, refl, subst}
 use lib.Dec.{T}
 use mathlib.Core.Bool.{true, ◌&&◌}
@@ -40,7 +40,7 @@ module _ (R Z : RattleType) (L : Laws Z) (g : Ghosts Z.Denot) where
   two_typed b o h fits = (and_tt (has_ty (layout Z) h) fits.0, (tt, (fits.1, tt)))
 
   module _ {M : Type 1} {𝓤 : Ura M} {𝓛 : Logic 𝓤} {K : Type 0} {Γ : List (Item 𝓤)} {G : Goal 𝓤 𝓛.H} where
-    -- what it owns: the box's value with the right to free it, and the handle
+    -- the parts owned: the box's value with the right to free it, and the handle
     pub loose_out : K → (l : Row.Denot) (vs : List Val)
         → ((b o : ℕ) (h : Val) → vs ≡ two (vptr b o) h ∷ [] → Good (layout Z) h
         → Seq K 𝓛 (‵ (box_owns (g.dealloc_token l.alloc) R (block_ptr b o) l.value) ∷ ‵ (Z.own_val l.alloc (h ∷ [])) ∷ Γ) G)

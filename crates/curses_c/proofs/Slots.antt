@@ -20,14 +20,14 @@ abbrev pub word : Ptr → Val
 word p = vstruct (of_list (ptr_val p ∷ []))
 
 module _ {M : Type 1} {𝓤 : Ura M} {𝓛 : Logic 𝓤} {K : Type 0} {Γ : List (Item 𝓤)} {G : Goal 𝓤 𝓛.H} where
-  -- what a slot owns makes a slot
+  -- the parts that a slot owns make a slot
   pub slot_in : K → (p : Ptr) (h : Option held.the_row.Denot)
       → Step K 𝓛 (‵ (slot.the_row.own_val (record { at = p; held = h }) (word p ∷ [])) ∷ Γ) G (‵ (held_at held.the_row p h) ∷ Γ) G
   slot_in t p h = step (λ s.
       nothing t $ feq_i t (List Val) (ptr_val p ∷ []) (ptr_val p ∷ []) refl $ fjoin t $ feq_i t (List Val) (word p ∷ []) (word p ∷ []) refl $ fjoin t $
       fpack t (Valss (RawPtr ∷ [])) (within (shape slot.the_type) (p, tt) (word p ∷ [])) (ptr_val p ∷ [], tt) $ fjoin t $ s)
 
-  -- and a slot is what it owns
+  -- a slot is the parts that it owns
   pub slot_out : K → (d : slot.the_row.Denot) (vs : List Val)
       → (vs ≡ word d.at ∷ [] → Seq K 𝓛 (‵ (held_at held.the_row d.at d.held) ∷ Γ) G)
       → Seq K 𝓛 (‵ (slot.the_row.own_val d vs) ∷ Γ) G

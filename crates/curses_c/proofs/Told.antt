@@ -1,4 +1,4 @@
--- From what an entry has to what is answered.
+-- From the contents of an entry to the answer.
 use Rattle.std.proofs.Common.{◌≡◌, ℕ, List, inl, inr, ℤ, FitsSigned, w32, to_z, of_z, sym, subst}
 use Rattle.std.specs.Prelude.{Some}
 use Rattle.std.proofs.lemmas.Int.{to_z-of_z}
@@ -16,7 +16,7 @@ told bytes name text place entry old new needed code found holds (inl (value, is
 told bytes name text place entry old new needed code found holds (inr (e, lacks, none, same, number)) =
     inr (e, inr (place, found, inr (entry, holds, lacks.0, lacks.1)), none, same, number)
 
--- the same of a code as it is handed on
+-- the answer by a code, as it is handed on
 pub told_as : (bytes name text : List ℕ) (place : ℕ) (entry : Content) (old new : List ℕ) (needed : ℕ) (code : ℤ) → FitsSigned w32 code
     → named kinds.String text ≡ Some place → Holds bytes name entry
     → Answers (IsString entry place) (LacksString entry place) old new needed code

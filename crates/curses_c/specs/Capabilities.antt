@@ -17,7 +17,7 @@ use Rattle.curses_c.specs.declared.codes.Failure.TheVariants.{BadName, BadEntry,
 abbrev pub named : Kind → List ℕ → Option ℕ
 named kind text = option_and_then (λ place. if is_kind (kind_of place) kind then Some place else None) (place_in text)
 
--- what is asked, as an entry
+-- the asked entry
 abbrev pub content : Asked → Content
 content (File packed) = packed
 content (Text entry) = entry
@@ -56,13 +56,13 @@ abbrev pub LacksPlace : {A : Type 0} → (Content → ℕ → Option A) → ℕ 
 LacksPlace value_of place bytes name e =
     HoldsNone bytes name e ⊎ ((entry : Content) × Holds bytes name entry × (value_of entry place ≡ None) × (e ≡ NoCap))
 
--- first of all the text names no capability of the kind
+-- the text names no capability of the kind, which is reported first
 abbrev pub TellsNone : {A : Type 0} → (Content → ℕ → Option A) → Kind → List ℕ → List ℕ → List ℕ → Failure → Type 0
 TellsNone value_of kind bytes name cap e =
     ((named kind cap ≡ None) × (e ≡ BadName))
     ⊎ ((place : ℕ) × (named kind cap ≡ Some place) × LacksPlace value_of place bytes name e)
 
--- a value of which this holds is written, or there is a failure of which that holds
+-- a value that satisfies the first relation is written, or there is a failure that satisfies the second
 abbrev pub Answers : {A : Type 0} → (A → Type 0) → (Failure → Type 0) → A → A → ℤ → Type 0
 Answers Told Fails old new code =
     (Told new × (code ≡ pos 0)) ⊎ ((e : Failure) × Fails e × (new ≡ old) × (code ≡ failure_code e))

@@ -1,4 +1,4 @@
--- What a handle owns.
+-- The memory that a handle owns.
 use Rattle.std.specs.Prelude.{ℕ, ◌==◌, ◌≡◌, Option, Some, None, is_some}
 use base.Fml.{Fml, ftrue}
 use mir.Syntax.{Ty}

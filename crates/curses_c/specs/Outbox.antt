@@ -7,7 +7,7 @@ use Rattle.cur_wires.specs.Wire.{IsWire}
 
 pub record Posted : Type 0 where
   pub waiting : List ℕ
-  -- for how many bytes more no memory has to be found
+  -- the number of further bytes that need no more memory
   pub room : ℕ
   pub failures : ℕ
 
@@ -16,7 +16,7 @@ pub record Posts (old new : Posted) (more : List ℕ) : Type 0 where
   pub waiting : new.waiting ≡ old.waiting ++ more
   pub failures : old.failures ≤ new.failures
 
--- An outbox is a wire. The proof stands here since an impl's law can name nothing of proofs/.
+-- An outbox is a wire. The proof is here because an impl's law can't name anything of proofs/.
 pub Posts-lawful : IsWire Posts (λ (t : Posted). t.failures)
 Posts-lawful = record {
   nothing = λ w. record { waiting = sym (append-nil w.waiting); failures = le_refl w.failures };

@@ -1,4 +1,4 @@
--- What programs ask of a window (X/Open Curses Issue 7, getyx, getmaxyx, inch).
+-- The questions of programs about a window (X/Open Curses Issue 7, getyx, getmaxyx, inch).
 use Rattle.std.specs.Prelude.{ℕ, ℤ, pos, nat_lt, ◌≡◌, ◌&&◌, length, Option, Some, None, Result, Ok, Err, if◌then◌else◌}
 use Rattle.cur_drawing.specs.declared.refusals.Refusal.{Refusal}
 use Rattle.cur_drawing.specs.declared.refusals.Refusal.TheVariants.{OutOfWindow}
@@ -23,12 +23,12 @@ cell_seen (Ok cells) row col =
     else Err OutOfWindow
 cell_seen (Err e) row col = Err e
 
--- where there is an answer it is written, and nothing else changes
+-- an answer, if there is one, is written, and nothing else changes
 abbrev pub Tells : {A : Type 0} → Result A Refusal → A → A → ℤ → Type 0
 Tells (Ok x) old new code = (new ≡ x) × (code ≡ pos 0)
 Tells (Err r) old new code = (new ≡ old) × (code ≡ refusal_code r)
 
--- a question changes nothing of what a handle holds
+-- a question changes nothing that a handle holds
 abbrev pub Asks : {A : Type 0} → (Held → Result A Refusal) → Option Held → Option Held → A → A → ℤ → Type 0
 Asks answer (Some h) k old new code = (k ≡ Some h) × Tells (answer h) old new code
 Asks answer None k old new code = (k ≡ None) × (new ≡ old) × (code ≡ pos 20)

@@ -48,7 +48,7 @@ attrs_in (negsuc n) = None
 abbrev pub put_of : Standing → Put
 put_of c = record { byte = c.byte; attrs = record { 0 = c.attrs }; pair = c.pair }
 
--- in lines and borders all of a cell 0 is the default cell
+-- in lines and borders, a cell whose members are all 0 is the default cell
 abbrev pub put_or : Put → Standing → Put
 put_or default c = if c.byte == 0 && (c.attrs == 0 && c.pair == 0) then default else put_of c
 
@@ -127,7 +127,7 @@ curs_set r = Some (CursSet r.first)
 abbrev pub init_pair : Request → Option Call
 init_pair r = Some (InitPair r.first r.second r.third)
 
--- the number of a kind, and which call these arguments are for that kind
+-- the number of a kind, and the call that arguments are for that kind
 abbrev pub Row : Type 0
 Row = ℕ × (Request → Option Call)
 
@@ -203,6 +203,6 @@ call_in (row ∷ rows) r = if r.kind == row.0 then row.1 r else call_in rows r
 abbrev pub table : List Row
 table = rows_made ++ (rows_written ++ (rows_styled ++ rows_shown))
 
--- the call that numbers are; none where the kind has no row, or where a number is none that the call takes
+-- the call that numbers are; none if the kind has no row, or if a number is none that the call takes
 abbrev pub call_of : Request → Option Call
 call_of r = call_in table r

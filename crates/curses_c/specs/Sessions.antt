@@ -1,4 +1,4 @@
--- What the calls on sessions answer and do to a handle.
+-- The answers of the calls on sessions, and their effects on a handle.
 use Rattle.std.specs.Prelude.{ℕ, ℤ, pos, ◌≡◌, ◌⊎◌, List, [], ◌∷◌, ◌++◌, Option, Some, None, take, drop}
 use Rattle.ti_caps.specs.Entry.{Content}
 use Rattle.ti_cert.specs.Table.{CheckedTable, certified}
@@ -29,7 +29,7 @@ pub record IsOwnTable (entry : Content) (rows cols : ℕ) (checked : CheckedTabl
   pub certified : IsCertified entry rows cols text
   pub accepted : IsTableOf rows cols text checked
 
--- so where no certificate was given; else those of the one that was
+-- the strings of the entry's own certificate if none was given; else those of the given one
 abbrev pub IsTableFor : Content → ℕ → ℕ → List ℕ → CheckedTable → Type 0
 IsTableFor entry rows cols [] checked = IsOwnTable entry rows cols checked
 IsTableFor entry rows cols (b ∷ certificate) checked = IsTableOf rows cols (b ∷ certificate) checked
@@ -55,7 +55,7 @@ pub record IsOwnUnshown (entry : Content) (rows cols : ℕ) (e : Failure) : Type
 abbrev pub LacksOwn : Content → ℕ → ℕ → Failure → Type 0
 LacksOwn entry rows cols e = IsUncertified entry rows cols e ⊎ IsOwnUnshown entry rows cols e
 
--- so where none was given; else the one that was given isn't its own
+-- the entry has no certificate, if none was given; else the given one isn't its own
 abbrev pub LacksChecked : Content → ℕ → ℕ → List ℕ → Failure → Type 0
 LacksChecked entry rows cols [] e = LacksOwn entry rows cols e
 LacksChecked entry rows cols (b ∷ certificate) e = IsUnshown entry rows cols (b ∷ certificate) e
@@ -70,13 +70,14 @@ abbrev pub IsUnopened : List ℕ → List ℕ → ℕ → ℕ → List ℕ → F
 IsUnopened bytes name rows cols certificate e =
     Lacks bytes name rows cols e ⊎ IsUnopenedEntry bytes name rows cols certificate e
 
--- it is open for the entry, or there is a failure and the handle is as it was
+-- the handle is open for the entry, or there is a failure and the handle is as it was
 abbrev pub Opens : List ℕ → List ℕ → ℕ → ℕ → List ℕ → Option Held → ℤ → Option Held → Type 0
 Opens bytes name rows cols certificate old code new =
     ((h : Held) × IsOpened bytes name rows cols certificate h × (new ≡ Some h) × (code ≡ pos 0))
     ⊎ ((e : Failure) × IsUnopened bytes name rows cols certificate e × (new ≡ old) × (code ≡ failure_code e))
 
--- the first bytes that wait come first in the caller's room, and the rest of it stays; all of it on a closed handle
+-- the first bytes that wait are moved to the start of the caller's room, and the rest of the room stays; all of it
+-- stays for a closed handle
 abbrev pub Fetches : Option Held → List ℕ → ℕ × List ℕ → Option Held → Type 0
 Fetches old room fetched new =
     Answers (0, room) (λ h answer k. Hands h room answer.0 k

@@ -1,4 +1,4 @@
--- What the calls on certificates answer.
+-- The answers of the calls on certificates.
 use Rattle.std.specs.Prelude.{ℕ, ℤ, pos, nat_lt, ◌≡◌, ◌⊎◌, Bool, true, false, List, [], ◌++◌, length, drop, Result, Ok}
 use Rattle.std.specs.Prelude.{Err}
 use Rattle.ti_caps.specs.Entry.{Content}
@@ -18,7 +18,7 @@ pub record Certifies (bytes name : List ℕ) (rows cols : ℕ) (text : List ℕ)
   pub gives : Gives bytes name entry
   pub certified : IsCertified entry rows cols text
 
--- the size or the entry is lacking, or there is a no
+-- the size or the entry is lacking, or the entry is refused
 pub record DeniesEntry (bytes name : List ℕ) (rows cols : ℕ) (e : Failure) : Type 0 where
   pub entry : Content
   pub gives : Gives bytes name entry
@@ -27,13 +27,13 @@ pub record DeniesEntry (bytes name : List ℕ) (rows cols : ℕ) (e : Failure) :
 abbrev pub Denies : List ℕ → List ℕ → ℕ → ℕ → Failure → Type 0
 Denies bytes name rows cols e = Lacks bytes name rows cols e ⊎ DeniesEntry bytes name rows cols e
 
--- a no that is so of the entry, and its words
+-- a refusal that is true of the entry, and its words
 pub record IsReason (entry : Content) (rows cols : ℕ) (words : List ℕ) : Type 0 where
   pub refusal : No
   pub is : IsNo entry rows cols refusal
   pub says : words ≡ no_text refusal
 
--- there are no words just where the entry has a certificate
+-- there are no words exactly if the entry has a certificate
 pub record Reasons (bytes name : List ℕ) (rows cols : ℕ) (words : List ℕ) : Type 0 where
   pub entry : Content
   pub gives : Gives bytes name entry
@@ -47,7 +47,7 @@ abbrev pub SameWords : {A E : Type 0} → Result A E → Result A Failure → Ty
 SameWords (Ok words) result = result ≡ Ok words
 SameWords (Err e) result = result ≡ Err NoMemory
 
--- where it is too long nothing is written; else the rest of the room stays
+-- nothing is written if the text is too long; else the rest of the room stays
 abbrev pub FillsBy : Bool → List ℕ → List ℕ → List ℕ → ℤ → Type 0
 FillsBy true text old new code = (new ≡ old) × (code ≡ pos 25)
 FillsBy false text old new code = (new ≡ text ++ drop (length text) old) × (code ≡ pos 0)
@@ -59,13 +59,13 @@ abbrev pub Delivers : {V : Type 0} → (V → List ℕ) → Result V Failure →
 Delivers items (Ok text) old new needed code = (needed ≡ length (items text)) × Fills (items text) old new code
 Delivers items (Err e) old new needed code = (needed ≡ 0) × (new ≡ old) × (code ≡ failure_code e)
 
--- a text of which this holds is delivered, or there is a failure of which that holds
+-- a text that satisfies the first relation is delivered, or there is a failure that satisfies the second
 abbrev pub Answers : (List ℕ → Type 0) → (Failure → Type 0) → List ℕ → List ℕ → ℕ → ℤ → Type 0
 Answers Some Fails old new needed code =
     ((text : List ℕ) × Some text × (needed ≡ length text) × Fills text old new code)
     ⊎ ((e : Failure) × Fails e × (needed ≡ 0) × (new ≡ old) × (code ≡ failure_code e))
 
--- the entry conforms, and the certificate's strings are just those that it sends
+-- the entry conforms, and the certificate's strings are exactly those that it sends
 pub record IsVerified (bytes name : List ℕ) (rows cols : ℕ) (certificate : List ℕ) : Type 0 where
   pub entry : Content
   pub gives : Gives bytes name entry

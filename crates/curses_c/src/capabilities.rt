@@ -20,7 +20,7 @@ enum Asked<'a> {
 }
 
 /// Writes the string of an entry's capability to the start of `room`: of the compiled file `entry`, or of the entry of
-/// `name` in the source text `entry`. `needed` is its length, or 0 where there is none.
+/// `name` in the source text `entry`. `needed` is its length, or 0 if there is none.
 #[unsafe(no_mangle)]
 pub extern "C" fn ticurses_raw_string(
     alloc: Global,
@@ -116,7 +116,7 @@ fn named(kind: Kind, text: &[u8]) -> Result<Cap, Failure>
     }
 }
 
-/// The entry of a compiled file, or, where there is a name, of a source text.
+/// The entry of a compiled file, or, if there is a name, of a source text.
 fn ask<'a>(alloc: Global, bytes: &'a [u8], name: &[u8]) -> Result<Asked<'a>, Failure>
     ensures holds { IfOk result (λ asked. spec.Holds bytes.now name.now (spec.content asked)) }
     ensures none { IfErr result (spec.HoldsNone bytes.now name.now) }
@@ -161,7 +161,7 @@ impl<'a> Asked<'a> {
         }
     }
 
-    /// Whether it has a flag.
+    /// Whether the entry has a flag.
     fn flag(&self, cap: Cap) -> bool
         ensures { result ≡ flag_at (spec.content self.now) cap }
     {

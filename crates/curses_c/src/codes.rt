@@ -9,7 +9,7 @@ use cur_windows::Refusal;
 /// All was done.
 pub const OK: i32 = 0;
 
-/// Why there is no session, no certificate or no answer for a program.
+/// The reason why there is no session, no certificate or no answer for a program.
 #[derive(Clone, Copy)]
 pub enum Failure {
     /// Out of memory.
@@ -53,7 +53,7 @@ pub fn failure_code(failure: Failure) -> i32
     }
 }
 
-/// The number of what a call answers.
+/// The number of a call's answer.
 pub fn answer_code(answer: Answer) -> i32
     ensures { result ≡ spec.answer_code answer }
 {

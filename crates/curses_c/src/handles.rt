@@ -1,4 +1,4 @@
-//! What a C program holds of a session.
+//! A C program's handle of a session.
 ghost use Rattle.std.specs.Prelude.{◌≡◌, Option, Some, None, is_some, option_map, true};
 ghost use Rattle.curses_c.specs.Handles.{held_at, IsMarked, mark};
 ghost use Rattle.curses_c.specs.contracts.held.Held.{the_row};
@@ -29,7 +29,7 @@ impl Slot {
         }
     }
 
-    /// A slot that holds what `loose` does.
+    /// A slot that holds the box of `loose`.
     fn of(loose: Loose<Held, Global>) -> Slot
         ensures { result.held ≡ Some loose.value }
     {
@@ -37,7 +37,7 @@ impl Slot {
         Slot { at: at as *mut u8 }
     }
 
-    /// What it holds.
+    /// The box that the slot holds.
     fn into_loose(self, alloc: Global) -> Loose<Held, Global>
         requires { is_some self.held ≡ true }
         ensures { Some result.value ≡ self.held }
@@ -63,7 +63,7 @@ pub struct Handle {
 const MARK: usize = 1_668_641_395;
 
 impl Handle {
-    /// Holds what the box does. What it held before is not freed.
+    /// Opens the handle with `held`. A session that it held before is not freed.
     pub fn put(&mut self, held: Box<Held, Global>)
         ensures { self.new.slot.held ≡ Some held.value }
     {
@@ -73,7 +73,7 @@ impl Handle {
         };
     }
 
-    /// Hands out what it holds, if it is open, and is closed.
+    /// Hands out the session that the handle holds, if it is open, and closes the handle.
     pub fn take(&mut self, alloc: Global) -> Option<Box<Held, Global>>
         ensures held { option_map (λ b. b.value) result ≡ self.old.slot.held }
         ensures closed { self.new.slot.held ≡ None }

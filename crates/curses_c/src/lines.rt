@@ -1,11 +1,11 @@
-//! Which line of a text of calls a call stands on.
+//! The line of a text of calls that has a call.
 ghost use Rattle.std.specs.Prelude.{◌≡◌, ◌==◌, ◌∷◌, ◌<◌, ◌≤◌, IfSome, length, option_map};
 ghost use Rattle.std.specs.List.{position};
 ghost use Rattle.cur_scripts.specs.Cuts.{left_size, lines_of, parts_left};
 ghost use Rattle.cur_scripts.specs.Texts.{is_skipped};
 ghost use Rattle.curses_c.specs.Lines.{line_of};
 
-/// The line, from 1, of the call of this place, from 0, in a text of calls; 0 where it has fewer.
+/// The line, from 1, of the call at `place`, from 0, in a text of calls; 0 if it has fewer.
 pub fn line_of(text: &[u8], place: usize) -> usize
     ensures { result ≡ line_of text.now place }
 {
@@ -26,7 +26,7 @@ pub fn line_of(text: &[u8], place: usize) -> usize
     0
 }
 
-/// The first line of a text, and what stands behind its end.
+/// The first line of a text, and the rest after its end.
 #[tactic(auto, using(crate::proofs::Places::line_first, crate::proofs::Places::line_alone, std::proofs::lemmas::List::take_rest))]
 fn first_line(text: &[u8]) -> (&[u8], Option<&[u8]>)
     ensures lines { lines_of text.now ≡ result.0.now ∷ parts_left 10 (option_map (λ rest. rest.now) result.1) }

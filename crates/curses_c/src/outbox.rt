@@ -31,7 +31,7 @@ impl Model for Outbox {
 }
 
 impl Outbox {
-    /// Nothing waits.
+    /// An outbox in which nothing waits.
     pub fn new(alloc: Global) -> Outbox
         ensures { result.waiting ≡ [] }
     {
@@ -42,14 +42,14 @@ impl Outbox {
         }
     }
 
-    /// How many bytes wait.
+    /// The number of bytes that wait.
     pub fn len(&self) -> usize
         ensures { result ≡ length self.now.waiting }
     {
         self.bytes.len() - self.taken
     }
 
-    /// Throws away what waits.
+    /// Throws away the bytes that wait.
     pub fn clear(&mut self)
         ensures { self.new.waiting ≡ [] }
     {
@@ -57,7 +57,7 @@ impl Outbox {
         self.taken = 0;
     }
 
-    /// Moves the first bytes that wait to the start of `room`, as many as it has room for, and gives their number.
+    /// Moves the first bytes that wait to the start of `room`, as many as fit, and returns their number.
     pub fn take_into(&mut self, room: &mut [u8]) -> usize
         ensures count { result ≡ min (length room.old) (length self.old.waiting) }
         ensures room { room.new ≡ take result self.old.waiting ++ drop result room.old }
@@ -71,7 +71,7 @@ impl Outbox {
         count
     }
 
-    /// Where all was taken, the next bytes take its room.
+    /// Makes the room of bytes that were all taken available to the next bytes.
     fn reuse(&mut self)
         ensures waiting { self.new.waiting ≡ self.old.waiting }
     {
@@ -89,7 +89,7 @@ impl Wire for Outbox {
 
     ghost failures = { λ o. o.failures };
 
-    /// Keeps `piece`, and fails where there is no memory for it.
+    /// Keeps `piece`. Fails if there is no memory for it.
     fn send(&mut self, piece: &[u8]) -> Result<usize, WireFault>
         requires { 0 < length piece.now }
         ensures some { IfOk result (λ n. 0 < n) }

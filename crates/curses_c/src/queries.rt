@@ -1,4 +1,4 @@
-//! What programs ask of a window.
+//! The questions of programs about a window.
 ghost use Rattle.std.specs.Prelude.{◌≡◌, Ok};
 ghost use Rattle.cur_windows.specs.Queries.{window_of};
 ghost use Rattle.cur_windows.specs.Sizes.{window_size};
@@ -12,7 +12,7 @@ use cur_drawing::Cell;
 use cur_windows::{Desk, Refusal, View};
 use std::alloc::Global;
 
-/// What stands in one place.
+/// The contents of one place.
 #[repr(C)]
 #[derive(Clone, Copy)]
 pub struct Standing {
@@ -21,7 +21,7 @@ pub struct Standing {
     pub pair: u8,
 }
 
-/// The line, from 1, of the last text of calls that wasn't done; 0 where all of it was, and where no line is at fault.
+/// The line, from 1, of the last text of calls that wasn't done; 0 if all of it was, or if no line is at fault.
 #[unsafe(no_mangle)]
 pub extern "C" fn ticurses_raw_failed(alloc: Global, handle: &mut Handle, line: &mut usize) -> i32
     ensures { Asks (λ h. Ok h.failed) (handle.old).slot.held (handle.new).slot.held line.old line.new result }
@@ -61,7 +61,7 @@ fn cursor_of(desk: &Desk, window: usize) -> Result<(u16, u16), Refusal>
     Ok((window.row, window.col))
 }
 
-/// How many lines and columns a window has (`getmaxyx`).
+/// The numbers of lines and columns of a window (`getmaxyx`).
 #[unsafe(no_mangle)]
 pub extern "C" fn ticurses_raw_size(
     alloc: Global,
@@ -95,7 +95,7 @@ fn tell_two(answer: Result<(u16, u16), Refusal>, first: &mut u16, second: &mut u
     }
 }
 
-/// What stands at `row`, `col` of a window (`mvwinch`, but for the cursor, which stays).
+/// The contents of `row`, `col` of a window (`mvwinch`, except that the cursor stays).
 #[unsafe(no_mangle)]
 pub extern "C" fn ticurses_raw_cell(
     alloc: Global,

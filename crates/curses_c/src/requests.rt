@@ -12,7 +12,7 @@ use cur_calls::{
 };
 use cur_drawing::{Attrs, Border, Put};
 
-/// The cells of a border; where all of one is 0, the default cell.
+/// The cells of a border. A cell whose members are all 0 is the default cell.
 #[repr(C)]
 #[derive(Clone, Copy)]
 pub struct Frame {
@@ -26,11 +26,11 @@ pub struct Frame {
     pub bottom_right: Standing,
 }
 
-/// A call with its arguments. Members that its row of `specs/Requests` doesn't name don't count.
+/// A call with its arguments. Members that its row of `specs/Requests` doesn't name are ignored.
 #[repr(C)]
 #[derive(Clone, Copy)]
 pub struct Request {
-    /// Which call it is, from 1 to 48.
+    /// The kind of the call, from 1 to 48.
     pub kind: u32,
     /// An option, or whether spaces are skipped: 0 or 1.
     pub flag: i32,
@@ -409,7 +409,7 @@ fn default_of(call: LineCall) -> Put
     }
 }
 
-/// A character that is handed over.
+/// The character that a caller passes.
 #[inline(always)]
 fn put_of(cell: Standing) -> Put
     ensures { result ≡ spec.put_of cell }
@@ -421,7 +421,7 @@ fn put_of(cell: Standing) -> Put
     }
 }
 
-/// The cell of a line or a border, where 0 in all members is the default one.
+/// The cell of a line or a border: `default` if all members of `cell` are 0.
 fn put_or(default: Put, cell: Standing) -> Put
     ensures { result ≡ spec.put_or default cell }
 {
@@ -432,7 +432,7 @@ fn put_or(default: Put, cell: Standing) -> Put
     }
 }
 
-/// 0 or 1.
+/// `number`, 0 or 1, as a flag; none for any other number.
 fn flag_in(number: i32) -> Option<bool>
     ensures { result ≡ as_flag number }
 {

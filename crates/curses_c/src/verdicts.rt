@@ -10,7 +10,7 @@ use ti_checker::{Cause, No, check};
 use ti_verdicts::no_words;
 
 /// Writes the certificate of an entry for `rows` and `cols` to the start of `room`: the entry of the compiled file
-/// `entry`, or of `name` in the source text `entry`. `needed` is its length, or 0 where there is none.
+/// `entry`, or of `name` in the source text `entry`. `needed` is its length, or 0 if there is none.
 #[unsafe(no_mangle)]
 pub extern "C" fn ticurses_raw_check(
     alloc: Global,
@@ -43,8 +43,8 @@ fn certificate(alloc: Global, subject: &Subject<'_>) -> Result<Vec<u8>, Failure>
     certificate_of(alloc, &described)
 }
 
-/// Writes why an entry has no certificate to the start of `room`: the line that begins with `no`. `needed` is its
-/// length, or 0 where the entry has a certificate.
+/// Writes the reason why an entry has no certificate to the start of `room`: the line that begins with `no`. `needed`
+/// is its length, or 0 if the entry has a certificate.
 #[unsafe(no_mangle)]
 pub extern "C" fn ticurses_raw_reason(
     alloc: Global,
@@ -127,8 +127,8 @@ pub fn fill(text: &[u8], room: &mut [u8]) -> i32
     OK
 }
 
-/// Whether `certificate` shows that each checked string of an entry does on a terminal of `rows` and `cols` what
-/// programs rely on.
+/// Whether `certificate` shows that each checked string of an entry has the effect that programs rely on, on a terminal
+/// of `rows` and `cols`.
 #[unsafe(no_mangle)]
 pub extern "C" fn ticurses_raw_verify(
     alloc: Global,
