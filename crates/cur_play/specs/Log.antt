@@ -94,7 +94,7 @@ pub record IsFront (whole : List ℕ → Type 0) (bytes : List ℕ) : Type 0 whe
   pub is : whole (bytes ++ back)
   pub some_left : 0 < length back
 
--- by the answer: all of it, a proper prefix if the wire failed, and nothing if the call was refused
+-- by the answer: all of it if the call was done, a proper prefix if the wire failed, and nothing otherwise
 abbrev pub Emits : (List ℕ → Type 0) → Answer → List ℕ → Type 0
 Emits says Done bytes = says bytes
 Emits says WireFailed bytes = IsFront says bytes
