@@ -9,7 +9,8 @@ abbrev pub AreLike : (ℕ → ℕ → Ink) → Cells → ℕ → ℕ → List �
 AreLike g s like n text = (k : ℕ) → k < n
     → byte_as (g s.row (s.from + k)) (g s.row like) ≡ Some (slice_index_or text k 0)
 
--- n is the number of such cells before the first other one, or before the end of the cells or of the room for text
+-- the first n cells are like the column's: up to the first that isn't, or to the end of the cells or of the room for
+-- text
 pub record IsTextLike (g : ℕ → ℕ → Ink) (s : Cells) (like n : ℕ) (text : List ℕ) : Type 0 where
   pub within : n ≤ s.count
   pub room : n ≤ length text
