@@ -102,7 +102,7 @@ fn push_notes_at(
     }
 }
 
-/// The sequences of an entry's strings that the terminal ignores: for each checked capability, in the byte order of
+/// The sequences of the strings of `entry` that the terminal ignores: for each checked capability, in the byte order of
 /// their names and for its first parameter list, the sequences that name no function, and those that set renditions or
 /// modes with an unknown number (ECMA-48 8.3.106, 8.3.117, 8.3.125). The first parameter lists are the same for every
 /// size.
