@@ -253,8 +253,8 @@ fn started(alloc: Global, size: Size) -> Result<Progress, CertFault>
     }
 }
 
-/// Judges the certificate that a reader has left, line by line as it arrives. Only the table is kept, never the text.
-/// At most 67,108,865 bytes are read, and the reader isn't called once the line with the fault is whole.
+/// Judges the certificate for `size` that `reader` has left, line by line as it arrives. Only the table is kept, never
+/// the text. At most 67,108,865 bytes are read, and the reader isn't called once the line with the fault is whole.
 ///
 /// # Errors
 /// The first fault of the text with its line; `ReadFailed` if the reader failed in this call; `NoMemory`.
