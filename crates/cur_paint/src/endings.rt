@@ -78,8 +78,8 @@ fn send_finish<C: Certificate, W: Wire>(
 }
 
 /// Ends a program's screen: sends `sgr0`, `rmacs`, `cup` to the last line's first column, `cnorm` and `rmcup`, those
-/// that the entry has, after the resynchronization if the session is lost; nothing if it is fresh. The session is then
-/// fresh. If the wire fails, a proper prefix of this went out, and the session is lost.
+/// that the entry has, after the resynchronization if `session` is lost; nothing if it is fresh. The session is then
+/// fresh. If `wire` fails, a proper prefix of this went out, and the session is lost.
 pub fn finish<C: Certificate, W: Wire>(
     checked: &C,
     session: &mut Knowledge,
