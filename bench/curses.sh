@@ -7,6 +7,8 @@
 # is without `rep`, which ticurses doesn't use. Where ticurses leaves other characters on the screen than ncurses, a line
 # says so; colors of blanks and the cursor of a pad are not compared.
 # curses.sh [ROWSxCOLS..]: 24x80 50x132 200x500 if none is given. ENTRY is the terminal, xterm-256color if it isn't set.
+# S-Lang, termbox and libtickit (Debian: libslang2-dev libtermbox-dev libtickit-dev), where they are installed, draw the same
+# scenes, each in a line below: what such a library lacks (windows, scrolling), its program does, and that counts too.
 # With INSTRUCTIONS=1 it counts the instructions of a refresh by callgrind in place of the time.
 set -eu
 cd -- "$(dirname -- "$0")"
@@ -28,6 +30,15 @@ if [ "$count" ] && ! command -v valgrind >/dev/null; then
 fi
 cc -O2 -DCURSES -I"$include/ticurses" -o "$work/curses" curses_scenes.c "$lib/libticurses_curses.a" "$lib/libticurses.a"
 cc -O2 -I"$include" -o "$work/session" curses_scenes.c "$lib/libticurses.a"
+# other screen libraries: slang_peer.h, termbox_peer.h, tickit_peer.h
+peers=
+for peer in slang termbox tickit; do
+    if cc -O2 "-DPEER=\"${peer}_peer.h\"" -o "$work/$peer" curses_scenes.c "-l$peer" 2>"$work/log"; then
+        peers="$peers $peer"
+    else
+        echo "curses: $peer is left out, since its library is missing"
+    fi
+done
 mkdir "$work/terminfo"
 # the terminal of `feed` has no `rep`
 infocmp -1 -x "$entry" | grep -v '^.rep=' >"$work/source"
@@ -49,7 +60,7 @@ draws() {
 # timed ROWS COLS SCENE: a line for each run, with its nanoseconds and bytes
 timed() {
     for turn in 1 2 3 4 5; do
-        for one in ncurses curses session; do
+        for one in ncurses curses session $peers; do
             echo "$one $(draws "$one" "$@") $turn"
         done
     done
@@ -57,7 +68,7 @@ timed() {
 
 # instructions ROWS COLS SCENE: the same with instructions, times 1,000 as the times are
 instructions() {
-    for one in ncurses curses session; do
+    for one in ncurses curses session $peers; do
         counted=$(draws "$one" "$@" valgrind --tool=callgrind --callgrind-out-file=/dev/null \
             --toggle-collect=repeat 2>"$work/log")
         sed -n 's/.*Collected : //p' "$work/log" |
@@ -69,15 +80,21 @@ instructions() {
 table() {
     printf '%-10s %12s %12s %7s %12s %7s %9s %9s %9s\n' "$1 by $2" "ncurses" "curses.h" "ratio" "session" "ratio" \
         "ncurses" "curses.h" "session"
+    [ -z "$peers" ] || echo "           others: time, the session's to it, bytes"
     for scene in full chars lines cell typing log windows pad colours open; do
         if [ "$count" ]; then instructions "$1" "$2" "$scene"; else timed "$1" "$2" "$scene"; fi >"$work/runs"
-        awk -v scene="$scene" '
+        awk -v scene="$scene" -v peers="$peers" '
             !($1 in best) || $2 < best[$1] { best[$1] = $2; sent[$1] = $3 }
             END {
                 peer = best["ncurses"]
                 printf "%-10s %12.1f %12.1f", scene, peer / 1000, best["curses"] / 1000
                 printf " %7.2f %12.1f %7.2f", best["curses"] / peer, best["session"] / 1000, best["session"] / peer
                 printf " %9d %9d %9d\n", sent["ncurses"], sent["curses"], sent["session"]
+                for (at = 1; at <= split(peers, names, " "); at++) {
+                    one = names[at]
+                    printf "           %-10s %12.1f", one, best[one] / 1000
+                    printf " %7.2f %9d\n", best["session"] / best[one], sent[one]
+                }
             }' "$work/runs"
         [ "$scene" != open ] && [ -x "$program" ] || continue
         for one in ncurses curses session; do
