@@ -1,7 +1,7 @@
 //! How cells of the virtual screen are printed.
 //!
-//! What is true of a cell is `ink_of`, and whether it is printed like an ink `shows_ink`. Everything else that asks for
-//! that is a short cut (`shortcuts.rt`), which decides by the cell's own numbers and leaves the rest to these two.
+//! `ink_of` says how a cell is printed, and `shows_ink` whether it is printed like a given ink. All other functions that
+//! ask this are short cuts (`shortcuts.rt`): they decide by the cell's own numbers, and leave the rest to these two.
 ghost use Rattle.std.specs.Prelude.{◌≡◌, ℕ, Option};
 ghost use Rattle.ti_rows.specs.declared.rows.Row.TheVariants.{Smacs, Op};
 ghost use Rattle.cur_steps.specs.Inks.{same, blank_ink};
