@@ -68,7 +68,7 @@ is_among single.Dim a = a.dim
 is_among single.Bold a = a.bold
 is_among single.Invisible a = a.invisible
 
--- the same where there may be none
+-- whether there is an attribute, and it is among these
 abbrev pub is_one_among : Option Single → Attributes → Bool
 is_one_among None a = false
 is_one_among (Some s) a = is_among s a
@@ -87,7 +87,7 @@ with_one single.Dim a = record a { dim = true }
 with_one single.Bold a = record a { bold = true }
 with_one single.Invisible a = record a { invisible = true }
 
--- and that one, if there is one
+-- these attributes and another one, if there is one
 abbrev pub with_any : Option Single → Attributes → Attributes
 with_any None a = a
 with_any (Some s) a = with_one s a
@@ -104,7 +104,7 @@ abbrev pub with_singles : Attributes → List Row → Attributes → Attributes
 with_singles wanted [] a = a
 with_singles wanted (row ∷ rows) a = with_singles wanted rows (with_single wanted row a)
 
--- those that can be seen where there is no `sgr`: one without a string of its own looks like nothing
+-- the attributes that can be seen where there is no `sgr`: one without a string of its own looks like nothing
 abbrev pub seen : Table → Attributes → Attributes
 seen t a = record {
   standout = a.standout && has t Smso;

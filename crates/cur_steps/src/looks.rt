@@ -15,7 +15,7 @@ fn is_seen<C: Certificate>(checked: &C, on: bool, row: Row) -> bool
     on && has_line(checked, row)
 }
 
-/// Those of the `attributes` that can be seen where there is no `sgr`: one without a string looks like nothing.
+/// The `attributes` that can be seen where there is no `sgr`: one without a string looks like nothing.
 fn seen<C: Certificate>(checked: &C, attributes: Attributes) -> Attributes
     ensures { result ≡ spec.seen (C.table checked.now) attributes }
 {
