@@ -83,7 +83,6 @@ fn end_after(end: usize, k: usize, is_same: bool) -> usize
 /// Whether `count` is not 0, and the next character is known to go to line `row` and column `col` and to be printed
 /// in the set and the brush of `ink`.
 pub(crate) fn is_led_on(belief: &Belief, row: usize, col: usize, ink: Ink, count: usize) -> bool
-    ensures some { result ≡ true → 0 < count }
     ensures place { result ≡ true → belief.now.place ≡ record { row = row; col = col } }
     ensures alike { result ≡ true → IsAlike belief.now ink }
 {
