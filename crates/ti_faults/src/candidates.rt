@@ -35,7 +35,14 @@ impl Choice {
         match row {
             Row::Smacs => self.second_smacs,
             Row::Rmacs => self.second_rmacs,
-            _ => false,
+            Row::Clear | Row::Cup(_, _) | Row::Home | Row::Cr | Row::Hpa(_) | Row::Vpa(_) => false,
+            Row::Cub1 | Row::Cuf1 | Row::Cuu1 | Row::Cud1 => false,
+            Row::Cub(_) | Row::Cuf(_) | Row::Cuu(_) | Row::Cud(_) => false,
+            Row::El | Row::El1 | Row::Ed | Row::Ech(_) => false,
+            Row::Sgr(_) | Row::Sgr0 | Row::Setaf(_) | Row::Setab(_) | Row::Op => false,
+            Row::Smul | Row::Rev | Row::Blink | Row::Dim | Row::Bold | Row::Invis => false,
+            Row::Smso | Row::Enacs | Row::Csr(_, _) | Row::Ind | Row::Ri => false,
+            Row::Civis | Row::Cnorm | Row::Cvvis | Row::Smcup | Row::Rmcup | Row::Bel => false,
         }
     }
 
