@@ -3,8 +3,8 @@ takes all that is sent at once.
 
     python3 -B bench/python_refreshes.py [ROWSxCOLS..]
 
-Each run is a process of its own: 1,000 times each cell of the screen is written with a letter that is drawn by lot, a
-line a call, and the screen is refreshed. A line of figures is the processor time of the fastest of five runs, in
+Each run is a process of its own: each cell of the screen is written with a letter that is drawn by lot, and the screen is
+refreshed, 1,000 times with a line a call (`lines`), or 100 times with a cell a call (`cells`). A line of figures is the processor time of the fastest of five runs, in
 milliseconds, and the bytes that were sent. The package has to be where Python finds it (PYTHONPATH), and its library where
 the package does (TICURSES_LIBRARY)."""
 
@@ -20,11 +20,22 @@ import termios
 import threading
 import time
 
-REFRESHES, RUNS, SCREENS = 1000, 5, 40
+RUNS, SCREENS = 5, 40
+REFRESHES = {"lines": 1000, "cells": 100}
 LETTERS = "abcdefghijklmnopqrstuvwxyz0123456789"
 
 
-def draw(name, log):
+def write(screen, kind, lines):
+    """Writes a screen: a line a call, or a cell a call."""
+    for row, text in enumerate(lines):
+        if kind == "lines":
+            screen.addstr(row, 0, text)
+            continue
+        for column, letter in enumerate(text):
+            screen.addch(row, column, letter)
+
+
+def draw(name, kind, log):
     """Draws on the terminal, and writes the processor time to a file."""
     curses = importlib.import_module(name)
     screen = curses.initscr()
@@ -33,9 +44,8 @@ def draw(name, log):
     drawn = random.Random(7)
     screens = [["".join(drawn.choices(LETTERS, k=cols - 1)) for _ in range(rows)] for _ in range(SCREENS)]
     begun = time.process_time()
-    for step in range(REFRESHES):
-        for row, text in enumerate(screens[step % SCREENS]):
-            screen.addstr(row, 0, text)
+    for step in range(REFRESHES[kind]):
+        write(screen, kind, screens[step % SCREENS])
         screen.refresh()
     spent = time.process_time() - begun
     curses.endwin()
@@ -53,12 +63,12 @@ def drained(fd, counted):
         pass
 
 
-def run(name, rows, cols):
+def run(name, kind, rows, cols):
     """The seconds and the bytes of one run."""
     outer, inner = pty.openpty()
     fcntl.ioctl(outer, termios.TIOCSWINSZ, struct.pack("HHHH", rows, cols, 0, 0))
     counted, log = [0], f"/tmp/ticurses-bench-{os.getpid()}"
-    words = [sys.executable, "-B", os.path.abspath(__file__), "--draw", name, log]
+    words = [sys.executable, "-B", os.path.abspath(__file__), "--draw", name, kind, log]
     given = {**os.environ, "TERM": os.environ.get("BENCH_TERM", "xterm")}
     program = subprocess.Popen(words, stdin=inner, stdout=inner, env=given)
     os.close(inner)
@@ -79,16 +89,17 @@ def main():
     if sys.argv[1:2] == ["--draw"]:
         draw(*sys.argv[2:])
         return
-    for size in sys.argv[1:] or ["24x80", "50x132"]:
+    sizes = sys.argv[1:] or ["24x80", "50x132"]
+    for size, kind in ((size, kind) for size in sizes for kind in REFRESHES):
         rows, cols = map(int, size.split("x"))
         # both by turns, so that what else the machine does is shared
         found = {"curses": [], "ticurses.curses": []}
         for _ in range(RUNS):
             for name, runs in found.items():
-                runs.append(run(name, rows, cols))
+                runs.append(run(name, kind, rows, cols))
         (one, sent), (other, own) = (min(it) for it in found.values())
-        print(f"{size}: curses {one * 1000:.0f} ms, {sent} bytes; ticurses.curses {other * 1000:.0f} ms, {own} bytes; "
-              f"{other / one:.2f} times the time")
+        print(f"{size} {kind}: curses {one * 1000:.0f} ms, {sent} bytes; ticurses.curses {other * 1000:.0f} ms, "
+              f"{own} bytes; {other / one:.2f} times the time")
 
 
 if __name__ == "__main__":

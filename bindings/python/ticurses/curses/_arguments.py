@@ -11,12 +11,12 @@ _LONG = 2**63
 
 def c_int(value: Any) -> int:
     """A number that fits in an int."""
-    number = operator.index(value)
+    number = value if type(value) is int else operator.index(value)
+    if -_INT <= number < _INT:
+        return number
     if number >= _INT:
         raise OverflowError("signed integer is greater than maximum")
-    if number < -_INT:
-        raise OverflowError("signed integer is less than minimum")
-    return number
+    raise OverflowError("signed integer is less than minimum")
 
 
 def c_byte(value: Any) -> int:
@@ -39,6 +39,9 @@ def attributes(value: Any) -> int:
 
 def cell(value: Any, encoding: str) -> int:
     """A character with attributes: a number, or a text or bytes of one character."""
+    if isinstance(value, str) and len(value) == 1 and value < "\x80":
+        # the standard module doesn't encode these either
+        return ord(value)
     if isinstance(value, int):
         if not -_LONG <= value < _LONG:
             raise OverflowError("int doesn't fit in long")
@@ -81,12 +84,13 @@ def place_of(name: str, given: Sequence[Any]) -> tuple[int, int] | None:
 def split(name: str, given: Sequence[Any], own: int) -> tuple[tuple[int, int] | None, Sequence[Any], int | None]:
     """The arguments of a call that has `own` arguments: before them may be a row and a column, and behind them
     attributes."""
-    if not own <= len(given) <= own + 3:
+    count = len(given)
+    if not own <= count <= own + 3:
         raise TypeError(f"{name} requires {own} to {own + 3} arguments")
     place = None
-    if len(given) >= own + 2:
-        place, given = (c_int(given[0]), c_int(given[1])), given[2:]
-    return place, given, attributes(given[own]) if len(given) > own else None
+    if count >= own + 2:
+        place, given, count = (c_int(given[0]), c_int(given[1])), given[2:], count - 2
+    return place, given, None if count == own else attributes(given[own])
 
 
 def counted(name: str, given: Sequence[Any]) -> tuple[tuple[int, int] | None, int | None]:

@@ -10,6 +10,8 @@ from ._errors import check
 from ._library import LIBRARY
 
 _SIDES = 8
+# the calls that programs make most
+_ADDCH, _ADDCH_AT = LIBRARY.waddch, LIBRARY.mvwaddch
 
 
 class Writing(Base):
@@ -21,12 +23,14 @@ class Writing(Base):
     def addch(self, *given: Any) -> None:
         """addch([y, x,] ch, [attr=A_NORMAL])
         Writes a character at the cursor, or at a place."""
-        place, (ch, *_), attr = split("addch", given, 1)
-        held = cell(ch, self._encoding) | (attr or 0)
+        place, own, attr = split("addch", given, 1)
+        held = cell(own[0], self._encoding)
+        if attr:
+            held |= attr
         if place is None:
-            check(LIBRARY.waddch(self.at, held), "addch")
+            check(_ADDCH(self.at, held), "addch")
         else:
-            check(LIBRARY.mvwaddch(self.at, *place, held), "mvaddch")
+            check(_ADDCH_AT(self.at, *place, held), "mvaddch")
 
     @placed
     def echochar(self, ch: Any, attr: Any = 0, /) -> None:
