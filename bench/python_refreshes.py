@@ -3,10 +3,10 @@ takes all that is sent at once.
 
     python3 -B bench/python_refreshes.py [ROWSxCOLS..]
 
-Each run is a process of its own: each cell of the screen is written with a letter that is drawn by lot, and the screen is
-refreshed, 1,000 times with a line a call (`lines`), or 100 times with a cell a call (`cells`). A line of figures is the processor time of the fastest of five runs, in
-milliseconds, and the bytes that were sent. The package has to be where Python finds it (PYTHONPATH), and its library where
-the package does (TICURSES_LIBRARY)."""
+Each run is a process of its own: each cell of the screen is written with a letter that is drawn by lot, and the screen
+is refreshed, 1,000 times with a line a call (`lines`), or 100 times with a cell a call (`cells`). A line of figures is the
+processor time of the fastest of five runs, in milliseconds, and the bytes that were sent. The package has to be where
+Python finds it (PYTHONPATH), and its library where the package does (TICURSES_LIBRARY)."""
 
 import fcntl
 import importlib
