@@ -16,6 +16,7 @@ import random
 import struct
 import subprocess
 import sys
+import tempfile
 import termios
 import threading
 import time
@@ -67,22 +68,20 @@ def run(name, kind, rows, cols):
     """The seconds and the bytes of one run."""
     outer, inner = pty.openpty()
     fcntl.ioctl(outer, termios.TIOCSWINSZ, struct.pack("HHHH", rows, cols, 0, 0))
-    counted, log = [0], f"/tmp/ticurses-bench-{os.getpid()}"
-    words = [sys.executable, "-B", os.path.abspath(__file__), "--draw", name, kind, log]
-    given = {**os.environ, "TERM": os.environ.get("BENCH_TERM", "xterm")}
-    program = subprocess.Popen(words, stdin=inner, stdout=inner, env=given)
-    os.close(inner)
-    reader = threading.Thread(target=drained, args=[outer, counted])
-    reader.start()
-    status = program.wait()
-    reader.join()
-    os.close(outer)
-    if status:
-        sys.exit(f"{name} ended with status {status}")
-    with open(log, encoding="ascii") as file:
-        spent = float(file.read())
-    os.remove(log)
-    return spent, counted[0]
+    counted, given = [0], {**os.environ, "TERM": os.environ.get("BENCH_TERM", "xterm")}
+    with tempfile.TemporaryDirectory() as room:
+        words = [sys.executable, "-B", os.path.abspath(__file__), "--draw", name, kind, f"{room}/spent"]
+        program = subprocess.Popen(words, stdin=inner, stdout=inner, env=given)
+        os.close(inner)
+        reader = threading.Thread(target=drained, args=[outer, counted])
+        reader.start()
+        status = program.wait()
+        reader.join()
+        os.close(outer)
+        if status:
+            sys.exit(f"{name} ended with status {status}")
+        with open(f"{room}/spent", encoding="ascii") as file:
+            return float(file.read()), counted[0]
 
 
 def main():
