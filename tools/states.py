@@ -5,7 +5,7 @@ row that scroll; None is the whole screen), `marks` (the parts of the rendition 
 colors; None is the default), `sets` (whether G0 and G1 are the line drawing set, and which of them is active), `hidden`
 (the cursor), `graphic` (whether the active set is the line drawing set), and `cells`, the cells that are no longer those of the start: what they are now, from where to where in
 reading order, and how many; None if there are none. A state that is wanted also has `free`, the keys of which nothing is
-asked; there `most` among them says that of the marks each may be off."""
+asked; there `most` among them says that of the marks each may be off, and `reset` that a color may become the default."""
 
 import re
 
@@ -125,7 +125,7 @@ def erased(start, count, size):
 def looks(names):
     """What `sgr` asks for: standout may look like any attribute, and each other one by its own mark or not at all."""
     asked = [OF_ATTRIBUTES.get(it, it) for it in names.split() if it != "none"]
-    free = {"fore", "back", "marks" if "standout" in asked else "most"}
+    free = {"reset", "marks" if "standout" in asked else "most"}
     return {"marks": [it for it in MARKS if it in asked], "free": free}
 
 
@@ -196,4 +196,6 @@ def differ(asked, shown):
     wrong = [key for key in KEYS if key not in free and asked[key] != shown[key]]
     if "most" in free and set(shown["marks"]) <= set(asked["marks"]):
         wrong = [key for key in wrong if key != "marks"]
+    if "reset" in free:
+        wrong = [key for key in wrong if key not in ("fore", "back") or shown[key] is not None]
     return wrong
