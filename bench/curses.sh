@@ -1,7 +1,7 @@
 #!/bin/sh
 # The processor time of a refresh, and how many bytes it sends, for a C program (curses_scenes.c) over three libraries:
 # ncurses, the library of ticurses for programs that were written for curses ("curses.h"), and the sessions of ticurses.
-# The same calls with the same entry go into a file, by turns, and the best of five counts. A refresh is counted with the
+# Each draws with equal calls and one entry into a file, by turns, and the best of five counts. A refresh is counted with the
 # calls that draw what it shows. The line `open` is opening a session, with the check of the entry in it. `chars` and
 # `lines` write each cell by a call of its own, which with sessions is a function of numbers and a line of text. The entry
 # is without `rep`, which ticurses doesn't use. Where ticurses leaves other characters on the screen than ncurses, a line

@@ -401,7 +401,7 @@ static const struct scene {
     {"open", none, opened, 20, 0},
 };
 
-/* What callgrind counts. */
+/* Callgrind counts this function. */
 #ifdef __GNUC__
 __attribute__((__noinline__))
 #endif

@@ -1,4 +1,4 @@
-/* What a peer's library is given: the terminal's name and size in the environment, and a file for what it sends. */
+/* The input of a peer's library: the terminal's name and size in the environment, and a file for what it sends. */
 static int out;
 
 static long position(void) {

@@ -81,18 +81,18 @@ class Page(html.parser.HTMLParser):
 
 
 def made(data, *words):
-    """What the tool answers to an input."""
+    """The run of the tool on an input."""
     return subprocess.run([sys.executable, "-B", f"{TOP}/tools/report", *words], input=data, capture_output=True)
 
 
 def surveyed(files, size, paths=None):
-    """What the survey prints of files."""
+    """The output of the survey of files."""
     case = Case(["survey", "--json", "--all", *map(str, size), *(paths or files)])
     return run_cases(PROGRAM, [case], files)[0].out
 
 
 def is_once(one):
-    """What an object has in common with the others of its fault."""
+    """The key that an object shares with the others of its fault."""
     if one["line"] is not None:
         return one["file"], one["line"], one["capability"], one["cause"]
     return tuple(str(one[name]) for name in ("capability", "parameters", "cause", "bytes", "start", "wanted", "seen"))
@@ -159,7 +159,7 @@ def hostile():
 
 
 def refused(right):
-    """What isn't such JSON, and what can't be read or written: a line and a status, and no file."""
+    """Input that isn't such JSON, or can't be read or written, gives a line and a status, and no file."""
     one = json.loads(right.splitlines()[0])
     inputs = [b"", b"{}\n", b"yes\n", b"\xff\n", b"[" * 100000, json.dumps([one]).encode(), right + b"total 3\n"]
     wrongs = [("verdict", "maybe"), ("size", {}), ("size", {"rows": 2, "cols": 5}), ("line", -1), ("line", True), ("advice", None), ("bytes", "5")]
@@ -201,7 +201,7 @@ document.body.innerHTML = `<pre id="told">${JSON.stringify(seen)}</pre>`;
 
 
 def browsed(held):
-    """What the page's script shows of the planted faults in a browser, beside the JSON."""
+    """The page's script shows the planted faults in a browser as the JSON has them."""
     browser = next(filter(None, map(shutil.which, BROWSERS)), None)
     if not browser:
         return "Chromium is not installed, and the page's script is left out"

@@ -1,4 +1,4 @@
-"""What the causes of a no mean, in a line each."""
+"""The meaning of each cause of a no, in a line each."""
 
 MEANING = {
     "FlagOut": "the flag or number rules a certificate out: T isn't such a terminal",

@@ -123,7 +123,7 @@ def erased(start, count, size):
 
 
 def looks(names):
-    """What `sgr` asks for: standout may look like any attribute, and each other one by its own mark or not at all."""
+    """The marks that `sgr` asks for: standout may look like any attribute, and each other one by its own mark or not at all."""
     asked = [OF_ATTRIBUTES.get(it, it) for it in names.split() if it != "none"]
     free = {"reset", "marks" if "standout" in asked else "most"}
     return {"marks": [it for it in MARKS if it in asked], "free": free}

@@ -1,4 +1,4 @@
-"""What a survey found, from its JSON: the entries, and each fault once, with the entries that it concerns."""
+"""The findings of a survey, from its JSON: the entries, and each fault once, with the entries that it concerns."""
 
 import json
 
@@ -101,8 +101,8 @@ def is_hexadecimal(text):
 
 
 def key_of(one):
-    """What the reports of one fault have in common: in a source the place, whichever entry uses it, and else, as in compiled
-    files, all that is said of it."""
+    """The key that all reports of one fault share: in a source its place, whichever entry uses it; otherwise, as in
+    compiled files, all that the reports say."""
     if one["line"] is not None:
         return place_of(one), one["capability"], one["cause"]
     return json.dumps([one[name] for name in OF_FAULT])
@@ -123,7 +123,7 @@ def objects(data):
 
 
 def found_in(data):
-    """What the bytes of the input say."""
+    """The findings that the bytes of the input list."""
     found, faults = Found(), {}
     for number, one in objects(data):
         if found.size not in (None, one["size"]):

@@ -86,7 +86,7 @@ def in_words(fault, drawn):
 
 
 def fact_row(label, words, is_wrong):
-    """What the three states are in one respect."""
+    """A row with one respect of the three states."""
     cells = "".join(f"<td>{it or ''}</td>" for it in words)
     return f'<tr{" class=x" * is_wrong}><th>{label}</th>{cells}</tr>'
 
@@ -107,7 +107,7 @@ def states_table(fault, symbols):
 
 
 def strings(fault):
-    """What the string sends, and what would be right."""
+    """The bytes that the string sends, and the string that would be right."""
     parts = []
     if fault.bytes is not None:
         sent = shown(cut(source_form(fault.bytes)))

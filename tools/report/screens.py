@@ -26,7 +26,7 @@ class Symbols:
 
 
 class Screen:
-    """A screen of a size, and the state that it shows. What isn't as it is wanted has a class of its own."""
+    """A screen of a size, and the state that it shows. Parts that aren't as wanted have a class of their own."""
 
     def __init__(self, given, size, wrong=()):
         self.given, self.rows, self.cols, self.wrong = given, size["rows"], size["cols"], set(wrong)
@@ -58,7 +58,7 @@ class Screen:
             self.box(first, 0, self.cols, below - first, name)
 
     def region(self):
-        """What doesn't scroll is darker."""
+        """Darkens the lines that don't scroll."""
         top, bottom = self.given["region"]
         if top:
             self.box(0, 0, self.cols, top, self.mark("r", "region"))
@@ -76,7 +76,7 @@ class Screen:
             self.picture.add("text", "↵", x=x - 3, y=y + high + 4, class_=self.mark("n", "pending"))
 
     def sample(self):
-        """What a program would print next: in its rendition, in the active set."""
+        """Characters as a program would print them next: in its rendition, in the active set."""
         fore, back = self.given["fore"] or "default", self.given["back"] or "glass"
         if "reverse" in self.given["marks"]:
             fore, back = back, fore
@@ -101,7 +101,7 @@ class Screen:
 
 
 def glass():
-    """What all screens begin with: the glass, full of characters."""
+    """The start of each screen: the glass, full of characters."""
     picture = Picture(WIDTH, "")
     picture.box(0, 0, WIDTH + 12, HEIGHT + 8, None, rx=4, class_="g")
     picture.box(LEFT, TOP, WIDTH, HEIGHT, "url(#f)")
@@ -118,7 +118,7 @@ FREE = "free"
 
 
 def fact(key, given, size):
-    """What a state is in one respect, in a word or a few."""
+    """One respect of a state, in a word or a few."""
     value = given[key]
     if key == "cells":
         return cells_fact(value, size)
