@@ -64,7 +64,7 @@ PROGRAMS = {
     "testscanw": ([], "=12 Enter =x BSpace =7 Enter =0 Enter"),
     "view": (["{tests}/bs.c"], "Down Down Down Right Right Up n n p q"),
     "worm": ([], "~@800 q"),
-    "xmas": ([], "@4000 q"),
+    "xmas": ([], "~@4000 q"),
 }
 # what differs, and is explained on the page
 EXPLAINED = {"background", "newdemo", "testaddch"}
