@@ -22,6 +22,12 @@ bool can_change_color(void) {
     return false;
 }
 
+/* Pair 0 has the terminal's own colors: they are called white on black until the program says that it knows them. */
+static void note_pair_0(void) {
+    pairs[0][0] = tcu.has_default_colors ? -1 : COLOR_WHITE;
+    pairs[0][1] = tcu.has_default_colors ? -1 : COLOR_BLACK;
+}
+
 int start_color(void) {
     if (!tcu.is_open) return ERR;
     if (tcu.has_colors) return OK;
@@ -31,10 +37,10 @@ int start_color(void) {
     COLORS = SHADES;
     COLOR_PAIRS = TCU_PAIRS;
     for (int pair = 0; pair < TCU_PAIRS; pair++) {
-        pairs[pair][0] = pair == 0 ? COLOR_WHITE : 0;
-        pairs[pair][1] = 0;
+        pairs[pair][0] = pairs[pair][1] = 0;
         has_pair[pair] = false;
     }
+    note_pair_0();
     return OK;
 }
 
@@ -80,10 +86,10 @@ int use_default_colors(void) {
     return assume_default_colors(-1, -1);
 }
 
-/* Pair 0 has the terminal's own colors, and can't have others. */
+/* Pair 0 can't have other colors than the terminal's own. A program may call this before start_color too. */
 int assume_default_colors(int foreground, int background) {
-    if (!tcu.has_colors || foreground != -1 || background != -1) return ERR;
+    if (!has_colors() || foreground != -1 || background != -1) return ERR;
     tcu.has_default_colors = true;
-    pairs[0][0] = pairs[0][1] = -1;
+    note_pair_0();
     return OK;
 }

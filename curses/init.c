@@ -108,15 +108,15 @@ void delscreen(SCREEN *screen) {
 
 /* Leaves the terminal as other programs want it. */
 int tcu_suspend(void) {
-    int code;
+    int code = OK;
     if (session_is_busy()) {
         /* a handler of the program ends it */
         signals_leave_terminal();
         tcu.is_ended = true;
         return OK;
     }
-    code = session_endwin();
-    if (session_send(tcu.output) != OK || tcu_keypad(false) != OK) code = ERR;
+    if (tcu.is_current) code = tcu_leave_cursor();
+    if (session_endwin() != OK || session_send(tcu.output) != OK || tcu_keypad(false) != OK) code = ERR;
     if (modes_are_known() && modes_shell() != OK) code = ERR;
     tcu.is_ended = true;
     tcu.is_current = false;

@@ -136,6 +136,9 @@ int modes_shell(void);
 bool modes_are_known(void);
 bool modes_keep_meta(void);
 
+/* refresh.c */
+int tcu_leave_cursor(void);
+
 /* init.c */
 void tcu_resume(void);
 int tcu_suspend(void);

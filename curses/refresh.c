@@ -81,6 +81,19 @@ int wrefresh(WINDOW *window) {
     return wnoutrefresh(window) == OK ? doupdate() : ERR;
 }
 
+/* Moves the terminal's cursor to the first column of the last line, where a shell goes on. The next refresh has it back
+ * where the program left it. */
+int tcu_leave_cursor(void) {
+    int y, x, code;
+    if (session_cursor(TCU_NEWSCR, &y, &x) != OK) return ERR;
+    if (tcu.is_cursor_left) session_leaveok(TCU_NEWSCR, false);
+    tcu.is_cursor_left = false;
+    session_move(TCU_NEWSCR, LINES - 1, 0);
+    code = session_refresh(TCU_NEWSCR);
+    session_move(TCU_NEWSCR, y, x);
+    return code;
+}
+
 /* The session knows where the cursor is. */
 int mvcur(int y, int x, int new_y, int new_x) {
     (void)y;
