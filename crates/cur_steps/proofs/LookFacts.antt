@@ -25,7 +25,7 @@ just_marks : (m : Marks) (s u : Screen) → HasJust m s u → marks_of u.renditi
 just_marks m s u (inl h) = ap (λ (x : Screen). marks_of x.rendition) h
 just_marks m s u (inr h) = ap (λ (x : Screen). marks_of x.rendition) h
 
--- one text leads a ready state to one rendition
+-- attributes for which `sgr` sends the same bytes look alike
 pub alike_by_bytes : (t : Table) → IsChecked t → (a b : Attributes) (bytes : List ℕ) → t.line_of (Sgr a) ≡ Some bytes → t.line_of (Sgr b) ≡ Some bytes → LookAlike t a b
 alike_by_bytes t checked a b bytes is also s ready =
     let x : Ends s bytes (Closed (Ended t (Sgr a) s.screen)) = (checked.lines (Sgr a) bytes is).drives.right s ready.rest (free_of t s ready) in
@@ -50,7 +50,7 @@ mark_seen : (x h l y k m : Bool) → l ≡ h → (k ≡ false → m ≡ false) �
 mark_seen x h l y k m e f =
     ap (λ (z : Bool). z || ((y && k) && m)) (one_seen x h l e) ∙ ap (λ (z : Bool). (x && l) || z) (standout_seen y k m f)
 
--- what can't be seen adds nothing
+-- attributes that can't be seen add no marks
 seen_shown : (t : Table) → HasSingles t → (a : Attributes) → shown t.looks (seen t a) ≡ shown t.looks a
 seen_shown t k a =
     let l = t.looks in
@@ -74,7 +74,7 @@ alike_itself t a b e s ready = ap (λ (x : Attributes). shown t.looks x) e
 
 -- ---- what is believed
 
--- a state agrees with any attributes that look like those that are believed
+-- a state agrees with any attributes that look like the believed ones
 pub looks_kept : (t : Table) (g : ℕ → ℕ → Ink) (b : Belief) (a : Attributes) → LookAlike t b.brush.attributes a → (s : State) → Agrees t g b s → Agrees t g (with_attributes b a) s
 looks_kept t g b a alike s h = record {
   ready = h.ready;

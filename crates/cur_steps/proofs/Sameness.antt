@@ -1,4 +1,4 @@
--- What is the same by the tests is the same.
+-- Inks, brushes and their parts are equal if the tests find them the same.
 use Rattle.std.proofs.Common.{◌≡◌, ℕ, ◌==◌, ◌&&◌, Bool, true, false, Option, Some, None, if◌then◌else◌, refl, sym, ap, subst, ◌∙◌, arith}
 use Rattle.std.proofs.lemmas.Bool.Decides.{nat_tests}
 use Rattle.vt_term.specs.Color.{Color, color_number, Black, Red, Green, Yellow, Blue, Magenta, Cyan, White, color}
@@ -105,7 +105,7 @@ attributes_self a =
 brush_self : (a : Brush) → same_brush a a ≡ true
 brush_self a = and_true _ _ (attributes_self a.attributes) (and_true _ _ (color_self a.foreground) (color_self a.background))
 
--- equal brushes are found to be the same
+-- the test finds equal brushes the same
 pub brush_known : (a b : Brush) → a ≡ b → same_brush a b ≡ true
 brush_known a b e = subst (λ (x : Brush). same_brush a x ≡ true) e (brush_self a)
 

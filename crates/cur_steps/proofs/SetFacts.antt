@@ -1,4 +1,4 @@
--- Which set is active behind a string of attributes.
+-- The set that is active after a string of attributes.
 use Rattle.std.proofs.Common.{◌≡◌, ℕ, ◌≤◌, ◌==◌, ◌||◌, Bool, true, false, nat_le, List, [], ◌∷◌, Option, Some, None, Result, if◌then◌else◌, refl, sym, ap, subst, ◌∙◌, inl, inr, arith}
 use Rattle.std.proofs.lemmas.Bool.Decides.{nat_tests}
 use Rattle.std.specs.List.{AllByRecursion, list_all}
@@ -68,7 +68,7 @@ selects bytes h =
     ∙ sequence_push h.numbers 109
     ∙ chosen (list_all is_numeral h.numbers) (SelectRendition (parameters.numbers h.numbers)) (marked 109 h.numbers) h.each
 
--- it leaves all but the rendition
+-- only the rendition differs, and nothing is left open
 pub record IsRendered (s u : State) : Type 0 where
   pub rest : u.rest ≡ []
   pub screen : u.screen ≡ record s.screen { rendition = u.screen.rendition }
@@ -145,7 +145,7 @@ with_set t g b x s so h = record { ready = h.ready; cells = h.cells; place = h.p
 pub set_forgotten : (t : Table) (g : ℕ → ℕ → Ink) (b : Belief) (s : State) → Agrees t g b s → Agrees t g (record b { graphic = None }) s
 set_forgotten t g b s h = with_set t g b None s tt h
 
--- a line that paints, of whose set more is known than its row tells
+-- a line that paints, whose bytes show more of the active set than its row does
 pub set_sent : {W T E : Type 0} (went : W → W → List ℕ → Type 0) (failures : W → ℕ) (a z : W) (answer : Result T E) (t : Table) → IsChecked t → (row : Row) (bytes : List ℕ) → t.line_of row ≡ Some bytes → paints row ≡ true
     → (n : ℕ) (g h : ℕ → ℕ → Ink) (b c : Belief) (x : Option Bool) → limit_of t row ≤ n → Turns t row g b h c → LeavesSet t bytes b.graphic x → Sends went failures a z bytes answer
     → Steps went failures a z answer (IsPaint t) n (IsLost t) (Agrees t g b) (Agrees t h (record c { graphic = x }))

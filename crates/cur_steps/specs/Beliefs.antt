@@ -1,4 +1,4 @@
--- What is believed of the terminal, and when a state agrees with it.
+-- The painter's belief about the terminal, and the states that agree with it.
 use Rattle.std.specs.Prelude.{ℕ, ◌+◌, ◌-◌, ◌<◌, ◌≤◌, ◌≡◌, ◌⊎◌, ◌==◌, ◌&&◌, nat_le, min, Bool, true, false, Option, Some}
 use Rattle.std.specs.Prelude.{None, if◌then◌else◌, List, [], ◌++◌}
 use Rattle.vt_term.specs.Grid.{look_at}
@@ -14,7 +14,8 @@ pub use Rattle.cur_steps.specs.declared.beliefs.Belief.{Belief}
 pub use Rattle.cur_steps.specs.declared.beliefs.Mode.{Mode}
 pub use Rattle.cur_steps.specs.declared.beliefs.Mode.TheVariants.{Hidden, Normal, Prominent}
 
--- where the cursor is; past the last column a wrap is pending in that column (VT100 user guide, autowrap)
+-- the cursor is at this place; a column past the last one is a wrap pending in the last column (VT100 user guide,
+-- autowrap)
 abbrev pub IsHere : ℕ → Place → ℕ → ℕ → Bool → Type 0
 IsHere cols p row col pending = (row ≡ p.row) × (col ≡ min p.col (cols - 1)) × (pending ≡ nat_le cols p.col)
 
@@ -36,7 +37,7 @@ abbrev pub IsSeen : Option Mode → Bool → Type 0
 IsSeen None visible = Unit {0}
 IsSeen (Some m) visible = visible ≡ is_shown m
 
--- ready, with these cells on the screen, and what is believed is so
+-- the state is ready, shows these cells, and the belief is true of it
 pub record Agrees (t : Table) (g : ℕ → ℕ → Ink) (b : Belief) (s : State) : Type 0 where
   pub ready : IsReady t s
   pub cells : (i j : ℕ) → i < t.rows → j < t.cols → look_at s.screen.grid i j ≡ look_of t.looks (g i j)
@@ -46,13 +47,13 @@ pub record Agrees (t : Table) (g : ℕ → ℕ → Ink) (b : Belief) (s : State)
   pub set : IsSo b.graphic (is_graphic s.screen.charset)
   pub seen : IsSeen b.mode s.screen.visible
 
--- a row's line leads from the one to the other
+-- a row's line leads from the first cells and belief to the second
 pub record Turns (t : Table) (row : Row) (g : ℕ → ℕ → Ink) (b : Belief) (h : ℕ → ℕ → Ink) (c : Belief) : Type 0 where
   pub starts : (s : State) → Agrees t g b s → Starts t.rows t.cols row s.screen
   pub ends : (s u : State) → Agrees t g b s → IsOfSize t.rows t.cols u → u.rest ≡ []
       → Ended t row s.screen u.screen → Agrees t h c u
 
--- how many moves it takes: none or one
+-- the number of moves to a place: none or one
 abbrev pub moves : Place → ℕ → ℕ → ℕ
 moves p row col = if (p.row == row) && (p.col == col) then 0 else 1
 
@@ -61,7 +62,7 @@ abbrev pub set_row : Bool → Row
 set_row true = Smacs
 set_row false = Rmacs
 
--- the most that the parts of a cell take
+-- the most bytes that the parts of a cell take
 abbrev pub plain_limit : Table → ℕ
 plain_limit t = t.longest.op + t.longest.sgr
 
@@ -94,26 +95,26 @@ same_mode Normal Prominent = false
 same_mode Prominent Hidden = false
 same_mode Prominent Normal = false
 
--- how often the mode changes: never or once
+-- the number of changes of the mode: none or one
 abbrev pub changes : Option Mode → Mode → ℕ
 changes None m = 1
 changes (Some n) m = if same_mode n m then 0 else 1
 
--- a hidden cursor can be shown again
+-- for the mode that hides the cursor: the entry can hide it, and show it again
 abbrev pub CanHide : Table → Mode → Type 0
 CanHide t Hidden = (has t Civis ≡ true) × (has t Cnorm ≡ true)
 CanHide t Normal = Unit {0}
 CanHide t Prominent = Unit {0}
 
--- What shows the cursor in a mode: for a very visible one the string for the normal mode, and then its own. A string
--- that the entry lacks is nothing (X/Open Curses Issue 7, curs_set; terminfo(5), "Highlighting, Underlining, and
+-- The strings that show the cursor in a mode: for a very visible one the string for the normal mode, and then its own.
+-- A string that the entry lacks is empty (X/Open Curses Issue 7, curs_set; terminfo(5), "Highlighting, Underlining, and
 -- Visible Bells").
 abbrev pub setting_text : Table → Mode → List ℕ
 setting_text t Hidden = text_of t Civis
 setting_text t Normal = text_of t Cnorm
 setting_text t Prominent = text_of t Cnorm ++ text_of t Cvvis
 
--- nothing where the cursor is known to be shown so
+-- nothing if the cursor is known to be in the mode
 abbrev pub mode_text : Table → Option Mode → Mode → List ℕ
 mode_text t None m = setting_text t m
 mode_text t (Some n) m = if same_mode n m then [] else setting_text t m

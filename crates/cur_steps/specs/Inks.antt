@@ -1,4 +1,4 @@
--- What is put into a place of the screen: a character, the set it is of, its attributes and colours; and how it looks.
+-- The content of a place of the screen: a character, its set, its attributes and colors; and its look.
 use Rattle.std.specs.Prelude.{ℕ, ◌≡◌, ◌==◌, ◌&&◌, ◌||◌, nat_le, nat_lt, Bool, true, false, Option, Some, None}
 use Rattle.std.specs.Prelude.{if◌then◌else◌}
 use Rattle.vt_term.specs.Color.{Color, color_number}
@@ -13,7 +13,7 @@ use Rattle.ti_rows.specs.Looks.{shown}
 pub use Rattle.ti_rows.specs.Names.{no_attributes}
 use Rattle.ti_conforms.specs.Certified.{Table, has}
 
--- the union of the attributes' marks, and the colours
+-- the union of the attributes' marks, and the colors
 abbrev pub rendition_of : Looks → Brush → Rendition
 rendition_of l b = marked (shown l b.attributes) b.foreground b.background
 
@@ -54,16 +54,16 @@ same_brush a b = same_attributes a.attributes b.attributes
 abbrev pub same : Ink → Ink → Bool
 same a b = (a.byte == b.byte) && (alike a.graphic b.graphic && same_brush a.brush b.brush)
 
--- the character, where it is printed in the set and the brush of another one
+-- the character, if it has the set and the brush of another one
 abbrev pub byte_as : Ink → Ink → Option ℕ
 byte_as x y = if alike x.graphic y.graphic && same_brush x.brush y.brush then Some x.byte else None
 
--- colours only where there are lines for them
+-- default colors, if the entry has no lines for colors
 pub record IsColored (t : Table) (b : Brush) : Type 0 where
   pub foreground : has t Op ≡ false → b.foreground ≡ None
   pub background : has t Op ≡ false → b.background ≡ None
 
--- the entry can show it
+-- an ink that the entry can show
 pub record IsInk (t : Table) (x : Ink) : Type 0 where
   pub printed : IsPrinted x.byte
   pub colored : IsColored t x.brush

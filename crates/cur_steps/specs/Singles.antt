@@ -92,11 +92,11 @@ abbrev pub with_any : Option Single → Attributes → Attributes
 with_any None a = a
 with_any (Some s) a = with_one s a
 
--- these attributes and that of a row's string
+-- these attributes and the one that a row's string turns on
 abbrev pub turned_on : Row → Attributes → Attributes
 turned_on row a = with_any (single_of row) a
 
--- these attributes and that of a row's string, if it is wanted
+-- these attributes and the one that a row's string turns on, if it is wanted
 abbrev pub with_single : Attributes → Row → Attributes → Attributes
 with_single wanted row a = if has_single row wanted then turned_on row a else a
 
@@ -104,7 +104,7 @@ abbrev pub with_singles : Attributes → List Row → Attributes → Attributes
 with_singles wanted [] a = a
 with_singles wanted (row ∷ rows) a = with_singles wanted rows (with_single wanted row a)
 
--- the attributes that can be seen where there is no `sgr`: one without a string of its own looks like nothing
+-- the attributes that can be seen without `sgr`: the ones that have a string of their own
 abbrev pub seen : Table → Attributes → Attributes
 seen t a = record {
   standout = a.standout && has t Smso;
@@ -116,6 +116,6 @@ seen t a = record {
   invisible = a.invisible && has t Invis;
 }
 
--- two sets of attributes look alike, if any state is ready
+-- two sets of attributes look alike, provided that there is a ready state
 abbrev pub LookAlike : Table → Attributes → Attributes → Type 0
 LookAlike t a b = (s : State) → IsReady t s → shown t.looks a ≡ shown t.looks b

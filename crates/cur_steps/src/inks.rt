@@ -1,4 +1,4 @@
-//! What is put into a place of the screen.
+//! The content of a place of the screen.
 ghost use Rattle.std.specs.Prelude.{◌≡◌, ◌+◌, ◌≤◌, ℕ, IfSome, length};
 ghost use Rattle.cur_steps.specs.Inks as spec;
 
@@ -6,7 +6,7 @@ use crate::stretches::blank_shown;
 use ti_rows::Attributes;
 use vt_term::Color;
 
-/// How characters are printed: attributes, and colours where they aren't the default ones.
+/// How characters are printed: their attributes and colors. `None` is the default color.
 #[derive(Clone, Copy)]
 pub struct Brush {
     pub attributes: Attributes,
@@ -14,7 +14,7 @@ pub struct Brush {
     pub background: Option<Color>,
 }
 
-/// What is put into a place: a character of the plain or the graphic set, and how it is printed.
+/// The content of a place: a character of the plain or the graphic set, and how it is printed.
 #[derive(Clone, Copy)]
 pub struct Ink {
     pub byte: u8,
@@ -30,7 +30,7 @@ pub struct Cells {
     pub count: usize,
 }
 
-/// A screen by its places.
+/// A screen that answers which ink each of its places has.
 pub trait Picture {
     ghost use Rattle.std.specs.Prelude.{◌+◌, ◌≤◌, length};
     ghost use Rattle.cur_steps.specs.Inks.{byte_as, same, blank_ink};
@@ -39,34 +39,33 @@ pub trait Picture {
 
     ghost cells: { Self → ℕ → ℕ → Ink };
 
-    /// What is in line `row` and column `col`; elsewhere something blank.
+    /// The ink in line `row` and column `col`; outside the screen, a blank one.
     fn at(&self, row: usize, col: usize) -> Ink
         ensures value { result ≡ cells self.now row col };
 
-    /// Whether what is in line `row` and column `col` is printed like `ink`.
+    /// Whether the ink in line `row` and column `col` is printed like `ink`.
     fn shows(&self, row: usize, col: usize, ink: Ink) -> bool
         ensures value { result ≡ same (cells self.now row col) ink }
     {
         is_same(self.at(row, col), ink)
     }
 
-    /// Whether line `row` and column `col` is blank.
+    /// Whether the place in line `row` and column `col` is blank.
     fn is_blank(&self, row: usize, col: usize) -> bool
         ensures value { result ≡ same (cells self.now row col) blank_ink }
     {
         self.shows(row, col, Ink::blank())
     }
 
-    /// The character in line `row` and column `col`, if it is printed in the set and the brush of the column `like` of
-    /// that line.
+    /// The character in line `row` and column `col`, if it has the set and the brush of column `like` in that line.
     fn byte_like(&self, row: usize, col: usize, like: usize) -> Option<u8>
         ensures value { result ≡ byte_as (cells self.now row col) (cells self.now row like) }
     {
         byte_as(self.at(row, col), self.at(row, like))
     }
 
-    /// How many of the cells of `stretch` come before the first one that isn't printed in the set and the brush of the
-    /// column `like` of their line; no more than there is room for in `text`, which gets their characters.
+    /// Counts the cells of `stretch` before the first one that isn't printed in the set and the brush of the column
+    /// `like` of their line, and writes their characters to `text`. It counts no more than `text` has room for.
     fn text_like(&self, stretch: Cells, like: usize, text: &mut [u8]) -> usize
         requires within { stretch.from + stretch.count ≤ 1000 }
         ensures room { length text.new ≡ length text.old }
@@ -83,8 +82,8 @@ pub trait Picture {
         n
     }
 
-    /// Notes in `shown`, for each cell of `stretch`, whether it is printed like `ink` with the character that `text`
-    /// has for it.
+    /// Sets in `shown`, for each cell of `stretch`, whether it is printed like `ink` with the character that `text` has
+    /// for it. Both `text` and `shown` must be at least as long as `stretch`.
     fn shows_text(&self, stretch: Cells, ink: Ink, text: &[u8], shown: &mut [bool])
         requires within { stretch.from + stretch.count ≤ 1000 }
         requires text { stretch.count ≤ length text.now }
@@ -119,7 +118,7 @@ impl Picture for Blank {
 }
 
 impl Ink {
-    /// A space of no attributes and default colours.
+    /// A space without attributes, in the default colors.
     pub fn blank() -> Ink
         ensures value { result ≡ spec.blank_ink }
     {
@@ -132,7 +131,7 @@ impl Ink {
 }
 
 impl Brush {
-    /// No attributes and default colours.
+    /// No attributes and the default colors.
     pub fn plain() -> Brush
         ensures value { result ≡ spec.plain_brush }
     {
@@ -152,7 +151,7 @@ impl Brush {
     }
 }
 
-/// Whether `ink` is of the plain set, and has no attributes and default colours.
+/// Whether `ink` is of the plain set, without attributes and in the default colors.
 #[inline(always)]
 pub fn is_plain_ink(ink: Ink) -> bool
     ensures value { result ≡ spec.same spec.blank_ink (record ink { byte = 32 }) }
@@ -160,14 +159,14 @@ pub fn is_plain_ink(ink: Ink) -> bool
     is_same(Ink::blank(), Ink { byte: b' ', ..ink })
 }
 
-/// Whether `a` and `b` are printed in one way with one look.
+/// Whether `a` and `b` have one character, one set and one brush.
 pub fn is_same(a: Ink, b: Ink) -> bool
     ensures value { result ≡ spec.same a b }
 {
     a.byte == b.byte && a.graphic == b.graphic && same_brush(a.brush, b.brush)
 }
 
-/// The character of `ink`, if it is printed in the set and the brush of `like`.
+/// The character of `ink`, if it has the set and the brush of `like`.
 pub fn byte_as(ink: Ink, like: Ink) -> Option<u8>
     ensures value { result ≡ spec.byte_as ink like }
 {
@@ -198,14 +197,14 @@ fn same_few(a: Attributes, b: Attributes) -> bool
     a.standout == b.standout && a.underline == b.underline && a.reverse == b.reverse
 }
 
-/// Whether `a` and `b` are the same in the other attributes.
+/// Whether `a` and `b` are the same in blink, dim, bold and invisible.
 fn same_others(a: Attributes, b: Attributes) -> bool
     ensures value { result ≡ spec.same_others a b }
 {
     a.blink == b.blink && a.dim == b.dim && a.bold == b.bold && a.invisible == b.invisible
 }
 
-/// Whether the colours `a` and `b` are the same.
+/// Whether the colors `a` and `b` are the same; `None` is the default color.
 pub(crate) fn same_color(a: Option<Color>, b: Option<Color>) -> bool
     ensures value { result ≡ spec.same_color a b }
 {

@@ -1,4 +1,4 @@
-//! The single steps of a painter: what it sends as one string or one character, and what it knows of the terminal.
+//! A painter's belief about the terminal, and its single steps, most of which send one string or one character.
 #![tactic(auto)]
 
 mod beliefs;

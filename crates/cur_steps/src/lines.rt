@@ -1,4 +1,4 @@
-//! The lines of a certificate: whether there is one, and the sending of it.
+//! The lines of a certificate: whether there is one, and sending it.
 ghost use Rattle.std.specs.Prelude.{◌≡◌, ◌≤◌, ℕ, length, Bool, Option, Some, true};
 ghost use Rattle.ti_conforms.specs.Certified.{IsChecked, has, limit_of, text_of};
 ghost use Rattle.cur_steps.specs.Beliefs.{Belief, Turns};
@@ -18,8 +18,8 @@ pub fn has_line<C: Certificate>(checked: &C, row: Row) -> bool
     checked.line(row).is_some()
 }
 
-/// Sends `bytes`, which is the line of `row`. It leads from whatever belief the row starts from to what the row makes
-/// of it, and is a step of a painter if the row paints.
+/// Sends `bytes`, which must be the line of `row`. It leads from any belief in which the row may start to the belief
+/// that the row makes of it, and is a step of a painter if the row paints.
 pub fn send_line<C: Certificate, W: Wire>(
     checked: &C,
     row: Row,

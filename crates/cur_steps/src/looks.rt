@@ -8,14 +8,14 @@ use crate::lines::has_line;
 use ti_conforms::Certificate;
 use ti_rows::{Attributes, Row};
 
-/// Whether the attribute of the string of `row`, which is on if `on`, can be seen where there is no `sgr`.
+/// Whether an attribute can be seen without `sgr`: it must be on (`on`), and the entry must have `row`, its own string.
 fn is_seen<C: Certificate>(checked: &C, on: bool, row: Row) -> bool
     ensures { result ≡ (on && has (C.table checked.now) row) }
 {
     on && has_line(checked, row)
 }
 
-/// The `attributes` that can be seen where there is no `sgr`: one without a string looks like nothing.
+/// The `attributes` that can be seen without `sgr`: the ones that have a string of their own.
 fn seen<C: Certificate>(checked: &C, attributes: Attributes) -> Attributes
     ensures { result ≡ spec.seen (C.table checked.now) attributes }
 {
@@ -31,7 +31,7 @@ fn seen<C: Certificate>(checked: &C, attributes: Attributes) -> Attributes
 }
 
 /// Whether the attributes `a` and `b` are known to look alike: they are equal, or `sgr` sends the same bytes for both,
-/// or there is no `sgr`, and those of them that have strings of their own are equal.
+/// or there is no `sgr` and they agree in each attribute that has a string of its own.
 pub fn look_alike<C: Certificate>(checked: &C, a: Attributes, b: Attributes) -> bool
     requires checked { IsChecked (C.table checked.now) }
     ensures alike { result ≡ true → spec.LookAlike (C.table checked.now) a b }

@@ -64,7 +64,7 @@ fn is_among(single: Single, attributes: Attributes) -> bool
     }
 }
 
-/// Whether the attribute of the string of `row` is among `attributes`.
+/// Whether the string of `row` turns on one attribute alone, which is among `attributes`.
 fn has_single(attributes: Attributes, row: Row) -> bool
     ensures { result ≡ spec.has_single row attributes }
 {
@@ -74,7 +74,7 @@ fn has_single(attributes: Attributes, row: Row) -> bool
     }
 }
 
-/// The `attributes` and `single`.
+/// The `attributes`, and `single` too.
 fn with_one(attributes: Attributes, single: Single) -> Attributes
     ensures { result ≡ spec.with_one single attributes }
 {
@@ -91,7 +91,7 @@ fn with_one(attributes: Attributes, single: Single) -> Attributes
     attributes
 }
 
-/// The `attributes` and that of the string of `row`.
+/// The `attributes`, and also the one that the string of `row` turns on, if it turns on one alone.
 fn turned_on(attributes: Attributes, row: Row) -> Attributes
     ensures { result ≡ spec.turned_on row attributes }
 {
@@ -101,7 +101,7 @@ fn turned_on(attributes: Attributes, row: Row) -> Attributes
     }
 }
 
-/// Makes attributes and colours plain by `sgr0`.
+/// Makes attributes and colors plain by `sgr0`.
 pub fn strip<C: Certificate, W: Wire>(
     checked: &C,
     belief: &mut Belief,
@@ -118,7 +118,8 @@ pub fn strip<C: Certificate, W: Wire>(
     send_line(checked, Row::Sgr0, line, wire)
 }
 
-/// Adds the attribute of the string of `row`, if it is `wanted`. One without a string can't be seen.
+/// Turns on the attribute of the string of `row`, if it is `wanted`. Without such a string the attribute can't be seen,
+/// and nothing is sent.
 fn add_single<C: Certificate, W: Wire>(
     checked: &C,
     belief: &mut Belief,
@@ -144,7 +145,7 @@ fn add_single<C: Certificate, W: Wire>(
     }
 }
 
-/// Adds those of the attributes of `rows` that are `wanted`.
+/// Turns on each attribute that is `wanted` and has its string among `rows`.
 fn add_singles<C: Certificate, W: Wire>(
     checked: &C,
     belief: &mut Belief,
@@ -169,8 +170,8 @@ fn add_singles<C: Certificate, W: Wire>(
     Ok(())
 }
 
-/// Makes the attributes `wanted`, and the colours the default ones: all go off, and those that are wanted go on one by
-/// one.
+/// Makes the attributes `wanted`, and the colors the default ones: turns all attributes off, then turns the wanted ones
+/// on one by one.
 pub(crate) fn attributes_singly<C: Certificate, W: Wire>(
     checked: &C,
     belief: &mut Belief,

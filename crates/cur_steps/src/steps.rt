@@ -1,4 +1,5 @@
-//! The single steps of a painter: each sends at most one line or one character.
+//! The single steps of a painter. Each sends at most one line or one character, but attributes may take several lines
+//! if the entry has no `sgr`.
 ghost use Rattle.std.specs.Prelude.{◌≡◌, ◌+◌, ◌<◌, ℕ, Bool, true, false, Option, Some, None, OnOk};
 ghost use Rattle.vt_term.specs.Color.{Color};
 ghost use Rattle.vt_term.specs.Look.{IsPrinted};
@@ -29,7 +30,7 @@ pub fn stands(place: Place, at: Place) -> bool
     place.row == at.row && place.col == at.col
 }
 
-/// Makes the colours the default ones.
+/// Makes the colors the default ones.
 pub fn colors_off<C: Certificate, W: Wire>(
     checked: &C,
     belief: &mut Belief,
@@ -53,7 +54,7 @@ pub fn colors_off<C: Certificate, W: Wire>(
     }
 }
 
-/// Whether `brush` has the default colours.
+/// Whether `brush` has the default colors.
 fn is_uncolored(brush: Brush) -> bool
     ensures foreground { result ≡ true → brush.foreground ≡ None }
     ensures background { result ≡ true → brush.background ≡ None }
@@ -61,8 +62,8 @@ fn is_uncolored(brush: Brush) -> bool
     matches!((brush.foreground, brush.background), (None, None))
 }
 
-/// Makes the attributes `wanted`, by nothing if they look as those do that are believed; the colours are the default
-/// ones before and after.
+/// Makes the attributes `wanted`; sends nothing if the believed attributes look alike. The colors must be the default
+/// ones, and stay so.
 pub fn attributes_as<C: Certificate, W: Wire>(
     checked: &C,
     belief: &mut Belief,
@@ -89,7 +90,7 @@ pub fn attributes_as<C: Certificate, W: Wire>(
     }
 }
 
-/// Makes the attributes `wanted` by one string, `line`; the colours are the default ones before and after.
+/// Makes the attributes `wanted` by one string, `line`. The colors must be the default ones, and stay so.
 fn attributes_at_once<C: Certificate, W: Wire>(
     checked: &C,
     line: &[u8],
@@ -112,7 +113,7 @@ fn attributes_at_once<C: Certificate, W: Wire>(
     send_line(checked, Row::Sgr(wanted), line, wire)
 }
 
-/// Makes the foreground the colour `wanted`, or leaves it the default one.
+/// Makes the foreground the color `wanted`. If that is none, the foreground must be the default one already.
 pub fn foreground_as<C: Certificate, W: Wire>(
     checked: &C,
     belief: &mut Belief,
@@ -140,7 +141,7 @@ pub fn foreground_as<C: Certificate, W: Wire>(
     }
 }
 
-/// Makes the background the colour `wanted`, or leaves it the default one.
+/// Makes the background the color `wanted`. If that is none, the background must be the default one already.
 pub fn background_as<C: Certificate, W: Wire>(
     checked: &C,
     belief: &mut Belief,
@@ -168,7 +169,7 @@ pub fn background_as<C: Certificate, W: Wire>(
     }
 }
 
-/// Makes the set, the graphic one if `graphic`, the active one, if it isn't known to be.
+/// Makes the graphic set active if `graphic`, else the plain one; sends nothing if it is known to be active.
 pub fn set_as<C: Certificate, W: Wire>(
     checked: &C,
     belief: &mut Belief,
@@ -192,14 +193,14 @@ pub fn set_as<C: Certificate, W: Wire>(
     }
 }
 
-/// The row whose line makes the set, the graphic one if `graphic`, the active one.
+/// The row whose line makes a set active: the graphic set if `graphic`, else the plain one.
 fn row_of_set(graphic: bool) -> Row
     ensures { result ≡ set_row graphic }
 {
     if graphic { Row::Smacs } else { Row::Rmacs }
 }
 
-/// Whether the active set `now` is known and is the graphic one just if `graphic`.
+/// Whether the active set `now` is known, and is the graphic one if `graphic`, else the plain one.
 pub fn is_active(now: Option<bool>, graphic: bool) -> bool
     ensures active { result ≡ true → now ≡ Some graphic }
     ensures known { now ≡ Some graphic → result ≡ true }
@@ -207,7 +208,7 @@ pub fn is_active(now: Option<bool>, graphic: bool) -> bool
     matches!(now, Some(active) if active == graphic)
 }
 
-/// Prints `ink` at `at`, where the next character is known to go, in the brush and the set that are known.
+/// Prints `ink` at `at`, where the next character must be known to go. The known brush and set must be those of `ink`.
 pub fn print_at<C: Certificate, W: Wire>(
     checked: &C,
     belief: &mut Belief,
@@ -231,7 +232,7 @@ pub fn print_at<C: Certificate, W: Wire>(
     send_all(wire, &[ink.byte])
 }
 
-/// Erases the line's end by its string `tail`, from `at`, where the cursor is known to be.
+/// Erases the rest of the line from `at` on by `tail`, the string of `el`. The cursor must be known to be at `at`.
 pub fn erase_tail<C: Certificate, W: Wire>(
     checked: &C,
     tail: &[u8],
