@@ -38,7 +38,6 @@ NOT_REWRITTEN = {
     "crates/cur_moves": 14,
     "crates/cur_paint": 36,
     "crates/cur_play": 35,
-    "crates/cur_update": 40,
     "crates/curses_c": 32,
     "crates/ti_cert": 44,
     "crates/ti_checker": 45,

@@ -1,4 +1,4 @@
--- What the bell's string does to a state that fits.
+-- The effect of the bell's string on a state that fits.
 use Rattle.std.proofs.Common.{◌≡◌, ℕ, List, ◌++◌, Some, refl}
 use Rattle.vt_term.specs.Screen.{State}
 use Rattle.vt_term.specs.Ends.{Ends}

@@ -1,4 +1,4 @@
--- What ringing the bell promises (X/Open Curses Issue 7, beep).
+-- The promise of ringing the bell (X/Open Curses Issue 7, beep).
 use Rattle.std.specs.Prelude.{ℕ, ◌<◌, ◌≡◌, true, false, List, ◌++◌, length, Result, Some, Ok, Err}
 use Rattle.vt_term.specs.Screen.{State}
 use Rattle.vt_term.specs.Ends.{Ends}
@@ -15,7 +15,7 @@ use Rattle.cur_paint.specs.declared.updates.Status.TheVariants.{Lost}
 use Rattle.cur_update.specs.declared.bells.Unsent.{Unsent}
 use Rattle.cur_update.specs.declared.bells.Unsent.TheVariants.{Refused, Wire}
 
--- just the bell's string went out, of a session that wasn't lost, and every state that fits fits as before
+-- exactly the bell's string went out, in a session that wasn't lost, and every state that fits before fits after
 pub record Rang {W : Type 0} (went : W → W → List ℕ → Type 0) (old new : W) (t : Table)
     (before after : Knowledge) : Type 0 where
   pub line : List ℕ
@@ -25,11 +25,11 @@ pub record Rang {W : Type 0} (went : W → W → List ℕ → Type 0) (old new :
   pub held : before.status ≡ Lost → ⊥
   pub fits : (g : ℕ → ℕ → Ink) (s : State) → Fits t g before.status before.cursor s
       → Ends s line (Fits t g before.status before.cursor)
-  -- a front of it leads to a state that fits a lost session
+  -- each prefix of the string leads to a state that fits a lost session
   pub cut : (front back : List ℕ) → line ≡ front ++ back → (g : ℕ → ℕ → Ink) (s : State)
       → Fits t g before.status before.cursor s → Ends s front (certified.IsLost t)
 
--- a front of it, and not all of it, went out, and the session is lost
+-- a proper prefix of the string went out, and the session is lost
 pub record RangShort {W : Type 0} (went : W → W → List ℕ → Type 0) (failures : W → ℕ) (old new : W) (t : Table)
     (before after : Knowledge) : Type 0 where
   pub line : List ℕ
@@ -41,7 +41,7 @@ pub record RangShort {W : Type 0} (went : W → W → List ℕ → Type 0) (fail
   pub failed : Rose (failures old) (failures new)
   pub held : before.status ≡ Lost → ⊥
   pub fits : (g : ℕ → ℕ → Ink) (s : State) → Fits t g before.status before.cursor s → Ends s front (certified.IsLost t)
-  -- and so does a front of this front
+  -- each prefix of this prefix also leads to a state that fits a lost session
   pub cut : (x y : List ℕ) → front ≡ x ++ y → (g : ℕ → ℕ → Ink) (s : State) → Fits t g before.status before.cursor s
       → Ends s x (certified.IsLost t)
   pub lost : after.status ≡ Lost
@@ -52,7 +52,7 @@ pub record IsSame {W : Type 0} (old new : W) (before after : Knowledge) : Type 0
   pub wire : new ≡ old
   pub session : after ≡ before
 
--- the first of two causes; a refused call did nothing
+-- the entry has no `bel`, or else the session is lost; a refused call did nothing
 abbrev pub Declines : {W : Type 0} → W → W → Refusal → Table → Knowledge → Knowledge → Type 0
 Declines old new NoCap t before after = (has t Bel ≡ false) × IsSame old new before after
 Declines old new IsLost t before after = (has t Bel ≡ true) × (before.status ≡ Lost) × IsSame old new before after

@@ -1,4 +1,4 @@
--- In how many places two virtual screens differ, a pair being read as the colours of its screen's table.
+-- The number of places in which two virtual screens differ. A pair counts as the colors in its screen's table.
 use Rattle.std.specs.Prelude.{ℕ, ◌+◌, ◌==◌, ◌&&◌, Bool, true, false, Option, Some, None, if◌then◌else◌, zero, suc}
 use Rattle.cur_drawing.specs.Cells.{Content}
 use Rattle.cur_screens.specs.VirtualScreen.{Screen, colors_at}
@@ -22,16 +22,16 @@ same_at v w i j =
     same_character (content_at v i j) (content_at w i j)
     && same_colors (colors_at v (content_at v i j).pair) (colors_at w (content_at w i j).pair)
 
--- in one place: none or one
+-- differing places among one: none or one
 abbrev pub cells_differ : Screen → Screen → ℕ → ℕ → ℕ
 cells_differ v w i j = if same_at v w i j then 0 else 1
 
--- in so many places of a line
+-- differing places among the first ones of a line
 abbrev pub in_line : Screen → Screen → ℕ → ℕ → ℕ
 in_line v w i zero = 0
 in_line v w i (suc n) = in_line v w i n + cells_differ v w i n
 
--- in so many lines
+-- differing places in the first lines
 abbrev pub in_lines : Screen → Screen → ℕ → ℕ → ℕ
 in_lines v w cols zero = 0
 in_lines v w cols (suc n) = in_lines v w cols n + in_line v w n cols

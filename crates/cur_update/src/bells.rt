@@ -18,8 +18,8 @@ pub enum Unsent {
     Wire(WireFault),
 }
 
-/// Rings the bell. It is refused where the entry has no `bel`, and then by a lost session; on a wire's fault a front of
-/// the string went out, and the session is lost.
+/// Rings the bell. Fails with `NoCap` if the entry has no `bel`, then with `IsLost` if `session` is lost; nothing was
+/// sent then. If the wire fails, a prefix of the string went out, and the session is lost.
 pub(crate) fn ring<C: Certificate, W: Wire>(
     checked: &C,
     session: &mut Knowledge,
@@ -44,7 +44,7 @@ pub(crate) fn ring<C: Certificate, W: Wire>(
     }
 }
 
-/// Whether an output failed, and no refresh was done since.
+/// Whether `status` is that of a lost session.
 fn is_lost(status: Status) -> bool
     ensures so { result ≡ true → status ≡ Lost }
     ensures only { status ≡ Lost → result ≡ true }

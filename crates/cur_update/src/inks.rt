@@ -14,16 +14,16 @@ use ti_conforms::{Certificate, Character, shown};
 use ti_rows::{Attributes, Row};
 use vt_term::{Color, color_of as color};
 
-/// What an entry has for printing cells.
+/// Which strings an entry has for printing cells.
 #[derive(Clone, Copy)]
 pub(crate) struct Means {
-    /// The strings for the graphic set.
+    /// Whether it has the strings for the graphic set.
     pub graphic: bool,
-    /// The strings for colours.
+    /// Whether it has the strings for colors.
     pub colored: bool,
 }
 
-/// What the entry has for printing cells.
+/// Which strings the entry of `checked` has for printing cells.
 pub(crate) fn means_of<C: Certificate>(checked: &C) -> Means
     ensures { result ≡ spec.means_of (C.table checked.now) }
 {
@@ -33,7 +33,7 @@ pub(crate) fn means_of<C: Certificate>(checked: &C) -> Means
     }
 }
 
-/// The attributes of a cell, without the alternate set.
+/// The attributes `attrs` of a cell, without the alternate set.
 fn attributes_of(attrs: Attrs) -> Attributes
     ensures { result ≡ spec.attributes_of attrs.0 }
 {
@@ -48,7 +48,7 @@ fn attributes_of(attrs: Attrs) -> Attributes
     }
 }
 
-/// The colour of a number, where the entry has colours.
+/// The color `number`, if there is one and the entry has colors (`colored`).
 fn color_of(colored: bool, number: Option<u8>) -> Option<Color>
     ensures { result ≡ spec.color_of colored number }
 {
@@ -58,7 +58,7 @@ fn color_of(colored: bool, number: Option<u8>) -> Option<Color>
     }
 }
 
-/// A letter's partner, where the entry has the strings for the graphic set and the partner can be printed.
+/// The `partner` of a letter, if it can be printed and the entry has the strings for the graphic set (`graphic`).
 fn partner_in(graphic: bool, partner: Option<u8>) -> Option<u8>
     ensures { result ≡ spec.partner_in graphic partner }
 {
@@ -68,7 +68,7 @@ fn partner_in(graphic: bool, partner: Option<u8>) -> Option<u8>
     }
 }
 
-/// The character that a cell shows.
+/// The character that `cell` shows.
 #[inline(always)]
 fn character_of<C: Certificate>(checked: &C, graphic: bool, cell: Cell) -> Character
     ensures byte { result.byte ≡ (spec.character_of graphic (C.partners checked.now) cell).byte }
@@ -85,7 +85,7 @@ fn character_of<C: Certificate>(checked: &C, graphic: bool, cell: Cell) -> Chara
     }
 }
 
-/// A character of no attributes and default colours.
+/// The character `byte` without attributes, in the default colors.
 #[inline(always)]
 fn plain_ink(byte: u8) -> Ink
     ensures { result ≡ spec.plain_ink byte }
@@ -96,7 +96,7 @@ fn plain_ink(byte: u8) -> Ink
     }
 }
 
-/// The attributes of a cell, and the colours of its pair where the entry has colours.
+/// The attributes of `cell`, and the `colors` of its pair if the entry has colors (`colored`).
 fn brush_of(colored: bool, colors: (Option<u8>, Option<u8>), cell: Cell) -> Brush
     ensures { result ≡ spec.brush_of colored (spec.pair_colors colors) cell }
 {
@@ -107,7 +107,7 @@ fn brush_of(colored: bool, colors: (Option<u8>, Option<u8>), cell: Cell) -> Brus
     }
 }
 
-/// How a cell is printed, with the colours of its pair.
+/// How `cell` is printed, given the `colors` of its pair.
 #[inline(always)]
 pub(crate) fn ink_of<C: Certificate>(
     checked: &C,
@@ -123,7 +123,7 @@ pub(crate) fn ink_of<C: Certificate>(
     styled_ink(checked, means, colors, cell)
 }
 
-/// How any cell is printed. `ink_of` and `shows_ink` answer for a plain one without it.
+/// How `cell` is printed, given the `colors` of its pair: `ink_of` without the short cut for plain cells.
 #[inline(never)]
 fn styled_ink<C: Certificate>(
     checked: &C,
@@ -141,7 +141,7 @@ fn styled_ink<C: Certificate>(
     }
 }
 
-/// Whether a cell is printed like this, with the colours of its pair.
+/// Whether `cell` is printed like `ink`, given the `colors` of its pair.
 #[inline(never)]
 pub(crate) fn shows_ink<C: Certificate>(
     checked: &C,
@@ -167,7 +167,7 @@ pub(crate) fn shows_ink<C: Certificate>(
     is_same(cell_ink, ink)
 }
 
-/// Whether a cell is printed as a blank, with the colours of its pair.
+/// Whether `cell` is printed as a blank, given the `colors` of its pair.
 #[inline(always)]
 #[tactic(auto, using(crate::proofs::Plainly::space_told))]
 pub(crate) fn is_blank_ink<C: Certificate>(

@@ -25,7 +25,8 @@ use ti_conforms::Certificate;
 use ti_rows::Row;
 use vt_term::Size;
 
-/// A painter for the terminal of a verified certificate: what that shows, and what is known of it.
+/// A painter for the terminal of a verified certificate: the screen that it showed last, and its knowledge of the
+/// terminal.
 #[derive(Drop)]
 pub struct Painter<C: Certificate> {
     alloc: Global,
@@ -36,15 +37,15 @@ pub struct Painter<C: Certificate> {
     means: Means,
 }
 
-/// The screen that was shown last, and room for the columns in which a line may differ from that.
+/// The screen that was shown last, and room for the columns in which each line may differ from it.
 #[derive(Drop)]
 struct Shown {
     screen: Virtual,
     columns: Vec<Columns>,
 }
 
-/// The screen to be shown, marks outside of which its cells are those of the screen that was shown last, and what the
-/// entry has for printing cells.
+/// The screen to show, the marks outside of which it has the cells of the screen that was shown last, and which strings
+/// the entry has for printing cells.
 #[derive(Drop)]
 struct Frame<'a> {
     screen: &'a Virtual,
@@ -66,8 +67,8 @@ impl<C: Certificate> Model for Painter<C> {
 }
 
 impl<C: Certificate> Painter<C> {
-    /// A painter of a fresh session: nothing was sent, the screen is blank, and the cursor's mode is 1. An
-    /// error where a growth was refused.
+    /// A painter of a fresh session: nothing was sent, the screen is blank, and the cursor's mode is 1. Fails if memory
+    /// runs out.
     pub fn start(alloc: Global, checked: C) -> Result<Painter<C>, AllocError>
     where
         C: Drop,
@@ -91,9 +92,9 @@ impl<C: Certificate> Painter<C> {
         })
     }
 
-    /// Makes the terminal show the virtual screen, which is of the terminal's size, and then has a copy of
-    /// it. Only lines that aren't as in the copy are looked at, unless a pair's colours changed or much of
-    /// the screen becomes blank. On `WireFault` a front of lawful bytes went out, and the session is lost.
+    /// Makes the terminal show `screen`, which must be of the terminal's size, and keeps a copy of it. Only lines that
+    /// differ from the last copy are looked at, unless a pair's colors changed or much of the screen becomes blank. On
+    /// `WireFault`, a prefix of lawful bytes went out, and the session is lost.
     pub fn update<W: Wire>(&mut self, screen: &Virtual, wire: &mut W) -> Result<(), WireFault>
         requires rows { (screen.now).rows ≡ (C.table self.old.checked).rows }
         requires cols { (screen.now).cols ≡ (C.table self.old.checked).cols }
@@ -110,8 +111,8 @@ impl<C: Certificate> Painter<C> {
         self.update_marked(screen, &marks, wire)
     }
 
-    /// As `update`, where the screen's cells outside the marks are those of the screen that was shown last: only what
-    /// is marked is compared and copied.
+    /// Makes the terminal show `screen` as `update` does, but compares and copies only the cells in `marks`. Outside
+    /// the marks, `screen` must have the cells of the screen that was shown last.
     pub fn update_marked<W: Wire>(
         &mut self,
         screen: &Virtual,
@@ -146,10 +147,9 @@ impl<C: Certificate> Painter<C> {
         )
     }
 
-    /// Sets how the cursor is shown from the next refresh on: 0 hidden, 1 visible, 2 very visible
-    /// (`curs_set`). The answer is the mode that was set before. `BadRegion` for any other number, then
-    /// `NoCap` where the entry can't hide the cursor and show it again; then nothing has changed. Nothing
-    /// is sent.
+    /// Sets how the cursor is shown from the next refresh on: `n` is 0 for hidden, 1 for visible, 2 for very visible
+    /// (`curs_set`). Returns the mode that was set before. Fails with `BadRegion` for any other number, then with
+    /// `NoCap` if the entry can't hide the cursor and show it again; nothing has changed then. Nothing is sent.
     pub fn cursor_mode(&mut self, n: i32) -> Result<u8, Refusal>
         ensures step { (self.new.mode, result) ≡ set_mode (C.table self.old.checked) n self.old.mode }
         ensures others { self.new ≡ record self.old { mode = self.new.mode } }
@@ -165,9 +165,9 @@ impl<C: Certificate> Painter<C> {
         Ok(before)
     }
 
-    /// Ends the program's screen: sends `sgr0`, `rmacs`, `cup` to the last line's first column, `cnorm` and
-    /// `rmcup`, those that the entry has, after the resynchronization if the session is lost; nothing if it
-    /// is fresh. Then it is fresh. On `WireFault` a front of that went out, and the session is lost.
+    /// Ends the program's screen: sends `sgr0`, `rmacs`, `cup` to the last line's first column, `cnorm` and `rmcup`, as
+    /// far as the entry has them. A lost session is resynchronized first, and a fresh one sends nothing. The session is
+    /// fresh afterwards. On `WireFault`, a prefix of these strings went out, and the session is lost.
     pub fn finish<W: Wire>(&mut self, wire: &mut W) -> Result<(), WireFault>
         ensures finishes { Finishes W.went W.failures wire.old wire.new result (C.table self.old.checked)
             self.old.session self.new.session }
@@ -176,17 +176,17 @@ impl<C: Certificate> Painter<C> {
         cur_paint::finish(&self.checked, &mut self.session, wire)
     }
 
-    /// Forgets what is known of the terminal, for where not all that was sent got there: the session is lost, and the
-    /// next refresh begins anew. Nothing is sent.
+    /// Makes the session lost, for a caller that knows that not all sent bytes reached the terminal. The next refresh
+    /// begins anew. Nothing is sent.
     pub fn lose(&mut self)
         ensures { self.new ≡ record self.old { session = record self.old.session { status = Lost } } }
     {
         self.session.status = Status::Lost;
     }
 
-    /// Rings the bell: sends just `bel`. Refused with `NoCap` where the entry has no `bel`, then with
-    /// `IsLost` by a lost session; then nothing was sent. On a wire's fault a front of the string went out,
-    /// and the session is lost.
+    /// Rings the bell: sends exactly `bel`. Fails with `NoCap` if the entry has no `bel`, then with `IsLost` if the
+    /// session is lost; nothing was sent then. If the wire fails, a prefix of the string went out, and the session is
+    /// lost.
     pub fn beep<W: Wire>(&mut self, wire: &mut W) -> Result<(), Unsent>
         ensures beeps { Rings W.went W.failures wire.old wire.new result (C.table self.old.checked)
             self.old.session self.new.session }
@@ -196,7 +196,7 @@ impl<C: Certificate> Painter<C> {
     }
 }
 
-/// What is wanted beside the cells.
+/// The wanted state of the terminal beside the cells: the cursor's place on `screen`, its `mode`, and whether to clear.
 fn wanted_of(screen: &Virtual, mode: Mode) -> Wanted
     ensures { result ≡ wanted_of screen.now mode }
 {
@@ -214,7 +214,7 @@ fn wanted_of(screen: &Virtual, mode: Mode) -> Wanted
     }
 }
 
-/// For each of `rows` lines, that no column differs.
+/// A list that says for each of `rows` lines that no column differs. Fails if memory runs out.
 fn no_columns(alloc: Global, rows: usize) -> Result<Vec<Columns>, AllocError> {
     let mut columns = Vec::with_capacity(alloc, rows)?;
     for _row in 0..rows {
@@ -223,7 +223,8 @@ fn no_columns(alloc: Global, rows: usize) -> Result<Vec<Columns>, AllocError> {
     Ok(columns)
 }
 
-/// What goes out in a refresh; what is shown then is a copy of the screen.
+/// Refreshes the terminal with the screen of `frame`, and copies that screen to `shown`. On `WireFault`, nothing is
+/// copied.
 fn refresh<C: Certificate, W: Wire>(
     checked: &C,
     shown: &mut Shown,
@@ -285,7 +286,7 @@ fn refresh<C: Certificate, W: Wire>(
     Ok(())
 }
 
-/// The number of a mode.
+/// The number of `mode`: 0 to 2.
 fn mode_number(mode: Mode) -> u8
     ensures { result ≡ mode_number mode }
 {
@@ -296,7 +297,7 @@ fn mode_number(mode: Mode) -> u8
     }
 }
 
-/// The mode of a number.
+/// The mode of the number `n`: very visible for all above 1.
 fn mode_of(n: u16) -> Mode
     ensures { result ≡ mode_of n }
 {

@@ -113,8 +113,8 @@ impl<'a, C: Certificate> Picture for PrintedScreen<'a, C> {
 }
 
 impl<'a, C: Certificate> PrintedScreen<'a, C> {
-    /// How many cells of `stretch` are known by their numbers to come before the first one that isn't printed in the
-    /// set and the brush of the column `like`. `text` gets their characters.
+    /// Counts the cells of `stretch` that are known by their numbers to come before the first one that isn't printed in
+    /// the set and the brush of the column `like`, and writes their characters to `text`.
     fn plain_start(&self, stretch: Cells, like: usize, text: &mut [u8]) -> usize
         requires within { stretch.from + stretch.count ≤ 1000 }
         ensures within { result ≤ stretch.count }
@@ -131,8 +131,8 @@ impl<'a, C: Certificate> PrintedScreen<'a, C> {
         plain_text(self.screen.row(stretch.row as u16), stretch, like, text)
     }
 
-    /// Whether a cell of the screen is printed like `ink` with the character `byte`. `is_plain_ink` says whether that
-    /// has no attributes and default colours.
+    /// Whether `cell` is printed like `ink` with the character `byte`. `is_plain_ink` must say whether `ink` is of the
+    /// plain set, without attributes and in the default colors.
     #[inline(always)]
     fn shows_cell(&self, cell: Cell, byte: u8, ink: Ink, is_plain_ink: bool) -> bool
         requires { is_plain_ink ≡ same blank_ink (record ink { byte = 32 }) }
@@ -149,7 +149,7 @@ impl<'a, C: Certificate> PrintedScreen<'a, C> {
         shows_ink(self.checked, self.means, colors, cell, Ink { byte, ..ink })
     }
 
-    /// Whether a cell without attributes, of pair 0, is printed like `ink` if it has its character.
+    /// Whether each cell without attributes and of pair 0 is surely printed like `ink` if it has its character.
     #[tactic(auto, using(crate::proofs::Plainly::bare_told))]
     fn shows_bare(&self, ink: Ink) -> bool
         ensures { result ≡ true → (cell : Content) (byte : ℕ) → IsBare cell → is_other cell byte ≡ false
@@ -160,8 +160,8 @@ impl<'a, C: Certificate> PrintedScreen<'a, C> {
         is_plain_ink(ink) && colors.0.is_none() && colors.1.is_none()
     }
 
-    /// Notes in `shown`, for each of the cells of the screen in `line`, whether it is printed like `ink` with the
-    /// character that `text` has for it.
+    /// Sets in `shown`, for each cell of the screen in `line`, whether it is printed like `ink` with the character that
+    /// `text` has for it.
     fn line_shows(&self, line: &[Cell], ink: Ink, text: &[u8], shown: &mut [bool])
         requires text { length line.now ≤ length text.now }
         requires room { length line.now ≤ length shown.old }
@@ -184,7 +184,7 @@ impl<'a, C: Certificate> PrintedScreen<'a, C> {
     }
 }
 
-/// Each cell of the screen holds a character of 32 to 126 and a pair below 64, as every cell does.
+/// Shows the prover that each cell of `screen` holds a character from 32 to 126 and a pair below 64.
 pub(crate) fn all_cells(screen: &Virtual)
     ensures { (i j : ℕ) → i < (screen.now).rows → j < (screen.now).cols → IsCell (content_at screen.now i j) }
 {

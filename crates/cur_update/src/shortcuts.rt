@@ -1,4 +1,4 @@
-//! Short cuts: what a cell's own numbers tell of how it is printed, without its ink.
+//! Short cuts, which decide by a cell's own numbers how it is printed, without making its ink.
 ghost use Rattle.std.specs.Prelude.{◌≡◌, ◌+◌, ◌<◌, ◌≤◌, ℕ, Option, IfSome, false, length, not, slice_index_or, true};
 ghost use Rattle.cur_drawing.specs.Cells.{space};
 ghost use Rattle.cur_update.specs.Inks as spec;
@@ -7,7 +7,7 @@ ghost use Rattle.cur_update.specs.declared.inks.Means.{Means};
 use cur_drawing::{Attrs, Cell};
 use cur_steps::Cells;
 
-/// Whether a cell has no attributes and default colours.
+/// Whether `cell` has no attributes, and the `colors` of its pair are the default ones.
 #[inline(always)]
 #[tactic(auto, using(crate::proofs::Plainly::plain_is))]
 pub(crate) fn is_plain(cell: Cell, colors: (Option<u8>, Option<u8>)) -> bool
@@ -17,7 +17,8 @@ pub(crate) fn is_plain(cell: Cell, colors: (Option<u8>, Option<u8>)) -> bool
     cell.attrs() == Attrs::none() && colors.0.is_none() && colors.1.is_none()
 }
 
-/// Whether a cell is one of the plain set with another character. Both are asked, so that there is no branch.
+/// Whether `cell` is of the plain set and has another character than `byte`. Both are computed, so that there is no
+/// branch.
 #[inline(always)]
 pub(crate) fn is_other(cell: Cell, byte: u8) -> bool
     ensures { result ≡ spec.is_other cell byte }
@@ -25,8 +26,8 @@ pub(crate) fn is_other(cell: Cell, byte: u8) -> bool
     !(cell.attrs().has(Attrs::ALTCHARSET) | (cell.byte() == byte))
 }
 
-/// Notes in `shown` which cells aren't known to have another character than `text` has for them: those of the
-/// alternate set, and those with this character. Whether each of these has no attributes, and pair 0.
+/// Sets `shown[n]` unless cell `n` of `line` certainly shows another character than `text[n]`: it must be of the
+/// alternate set, or have that character. Returns whether every cell noted so has no attributes and pair 0.
 pub(crate) fn note_alike(line: &[Cell], text: &[u8], shown: &mut [bool]) -> bool
     requires text { length line.now ≤ length text.now }
     requires room { length line.now ≤ length shown.old }
@@ -45,7 +46,7 @@ pub(crate) fn note_alike(line: &[Cell], text: &[u8], shown: &mut [bool]) -> bool
     are_bare
 }
 
-/// Whether a cell has no attributes, and pair 0.
+/// Whether `cell` has no attributes and pair 0.
 #[inline(always)]
 fn is_bare(cell: Cell) -> bool
     ensures { result ≡ true → spec.IsBare cell }
@@ -53,7 +54,7 @@ fn is_bare(cell: Cell) -> bool
     cell.is_styled_like(Cell::space())
 }
 
-/// Whether a cell of the plain set has the attributes and the pair of another one.
+/// Whether `cell` is of the plain set and has the attributes and the pair of `other`.
 #[inline(always)]
 fn is_plain_like(cell: Cell, other: Cell) -> bool
     ensures { result ≡ true → spec.IsPlainLike cell other cell.byte }
@@ -61,7 +62,8 @@ fn is_plain_like(cell: Cell, other: Cell) -> bool
     cell.is_styled_like(other) && !other.attrs().has(Attrs::ALTCHARSET)
 }
 
-/// The character of a cell of the plain set, if another cell has its attributes and its pair.
+/// The character of the cell in column `at` of `cells`, if it is of the plain set and has the attributes and the pair
+/// of the cell in column `like`.
 pub(crate) fn plain_byte(cells: &[Cell], at: usize, like: usize) -> Option<u8>
     requires at { at < length cells.now }
     requires like { like < length cells.now }
@@ -72,9 +74,9 @@ pub(crate) fn plain_byte(cells: &[Cell], at: usize, like: usize) -> Option<u8>
     is_plain_like(cell, cells[like]).then_some(cell.byte())
 }
 
-/// How many of the cells of `stretch` of a line come before the first one that isn't of the plain set with the
-/// attributes and the pair of the cell in the column `like`; no more than there is room for in `text`, which gets their
-/// characters.
+/// Counts the cells of `stretch` in `line` before the first one that isn't of the plain set with the attributes and the
+/// pair of the cell in column `like`, and writes their characters to `text`. It counts no more than `text` has room
+/// for.
 pub(crate) fn plain_text(line: &[Cell], stretch: Cells, like: usize, text: &mut [u8]) -> usize
     requires like { like < length line.now }
     requires within { stretch.from + stretch.count ≤ length line.now }
