@@ -14,20 +14,20 @@ use Rattle.cur_paint.specs.Differ.{AreSameOutside, IsMoved, all_differ}
 use Rattle.cur_paint.proofs.Mixtures.{agrees_as}
 use Rattle.cur_paint.proofs.Ranges.{span_none}
 
--- the same screen, its size in other words
+-- screens that differ only in some lines, with their size in other words
 pub sized_as : (old new : ℕ → ℕ → Ink) (from end rows cols n m : ℕ) → AreSameOutside old new from end rows cols → rows ≡ n → cols ≡ m → AreSameOutside old new from end n m
 sized_as old new from end rows cols n m h e f = record {
   above = λ i j a b. h.above i j a (omega (arith, f, b));
   below = λ i j a b d. h.below i j a (omega (arith, e, b)) (omega (arith, f, d));
 }
 
--- lines above that are the same don't count
+-- equal lines above add nothing to the count
 pub all_above : (old new : ℕ → ℕ → Ink) (cols n : ℕ) → ((i j : ℕ) → i < n → j < cols → old i j ≡ new i j) → all_differ old new cols n ≡ 0
 all_above old new cols zero h = refl
 all_above old new cols (suc n) h =
     omega (arith, all_above old new cols n (λ i j a b. h i j (omega (arith, a)) b), span_none old new n 0 cols (λ j a b. h n j (omega arith) (omega (arith, b))))
 
--- nor do those below
+-- equal lines below add nothing to the count
 pub all_below : (old new : ℕ → ℕ → Ink) (cols end n : ℕ) → end ≤ n → ((i j : ℕ) → end ≤ i → i < n → j < cols → old i j ≡ new i j) → all_differ old new cols n ≡ all_differ old new cols end
 all_below old new cols end zero le h = let same : 0 ≡ end = omega (arith, le) in ap (λ (k : ℕ). all_differ old new cols k) same
 all_below old new cols end (suc n) le h = elim (cases_lt n end) [
@@ -45,7 +45,7 @@ mixed_below old new r i j h = grind (arith, nat_tests, h)
 pub above_shown : (t : Table) (old new : ℕ → ℕ → Ink) (r : ℕ) (b : Belief) → ((i j : ℕ) → i < r → j < t.cols → old i j ≡ new i j) → (s : State) → Agrees t old b s → Agrees t (mixed old new r 0) b s
 above_shown t old new r b e s h = agrees_as t old (mixed old new r 0) b (λ i j li lj. mixed_above old new r i j (λ lt. e i j lt lj)) s h
 
--- and those below
+-- the lines below are shown already
 pub below_shown : (t : Table) (old new : ℕ → ℕ → Ink) (r : ℕ) (b : Belief) → ((i j : ℕ) → r ≤ i → i < t.rows → j < t.cols → old i j ≡ new i j) → (s : State) → Agrees t (mixed old new r 0) b s → Agrees t new b s
 below_shown t old new r b e s h = agrees_as t (mixed old new r 0) new b (λ i j li lj. mixed_below old new r i j (λ le. e i j le li lj)) s h
 
@@ -55,7 +55,7 @@ shifted_above x g i j lt = grind (arith, nat_tests)
 shifted_below : (x : Scroll) (g : ℕ → ℕ → Ink) (i j : ℕ) → x.bottom < i → shifted x g i j ≡ g i j
 shifted_below x g i j lt = grind (arith, nat_tests)
 
--- a screen that was scrolled, outside the region and the lines that differed before
+-- a scrolled screen doesn't differ outside the region and the lines that differed before
 pub moved_outside : (between : (ℕ → ℕ → Ink) → (ℕ → ℕ → Ink) → Type 0) (x : Scroll) (g new : ℕ → ℕ → Ink) (from end first last rows cols : ℕ) → (m : IsMoved between x g new)
     → AreSameOutside m.old new from end rows cols → first ≤ from → first ≤ x.top → end ≤ last → ((i : ℕ) → last ≤ i → i < rows → x.bottom < i) → AreSameOutside g new first last rows cols
 moved_outside between x g new from end first last rows cols m h a b d past = record {

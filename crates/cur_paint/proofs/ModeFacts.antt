@@ -1,4 +1,4 @@
--- The cursor's mode, as the last thing but its place that is set, and what paints before and after that.
+-- The cursor's mode, which is set last but for the cursor's place, and the painting before and after that.
 use Rattle.std.proofs.Common.{◌≡◌, ℕ, ◌+◌, ◌≤◌, List, [], ◌++◌, Option, Some, None, Result, Ok, Err, refl, sym, ap, ◌∙◌, arith, append_assoc}
 use Rattle.std.specs.Prelude.{OnOk}
 use Rattle.std.specs.List.{concat}
@@ -22,7 +22,7 @@ pub move_short : (t : Table) (cursor : Option Place) → move_limit t cursor ≤
 move_short t None = omega arith
 move_short t (Some p) = omega arith
 
--- ---- what paints
+-- ---- painting
 
 pub paint_piece : (t : Table) (x : List ℕ) → IsPaint t x → IsPiece t x
 paint_piece t x (Stroke row paint is) = Line row is
@@ -43,12 +43,12 @@ painted_none t = record { pieces = []; made = refl; each = tt }
 
 -- ---- nothing goes out that wasn't asked for
 
--- what is so
+-- a proposition that holds also holds if a call succeeds
 so : {T E : Type 0} (answer : Result T E) (P : Type 0) → P → OnOk answer P
 so (Ok v) P p = p
 so (Err e) P p = tt
 
--- paint in front
+-- painting before bytes that only paint
 quiet_more : (t : Table) (now : Option Mode) (cursor : Option Place) (m : Mode) (x bytes : List ℕ) → IsPainted t x → OnlyPaints t [] now cursor m bytes → OnlyPaints t [] now cursor m (x ++ bytes)
 quiet_more t now cursor m x bytes p h = record {
   front = x ++ h.front;
@@ -59,7 +59,7 @@ quiet_more t now cursor m x bytes p h = record {
   short = h.short;
 }
 
--- what it begins with in front
+-- an opening before bytes that only paint
 pub quiet_first : {T E : Type 0} (answer : Result T E) (t : Table) (first : List ℕ) (now : Option Mode) (cursor : Option Place) (m : Mode) (bytes : List ℕ) → OnOk answer (OnlyPaints t [] now cursor m bytes) → OnOk answer (OnlyPaints t first now cursor m (first ++ bytes))
 quiet_first answer t first now cursor m bytes h = on_ok_map answer (OnlyPaints t [] now cursor m bytes) (OnlyPaints t first now cursor m (first ++ bytes)) (λ k. record {
   front = k.front;
@@ -70,7 +70,7 @@ quiet_first answer t first now cursor m bytes h = on_ok_map answer (OnlyPaints t
   short = k.short;
 }) h
 
--- what it begins with paints
+-- an opening that paints counts as painting
 pub quiet_joined : {T E : Type 0} (answer : Result T E) (t : Table) (first : List ℕ) (now : Option Mode) (cursor : Option Place) (m : Mode) (bytes : List ℕ) → IsPainted t first → OnOk answer (OnlyPaints t first now cursor m bytes) → OnOk answer (OnlyPaints t [] now cursor m bytes)
 quiet_joined answer t first now cursor m bytes p h = on_ok_map answer (OnlyPaints t first now cursor m bytes) (OnlyPaints t [] now cursor m bytes) (λ k. record {
   front = first ++ k.front;
@@ -118,7 +118,7 @@ sets_unfinished went failures a z v u t j limit now cursor mode A B C le h = rec
   quiet = tt;
 }
 
--- what paints before them was cut short
+-- the painting before the mode's strings was cut short
 pub sets_cut : {W T E F : Type 0} (went : W → W → List ℕ → Type 0) (failures : W → ℕ) (a z : W) (v : E) (u : F) (t : Table) (j limit : ℕ) (now : Option Mode) (cursor : Option Place) (mode : Mode) (A B C : State → Type 0)
     → j ≤ limit → Steps {T = T} {E = E} went failures a z (Err v) (IsPaint t) j (IsLost t) A B → Sets {T = T} {E = F} went failures a z (Err u) t limit now cursor mode A C
 sets_cut went failures a z v u t j limit now cursor mode A B C le h = record {

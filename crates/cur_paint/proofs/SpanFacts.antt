@@ -56,7 +56,7 @@ piece_goes_on {t = false} old new i from end k few result stays moves told le ga
 times_more : (d few n : ℕ) → few + 1 ≤ n → d * (few + 1) ≤ d * n
 times_more d few n le = grind arith
 
--- it has no more places than bytes may go out for those that differ
+-- a piece has no more places than bytes may go out for those of them that differ
 pub piece_short : (t : Table) (d few n : ℕ) → n ≤ d * (few + 1) → few ≤ t.longest.cup → n ≤ d * cell_limit t
 piece_short t d few n short le =
     let room : few + 1 ≤ cell_limit t = omega (arith, le) in

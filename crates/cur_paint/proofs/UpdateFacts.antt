@@ -1,4 +1,4 @@
--- From all that a refresh is to send to what it promises.
+-- From all bytes of a refresh to its promise.
 use Rattle.std.proofs.Common.{◌≡◌, ℕ, ◌<◌, ◌≤◌, List, ◌++◌, length, Option, Some, Ok, Err, refl, ap, subst, ◌∙◌, inl, inr, arith, append_assoc, length-append}
 use Rattle.vt_term.specs.Screen.{State}
 use Rattle.cur_wires.specs.Leads.{Leads}
@@ -20,12 +20,12 @@ use Rattle.cur_paint.specs.declared.updates.Status.{Status}
 use Rattle.cur_paint.specs.declared.updates.Status.TheVariants.{Known, Lost}
 use Rattle.cur_paint.proofs.Agreeing.{agrees_plain, agrees_rested, agrees_shows, no_wrap}
 
--- no wrap is left where any byte went out
+-- no wrap is left if any byte went out
 unwrapped : (t : Table) (g : ℕ → ℕ → Ink) (b : Belief) (cursor : Option Place) (n limit : ℕ) → IsWithin t cursor → n ≤ limit → 0 < n → EndsAt cursor limit b.place → (s : State) → Agrees t g b s → HasNoWrap cursor s.screen.pending
 unwrapped t g b cursor n limit w le some (inl at) s h = no_wrap t g b cursor w at s h
 unwrapped t g b cursor n limit w le some (inr none) s h = absurd (omega (arith, le, some, none))
 
--- it is lawful
+-- the bytes are lawful
 lawful : (t : Table) (n : ℕ) (A : State → Type 0) (status : Status) (now : Option Mode) (g : ℕ → ℕ → Ink) (w : Wanted) (b : Belief) (bytes : List ℕ) → IsWithin t w.cursor → Leads (IsPiece t) n (IsLost t) A bytes (Agrees t g b) → Begins t status w.clear bytes
     → IsPlaced t.cols w.cursor b.place → EndsAt w.cursor n b.place → IsRested b → b.mode ≡ Some w.mode → OnlyPaints t (opening t status w.clear) now w.cursor w.mode bytes → Lawful t A status now bytes g w
 lawful t n A status now g w b bytes within leads begins there at plainly mode quiet = record {
@@ -53,7 +53,7 @@ refreshed went failures a z v t shown g w before after within d = record {
   mode = d.mode;
 }
 
--- a front of a front
+-- a prefix of a prefix
 pub front_of_front : (bytes front back x y : List ℕ) → bytes ≡ front ++ back → front ≡ x ++ y → bytes ≡ x ++ (y ++ back)
 front_of_front bytes front back x y whole part = whole ∙ ap (λ (l : List ℕ). l ++ back) part ∙ append_assoc x y back
 

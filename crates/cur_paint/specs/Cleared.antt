@@ -1,4 +1,4 @@
--- The terminal as it is known after all was erased.
+-- The belief about a terminal whose whole screen was erased.
 use Rattle.std.specs.Prelude.{false, Option, Some}
 use Rattle.vt_term.specs.Screen.{State}
 use Rattle.ti_conforms.specs.Certified.{Table, IsLost}
@@ -11,11 +11,11 @@ use Rattle.cur_steps.specs.declared.beliefs.Belief.{Belief}
 abbrev pub at_start : Option Mode → Belief
 at_start mode = record { place = record { row = 0; col = 0 }; brush = plain_brush; graphic = Some false; mode = mode }
 
--- nothing is known but what is believed of the cursor's mode
+-- nothing is known but the believed mode of the cursor
 pub record IsLeft (t : Table) (mode : Option Mode) (s : State) : Type 0 where
   pub lost : IsLost t s
   pub seen : IsSeen mode s.screen.visible
 
--- after `clear`: all that was believed, but for the cursor's place
+-- after `clear`: the belief before it, but for the cursor's place
 abbrev pub at_corner : Belief → Belief
 at_corner b = record b { place = record { row = 0; col = 0 } }

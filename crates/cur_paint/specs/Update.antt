@@ -1,4 +1,4 @@
--- What a refresh promises, done or cut short.
+-- The promise of a refresh, done or cut short.
 use Rattle.std.specs.Prelude.{ℕ, ◌<◌, ◌≤◌, ◌≡◌, Bool, true, false, List, [], ◌++◌, length, Option, Some, Result, Ok}
 use Rattle.std.specs.Prelude.{Err, OnOk, if◌then◌else◌}
 use Rattle.std.specs.List.{AllByRecursion, concat}
@@ -31,20 +31,20 @@ pub record IsFresh (t : Table) (s : State) : Type 0 where
   pub whole : IsWhole s.screen
   pub visible : s.screen.visible ≡ true
 
--- the states that the terminal may be in while this is believed of it: with the cells of the last refresh that was done
--- and what is believed where it is known
+-- the states that the terminal may be in under a belief: if it is known, it shows the cells of the last refresh that
+-- was done, and the belief is true of it
 abbrev pub Meets : Table → (ℕ → ℕ → Ink) → Status → Belief → State → Type 0
 Meets t shown Fresh b s = IsFresh t s
 Meets t shown Known b s = Agrees t shown b s
 Meets t shown Lost b s = IsLost t s
 
--- The states that the terminal may be in between two calls: where it is known, its cursor is as is known, its rendition
+-- The states that the terminal may be in between two calls: if it is known, its cursor is the known one, its rendition
 -- is the default one, and its active set is the plain one.
 abbrev pub Fits : Table → (ℕ → ℕ → Ink) → Status → Cursor → State → Type 0
 Fits t shown status c = Meets t shown status (rested c)
 
--- nothing is open, each cell has the look of the screen's, the cursor is where it is wanted, if a place is, and visible
--- as is wanted
+-- nothing is open, each cell has the look of the screen's, and the cursor is at the wanted place, if there is one, and
+-- visible as wanted
 pub record Shows (t : Table) (g : ℕ → ℕ → Ink) (w : Wanted) (s : State) : Type 0 where
   pub closed : s.rest ≡ []
   pub cells : (i j : ℕ) → i < t.rows → j < t.cols → look_at s.screen.grid i j ≡ look_of t.looks (g i j)
@@ -60,22 +60,22 @@ pub record BeginsClear (t : Table) (bytes : List ℕ) : Type 0 where
   pub is : t.line_of Clear ≡ Some line
   pub begins : BeginsWith line bytes
 
--- a known session begins with `clear` where that is asked for, and any other with the resynchronization
+-- a known session begins with `clear` if that is asked for, and any other with the resynchronization
 abbrev pub Begins : Table → Status → Bool → List ℕ → Type 0
 Begins t Known true bytes = BeginsClear t bytes
 Begins t Known false bytes = Unit {0}
 Begins t Fresh clear bytes = BeginsWith t.resync bytes
 Begins t Lost clear bytes = BeginsWith t.resync bytes
 
--- what a refresh begins with
+-- the bytes with which a refresh begins
 abbrev pub opening : Table → Status → Bool → List ℕ
 opening t Known true = text_of t Clear
 opening t Known false = []
 opening t Fresh clear = t.resync
 opening t Lost clear = t.resync
 
--- Characters and lines that begin so, send nothing that wasn't asked for, and lead each state of the kind to one that
--- shows the screen. Where the cursor isn't known to be shown in its mode (now), the strings for that are among them.
+-- Characters and lines that begin as they must, send nothing that wasn't asked for, and lead each state of the kind to
+-- one that shows the screen. If the cursor isn't known to be in its mode (now), the strings for that are among them.
 pub record Lawful (t : Table) (kind : State → Type 0) (status : Status) (now : Option Mode) (bytes : List ℕ)
     (g : ℕ → ℕ → Ink) (w : Wanted) : Type 0 where
   pub pieces : List (List ℕ)
@@ -86,7 +86,7 @@ pub record Lawful (t : Table) (kind : State → Type 0) (status : Status) (now :
   pub quiet : OnlyPaints t (opening t status w.clear) now w.cursor w.mode bytes
   -- they leave the default rendition and the plain set, for whatever is sent next
   pub plain : (s : State) → kind s → Ends s bytes IsPlain
-  -- and no pending wrap where the cursor is wanted, unless there are none: some terminals don't draw it there
+  -- unless they are empty, they leave no pending wrap at the cursor's wanted place: some terminals don't draw it there
   pub unwrapped : 0 < length bytes → (s : State) → kind s → Ends s bytes (λ u. HasNoWrap w.cursor u.screen.pending)
 
 abbrev pub refresh_limit : Table → (ℕ → ℕ → Ink) → (ℕ → ℕ → Ink) → Status → Belief → Wanted → ℕ
@@ -94,7 +94,7 @@ refresh_limit t shown g Known b w = if w.clear then fresh_limit t else paint_lim
 refresh_limit t shown g Fresh b w = fresh_limit t
 refresh_limit t shown g Lost b w = fresh_limit t
 
--- what goes out in a refresh
+-- the bytes of a refresh, sent whole or in part
 pub record Draws {W T E : Type 0} (went : W → W → List ℕ → Type 0) (failures : W → ℕ) (old new : W)
     (answer : Result T E) (t : Table) (shown g : ℕ → ℕ → Ink) (w : Wanted) (status : Status)
     (b after : Belief) : Type 0 where
@@ -108,7 +108,7 @@ pub record Draws {W T E : Type 0} (went : W → W → List ℕ → Type 0) (fail
   pub quiet : OnOk answer
       (OnlyPaints t (opening t status w.clear) (shown_mode status b.mode) w.cursor w.mode step.bytes)
 
--- the same from one kind of states, with the most that goes out, what it begins with, and the mode in which the cursor
+-- a refresh from one kind of states, with its bound, the bytes with which it begins, and the mode in which the cursor
 -- is known to be shown before
 pub record Anew {W T E : Type 0} (went : W → W → List ℕ → Type 0) (failures : W → ℕ) (old new : W)
     (answer : Result T E) (t : Table) (limit : ℕ) (before after : State → Type 0) (first : List ℕ)
@@ -117,7 +117,7 @@ pub record Anew {W T E : Type 0} (went : W → W → List ℕ → Type 0) (failu
   pub begins : BeginsWith first step.bytes
   pub quiet : OnOk answer (OnlyPaints t first now w.cursor w.mode step.bytes)
 
--- all that a refresh is to send; it went out, or only a front of it did, by the answer
+-- all bytes of a refresh; they went out, or only a prefix of them did, by the answer
 pub record Made {W T E : Type 0} (went : W → W → List ℕ → Type 0) (failures : W → ℕ) (old new : W)
     (answer : Result T E) (t : Table) (shown g : ℕ → ℕ → Ink) (w : Wanted) (status : Status)
     (b after : Belief) : Type 0 where
@@ -132,7 +132,7 @@ pub record Made {W T E : Type 0} (went : W → W → List ℕ → Type 0) (failu
   pub mode : after.mode ≡ Some w.mode
   pub quiet : OnlyPaints t (opening t status w.clear) (shown_mode status b.mode) w.cursor w.mode bytes
 
--- A refresh that was done: every state that fits before, run over what went out, shows the screen and fits after. The
+-- A refresh that was done: every state that fits before, run over the sent bytes, shows the screen and fits after. The
 -- bytes are lawful, and keep the bound.
 pub record Refreshed {W : Type 0} (went : W → W → List ℕ → Type 0) (old new : W) (t : Table) (shown g : ℕ → ℕ → Ink)
     (w : Wanted) (before after : Knowledge) : Type 0 where
@@ -142,15 +142,15 @@ pub record Refreshed {W : Type 0} (went : W → W → List ℕ → Type 0) (old 
   pub lawful : Lawful t (Fits t shown before.status before.cursor) before.status
       (shown_mode before.status before.cursor.mode) bytes g w
   pub fits : (s : State) → Fits t shown before.status before.cursor s → Ends s bytes (Fits t g Known after.cursor)
-  -- a front of them leads to a state that fits a lost session
+  -- each prefix of them leads to a state that fits a lost session
   pub cut : (front back : List ℕ) → bytes ≡ front ++ back → (s : State) → Fits t shown before.status before.cursor s
       → Ends s front (IsLost t)
   pub known : after.status ≡ Known
   pub there : IsPlaced t.cols w.cursor after.cursor.place
   pub mode : after.cursor.mode ≡ Some w.mode
 
--- A refresh that the wire cut short: a front of lawful bytes, and not all of them, went out, and the terminal may be in
--- any state that fits a lost session.
+-- A refresh that the wire cut short: a proper prefix of lawful bytes went out, and the terminal may be in any state
+-- that fits a lost session.
 pub record CutShort {W : Type 0} (went : W → W → List ℕ → Type 0) (failures : W → ℕ) (old new : W) (t : Table)
     (shown g : ℕ → ℕ → Ink) (w : Wanted) (before after : Knowledge) : Type 0 where
   pub front : List ℕ
@@ -161,7 +161,7 @@ pub record CutShort {W : Type 0} (went : W → W → List ℕ → Type 0) (failu
   pub lawful : Lawful t (Fits t shown before.status before.cursor) before.status
       (shown_mode before.status before.cursor.mode) (front ++ back) g w
   pub fits : (s : State) → Fits t shown before.status before.cursor s → Ends s front (IsLost t)
-  -- and so does a front of this front
+  -- each prefix of this prefix also leads to a state that fits a lost session
   pub cut : (x y : List ℕ) → front ≡ x ++ y → (s : State) → Fits t shown before.status before.cursor s
       → Ends s x (IsLost t)
   pub lost : after.status ≡ Lost

@@ -1,4 +1,5 @@
-//! How a known screen is mended: not at all, after a scroll, or after all was cleared, by how many cells would differ.
+//! The choice of how a known screen is mended: not at all, directly, after a scroll, or after `clear`, by the number of
+//! cells that would differ.
 ghost use Rattle.std.specs.Prelude.{◌+◌, ◌<◌, ◌≡◌, ◌≤◌, IfSome, List, Some, false, length, true, ℕ};
 ghost use Rattle.cur_moves.specs.Scrolls.{CanScroll, shifted};
 ghost use Rattle.cur_paint.specs.Differ.{all_differ};
@@ -17,11 +18,11 @@ use cur_steps::{Belief, Blank, Picture, Place, is_mode};
 use ti_conforms::Certificate;
 use ti_rows::Row;
 
-/// By how many cells a scroll has to do better than by its lines: it sends margins twice, and moves.
+/// The number of cells by which a scroll must do better than by its lines, since it sends margins twice, and moves.
 const BESIDE: usize = 4;
 
-/// Whether nothing is to be sent from a known state: no cell differs, and the cursor is where `wanted` says and is
-/// shown so.
+/// Whether nothing has to be sent from a known state: no cell differs, and the cursor is where `wanted` says and in its
+/// mode.
 pub(crate) fn is_still<C: Certificate, O: Picture, N: Picture, D: Changes>(
     screens: &Screens<'_, C, O, N>,
     belief: Belief,
@@ -46,7 +47,8 @@ pub(crate) fn is_still<C: Certificate, O: Picture, N: Picture, D: Changes>(
     !differ_in_more(screens, changes, 0)
 }
 
-/// Whether the cursor is at the place `cursor`, if there is one.
+/// Whether the cursor is at the place `cursor`, if there is one; `now` is its believed place on a screen of `cols`
+/// columns.
 fn is_in_place(now: Place, cols: usize, cursor: Option<Place>) -> bool
     ensures seen { result ≡ true → IsPlaced cols cursor now }
     ensures counted { result ≡ false → last_move cols now cursor ≡ 1 }
@@ -57,8 +59,8 @@ fn is_in_place(now: Place, cols: usize, cursor: Option<Place>) -> bool
     }
 }
 
-/// Whether the cursor is at `at`, where its place `now` is believed on a screen of `cols` columns: with a wrap pending
-/// it is in the last one.
+/// Whether the cursor is at `at`, given its believed place `now` on a screen of `cols` columns: with a wrap pending it
+/// is in the last column.
 fn is_seen(now: Place, cols: usize, at: Place) -> bool
     ensures seen { result ≡ true → IsPlaced cols (Some at) now }
     ensures counted { result ≡ false → last_move cols now (Some at) ≡ 1 }
@@ -66,8 +68,8 @@ fn is_seen(now: Place, cols: usize, at: Place) -> bool
     now.row == at.row && now.col.min(cols.saturating_sub(1)) == at.col
 }
 
-/// The scroll that `changes` name, if the terminal can do it and it leaves fewer cells to be mended, by at least 4 more
-/// than the lines that it moves by.
+/// The scroll that `changes` names, if the terminal can do it, and it leaves fewer cells to mend: fewer by the number
+/// of lines that it moves by, and 4 more.
 #[inline(always)]
 pub(crate) fn useful_scroll<C: Certificate, O: Picture, N: Picture, D: Changes>(
     screens: &Screens<'_, C, O, N>,
@@ -83,7 +85,8 @@ pub(crate) fn useful_scroll<C: Certificate, O: Picture, N: Picture, D: Changes>(
     useful(screens, changes, changes.scroll()?)
 }
 
-/// The `scroll`, if it is a useful one: counts the cells that differ without it and after it.
+/// The `scroll`, if the terminal can do it and enough fewer cells differ after it. Counts the cells that differ without
+/// it and after it.
 #[inline(never)]
 fn useful<C: Certificate, O: Picture, N: Picture, D: Changes>(
     screens: &Screens<'_, C, O, N>,
@@ -118,7 +121,7 @@ fn useful<C: Certificate, O: Picture, N: Picture, D: Changes>(
     }
 }
 
-/// Whether it is likely to take fewer bytes to clear all and paint it than to mend what differs, and whether that keeps
+/// Whether clearing and painting everything is likely to take fewer bytes than mending the differences, and also keeps
 /// within the bound.
 #[inline(always)]
 pub(crate) fn is_better_cleared<C: Certificate, O: Picture, N: Picture, D: Changes>(
@@ -137,7 +140,8 @@ pub(crate) fn is_better_cleared<C: Certificate, O: Picture, N: Picture, D: Chang
     may_become_blanks(screens.new, changes, rows, cols) && takes_fewer_cleared(screens, changes)
 }
 
-/// As `is_better_cleared`, where many lines become blank: counts the cells that differ before and after `clear`.
+/// Slow path of `is_better_cleared`, for a screen on which many lines become blank: counts the cells that differ before
+/// and after `clear`.
 #[inline(never)]
 fn takes_fewer_cleared<C: Certificate, O: Picture, N: Picture, D: Changes>(
     screens: &Screens<'_, C, O, N>,

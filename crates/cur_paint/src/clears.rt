@@ -1,4 +1,4 @@
-//! Whether all is cleared before a known screen is painted.
+//! Whether to clear everything before a known screen is painted.
 use crate::changes::Changes;
 use crate::runs::are_blank;
 use crate::tails::may_differ;
@@ -6,11 +6,11 @@ use cur_steps::Picture;
 use ti_conforms::Certificate;
 use ti_rows::Row;
 
-/// An estimate of the bytes of a move and of a change of attributes, for each line whose cells are printed again.
+/// An estimate of the bytes of a move and a change of attributes, for each line whose cells are printed again.
 const AGAIN: usize = 8;
 
-/// A line of two screens: whether it is blank on the new one, how many cells of its end become so, and how many others
-/// stay what they were.
+/// A line of two screens: whether it is blank on the new one, how many cells at its end become blank, and how many
+/// cells that aren't blank stay as they are.
 #[derive(Clone, Copy)]
 struct Tally {
     is_blank: bool,
@@ -18,7 +18,7 @@ struct Tally {
     kept: usize,
 }
 
-/// The `tally` with one more cell, which is blank if `is_blank`, and as it was if `stays`.
+/// The `tally` with one more cell, which is blank if `is_blank`, and unchanged if `stays`.
 fn with_cell(tally: Tally, is_blank: bool, stays: bool) -> Tally {
     match (is_blank, stays) {
         (true, true) => tally,
@@ -34,7 +34,7 @@ fn with_cell(tally: Tally, is_blank: bool, stays: bool) -> Tally {
     }
 }
 
-/// The tally of the line `row`.
+/// The tally of the line `row` of `cols` columns, from the `old` screen to the `new` one; `blank` is a blank screen.
 fn tally_of<B: Picture, O: Picture, N: Picture>(
     blank: &B,
     old: &O,
@@ -55,8 +55,8 @@ fn tally_of<B: Picture, O: Picture, N: Picture>(
     tally
 }
 
-/// Bytes that clearing saves above the last line that isn't blank, and below it, and bytes that it takes to print again
-/// what stays.
+/// Bytes that clearing saves above the last line that isn't blank, and below it; and bytes that it takes, for unchanged
+/// cells that are printed again too.
 #[derive(Clone, Copy)]
 struct Balance {
     above: usize,
@@ -85,7 +85,7 @@ fn with_line(balance: Balance, tally: Tally, erasing: usize) -> Balance {
     }
 }
 
-/// How many bytes the string for `row` has, and at most `most`.
+/// The number of bytes of the string for `row`, or `most` if it has more or there is none.
 fn bytes_within<C: Certificate>(checked: &C, row: Row, most: usize) -> usize {
     match checked.line(row) {
         Some(line) => line.len().min(most),
@@ -119,7 +119,8 @@ pub(crate) fn saves<C: Certificate, B: Picture, O: Picture, N: Picture>(
     balance.again < balance.above.saturating_add(below)
 }
 
-/// Whether the line `row` becomes blank, as far as a cheap look shows.
+/// Whether the line `row` may differ by `changes` and is blank on the `new` screen: a cheap look at whether it becomes
+/// blank.
 fn may_become_blank<N: Picture, D: Changes>(
     new: &N,
     changes: &D,
@@ -130,7 +131,7 @@ fn may_become_blank<N: Picture, D: Changes>(
     may_differ(changes, row, rows, cols) && are_blank(new, row, 0, cols)
 }
 
-/// Whether two of three lines become blank, so that it is worth a look at all of them: not where no more than a quarter
+/// Whether two of three lines become blank, so that all lines are worth a look. It is false if no more than a quarter
 /// of the lines may differ.
 #[inline(always)]
 pub(crate) fn may_become_blanks<N: Picture, D: Changes>(
@@ -143,7 +144,7 @@ pub(crate) fn may_become_blanks<N: Picture, D: Changes>(
     lines.end - lines.from > rows / 4 && two_may_become_blank(new, changes, rows, cols)
 }
 
-/// Whether two of three lines become blank: those at a quarter, half and three quarters of the screen.
+/// Whether two of these three lines become blank: those at a quarter, half and three quarters of the screen.
 #[inline(never)]
 fn two_may_become_blank<N: Picture, D: Changes>(
     new: &N,

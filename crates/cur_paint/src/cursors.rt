@@ -1,4 +1,4 @@
-//! Painting what differs, and ending in the default rendition with the cursor in its mode and place.
+//! Painting the differences, and ending in the default rendition with the cursor in its mode and place.
 ghost use Rattle.std.specs.Prelude.{◌≡◌, OnOk, Some};
 ghost use Rattle.cur_paint.specs.Limits.{IsPlaced, IsWithin, cursor_limit, rest_limit};
 ghost use Rattle.cur_paint.specs.Modes.{move_limit};
@@ -17,8 +17,8 @@ use cur_steps::{Belief, Picture, Place, set_as, show_as};
 use cur_wires::{Wire, WireFault};
 use ti_conforms::Certificate;
 
-/// Mends all that differs, in the columns that may by `changes`, and then makes the rendition the default one and sets
-/// the cursor as `wanted` says.
+/// Mends all differences, in the columns that may differ by `changes`, then makes the rendition the default one and
+/// sets the cursor as `wanted` says.
 pub(crate) fn paint<C: Certificate, O: Picture, N: Picture, D: Changes, W: Wire>(
     screens: &Screens<'_, C, O, N>,
     belief: &mut Belief,
@@ -41,7 +41,8 @@ pub(crate) fn paint<C: Certificate, O: Picture, N: Picture, D: Changes, W: Wire>
     settle(screens, belief, wire, wanted)
 }
 
-/// The end of a refresh that is not still: the default rendition and the plain set, and the cursor as `wanted` says.
+/// Ends a refresh that sends anything: makes the rendition the default one and the plain set active, and sets the
+/// cursor as `wanted` says.
 fn settle<C: Certificate, O: Picture, N: Picture, W: Wire>(
     screens: &Screens<'_, C, O, N>,
     belief: &mut Belief,
@@ -63,7 +64,7 @@ fn settle<C: Certificate, O: Picture, N: Picture, W: Wire>(
     set_cursor(screens, belief, wire, wanted)
 }
 
-/// Makes the rendition the default one, and the plain set the active one, if they aren't.
+/// Makes the rendition the default one and the plain set active, if they aren't.
 pub(crate) fn rest<C: Certificate, W: Wire>(
     checked: &C,
     belief: &mut Belief,
@@ -79,7 +80,7 @@ pub(crate) fn rest<C: Certificate, W: Wire>(
     set_as(checked, belief, wire, false)
 }
 
-/// Gives the cursor its mode, and moves it to its place, both as `wanted` says.
+/// Gives the cursor the mode and the place that `wanted` says.
 fn set_cursor<C: Certificate, O: Picture, N: Picture, W: Wire>(
     screens: &Screens<'_, C, O, N>,
     belief: &mut Belief,

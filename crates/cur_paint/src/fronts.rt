@@ -1,4 +1,4 @@
-//! What may go out before what differs is mended: the resynchronization, `clear`, or a scroll.
+//! The bytes that may go out before differences are mended: the resynchronization, `clear`, or a scroll.
 ghost use Rattle.std.specs.Prelude.{◌+◌, ◌≡◌, ◌≤◌, List, OnOk, Some, length, ℕ};
 ghost use Rattle.cur_moves.specs.Scrolls.{CanScroll, shifted};
 ghost use Rattle.cur_paint.specs.Cleared.{IsLeft};
@@ -22,7 +22,8 @@ use cur_wires::{Wire, WireFault, send_all};
 use ti_conforms::Certificate;
 use ti_rows::Row;
 
-/// From any lost state in which the cursor is shown in the mode `shown_as`, if that is known: paints all anew.
+/// Paints everything anew after the resynchronization, from any lost state in which the cursor is shown in the mode
+/// `shown_as`, if that is known.
 #[inline(never)]
 pub(crate) fn repaint<C: Certificate, O: Picture, N: Picture, W: Wire>(
     screens: &Screens<'_, C, O, N>,
@@ -53,7 +54,7 @@ pub(crate) fn repaint<C: Certificate, O: Picture, N: Picture, W: Wire>(
     paint(&anew, belief, wire, &Whole, wanted)
 }
 
-/// From a known state: clears all, in the default rendition, and paints it anew.
+/// Clears everything from a known state, in the default rendition, and paints it anew.
 #[inline(never)]
 pub(crate) fn clear_first<C: Certificate, O: Picture, N: Picture, W: Wire>(
     screens: &Screens<'_, C, O, N>,
@@ -86,7 +87,7 @@ pub(crate) fn clear_first<C: Certificate, O: Picture, N: Picture, W: Wire>(
     paint(&anew, belief, wire, &Whole, wanted)
 }
 
-/// From a known state: scrolls as `scroll` says, and mends what then differs.
+/// Scrolls from a known state as `scroll` says, and mends the cells that then differ.
 #[inline(never)]
 pub(crate) fn scroll_first<C: Certificate, O: Picture, N: Picture, D: Changes, W: Wire>(
     screens: &Screens<'_, C, O, N>,

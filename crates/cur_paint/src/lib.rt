@@ -1,4 +1,4 @@
-//! The painter's heart: from what a terminal is known to show to what it is to show.
+//! The painter's core: brings the terminal from the screen that it is known to show to the wanted one.
 #![tactic(auto)]
 
 mod changes;

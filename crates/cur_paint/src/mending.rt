@@ -1,4 +1,4 @@
-//! The painter at work: cells, parts of lines, lines and the screen become what they are to be, where they differ.
+//! The painter at work: mends cells, parts of lines, lines and the screen where they differ from the wanted ones.
 ghost use Rattle.std.specs.Prelude.{◌<◌, ◌≡◌, ◌≤◌, OnOk, Some, length, ℕ};
 ghost use Rattle.cur_paint.specs.Blanks.{IsBlankFrom};
 ghost use Rattle.cur_paint.specs.Differ.{IsSameOutside, differs};
@@ -19,7 +19,7 @@ use cur_steps::{Belief, Cells, Ink, Picture, Place};
 use cur_wires::{Wire, WireFault};
 use ti_conforms::Certificate;
 
-/// Mends all lines, where they may differ by `changes`.
+/// Mends all lines, in the columns that may differ by `changes`.
 pub(crate) fn mend_screen<C: Certificate, O: Picture, N: Picture, D: Changes, W: Wire>(
     screens: &Screens<'_, C, O, N>,
     belief: &mut Belief,
@@ -55,8 +55,8 @@ pub(crate) fn mend_screen<C: Certificate, O: Picture, N: Picture, D: Changes, W:
     Ok(())
 }
 
-/// Mends the line `row` within the `columns`, before which it is as it was, and erases everything from their end on,
-/// lines below it too, by the string `line`.
+/// Mends the line `row` within `columns`, before which it must be right already, and erases everything after them,
+/// lines below too, by the string `line`.
 #[inline(never)]
 fn mend_bottom<C: Certificate, O: Picture, N: Picture, W: Wire>(
     screens: &Screens<'_, C, O, N>,
@@ -97,8 +97,8 @@ fn mend_bottom<C: Certificate, O: Picture, N: Picture, W: Wire>(
     erase_from(&target, belief, wire, at, ErasedPart::Rest, line)
 }
 
-/// Mends the line `row`, which may differ within the `columns`. If `tail` is one of them, the line is to be blank from
-/// there on.
+/// Mends the line `row`, which must differ only within `columns`. If `tail` is one of them, the new line must be blank
+/// from there on.
 fn mend_line<C: Certificate, O: Picture, N: Picture, W: Wire>(
     screens: &Screens<'_, C, O, N>,
     belief: &mut Belief,
@@ -137,9 +137,9 @@ fn mend_line<C: Certificate, O: Picture, N: Picture, W: Wire>(
     mend_tail(screens, belief, wire, row, rest)
 }
 
-/// Mends the line `row` from the first of the `columns` on; past them it is as it was. If there are any columns, the
-/// line is to be blank from there on. It is erased by `el` where that is no longer than the blanks, else mended cell by
-/// cell.
+/// Mends the line `row` from the first of `columns` on; past them it must be right already. If there are any columns,
+/// the new line must be blank from the first one on: it is erased by `el` if that is no longer than the blanks, else
+/// mended cell by cell.
 fn mend_tail<C: Certificate, O: Picture, N: Picture, W: Wire>(
     screens: &Screens<'_, C, O, N>,
     belief: &mut Belief,
@@ -185,7 +185,7 @@ fn mend_tail<C: Certificate, O: Picture, N: Picture, W: Wire>(
     }
 }
 
-/// Mends the `cells`, with runs of blanks erased where that takes fewer bytes.
+/// Mends the `cells`, and erases runs of blanks if that takes fewer bytes.
 #[inline(always)]
 fn mend_parts<C: Certificate, O: Picture, N: Picture, W: Wire>(
     screens: &Screens<'_, C, O, N>,
@@ -236,7 +236,7 @@ fn mend_by_parts<C: Certificate, O: Picture, N: Picture, W: Wire>(
     Ok(())
 }
 
-/// Mends the `cells`, by `erasure` where there is one.
+/// Mends the `cells`, by `erasure` if there is one.
 fn mend_part<C: Certificate, O: Picture, N: Picture, W: Wire>(
     screens: &Screens<'_, C, O, N>,
     belief: &mut Belief,
@@ -257,8 +257,8 @@ fn mend_part<C: Certificate, O: Picture, N: Picture, W: Wire>(
     }
 }
 
-/// Erases the `cells` with the front of their line if all of that is blank and some of them differ, else mends them one
-/// after another.
+/// Erases the line from its start to the last of `cells` if all of that becomes blank and some of `cells` differ, else
+/// mends them one after another.
 fn mend_head<C: Certificate, O: Picture, N: Picture, W: Wire>(
     screens: &Screens<'_, C, O, N>,
     belief: &mut Belief,
@@ -286,7 +286,7 @@ fn mend_head<C: Certificate, O: Picture, N: Picture, W: Wire>(
     }
 }
 
-/// Erases the `cells` if they are blank and some differ, else mends them one after another.
+/// Erases the `cells` if they become blank and some differ, else mends them one after another.
 fn mend_run<C: Certificate, O: Picture, N: Picture, W: Wire>(
     screens: &Screens<'_, C, O, N>,
     belief: &mut Belief,
@@ -319,7 +319,8 @@ fn mend_run<C: Certificate, O: Picture, N: Picture, W: Wire>(
     }
 }
 
-/// Prints those of the `cells` that differ: in one piece those that are printed alike, with the few between them.
+/// Prints those of the `cells` that differ. Cells that are printed alike go out in one piece, with the few unchanged
+/// ones between them.
 #[inline(always)]
 fn mend_span<C: Certificate, O: Picture, N: Picture, W: Wire>(
     screens: &Screens<'_, C, O, N>,
@@ -378,7 +379,7 @@ fn print_pieces<C: Certificate, O: Picture, N: Picture, W: Wire>(
     Ok(())
 }
 
-/// Prints the `cells`, which have the characters of `text` in the set and the brush of `ink`: in one piece where the
+/// Prints the `cells`, which must have the characters of `text` in the set and the brush of `ink`: in one piece if the
 /// terminal is known to print them so, else one by one those that differ.
 fn print_alike<C: Certificate, O: Picture, N: Picture, W: Wire>(
     screens: &Screens<'_, C, O, N>,
@@ -435,7 +436,7 @@ fn print_each<C: Certificate, O: Picture, N: Picture, W: Wire>(
     Ok(())
 }
 
-/// Prints the cell in line `row` and column `col`, which differs, as `ink`.
+/// Prints the cell in line `row` and column `col`, which must differ, as `ink`.
 fn print_cell<C: Certificate, O: Picture, N: Picture, W: Wire>(
     screens: &Screens<'_, C, O, N>,
     belief: &mut Belief,

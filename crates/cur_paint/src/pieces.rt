@@ -1,4 +1,4 @@
-//! Which characters of a line go out in one piece.
+//! The characters of a line that go out in one piece.
 ghost use Rattle.std.specs.Prelude.{◌*◌, ◌+◌, ◌<◌, ◌≡◌, ◌≤◌, false, length, true, ℕ};
 ghost use Rattle.cur_paint.specs.Differ.{IsSameBy, span};
 ghost use Rattle.cur_paint.specs.Scenes.{AreInked, IsOn, IsPaintable, IsShort, scene};
@@ -10,15 +10,15 @@ use cur_moves::{goes_on, line_bytes};
 use cur_steps::{Belief, Cells, Ink, Picture, Place};
 use ti_conforms::Certificate;
 
-/// How many characters at most go out in one piece after the first one.
+/// The most characters that go out in one piece after the first one.
 pub(crate) const TEXT: usize = 512;
 
 /// The fewest bytes of a move by a count or to a column.
 const FEW: usize = 3;
 
-/// How many of the first `cells` go out in one piece: they are printed in the set and the brush of `ink`, which is what
-/// their line has in the column `like`; those that stay as they are between two that differ are no more than a move
-/// over them has bytes. `text` gets their characters.
+/// The number of `cells` to print in one piece, from the first one on. They have the set and the brush of `ink`, which
+/// must be the ink of their line in the column `like`, and between two that differ there are no more unchanged ones
+/// than a move over them has bytes. `text` gets their characters.
 pub(crate) fn piece_of<C: Certificate, O: Picture, N: Picture>(
     screens: &Screens<'_, C, O, N>,
     cells: Cells,
@@ -51,8 +51,8 @@ pub(crate) fn piece_of<C: Certificate, O: Picture, N: Picture>(
     piece_end(&same[..count], few)
 }
 
-/// The length of the piece that goes out in one send, where `same` says of each cell whether it is as before. The piece
-/// ends with a cell that differs, and no more than `few` cells that are as before come between two that differ.
+/// The length of the piece to print in one write, given whether each cell is unchanged (`same`). The piece ends with a
+/// cell that differs, and never has more than `few` unchanged cells between two that differ.
 fn piece_end(same: &[bool], few: usize) -> usize
     requires few { few ≤ 3 }
     requires short { length same.now ≤ 512 }
@@ -70,7 +70,7 @@ fn piece_end(same: &[bool], few: usize) -> usize
     end
 }
 
-/// The end of a piece after its cell `k`, which may be as before. There is no branch.
+/// The `end` of a piece after its cell `k`, which is unchanged if `is_same`. There is no branch.
 #[inline(always)]
 fn end_after(end: usize, k: usize, is_same: bool) -> usize
     requires { k < 512 }
@@ -80,8 +80,8 @@ fn end_after(end: usize, k: usize, is_same: bool) -> usize
     if is_same { end } else { k + 1 }
 }
 
-/// Whether `count` is not 0, and the next character is known to go to line `row` and column `col` and to be printed
-/// in the set and the brush of `ink`.
+/// Whether `count` is not 0, and the next character is known to go to line `row` and column `col`, in the set and the
+/// brush of `ink`.
 pub(crate) fn is_led_on(belief: &Belief, row: usize, col: usize, ink: Ink, count: usize) -> bool
     ensures place { result ≡ true → belief.now.place ≡ record { row = row; col = col } }
     ensures alike { result ≡ true → IsAlike belief.now ink }
@@ -89,7 +89,7 @@ pub(crate) fn is_led_on(belief: &Belief, row: usize, col: usize, ink: Ink, count
     count > 0 && goes_on(belief, Place { row, col }, ink)
 }
 
-/// Whether any of the `cells` differs.
+/// Whether any of the `cells` differs between `old` and `new`.
 pub(crate) fn differs_in<O: Picture, N: Picture>(old: &O, new: &N, cells: Cells) -> bool
     requires { cells.from + cells.count ≤ 1000 }
     ensures { result ≡ true → 0 < span (O.cells old.now) (N.cells new.now) cells.row cells.from cells.count }

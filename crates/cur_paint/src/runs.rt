@@ -1,4 +1,4 @@
-//! Which runs of blanks within a line are erased: those for which that takes fewer bytes than printing them.
+//! The runs of blanks within a line that are erased, because that takes fewer bytes than printing them.
 ghost use Rattle.std.specs.Prelude.{◌+◌, ◌<◌, ◌≡◌, ◌≤◌, IfSome, true, ℕ};
 ghost use Rattle.cur_paint.specs.Differ.{span};
 ghost use Rattle.cur_paint.specs.Scenes.{IsOn, IsPaintable, scene};
@@ -14,7 +14,8 @@ use ti_conforms::Certificate;
 /// The fewest bytes of an erasure and the move after it.
 pub(crate) const FEWEST: usize = 5;
 
-/// Blank cells of a line: how many there are, and those from the first to the last one that differs.
+/// A run of blank cells of a line: its length, the part of it from the first to the last cell that differs, and the
+/// number of cells that differ.
 #[derive(Clone, Copy)]
 struct Run {
     len: usize,
@@ -23,14 +24,14 @@ struct Run {
     differing: usize,
 }
 
-/// How many cells of a line go together, and how they are erased; else they are printed.
+/// Successive cells of a line: how many there are, and how they are erased. Without an erasure they are printed.
 #[derive(Clone, Copy)]
 pub(crate) struct Part {
     pub count: usize,
     pub erasure: Option<ErasedPart>,
 }
 
-/// Whether there are lines that erase runs.
+/// Whether the entry has strings that erase runs.
 pub(crate) fn erases_runs<C: Certificate>(checked: &C) -> bool {
     erasing_line(checked, ErasedPart::Part(1)).is_some()
         || erasing_line(checked, ErasedPart::Head).is_some()
@@ -50,7 +51,7 @@ pub(crate) fn next_part<C: Certificate, O: Picture, N: Picture>(
     let mut n = 0;
     while n + FEWEST < cells.count {
         let from = cells.from + n;
-        // only a run of more cells than that pays, and one that begins before this cell contains it
+        // only a run of more than `FEWEST` cells pays, and one that begins no later than this cell contains it
         if !screens.new.is_blank(cells.row, from + FEWEST) {
             n += FEWEST + 1;
             continue;
@@ -72,8 +73,8 @@ pub(crate) fn next_part<C: Certificate, O: Picture, N: Picture>(
     }
 }
 
-/// The first of two parts: the `before` cells ahead of the run `run` and those of it that stay blank, or else the run
-/// itself, which is erased by `erasure`.
+/// The first part to mend: the `before` cells ahead of `run` and the unchanged ones at its start, or, if there are
+/// none, the run itself, which is erased by `erasure`.
 fn cut(before: usize, run: Run, erasure: ErasedPart) -> Part
     requires order { run.start < run.end }
     requires few { before + run.end ≤ 1000 }
@@ -93,8 +94,7 @@ fn cut(before: usize, run: Run, erasure: ErasedPart) -> Part
     }
 }
 
-/// How the run `run`, which begins in line `row` and column `from`, is erased, if that takes fewer bytes than printing
-/// it.
+/// How the `run`, which begins in line `row` and column `from`, is erased, if that takes fewer bytes than printing it.
 fn erasure_of<C: Certificate, N: Picture>(
     checked: &C,
     new: &N,
@@ -126,8 +126,8 @@ fn erasure_of<C: Certificate, N: Picture>(
     None
 }
 
-/// Whether `bytes` is more than the bytes of the erasure `erasure` in line `row` and column `from` and of a move from
-/// there to the column `to`.
+/// Whether the `erasure` in line `row` and column `from`, and a move from there to the column `to`, take fewer bytes
+/// than `bytes`.
 fn pays<C: Certificate>(
     checked: &C,
     erasure: ErasedPart,
@@ -183,7 +183,7 @@ fn run_at<O: Picture, N: Picture>(old: &O, new: &N, cells: Cells) -> Run
     run
 }
 
-/// The run `run`, and its next cell, which differs.
+/// The `run` with one more cell, which differs.
 fn with_different(run: Run) -> Run
     requires start { run.start ≤ run.len }
     requires len { run.len ≤ 1000 }
@@ -205,7 +205,7 @@ fn with_different(run: Run) -> Run
     }
 }
 
-/// Whether some of the `cells` differ, and their line is blank from the column `first` to the last of them.
+/// Whether some of the `cells` differ, and their line becomes blank from the column `first` to the last of them.
 pub(crate) fn is_run<O: Picture, N: Picture>(old: &O, new: &N, first: usize, cells: Cells) -> bool
     requires { cells.from + cells.count ≤ 1000 }
     ensures some { result ≡ true → 0 < cells.count }

@@ -1,4 +1,4 @@
-//! From where on a line, or the rest of the screen, is blank, and whether one erasure of that takes the fewest bytes.
+//! The blank ends of lines and of the screen, and whether one erasure of them takes the fewest bytes.
 ghost use Rattle.std.specs.Prelude.{◌<◌, ◌≡◌, ◌≤◌, IfSome, Some, ℕ};
 ghost use Rattle.cur_paint.specs.Blanks.{IsBlankFrom};
 ghost use Rattle.cur_paint.specs.Scenes.{IsBlankPast, IsPaintable, changed_from, scene};
@@ -14,8 +14,8 @@ use cur_steps::{Cells, Picture};
 use ti_conforms::Certificate;
 use ti_rows::Row;
 
-/// A line's column from which on the screen is blank, or past the line where it isn't worth knowing; and a line below
-/// that isn't blank, if there is one.
+/// The column of a line from which on the rest of the screen is to be erased, or past the line if it isn't; and a line
+/// below that isn't blank, if there is one.
 #[derive(Clone, Copy)]
 pub(crate) struct Bottom {
     pub col: usize,
@@ -70,7 +70,8 @@ pub(crate) fn bottom_from<C: Certificate, O: Picture, N: Picture, D: Changes>(
     Bottom { col: tail, solid }
 }
 
-/// Whether erasing all from the line `row` and the column `tail` on takes no more bytes than line by line.
+/// Whether erasing everything from the line `row` and the column `tail` on takes no more bytes than erasing line by
+/// line.
 fn rest_is_short<C: Certificate, O: Picture, N: Picture>(
     screens: &Screens<'_, C, O, N>,
     row: usize,
@@ -87,7 +88,7 @@ fn rest_is_short<C: Certificate, O: Picture, N: Picture>(
     }
 }
 
-/// Whether it takes at least `bytes` bytes to make the lines from `from` on blank one by one, those that differ.
+/// Whether it takes at least `bytes` bytes to make the differing lines from `from` on blank, one by one.
 fn lines_take<C: Certificate, O: Picture, N: Picture>(
     screens: &Screens<'_, C, O, N>,
     from: usize,
@@ -114,7 +115,7 @@ fn lines_take<C: Certificate, O: Picture, N: Picture>(
     false
 }
 
-/// How many bytes it takes to make the last `count` cells of a line blank.
+/// The number of bytes that it takes to make the last `count` cells of a line blank.
 fn tail_bytes<C: Certificate>(checked: &C, count: usize) -> usize {
     match short_tail(checked, count) {
         Some(tail) => tail.len(),
@@ -122,7 +123,7 @@ fn tail_bytes<C: Certificate>(checked: &C, count: usize) -> usize {
     }
 }
 
-/// The first of the lines from `from` to the one before `rows` that isn't blank, or else the one after them.
+/// The first line from `from` to the one before `rows` that isn't blank, or else the one after them.
 fn first_solid<N: Picture>(new: &N, from: usize, rows: usize, cols: usize) -> usize
     ensures blank { (i j : ℕ) → from ≤ i → i < result → j < cols → N.cells new.now i j ≡ blank_ink }
     ensures within { from ≤ rows → result ≤ rows }
@@ -135,7 +136,7 @@ fn first_solid<N: Picture>(new: &N, from: usize, rows: usize, cols: usize) -> us
     rows.max(from)
 }
 
-/// The string that erases the rest of the screen, if there is one and the column `col` is one of `cols`.
+/// The string that erases the rest of the screen, if there is one and the column `col` is one of the `cols`.
 pub(crate) fn rest_line<C: Certificate>(checked: &C, col: usize, cols: usize) -> Option<&[u8]>
     ensures line { IfSome result (λ b. (C.table checked.now).line_of Ed ≡ Some b.now) }
     ensures col { IfSome result (λ b. col < cols) }
@@ -157,7 +158,8 @@ pub(crate) fn short_tail<C: Certificate>(checked: &C, count: usize) -> Option<&[
     }
 }
 
-/// The column from which on the line `row` of `cols` columns is blank, if the last of the `columns` is; else their end.
+/// The column from which on the line `row` of `cols` columns is blank, if the last of `columns` is blank; else their
+/// end.
 #[inline(always)]
 pub(crate) fn tail_from<N: Picture>(new: &N, row: usize, columns: Columns, cols: usize) -> usize
     requires order { columns.from ≤ columns.end }
@@ -191,7 +193,7 @@ fn blank_from<N: Picture>(new: &N, row: usize, cols: usize) -> usize
     col
 }
 
-/// The lesser of two columns.
+/// The lesser of the columns `a` and `b`.
 pub(crate) fn lesser(a: usize, b: usize) -> usize
     ensures first { result ≤ a }
     ensures second { result ≤ b }

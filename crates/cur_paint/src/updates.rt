@@ -1,7 +1,7 @@
-//! A refresh: what differs where the terminal is known, and all anew where it isn't.
+//! A refresh: sends the differences if the terminal is known, else everything anew.
 //!
-//! `update` goes by what is known of the terminal (`draw`). An unknown one is led to a blank screen and painted anew
-//! (`repaint`). On a known one nothing is sent if nothing is to change, and else what differs is mended (`mend`), after
+//! `update` goes by the knowledge of the terminal (`draw`). An unknown terminal is led to a blank screen and painted
+//! anew (`repaint`). To a known one nothing is sent if nothing changes; else the differences are mended (`mend`), after
 //! a scroll or after `clear` if fewer cells differ then. Each way ends with `paint`, which mends the lines that may
 //! differ (`mending.rt`), makes the rendition the default one, and sets the cursor (`cursors.rt`).
 //!
@@ -27,10 +27,10 @@ use cur_steps::{Belief, Brush, Mode, Picture, Place};
 use cur_wires::{Wire, WireFault};
 use ti_conforms::Certificate;
 
-/// Makes the terminal show the new one of the `screens`, with the cursor as `wanted` says. The old one is what it
-/// shows, where that is known by `session`; only the columns that may differ by `changes` are looked at, unless much
-/// of the screen becomes blank. Where anything goes out, it ends with the default rendition, the plain set and no
-/// pending wrap at the cursor's place. On `WireFault` a front of lawful bytes went out, and the session is lost.
+/// Makes the terminal show the new one of the `screens`, with the cursor as `wanted` says. The old one is the screen
+/// that a terminal known by `session` shows; only the columns that may differ by `changes` are looked at, unless much
+/// of the screen becomes blank. If anything is sent, it ends with the default rendition, the plain set and no pending
+/// wrap at the cursor's place. On `WireFault`, a prefix of lawful bytes went out, and the session is lost.
 pub fn update<C: Certificate, O: Picture, N: Picture, D: Changes, W: Wire>(
     screens: &Screens<'_, C, O, N>,
     session: &mut Knowledge,
@@ -56,7 +56,7 @@ pub fn update<C: Certificate, O: Picture, N: Picture, D: Changes, W: Wire>(
     Ok(())
 }
 
-/// Draws as `draw` does, to the end even where the wire fails: a front of all that was to be sent goes out then.
+/// Draws as `draw` does, to the end even if the wire fails: only a prefix of all the bytes goes out then.
 fn draw_whole<C: Certificate, O: Picture, N: Picture, D: Changes, W: Wire>(
     screens: &Screens<'_, C, O, N>,
     status: Status,
@@ -84,7 +84,7 @@ fn draw_whole<C: Certificate, O: Picture, N: Picture, D: Changes, W: Wire>(
     Ok(())
 }
 
-/// What differs where the terminal is known by `status` and isn't to be cleared, else all.
+/// Sends the differences if the terminal is known by `status` and isn't to be cleared, else everything.
 fn draw<C: Certificate, O: Picture, N: Picture, D: Changes, W: Wire>(
     screens: &Screens<'_, C, O, N>,
     status: Status,
@@ -109,8 +109,8 @@ fn draw<C: Certificate, O: Picture, N: Picture, D: Changes, W: Wire>(
     }
 }
 
-/// From a known state: mends what differs, or nothing where all is as it is wanted. Before that the terminal scrolls,
-/// where `changes` name a scroll that leaves fewer cells to be mended; or all is cleared and painted, where that is
+/// Mends the differences from a known state; sends nothing if everything is as wanted. First the terminal scrolls, if
+/// `changes` names a scroll that leaves fewer cells to mend; or else everything is cleared and painted, if that is
 /// likely to take fewer bytes.
 fn mend<C: Certificate, O: Picture, N: Picture, D: Changes, W: Wire>(
     screens: &Screens<'_, C, O, N>,
@@ -145,10 +145,10 @@ fn mend<C: Certificate, O: Picture, N: Picture, D: Changes, W: Wire>(
     paint(screens, belief, wire, changes, wanted)
 }
 
-/// What is known of the terminal as a whole.
+/// How much is known of the terminal as a whole.
 #[derive(Clone, Copy)]
 pub enum Status {
-    /// It is at rest, and what it shows isn't known.
+    /// It is at rest, and its screen isn't known.
     Fresh,
     /// It shows the screen of the last refresh.
     Known,
@@ -156,24 +156,23 @@ pub enum Status {
     Lost,
 }
 
-/// The cursor as it is known between two refreshes: its place, past the last column where a wrap is pending, and how it
-/// is shown.
+/// The cursor as it is known between two refreshes: its place, past the last column if a wrap is pending, and its mode.
 #[derive(Clone, Copy)]
 pub struct Cursor {
     pub place: Place,
     pub mode: Option<Mode>,
 }
 
-/// The terminal as it is known between two calls. Where it shows the screen of the last refresh, its rendition is the
-/// default one and its active set is the plain one.
+/// The knowledge of the terminal between two calls. If the terminal shows the screen of the last refresh, its rendition
+/// is the default one and its active set is the plain one.
 #[derive(Clone, Copy)]
 pub struct Knowledge {
     pub status: Status,
     pub cursor: Cursor,
 }
 
-/// What is wanted beside the cells: the cursor's place, if it matters, its mode, and whether all is
-/// cleared first.
+/// The wanted state beside the cells: the cursor's place, if it matters, its mode, and whether everything is cleared
+/// first.
 #[derive(Clone, Copy)]
 pub struct Wanted {
     pub cursor: Option<Place>,
@@ -182,7 +181,7 @@ pub struct Wanted {
 }
 
 impl Knowledge {
-    /// Nothing is known yet.
+    /// The knowledge of a fresh session: nothing is known yet.
     pub fn new() -> Knowledge
         ensures fresh { result.status ≡ Fresh }
     {
@@ -193,7 +192,7 @@ impl Knowledge {
     }
 }
 
-/// The place and the mode that `belief` has of the cursor.
+/// The place and the mode of the cursor by `belief`.
 fn cursor_of(belief: Belief) -> Cursor
     ensures value { result ≡ cursor_of belief }
 {
@@ -203,7 +202,7 @@ fn cursor_of(belief: Belief) -> Cursor
     }
 }
 
-/// The belief with which a refresh begins, where `cursor` is known.
+/// The belief with which a refresh begins, given the known `cursor`.
 fn rested(cursor: Cursor) -> Belief
     ensures value { result ≡ rested cursor }
 {
@@ -215,7 +214,7 @@ fn rested(cursor: Cursor) -> Belief
     }
 }
 
-/// What is known after the resynchronization.
+/// The belief after the resynchronization, with the cursor's `mode`, if that is known.
 pub(crate) fn start_belief(mode: Option<Mode>) -> Belief
     ensures value { result ≡ at_start mode }
 {
