@@ -36,7 +36,6 @@ LIMIT = 20
 NOT_REWRITTEN = {
     "bindings/python": 12,
     "crates/cur_moves": 14,
-    "crates/cur_play": 35,
     "crates/curses_c": 32,
     "crates/ti_cert": 44,
     "crates/ti_checker": 45,

@@ -1,4 +1,4 @@
--- A call that was cut short: the wire failed in it. What a call puts out, by its answer.
+-- Calls that were cut short because the wire failed in them; the output of a call, by its answer.
 use Rattle.std.proofs.Common.{◌≡◌, ◌<◌, ◌≤◌, ◌⊎◌, ℕ, Bool, true, false, List, ◌++◌, Option, Some, Err, refl, sym, ap, subst, ◌∙◌, inl, inr, arith}
 use Rattle.std.proofs.lemmas.Bool.{cases_lt}
 use Rattle.vt_term.specs.Screen.{State}
@@ -83,7 +83,7 @@ stays_last : (m n : ℕ) → m ≡ last_count → n ≡ last_count → (k : ℕ)
 stays_last m n e f k le (inl lt) = inl (omega (arith, e, f, lt))
 stays_last m n e f k le (inr ge) = let same : k ≡ n = omega (arith, le, ge) in inr (e, same ∙ f)
 
--- a failure before more of them
+-- a count that rose by one value also rose by any later one
 pub rose_sooner : (m n k : ℕ) → Rose m n → n ≤ k → Rose m k
 rose_sooner m n k (inl lt) le = inl (omega (arith, lt, le))
 rose_sooner m n k (inr last) le = stays_last m n last.0 last.1 k le (cases_lt n k)
@@ -93,7 +93,7 @@ pub none_rose : (m n : ℕ) → n ≡ 0 → Rose m n → ⊥
 none_rose m n e (inl lt) = omega arith
 none_rose m n e (inr last) = omega (arith, e, last.1)
 
--- ---- what a call puts out
+-- ---- the output of a call
 
 -- a bell that was cut short
 pub rung_short : {W C : Type 0} (went : W → W → List ℕ → Type 0) (failures : W → ℕ) (old new : W) (t : Table) (before after : Painted C) (e : Unsent) (fault : WireFault) → e ≡ Wire fault
@@ -118,7 +118,7 @@ shown_same Lost m n h = refl
 not_sent : false ≡ true → ⊥
 not_sent e = cc
 
--- from the states that may be met to some of them
+-- from all states that fit to some of them
 pub emitted : {W C : Type 0} (went : W → W → List ℕ → Type 0) (failures : W → ℕ) (old new : W) (t : Table) (partners : ℕ → Option ℕ) (v : Screen) (o : Emission) (answer : Answer) (bytes : List ℕ) (before after : Painted C)
     (kind : State → Type 0) (now : Option Mode) → ((s : State) → kind s → FitsIn t partners before s) → shown_mode before.session.status before.session.cursor.mode ≡ now
     → (answer ≡ WireFailed → is_sent o ≡ true) → Puts went failures old new t partners v o answer bytes before after → Emits (Says t partners kind before.session.status now v before.mode o) answer bytes

@@ -28,7 +28,7 @@ keeps_full t u d e full v shown = shows_full u e v full
 pub same_shown : (m : Marking) (v w x : Screen) → v ≡ x → w.grid ≡ x.grid → AreSame m v.grid w.grid
 same_shown m v w x e f i j u = ap (λ (s : Screen). cell_at s.grid i j) e ∙ sym (ap (λ (g : Grid). cell_at g i j) f)
 
--- what all marks leave is the same
+-- if everything is marked, no unmarked cell can differ
 pub keeps_all : (m n : Marking) (g h : Grid) → n.all ≡ true → Keeps m g n h
 keeps_all m n g h all v same i j u = absurd (let none : n.all ≡ false = u.some in cc)
 
@@ -42,7 +42,7 @@ chosen_grid : (b : Bool) (v w : Screen) (x y : Result (Unit {0}) Refusal) → w.
 chosen_grid true v w x y e = refl
 chosen_grid false v w x y e = e
 
--- a pair's colours are no cell
+-- the colors of a pair are no part of the grid
 initialized_grid : (p f b : Option ℕ) (v : Screen) → (initialized p f b v).0.grid ≡ v.grid
 initialized_grid (Some p) (Some f) (Some b) v = chosen_grid (p == 0) v _ _ _ refl
 initialized_grid (Some p) (Some f) None v = refl

@@ -75,7 +75,7 @@ part_sized Subwin d n w lines cols y x = after_sized (make.in_range n w) d _ (λ
 part_sized Derwin d n w lines cols y x = after_sized (make.in_range n w) d _ (λ u. after_sized (make.free d n) d _ (λ v. after_sized (slot_of d w) d _ (λ s. after_sized (make.window_only d s) d _ (λ o. subwindow_sized d n w s lines cols y x))))
 part_sized Subpad d n w lines cols y x = after_sized (make.in_range n w) d _ (λ u. after_sized (make.free d n) d _ (λ v. after_sized (pads.pad_of d w) d _ (λ s. subwindow_sized d n w s lines cols y x)))
 
--- of a step that a call may have
+-- the step of a call, if it has one, keeps the sizes
 abbrev pub MaySize : State → Option DeskStep → Type 0
 MaySize d (Some x) = IsSized d x
 MaySize d None = Unit {0}

@@ -19,7 +19,7 @@ use Rattle.cur_play.specs.Groups.{Does}
 use Rattle.cur_play.specs.Windows.{line_step, plain_step}
 use Rattle.cur_play.specs.Groups.{shaping}
 
--- all of them but the one that deletes a window
+-- all plain calls but the one that deletes a window
 pub keeps_plain : (t u : Markings) (k : PlainCall) (d e : State) (n : ℕ) (r : Result (Unit {0}) Refusal) → IsDesk d → (k ≡ Delwin → ⊥) → step e r ≡ plain_step k d n → MarksWindow t u d (slot_of d n) → KeepsShown t d u e
 keeps_plain t u Delwin d e n r desk not is marks = absurd (not refl)
 keeps_plain t u Delch d e n r desk not is marks = keeps_on_grid t u d e n call.delete_char r desk staying.delete_char shapes.delete_char is marks

@@ -1,4 +1,4 @@
--- What a call puts on the wire.
+-- The bytes that a call puts on the wire.
 use Rattle.std.specs.Prelude.{ℕ, ◌≡◌, List, [], Option}
 use Rattle.cur_screens.specs.VirtualScreen.{Screen}
 use Rattle.ti_conforms.specs.Certified.{Table}
@@ -15,14 +15,14 @@ use Rattle.cur_play.specs.declared.answers.Answer.TheVariants.{Done, WireFailed}
 use Rattle.cur_play.specs.declared.sends.Emission.{Emission}
 use Rattle.cur_play.specs.declared.sends.Emission.TheVariants.{Update, Bell, End}
 
--- nothing: the wire is as it was, and so is what is known of the terminal
+-- nothing: the wire, the knowledge of the terminal and the screen shown last are unchanged
 pub record IsQuiet {W C : Type 0} (old new : W) (bytes : List ℕ) (before after : Painted C) : Type 0 where
   pub none : bytes ≡ []
   pub wire : new ≡ old
   pub session : after.session ≡ before.session
   pub shown : after.shown ≡ before.shown
 
--- what shows this virtual screen, which is then the one shown last
+-- a refresh that shows this virtual screen, which is then the one shown last
 pub record Showed {W C : Type 0} (went : W → W → List ℕ → Type 0) (old new : W) (t : Table) (partners : ℕ → Option ℕ)
     (v : Screen) (bytes : List ℕ) (before after : Painted C) : Type 0 where
   pub refreshed : Refreshed went old new t (ink_at t partners before.shown) (ink_at t partners v)
@@ -30,7 +30,7 @@ pub record Showed {W C : Type 0} (went : W → W → List ℕ → Type 0) (old n
   pub all : bytes ≡ refreshed.bytes
   pub shown : after.shown ≡ v
 
--- only a front of that
+-- a proper prefix of such a refresh
 pub record ShowedShort {W C : Type 0} (went : W → W → List ℕ → Type 0) (failures : W → ℕ) (old new : W) (t : Table)
     (partners : ℕ → Option ℕ) (v : Screen) (bytes : List ℕ) (before after : Painted C) : Type 0 where
   pub cut : CutShort went failures old new t (ink_at t partners before.shown) (ink_at t partners v)
@@ -38,15 +38,15 @@ pub record ShowedShort {W C : Type 0} (went : W → W → List ℕ → Type 0) (
   pub all : bytes ≡ cut.front
   pub shown : after.shown ≡ before.shown
 
--- the bell, and the end of the program's screen: beside what is sent nothing but what is known of the terminal has
--- changed
+-- the bell, and the end of the program's screen: beside the bytes that go out, only the knowledge of the terminal
+-- changes
 pub record Told {C : Type 0} (Sends : Type 0) (sent : Sends → List ℕ) (bytes : List ℕ)
     (before after : Painted C) : Type 0 where
   pub sends : Sends
   pub all : bytes ≡ sent sends
   pub shown : after.shown ≡ before.shown
 
--- by what is to be sent, and by the answer; v is the virtual screen as it was when the sending began
+-- by the kind of output and the answer; v is the virtual screen when the sending begins
 abbrev pub Puts : {W C : Type 0} → (W → W → List ℕ → Type 0) → (W → ℕ) → W → W → Table → (ℕ → Option ℕ) → Screen
     → Emission → Answer → List ℕ → Painted C → Painted C → Type 0
 Puts went failures old new t partners v Update Done bytes before after =

@@ -10,7 +10,7 @@ use Rattle.cur_paint.specs.declared.updates.Status.{Status}
 use Rattle.cur_paint.specs.declared.updates.Status.TheVariants.{Fresh, Lost}
 use Rattle.cur_update.specs.Painters.{Painted}
 
--- what the calls are about
+-- the state on which calls work
 pub record Scene : Type 0 where
   pub desk : State
   pub screen : Screen
@@ -41,6 +41,6 @@ pub record IsStage (t : Table) (d : State) (v : Screen) : Type 0 where
   pub desk_rows : d.rows ≡ t.rows
   pub desk_cols : d.cols ≡ t.cols
 
--- nothing is known of the terminal any more
+-- a lost session: nothing is known of the terminal any more
 abbrev pub lost_stage : {C : Type 0} → Stage C → Stage C
 lost_stage p = record p { painter = record p.painter { session = record p.painter.session { status = Lost } } }

@@ -1,4 +1,4 @@
--- What each call does, and what it answers (X/Open Curses Issue 7, the reference pages of the calls).
+-- The step of each call, and its answer (X/Open Curses Issue 7, the reference pages of the calls).
 use Rattle.std.specs.Prelude.{ℕ, ℤ, ◌≡◌, Bool, true, false, Result, Ok, Err}
 use Rattle.ti_rows.specs.declared.rows.Row.TheVariants.{Bel}
 use Rattle.cur_drawing.specs.declared.refusals.Refusal.{Refusal}
@@ -58,7 +58,7 @@ on_both s x = (record s { desk = x.0; screen = x.1 }, answer_of x.2)
 abbrev pub on_mode : Scene → Mode × Result ℕ Refusal → Step
 on_mode s x = (record s { mode = x.0 }, mode_answer x.1)
 
--- what each call does before anything is sent: `refresh` and `prefresh` copy, and what only sends draws nothing
+-- each call's step before anything is sent: `refresh` and `prefresh` copy, and a call that only sends draws nothing
 abbrev pub drawn : Table → Scene → Call → Step
 drawn t s (Newwin n lines cols y x) = on_desk s (make.newwin s.desk n lines cols y x)
 drawn t s (Newpad n lines cols) = on_desk s (pads.newpad s.desk n lines cols)
@@ -84,7 +84,7 @@ drawn t s (Screen k) = (s, Done)
 drawn t s (CursSet n) = on_mode s (set_mode t n s.mode)
 drawn t s (InitPair p f b) = on_screen s (screens.init_pair p f b s.screen)
 
--- a call beside those of a list, which sends nothing: a pair gets its colors, of which -1 is the terminal's default
+-- a call beside those of a list, which sends nothing: a pair gets its colors, where -1 is the terminal's default
 abbrev pub recolored : {C : Type 0} → ℤ → ℤ → ℤ → Stage C → Stage C × Answer
 recolored p f b s =
     let x = screens.init_pair_or_default p f b s.screen in
@@ -103,7 +103,7 @@ screen_output Doupdate = Update
 screen_output Beep = Bell
 screen_output Endwin = End
 
--- what each call sends: what shows the virtual screen, the bell, the end of the program's screen, or nothing
+-- the output of each call: a refresh of the virtual screen, the bell, the end of the program's screen, or nothing
 abbrev pub output_of : Call → Emission
 output_of (Newwin n lines cols y x) = Nothing
 output_of (Newpad n lines cols) = Nothing
@@ -134,14 +134,14 @@ rung true Lost = Refused IsLost
 rung true Known = Done
 rung true Fresh = Done
 
--- where all of it goes out
+-- the step of sending, if everything goes out
 abbrev pub sent : Table → Emission → Scene → Step
 sent t Nothing s = (s, Done)
 sent t Update s = (record s { screen = screens.refreshed s.screen; status = Known }, Done)
 sent t Bell s = (s, rung (has t Bel) s.status)
 sent t End s = (record s { status = Fresh }, Done)
 
--- what is refused sends nothing
+-- a refused call sends nothing
 abbrev pub then_sent : Table → Emission → Step → Step
 then_sent t o (s, Done) = sent t o s
 then_sent t o (s, Was n) = (s, Was n)
@@ -157,8 +157,8 @@ is_sent Update = true
 is_sent Bell = true
 is_sent End = true
 
--- One call: it is as defined; or there was no memory for what it makes; or the wire failed, and then what was copied
--- stands.
+-- One call: it is as defined; or there was no memory for the window that it makes; or the wire failed, and then
+-- everything that the call draws is done, and the session is lost.
 pub data CallStep (t : Table) (before : Scene) (call : Call) (answer : Answer) (after : Scene) : Type 0 where
   Stepped : (after, answer) ≡ call_step t before call → CallStep t before call answer after
   NoRoom : takes_memory call ≡ true → (call_step t before call).1 ≡ Done → answer ≡ Refused NoMemory → after ≡ before

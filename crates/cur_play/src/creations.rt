@@ -8,7 +8,7 @@ use cur_calls::{Call, PartCall};
 use cur_pads::{newpad, subpad};
 use cur_windows::{Desk, Refusal};
 
-/// Makes a window; `None` for any other call.
+/// Makes a window in `desk`, if that is what `call` does; `None` for any other call.
 pub(crate) fn make(desk: &mut Desk, call: &Call<'_>) -> Option<Result<(), Refusal>>
     ensures { Makes desk.old desk.new result (spec.takes_memory call.now) (making desk.old call.now) }
 {
@@ -39,7 +39,7 @@ pub(crate) fn make(desk: &mut Desk, call: &Call<'_>) -> Option<Result<(), Refusa
     }
 }
 
-/// Makes a window that is a part of another one.
+/// Makes `window`, which is a part of the window `parent`, as `call` says.
 fn part(
     desk: &mut Desk,
     call: PartCall,

@@ -43,7 +43,7 @@ impl<C: Certificate> Model for Session<C> {
 }
 
 impl<C: Certificate> Session<C> {
-    /// A session that has sent nothing: window 0 and the virtual screen are blank. An error where a growth was refused.
+    /// A session that has sent nothing: window 0 and the virtual screen are blank. Fails if memory runs out.
     pub fn open(alloc: Global, checked: C) -> Result<Session<C>, AllocError>
     where
         C: Drop,
@@ -63,17 +63,17 @@ impl<C: Certificate> Session<C> {
         })
     }
 
-    /// Forgets what is known of the terminal, for where not all that was sent got there: the session is lost, and the
-    /// next refresh begins anew. Nothing is sent.
+    /// Makes the session lost, for a caller that knows that not all sent bytes reached the terminal. The next refresh
+    /// begins anew. Nothing is sent.
     pub fn lose(&mut self)
         ensures { self.new ≡ lost_stage self.old }
     {
         self.painter.lose();
     }
 
-    /// Sets the colors of `pair`, as the call `init_pair` does, and also takes -1 for `foreground` or `background`:
-    /// the terminal's default color. Nothing is sent. Refused with `BadPair` for a pair that isn't 1 to 63, or a color
-    /// that isn't -1 to 7; then nothing has changed.
+    /// Sets the colors of `pair`, as the call `init_pair` does, and also takes -1 for `foreground` or `background`: the
+    /// terminal's default color. Nothing is sent. Fails with `BadPair` for a pair that isn't 1 to 63, or a color that
+    /// isn't -1 to 7; nothing has changed then.
     pub fn init_pair_or_default(&mut self, pair: i32, foreground: i32, background: i32) -> Answer
         ensures { (self.new, result) ≡ recolored pair foreground background self.old }
     {
@@ -83,16 +83,16 @@ impl<C: Certificate> Session<C> {
         )
     }
 
-    /// The windows.
+    /// The session's windows.
     pub fn desk(&self) -> &Desk
         ensures { result.now ≡ self.now.desk }
     {
         &self.desk
     }
 
-    /// Does a call. `newwin`, `newpad` and `dupwin` take memory, and are refused with `NoMemory` where there is none;
-    /// all other calls take none. On `WireFailed` a front of what the call sends went out, what was copied to the
-    /// virtual screen stands, and the session is lost.
+    /// Does `call`. `newwin`, `newpad` and `dupwin` take memory, and are refused with `NoMemory` if there is none; all
+    /// other calls take none. On `WireFailed`, a prefix of what the call sends went out on `wire`, the virtual screen
+    /// keeps what was copied to it, and the session is lost.
     pub fn call<W: Wire>(&mut self, call: &Call<'_>, wire: &mut W) -> Answer
         ensures step { CallStep (C.table self.old.painter.checked) (scene_of self.old) call.now result
             (scene_of self.new) }
@@ -115,7 +115,7 @@ impl<C: Certificate> Session<C> {
     }
 }
 
-/// Draws, and then sends.
+/// Draws what `call` draws, and then sends what it sends.
 #[inline(always)]
 fn play<C: Certificate, W: Wire>(
     desk: &mut Desk,
