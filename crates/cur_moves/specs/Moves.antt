@@ -1,5 +1,5 @@
--- (Serves the code alone.) Which rows lead the cursor from what is known of its place to a place (terminfo(5),
--- "Cursor Motions").
+-- (Serves the code alone.) The rows that lead the cursor from its known place to another one (terminfo(5), "Cursor
+-- Motions").
 use Rattle.std.specs.Prelude.{ℕ, ◌+◌, ◌^◌, ◌<◌, ◌≤◌, ◌≡◌, true, length, Option, Some, None}
 use Rattle.ti_rows.specs.declared.rows.Row.{Row}
 use Rattle.ti_rows.specs.declared.rows.Row.TheVariants.{Clear, Cup, Home, Cr, Hpa, Vpa, Cub1, Cuf1, Cuu1, Cud1, Cub}
@@ -9,7 +9,7 @@ use Rattle.ti_rows.specs.declared.rows.Row.TheVariants.{Ind, Ri, Enacs, Civis, C
 use Rattle.ti_conforms.specs.Certified.{Table, has, text_of}
 use Rattle.cur_steps.specs.declared.beliefs.Place.{Place}
 
--- how far a row's line moves that moves by a count
+-- the distance of a move by a count
 abbrev pub IsCount : ℕ → Type 0
 IsCount n = (0 < n) × (n < 2 ^ 16)
 
@@ -58,24 +58,24 @@ MovesFrom cols p row col Smcup = ⊥
 MovesFrom cols p row col Rmcup = ⊥
 MovesFrom cols p row col Bel = ⊥
 
--- `cup` and `home` lead there from anywhere, the others only from a known place
+-- `cup` and `home` lead to a place from anywhere, the other rows only from a known place
 abbrev pub Moves : ℕ → Option Place → ℕ → ℕ → Row → Type 0
 Moves cols from row col (Cup r c) = (r ≡ row) × (c ≡ col)
 Moves cols from row col Home = (0 ≡ row) × (0 ≡ col)
 Moves cols (Some p) row col line = MovesFrom cols p row col line
 Moves cols None row col line = ⊥
 
--- a line of the certificate that leads there, no longer than the longest `cup`
+-- a line of the certificate that leads to the place, no longer than the longest `cup`
 pub record IsWay (t : Table) (from : Option Place) (row col : ℕ) (line : Row) : Type 0 where
   pub moves : Moves t.cols from row col line
   pub there : has t line ≡ true
   pub short : length (text_of t line) ≤ t.longest.cup
 
--- so few bytes has a row's line, if there is one
+-- a row's line, if there is one, has no fewer bytes
 abbrev pub IsAtMost : Table → ℕ → Row → Type 0
 IsAtMost t n line = has t line ≡ true → n ≤ length (text_of t line)
 
--- a line of this many bytes leads there, and none of fewer
+-- a line of this many bytes leads to the place, and none of fewer
 pub record IsFewest (t : Table) (from : Option Place) (row col n : ℕ) : Type 0 where
   pub line : Row
   pub moves : Moves t.cols from row col line

@@ -1,4 +1,4 @@
-//! A cell, and the end of a line, each in as few of the single steps as its look needs.
+//! Printing a cell and blanking the end of a line, each in as few single steps as its look needs.
 ghost use Rattle.std.specs.Prelude.{◌≡◌, ◌<◌, ◌≤◌, ℕ, length, true, Some, None, OnOk, IfOk};
 ghost use Rattle.ti_rows.specs.declared.rows.Row.TheVariants.{El, Sgr0};
 ghost use Rattle.ti_conforms.specs.Certified.{IsChecked, cell_limit, text_of};
@@ -19,7 +19,7 @@ use ti_conforms::Certificate;
 use ti_rows::{Attributes, Row};
 use vt_term::Color;
 
-/// Makes the attributes `wanted`, and the colours the default ones.
+/// Makes the attributes `wanted`, and the colors the default ones.
 fn plainly_as<C: Certificate, W: Wire>(
     checked: &C,
     belief: &mut Belief,
@@ -38,7 +38,8 @@ fn plainly_as<C: Certificate, W: Wire>(
     attributes_as(checked, belief, wire, wanted)
 }
 
-/// Makes the colours those of `wanted`, where none of them becomes the default one.
+/// Makes the colors those of `wanted`. The attributes must be those of `wanted` already, and no color may become the
+/// default one.
 fn colors_as<C: Certificate, W: Wire>(
     checked: &C,
     belief: &mut Belief,
@@ -60,14 +61,14 @@ fn colors_as<C: Certificate, W: Wire>(
     background_as(checked, belief, wire, wanted.background)
 }
 
-/// Whether a colour is `wanted`, or `now` the default one is there already.
+/// Whether the color `wanted` isn't the default one, or `now` is the default one already.
 fn needs_no_default(now: Option<Color>, wanted: Option<Color>) -> bool
     ensures { result ≡ true → wanted ≡ None → now ≡ None }
 {
     matches!((now, wanted), (None, _) | (_, Some(_)))
 }
 
-/// Whether no colour of the brush `now` becomes the default one in `wanted`.
+/// Whether no color of the brush `now` becomes the default one in `wanted`.
 fn needs_no_defaults(now: Brush, wanted: Brush) -> bool
     ensures foreground { result ≡ true → wanted.foreground ≡ None → now.foreground ≡ None }
     ensures background { result ≡ true → wanted.background ≡ None → now.background ≡ None }
@@ -76,7 +77,7 @@ fn needs_no_defaults(now: Brush, wanted: Brush) -> bool
         && needs_no_default(now.background, wanted.background)
 }
 
-/// Whether the brush `now` becomes `wanted` by its colours, none of which becomes the default one.
+/// Whether the brush `now` becomes `wanted` by its colors alone, none of which becomes the default one.
 fn is_recolored(now: Brush, wanted: Brush) -> bool
     ensures attributes { result ≡ true → now.attributes ≡ wanted.attributes }
     ensures foreground { result ≡ true → wanted.foreground ≡ None → now.foreground ≡ None }
@@ -85,7 +86,7 @@ fn is_recolored(now: Brush, wanted: Brush) -> bool
     same_attributes(now.attributes, wanted.attributes) && needs_no_defaults(now, wanted)
 }
 
-/// Makes the brush `wanted`.
+/// Makes the brush `wanted`, which must have the default colors if the entry can't set others.
 pub fn brush_as<C: Certificate, W: Wire>(
     checked: &C,
     belief: &mut Belief,
@@ -107,7 +108,7 @@ pub fn brush_as<C: Certificate, W: Wire>(
     colors_as(checked, belief, wire, wanted)
 }
 
-/// Whether what is printed in `brush` is known to look as in the plain one. Nothing is promised of it.
+/// Whether characters printed in `brush` are known to look as in the plain one. No clause says that this is right.
 fn looks_plain<C: Certificate>(checked: &C, brush: Brush) -> bool
     requires checked { IsChecked (C.table checked.now) }
 {
@@ -115,8 +116,7 @@ fn looks_plain<C: Certificate>(checked: &C, brush: Brush) -> bool
     needs_no_defaults(brush, plain) && look_alike(checked, brush.attributes, plain.attributes)
 }
 
-/// Whether `sgr0` has no more bytes than the string that `sgr` sends for no attributes, or than those of all single
-/// attributes.
+/// Whether `sgr0` has no more bytes than the string that `sgr` sends for no attributes, or there is no such string.
 fn has_short_plain<C: Certificate>(checked: &C) -> bool
     requires checked { IsChecked (C.table checked.now) }
     ensures short { result ≡ true → length (text_of (C.table checked.now) Sgr0) ≤ (C.table checked.now).longest.sgr }
@@ -148,7 +148,7 @@ pub fn make_plain<C: Certificate, W: Wire>(
     strip(checked, belief, wire)
 }
 
-/// Moves the cursor to `at`, in a line that is shown as far as that place, and makes the brush `wanted`.
+/// Moves the cursor to `at`, and makes the brush `wanted`. The line must already show the target up to `at`.
 pub(crate) fn reach_in_brush<C: Certificate, N: Picture, W: Wire>(
     target: &Target<'_, C, N>,
     belief: &mut Belief,
@@ -169,7 +169,8 @@ pub(crate) fn reach_in_brush<C: Certificate, N: Picture, W: Wire>(
     brush_as(target.checked, belief, wire, wanted)
 }
 
-/// Prints `ink` in its set at `at`, where the next character is known to go, in the brush that is known.
+/// Prints `ink` in its set at `at`, where the next character must be known to go. The known brush must be that of
+/// `ink`.
 fn print_in_set<C: Certificate, W: Wire>(
     checked: &C,
     belief: &mut Belief,
@@ -189,14 +190,15 @@ fn print_in_set<C: Certificate, W: Wire>(
     print_at(checked, belief, wire, at, ink)
 }
 
-/// Whether the cursor is at `place` with a wrap pending that takes the next character to `at`.
+/// Whether the cursor is at `place` with a wrap pending that takes the next character to `at`, on a screen of `cols`
+/// columns.
 fn wraps_to(place: Place, cols: usize, at: Place) -> bool
     ensures { result ≡ true → IsNext cols place at.row at.col }
 {
     at.col == 0 && at.row > 0 && place.row == at.row - 1 && place.col == cols
 }
 
-/// Takes the next character to `at`, in a line that is shown as far as that place.
+/// Makes the next character go to `at`. The line must already show the target up to `at`.
 fn approach<C: Certificate, N: Picture, W: Wire>(
     target: &Target<'_, C, N>,
     belief: &mut Belief,
@@ -219,7 +221,7 @@ fn approach<C: Certificate, N: Picture, W: Wire>(
     reach(target, belief, wire, at)
 }
 
-/// Prints `ink` at `at`, where the next character is known to go.
+/// Prints `ink` at `at`, where the next character must be known to go.
 fn put_here<C: Certificate, W: Wire>(
     checked: &C,
     belief: &mut Belief,
@@ -241,7 +243,7 @@ fn put_here<C: Certificate, W: Wire>(
     print_in_set(checked, belief, wire, at, ink)
 }
 
-/// Prints `ink` at `at`, in a line that is shown as far as that place.
+/// Prints `ink` at `at`. The line must already show the target up to `at`.
 #[inline(always)]
 pub fn put_cell<C: Certificate, N: Picture, W: Wire>(
     target: &Target<'_, C, N>,
@@ -265,7 +267,7 @@ pub fn put_cell<C: Certificate, N: Picture, W: Wire>(
     put_here(target.checked, belief, wire, at, ink)
 }
 
-/// Makes a line that is shown as far as `at` blank from there on, by the string `tail`.
+/// Makes a line blank from `at` on, by `tail`, the string of `el`. The line must already show the target up to `at`.
 pub fn blank_tail<C: Certificate, N: Picture, W: Wire>(
     target: &Target<'_, C, N>,
     belief: &mut Belief,

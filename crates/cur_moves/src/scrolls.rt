@@ -7,7 +7,8 @@ use cur_steps::has_line;
 use ti_conforms::Certificate;
 use ti_rows::Row;
 
-/// The lines from `top` to `bottom` move by `count` lines: up if `up`, else down. Those that come in are blank.
+/// A scroll: the lines from `top` to `bottom` move by `count` lines, up if `up`, else down. The lines that come in are
+/// blank.
 #[derive(Clone, Copy)]
 pub struct Scroll {
     pub top: u16,
@@ -43,14 +44,14 @@ pub(crate) fn is_whole(scroll: Scroll, rows: usize) -> bool
     scroll.top == 0 && usize::from(scroll.bottom) + 1 == rows
 }
 
-/// The row whose line moves the region by one line.
+/// The row whose line moves the region of `scroll` by one line.
 pub(crate) fn scroll_row(scroll: Scroll) -> Row
     ensures { result ≡ scroll_row scroll }
 {
     if scroll.up { Row::Ind } else { Row::Ri }
 }
 
-/// The line that comes to the line `row` by the `scroll`, if one does; else a blank one comes in.
+/// The line that `scroll` brings to the line `row`, if one comes there; else a blank line comes in.
 pub fn line_before(scroll: Scroll, row: usize) -> Option<usize>
     ensures { (g : ℕ → ℕ → Ink) (j : ℕ) → shifted scroll g row j ≡ cell_of g result j }
 {
@@ -68,8 +69,8 @@ pub fn line_before(scroll: Scroll, row: usize) -> Option<usize>
     }
 }
 
-/// Whether the terminal can scroll so: `scroll` names two lines of the screen or more, and the entry has the strings
-/// for these margins, for those of the whole screen, and for a scroll that way.
+/// Whether the terminal can do the `scroll`: it names two lines of the screen or more, and the entry has the strings
+/// for these margins, for those of the whole screen, and for a scroll in that direction.
 pub fn can_scroll<C: Certificate>(checked: &C, scroll: Scroll) -> bool
     ensures yes { result ≡ true → CanScroll (C.table checked.now) scroll }
     ensures no { CanScroll (C.table checked.now) scroll → result ≡ true }
