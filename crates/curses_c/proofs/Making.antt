@@ -14,7 +14,7 @@ use Rattle.curses_c.specs.Codes.{script_code}
 use Rattle.curses_c.specs.Held.{Makes, MakesUpTo, Plays, Says, SaysRead, Then, fault_line, is_done, noting}
 use Rattle.curses_c.specs.declared.held.Held.{Held}
 
--- so many calls were done so far, which leads here: whatever the calls from this place on make, all calls make
+-- the first calls were done and led here: whatever the calls from this place on make, all calls make
 abbrev pub Leads : Held → List Call → ℕ → Held → Type 0
 Leads h calls i now = (n : ℕ) (a : Answer) (k : Held) → MakesUpTo now (drop i calls) n a k → MakesUpTo h calls (i + n) a k
 

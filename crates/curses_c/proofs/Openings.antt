@@ -1,4 +1,4 @@
--- A session that was opened is an entry's, and has sent nothing.
+-- An opened session is an entry's, and has sent nothing.
 use Rattle.std.proofs.Common.{◌≡◌, ℕ, List, [], sym, ap, subst, ◌∙◌}
 use Rattle.ti_caps.specs.Entry.{Content}
 use Rattle.ti_cert.specs.Table.{CheckedTable, certified}

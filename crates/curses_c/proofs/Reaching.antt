@@ -1,4 +1,4 @@
--- From single calls to what the terminal comes to.
+-- From single calls to the states that a terminal reaches.
 use Rattle.std.proofs.Common.{◌≡◌, ℕ, ℤ, List, [], ◌∷◌, ◌++◌, take, drop, length, Option, refl, sym, ap, subst, ◌∙◌, append_assoc}
 use Rattle.std.proofs.lemmas.List.{append-nil}
 use lib.ListN.{take-append-drop}
@@ -24,13 +24,13 @@ use Rattle.curses_c.specs.Held.{Hands, Makes, Recolors, noting}
 use Rattle.curses_c.specs.Laws.{Played, Begun, Called, Took, Noted, Recolored, Rests, Still, Drew, TookMore, NotedMore, RecoloredMore, FitsHeld, ShowsAfter, Begins, CallsReach, RefreshesShow, LossesBegin, LossesFit, OpeningsBegin}
 use Rattle.curses_c.specs.declared.held.Held.{Held}
 
--- a front of all that was sent leads to a state that fits a lost session
+-- all sent bytes lead to a state that fits, and each prefix of them to a state that fits a lost session
 record Reached (k : Held) (sent : List ℕ) (s : State) : Type 0 where
   pub whole : Ends s sent (FitsHeld k)
   pub cut : (front back : List ℕ) → sent ≡ front ++ back → Ends s front (IsLost (certified k.session.painter.checked))
   pub checked : IsChecked (certified k.session.painter.checked)
 
--- what was handed out and what still waits is what waited
+-- the bytes handed out and those that still wait are those that waited
 handed : (before taken waiting rest : List ℕ) (count : ℕ) → taken ≡ before ++ take count waiting → rest ≡ drop count waiting → taken ++ rest ≡ before ++ waiting
 handed before taken waiting rest count e f =
     ap (λ (l : List ℕ). l ++ rest) e ∙ ap (λ (l : List ℕ). (before ++ take count waiting) ++ l) f ∙ append_assoc before (take count waiting) (drop count waiting)
@@ -44,7 +44,7 @@ only_nothing : (front back : List ℕ) → [] ≡ front ++ back → front ≡ []
 only_nothing [] back e = refl
 only_nothing (x ∷ front) back e = absurd (cc)
 
--- one call more
+-- one more call
 made : (mid k : Held) (call : Call) (answer : Answer) (taken : List ℕ) (s : State) → Makes mid call answer k → Reached mid (taken ++ mid.outbox.waiting) s → Reached k (taken ++ k.outbox.waiting) s
 made mid k call answer taken s m r =
     let x : List ℕ = m.carries.bytes in
@@ -63,18 +63,18 @@ made mid k call answer taken s m r =
     let there = subst (λ (c : CheckedTable). (Ends s (all ++ x) (Fits c)) × ((front back : List ℕ) → all ++ x ≡ front ++ back → Ends s front (Lost c))) (sym m.certificate) both in
     subst (λ (l : List ℕ). Reached k l s) same (record { whole = there.0; cut = there.1; checked = subst (λ (c : CheckedTable). IsChecked (certified c)) (sym m.certificate) r.checked })
 
--- what is handed out changes nothing of what was sent
+-- handing out changes nothing of the sent bytes
 took : (mid k : Held) (room : List ℕ) (count : ℕ) (sent : List ℕ) (s : State) → Hands mid room count k → Reached mid sent s → Reached k sent s
 took mid k room count sent s hands r =
     let P : Stage CheckedTable → Type 0 = λ p. (Ends s sent (FitsIn (certified p.painter.checked) (partner_in p.painter.checked) p.painter)) × ((front back : List ℕ) → sent ≡ front ++ back → Ends s front (IsLost (certified p.painter.checked))) in
     let there : P k.session = subst P (sym hands.session) (r.whole, r.cut) in
     record { whole = there.0; cut = there.1; checked = subst (λ (p : Stage CheckedTable). IsChecked (certified p.painter.checked)) (sym hands.session) r.checked }
 
--- nor does which line wasn't done
+-- a change of the noted line changes nothing of them
 noted : (mid k : Held) (line : ℕ) (sent : List ℕ) (s : State) → k ≡ noting line mid → Reached mid sent s → Reached k sent s
 noted mid k line sent s e r = subst (λ (x : Held). Reached x sent s) (sym e) (record { whole = r.whole; cut = r.cut; checked = r.checked })
 
--- nor do the colors of a pair, which the painter doesn't hold
+-- the colors of a pair, which the painter doesn't hold, change nothing of them
 recolors : (mid k : Held) (p f b : ℤ) (answer : Answer) (sent : List ℕ) (s : State) → Recolors p f b mid answer k → Reached mid sent s → Reached k sent s
 recolors mid k p f b answer sent s e r = subst (λ (x : Held). Reached x sent s) (sym e.0) (record { whole = r.whole; cut = r.cut; checked = r.checked })
 
@@ -105,7 +105,7 @@ reached h k taken s (Recolored _ mid _ p f b answer q e) x =
 pub calls_reach : CallsReach
 calls_reach h k taken s p b = (reached h k taken s p b).whole
 
--- what waited is what was taken since, and what waits
+-- the bytes that waited are those taken since, and those that wait
 rested : (h k : Held) (taken : List ℕ) → Rests h taken k → taken ++ k.outbox.waiting ≡ h.outbox.waiting
 rested h k taken (Still _ _ e f) = ap (λ (l : List ℕ). l ++ k.outbox.waiting) e ∙ ap (λ (x : Held). x.outbox.waiting) f
 rested h k taken (Drew _ mid _ call answer p m quiet) =

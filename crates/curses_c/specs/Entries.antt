@@ -1,4 +1,4 @@
--- What a program's bytes give: an entry, a certificate of it, and what that shows.
+-- The entry that a program's bytes give, a certificate of it, and the strings that the certificate shows.
 use Rattle.std.specs.Prelude.{ℕ, ◌≡◌, ◌≢◌, ◌⊎◌, List, [], ◌∷◌, Ok, Err}
 use Rattle.vt_term.specs.Size.{IsSize}
 use Rattle.ti_caps.specs.Entry.{Content, string_at}
@@ -33,11 +33,11 @@ use Rattle.curses_c.specs.declared.codes.Failure.{Failure}
 use Rattle.curses_c.specs.declared.codes.Failure.TheVariants.{NoMemory, BadSize, BadEntry, BadCertificate}
 use Rattle.curses_c.specs.declared.codes.Failure.TheVariants.{NoCertificate}
 
--- a compiled file
+-- the entry of a compiled file
 abbrev pub GivesPacked : List ℕ → Content → Type 0
 GivesPacked bytes entry = (packed : Content) × (read_of bytes ≡ Ok packed) × (fit_of packed ≡ Ok entry)
 
--- a source text and a name
+-- the entry of a name in a source text
 abbrev pub GivesNamed : List ℕ → List ℕ → Content → Type 0
 GivesNamed text name entry = (raws : List RawEntry) × (source_of text ≡ Ok raws) × IsResolved raws name entry
 
@@ -46,7 +46,7 @@ abbrev pub Gives : List ℕ → List ℕ → Content → Type 0
 Gives bytes [] entry = GivesPacked bytes entry
 Gives bytes (b ∷ name) entry = GivesNamed bytes (b ∷ name) entry
 
--- the failure that a fault is: `NoMemory` if the fault is `memory`, its kind's word for that, else `other`
+-- the failure for a fault: `NoMemory` if the fault is `memory`, its kind's word for that, else `other`
 abbrev pub IsOf : {A : Type 0} → A → Failure → A → Failure → Type 0
 IsOf memory other fault e = ((fault ≡ memory) × (e ≡ NoMemory)) ⊎ ((fault ≢ memory) × (e ≡ other))
 
@@ -56,7 +56,7 @@ LacksPacked bytes e = ((fault : PackFault) × (read_of bytes ≡ Err fault) × (
     ⊎ ((packed : Content) × (read_of bytes ≡ Ok packed)
     × ((fault : PackFault) × compiled.FailsBy fault (fit_of packed) × IsOf packs.NoMemory BadEntry fault e))
 
--- the text has a fault, or the entry of the name can't be had from it
+-- the text has a fault, or doesn't yield the entry of the name
 abbrev pub LacksNamed : List ℕ → List ℕ → Failure → Type 0
 LacksNamed text name e =
     ((fault : SourceFault) × source.FailsBy fault.kind fault (source_of text) × IsOf sources.NoMemory BadEntry fault.kind e)
@@ -71,7 +71,7 @@ LacksEntry bytes (b ∷ name) e = LacksNamed bytes (b ∷ name) e
 abbrev pub Lacks : List ℕ → List ℕ → ℕ → ℕ → Failure → Type 0
 Lacks bytes name rows cols e = ((e ≡ BadSize) × (IsSize rows cols → ⊥)) ⊎ (IsSize rows cols × LacksEntry bytes name e)
 
--- the entry conforms, and these are just the strings that it sends
+-- the entry conforms, and these are exactly the strings that it sends
 pub record IsShown (entry : Content) (height width : ℕ) (checked : CheckedTable) : Type 0 where
   pub conforms : Conforms entry height width
   pub rows : checked.known.strings.rows ≡ height
@@ -79,12 +79,12 @@ pub record IsShown (entry : Content) (height width : ℕ) (checked : CheckedTabl
   pub sends : EntryAgrees height width entry (table_of checked).line_of
   pub partners : checked.acsc ≡ string_at entry acsc
 
--- the failure that a refusal to verify is
+-- the failure for a refusal to verify
 abbrev pub IsOfVerify : VerifyFault → Failure → Type 0
 IsOfVerify (Cert fault) e = IsOf certs.NoMemory BadCertificate fault.kind e
 IsOfVerify (Agree fault) e = IsOf agrees.NoMemory BadCertificate fault e
 
--- the certificate has this fault, or it isn't that of the entry, as the fault says
+-- the certificate has this fault, or it isn't the entry's, as the fault says
 pub record IsUnshown (entry : Content) (rows cols : ℕ) (certificate : List ℕ) (e : Failure) : Type 0 where
   pub fault : VerifyFault
   pub of_text : IsCertRefused rows cols certificate ⊥ fault
@@ -96,6 +96,6 @@ pub record IsCertified (entry : Content) (rows cols : ℕ) (text : List ℕ) : T
   pub conforms : Conforms entry rows cols
   pub certificate : IsCertificateOf entry rows cols text
 
--- there is a no, which is so of the entry and the first
+-- there is a no that is true of the entry, and the first one
 abbrev pub IsUncertified : Content → ℕ → ℕ → Failure → Type 0
 IsUncertified entry rows cols e = (refusal : No) × IsNo entry rows cols refusal × IsOf causes.NoMemory NoCertificate refusal.cause e

@@ -1,4 +1,4 @@
--- What a program's calls do to the session that its handle holds.
+-- The effect of a program's calls on the session that its handle holds.
 use Rattle.std.specs.Prelude.{ℕ, ℤ, ◌+◌, ◌≡◌, ◌⊎◌, Bool, true, false, List, [], ◌∷◌, Option, Some, None, Result, Ok}
 use Rattle.std.specs.Prelude.{Err, min, length, drop, pos, if◌then◌else◌}
 use Rattle.ti_cert.specs.Table.{certified}
@@ -25,7 +25,7 @@ use Rattle.curses_c.specs.declared.requests.Request.{Request}
 abbrev pub failures_of : Posted → ℕ
 failures_of o = o.failures
 
--- one call: it is done as it is defined, and what it sends waits after what waited before
+-- one call: it is done as defined, and the bytes that it sends wait after those that waited before
 pub record Makes (h : Held) (call : Call) (answer : Answer) (k : Held) : Type 0 where
   pub step : CallStep (certified h.session.painter.checked) (scene_of h.session) call answer (scene_of k.session)
   pub carries : Carries Posts failures_of h.outbox k.outbox (certified h.session.painter.checked)
@@ -34,12 +34,12 @@ pub record Makes (h : Held) (call : Call) (answer : Answer) (k : Held) : Type 0 
       (poised (certified h.session.painter.checked) h.session call) k.session.painter
   pub certificate : k.session.painter.checked ≡ h.session.painter.checked
 
--- one call that is no line of a text: the line that is noted stays, and the number is that of the answer
+-- one call that is no line of a text: the noted line stays, and the number is that of the answer
 abbrev pub MakesAlone : Call → Held → ℤ → Held → Type 0
 MakesAlone call h code k =
     (answer : Answer) × Makes h call answer k × (k.failed ≡ h.failed) × (code ≡ answer_code answer)
 
--- the call that numbers are, or none, and then nothing changes
+-- the call that numbers encode; if they encode none, nothing changes
 abbrev pub MakesIfCall : Option Call → Held → ℤ → Held → Type 0
 MakesIfCall (Some call) h code k = MakesAlone call h code k
 MakesIfCall None h code k = (k ≡ h) × (code ≡ failure_code BadCall)
@@ -53,19 +53,20 @@ is_done (Was n) = true
 is_done (Refused r) = false
 is_done WireFailed = false
 
--- the first call that isn't done is the last one that is made
+-- the first call that isn't done is the last one made
 abbrev pub Then : Bool → Answer → ℕ → Answer → Held → Held → (ℕ → Type 0) → Type 0
 Then true answer n a mid k Rest = (more : ℕ) × (n ≡ more + 1) × Rest more
 Then false answer n a mid k Rest = (n ≡ 0) × (a ≡ answer) × (k ≡ mid)
 
--- calls up to the first that isn't done: how many were done before it, and its answer; all and `Done` where all are
+-- calls up to the first that isn't done: the number of those done before it, and its answer; if all are done, their
+-- number and `Done`
 abbrev pub MakesUpTo : Held → List Call → ℕ → Answer → Held → Type 0
 MakesUpTo h [] n a k = (n ≡ 0) × (a ≡ Done) × (k ≡ h)
 MakesUpTo h (call ∷ calls) n a k =
     (answer : Answer) × (mid : Held) × Makes h call answer mid
     × Then (is_done answer) answer n a mid k (λ more. MakesUpTo mid calls more a k)
 
--- a pair gets its colors, of which -1 is the terminal's default; nothing is sent, and the line that is noted stays
+-- a pair gets its colors, where -1 is the terminal's default; nothing is sent, and the noted line stays
 abbrev pub Recolors : ℤ → ℤ → ℤ → Held → Answer → Held → Type 0
 Recolors p f b h answer k =
     let x = recolored p f b h.session in
@@ -74,11 +75,11 @@ Recolors p f b h answer k =
 abbrev pub RecolorsAs : ℤ → ℤ → ℤ → Held → ℤ → Held → Type 0
 RecolorsAs p f b h code k = (answer : Answer) × Recolors p f b h answer k × (code ≡ answer_code answer)
 
--- this line is the one that wasn't done; all else is the same
+-- this line becomes the noted one; nothing else changes
 abbrev pub noting : ℕ → Held → Held
 noting line h = record h { failed = line }
 
--- the line of a text whose call isn't done, so many having been done before it; 0 where all are
+-- the line of the call of a text that isn't done, given how many were done before it; 0 if all are done
 abbrev pub line_left : List ℕ → ℕ → Answer → ℕ
 line_left text done answer = if is_done answer then 0 else line_of text done
 
@@ -91,36 +92,36 @@ pub record Plays (text : List ℕ) (calls : List Call) (h : Held) (code : ℤ) (
   pub noted : k ≡ noting (line_left text done answer) last
   pub number : code ≡ answer_code answer
 
--- want of memory is at no line
+-- a lack of memory has no line
 abbrev pub fault_line : ScriptFaultKind → ℕ → ℕ
 fault_line BadLine line = line
 fault_line TooLong line = line
 fault_line NoMemory line = 0
 
--- the calls that a text lists, or its fault, of which only the line is noted
+-- the calls that a text lists are made; if it has a fault, only the line is noted
 abbrev pub SaysRead : List ℕ → Result (List Call) ScriptFault → Held → ℤ → Held → Type 0
 SaysRead text (Ok calls) h code k = Plays text calls h code k
 SaysRead text (Err fault) h code k = (k ≡ noting fault.line h) × (code ≡ script_code fault.kind)
 
--- A text of calls does so; or there was no memory for reading it, which is never so where it is one call.
+-- A text's calls are made so; or there was no memory for reading it, which never happens if it is one call.
 abbrev pub Says : List ℕ → Held → ℤ → Held → Type 0
 Says text h code k =
     SaysRead text (script_of text) h code k ⊎ ((only_call text ≡ None) × (k ≡ noting 0 h) × (code ≡ pos 12))
 
--- nothing waits, and nothing is known of the terminal
+-- no bytes wait, and nothing is known of the terminal
 pub record Loses (h k : Held) : Type 0 where
   pub session : k.session ≡ lost_stage h.session
   pub waiting : k.outbox.waiting ≡ []
   pub failed : k.failed ≡ h.failed
 
--- the first bytes that wait are handed out, as many as there is room for
+-- the first waiting bytes are handed out, as many as there is room for
 pub record Hands (h : Held) (room : List ℕ) (count : ℕ) (k : Held) : Type 0 where
   pub session : k.session ≡ h.session
   pub counted : count ≡ min (length room) (length h.outbox.waiting)
   pub rest : k.outbox.waiting ≡ drop count h.outbox.waiting
   pub failed : k.failed ≡ h.failed
 
--- what an open handle holds changes so; a closed one stays closed
+-- the content of an open handle changes so; a closed handle stays closed
 abbrev pub Changes : (Held → Held → Type 0) → Option Held → Option Held → Type 0
 Changes R (Some h) (Some k) = R h k
 Changes R (Some h) None = ⊥

@@ -1,4 +1,4 @@
--- What a terminal comes to that gets the bytes that a program takes, by runs of a terminal alone.
+-- The states that a terminal reaches by the bytes that a program takes, stated by runs of a terminal alone.
 use Rattle.std.specs.Prelude.{ℕ, ℤ, ◌≡◌, true, List, [], ◌++◌, take}
 use Rattle.vt_term.specs.Ends.{Ends}
 use Rattle.vt_term.specs.Screen.{State}
@@ -19,7 +19,7 @@ use Rattle.cur_play.specs.declared.sends.Emission.TheVariants.{Nothing}
 use Rattle.curses_c.specs.Held.{Hands, Loses, Makes, Recolors, noting}
 use Rattle.curses_c.specs.declared.held.Held.{Held}
 
--- calls on a session, colors of pairs, and what the program took of the bytes that wait; which line wasn't done
+-- calls on a session, colors of pairs, and takings of waiting bytes, with all bytes taken; a change of the noted line
 -- changes none of these
 pub data Played (h : Held) : List ℕ → Held → Type 0 where
   Begun : (taken : List ℕ) (k : Held) → taken ≡ [] → k ≡ h → Played h taken k
@@ -31,7 +31,7 @@ pub data Played (h : Held) : List ℕ → Held → Type 0 where
   Recolored : (taken : List ℕ) (mid k : Held) (p f b : ℤ) (answer : Answer) → Played h taken mid
       → Recolors p f b mid answer k → Played h taken k
 
--- the same, of calls that send nothing
+-- as `Played`, with only calls that send nothing
 pub data Rests (h : Held) : List ℕ → Held → Type 0 where
   Still : (taken : List ℕ) (k : Held) → taken ≡ [] → k ≡ h → Rests h taken k
   Drew : (taken : List ℕ) (mid k : Held) (call : Call) (answer : Answer) → Rests h taken mid → Makes mid call answer k
@@ -42,51 +42,50 @@ pub data Rests (h : Held) : List ℕ → Held → Type 0 where
   RecoloredMore : (taken : List ℕ) (mid k : Held) (p f b : ℤ) (answer : Answer) → Rests h taken mid
       → Recolors p f b mid answer k → Rests h taken k
 
--- the states that the terminal may be in where nothing waits
+-- the states that the terminal may be in if nothing waits
 abbrev pub FitsHeld : Held → State → Type 0
 FitsHeld h s = FitsIn (certified h.session.painter.checked) (partner_in h.session.painter.checked) h.session.painter s
 
--- the terminal shows the screen that is the virtual one when the call sends
+-- the terminal shows the virtual screen as it is when the call sends
 abbrev pub ShowsAfter : Held → Call → State → Type 0
 ShowsAfter h call s =
     let t = certified h.session.painter.checked in
     let v = (drawn t (scene_of h.session) call).0.screen in
     Shows t (ink_at t (partner_in h.session.painter.checked) v) (wanted_of v (poised t h.session call).mode) s
 
--- a session of which nothing waits, and a state that the terminal may be in
+-- a session without waiting bytes, and a state that the terminal may be in
 pub record Begins (h : Held) (s : State) : Type 0 where
   pub nothing : h.outbox.waiting ≡ []
   pub checked : IsChecked (certified h.session.painter.checked)
   pub fits : FitsHeld h s
 
--- All that was taken and all that waits leads the terminal to a state that fits.
+-- All bytes taken and all that wait lead the terminal to a state that fits.
 abbrev pub CallsReach : Type 0
 CallsReach =
     (h k : Held) (taken : List ℕ) (s : State) → Played h taken k → Begins h s
     → Ends s (taken ++ k.outbox.waiting) (FitsHeld k)
 
--- After a refresh that was done, once nothing waits, the terminal that got all that was taken shows the screen.
+-- After a refresh that was done, once nothing waits, a terminal that got all bytes taken shows the screen.
 abbrev pub RefreshesShow : Type 0
 RefreshesShow =
     (h mid k last : Held) (taken more : List ℕ) (call : Call) (answer : Answer) (s : State) → Played h taken mid
     → Makes mid call answer k → is_shown (output_of call) answer ≡ true
     → Rests k more last → last.outbox.waiting ≡ [] → Begins h s → Ends s (taken ++ more) (ShowsAfter mid call)
 
--- Where the terminal got only a front of what was sent, all begins anew from its state once the session is lost.
+-- If the terminal got only a prefix of the sent bytes, everything begins anew from its state once the session is lost.
 abbrev pub LossesFit : Type 0
 LossesFit =
     (h mid k : Held) (taken front back : List ℕ) (s : State) → Played h taken mid
     → taken ++ mid.outbox.waiting ≡ front ++ back → Loses mid k → Begins h s
     → Ends s front (Begins k)
 
--- A session that is lost begins with each state that output may have left that was cut: so does one that was opened
--- anew.
+-- A lost session, also one that was opened anew, begins with each state that cut output may have left.
 abbrev pub LossesBegin : Type 0
 LossesBegin =
     (h k : Held) (s : State) → Loses h k → IsChecked (certified h.session.painter.checked)
     → IsLost (certified h.session.painter.checked) s → Begins k s
 
--- A session that was opened begins with each fresh terminal.
+-- An opened session begins with each fresh terminal.
 abbrev pub OpeningsBegin : Type 0
 OpeningsBegin =
     (h : Held) (s : State) → scene_of h.session ≡ first (certified h.session.painter.checked) → h.outbox.waiting ≡ []

@@ -1,4 +1,4 @@
-//! Entries, sizes and certificates from what a program hands over.
+//! Entries, sizes and certificates from the bytes that a program hands over.
 ghost use Rattle.std.specs.Prelude.{◌≡◌, if◌then◌else◌, IfErr, IfOk};
 ghost use Rattle.ti_checker.specs.Certificate.{IsCertificateOf};
 ghost use Rattle.ti_cert.specs.Texts.{IsTableOf};
@@ -16,7 +16,7 @@ use ti_resolve::{ResolveFault, resolve};
 use ti_source::{FaultKind, read};
 use vt_term::Size;
 
-/// What a program asks about: the entry of a compiled file, or the one of a name in a source text, on a terminal of a
+/// The subject of a program's request: the entry of a compiled file, or of a name in a source text, on a terminal of a
 /// size.
 #[derive(Clone, Copy)]
 pub struct Subject<'a> {
@@ -35,7 +35,8 @@ pub struct Described {
     pub size: Size,
 }
 
-/// The size of `subject`, and then its entry.
+/// The size and the entry of `subject`. Fails with `BadSize`, then with `BadEntry` if the entry can't be read, or with
+/// `NoMemory`.
 pub fn describe(alloc: Global, subject: &Subject<'_>) -> Result<Described, Failure>
     ensures given { IfOk result (λ d. spec.Gives subject.now.bytes.now subject.now.name.now d.entry) }
     ensures rows { IfOk result (λ d. d.size.rows ≡ subject.now.rows) }
@@ -48,7 +49,7 @@ pub fn describe(alloc: Global, subject: &Subject<'_>) -> Result<Described, Failu
     Ok(Described { entry, size })
 }
 
-/// The size of a terminal.
+/// The size of a terminal of `rows` and `cols`. Fails with `BadSize` if no terminal may have it.
 fn size_of(rows: u16, cols: u16) -> Result<Size, Failure>
     ensures rows { IfOk result (λ size. size.rows ≡ rows) }
     ensures cols { IfOk result (λ size. size.cols ≡ cols) }
@@ -61,7 +62,8 @@ fn size_of(rows: u16, cols: u16) -> Result<Size, Failure>
     }
 }
 
-/// The entry of a compiled file, or, where there is a name, of a source text.
+/// The entry of the compiled file `bytes`, or, if there is a `name`, of that name in the source text `bytes`. Fails
+/// with `BadEntry` if it can't be read, or with `NoMemory`.
 fn entry_of(alloc: Global, bytes: &[u8], name: &[u8]) -> Result<Entry, Failure>
     ensures given { IfOk result (spec.Gives bytes.now name.now) }
     ensures lacks { IfErr result (spec.LacksEntry bytes.now name.now) }
@@ -86,14 +88,15 @@ fn packed_entry(alloc: Global, bytes: &[u8]) -> Result<Entry, Failure>
     }
 }
 
-/// `NoMemory` if memory ran out, else `other`.
+/// `NoMemory` if memory ran out (`is_memory`), else `other`.
 fn failure(is_memory: bool, other: Failure) -> Failure
     ensures { result ≡ (if is_memory then Failure.NoMemory else other) }
 {
     if is_memory { Failure::NoMemory } else { other }
 }
 
-/// The entry of a name in a source text.
+/// The entry of `name` in the source `text`. Fails with `BadEntry` if the text has a fault or doesn't yield the entry,
+/// or with `NoMemory`.
 pub fn source_entry(alloc: Global, text: &[u8], name: &[u8]) -> Result<Entry, Failure>
     ensures given { IfOk result (spec.GivesNamed text.now name.now) }
     ensures lacks { IfErr result (spec.LacksNamed text.now name.now) }
@@ -110,7 +113,8 @@ pub fn source_entry(alloc: Global, text: &[u8], name: &[u8]) -> Result<Entry, Fa
     }
 }
 
-/// What `certificate` shows of an entry.
+/// Verifies `certificate` for the entry and the size of `described`. Fails with `BadCertificate` if it isn't the
+/// entry's, or with `NoMemory`.
 pub fn checked_by(
     alloc: Global,
     described: &Described,
@@ -138,7 +142,7 @@ pub fn checked_by(
     }
 }
 
-/// The certificate of an entry.
+/// The certificate of the entry of `described`. Fails with `NoCertificate` if the entry has none, or with `NoMemory`.
 pub fn certificate_of(alloc: Global, described: &Described) -> Result<Vec<u8>, Failure>
     ensures certified { IfOk result (λ text. spec.IsCertified described.now.entry described.now.size.rows
         described.now.size.cols text.items) }

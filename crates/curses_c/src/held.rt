@@ -1,4 +1,4 @@
-//! What an open handle holds: a session, and the bytes that wait to be taken.
+//! The content of an open handle: a session, and the bytes that wait to be taken.
 ghost use Rattle.std.specs.Prelude.{◌≡◌, ◌++◌, IfOk, [], drop, take};
 ghost use Rattle.cur_calls.specs.declared.calls.Call.TheVariants.{Addstr};
 ghost use Rattle.cur_play.specs.Scenes.{first, scene_of};
@@ -20,16 +20,17 @@ use std::slice;
 use ti_cert::Checked;
 use ti_conforms::Certificate;
 
-/// A session, and what it sent that the program hasn't taken.
+/// A session, and the bytes that it sent and the program hasn't taken.
 #[derive(Drop)]
 pub struct Held {
     pub session: Session<Checked>,
     pub outbox: Outbox,
-    /// The line, from 1, of the last text of calls that wasn't done; 0 where all of it was.
+    /// The line, from 1, at which the last text of calls was left; 0 if all of it was done, or couldn't be read for
+    /// want of memory.
     pub failed: usize,
 }
 
-/// How many calls were done, and the answer of the one behind them; `Done` where all were.
+/// How many calls were done, and the answer of the one after them; `Done` if all were done.
 #[derive(Clone, Copy)]
 pub struct Made {
     done: usize,
@@ -37,7 +38,7 @@ pub struct Made {
 }
 
 impl Held {
-    /// A session on the terminal of `checked` that has sent nothing.
+    /// A session on the terminal of `checked` that has sent nothing. Fails if memory runs out.
     pub fn open(alloc: Global, checked: Checked) -> Result<Held, AllocError>
         ensures scene { IfOk result (λ held. scene_of held.session ≡ first (certified checked)) }
         ensures certificate { IfOk result (λ held. held.session.painter.checked ≡ checked) }
@@ -45,7 +46,7 @@ impl Held {
         ensures failed { IfOk result (λ held. held.failed ≡ 0) }
         ensures sound { IfOk result (λ _. IsChecked (certified checked)) }
     {
-        // only this call's contract says so
+        // only this call's contract says that the certificate is verified
         let _rows = checked.rows();
         Ok(Held {
             session: Session::open(alloc, checked)?,
@@ -62,7 +63,7 @@ impl Held {
         self.session.call(call, &mut self.outbox)
     }
 
-    /// `addstr` of any bytes.
+    /// Does `addstr` in `window`, with any bytes as `text`.
     pub fn addstr(&mut self, window: usize, text: &[u8]) -> Answer
         ensures makes { Makes self.old (Addstr window text.now) result self.new }
         ensures failed { (self.new).failed ≡ (self.old).failed }
@@ -74,7 +75,7 @@ impl Held {
         self.call(&call)
     }
 
-    /// Does the call that `request` is, and gives the number of its answer; where it is none, that of this failure.
+    /// Does the call that `request` encodes, and gives the number of its answer; if it encodes none, that of `BadCall`.
     pub fn make(&mut self, request: &Request) -> i32
         ensures { Does request.now self.old result self.new }
     {
@@ -84,7 +85,7 @@ impl Held {
         }
     }
 
-    /// Sets the colors of `pair`, of which -1 is the terminal's default color.
+    /// Sets the colors of `pair`; -1 as `foreground` or `background` is the terminal's default color.
     pub fn init_pair_or_default(&mut self, pair: i32, foreground: i32, background: i32) -> Answer
         ensures { Recolors pair foreground background self.old result self.new }
     {
@@ -110,7 +111,7 @@ impl Held {
         }
     }
 
-    /// Does the calls of a script, `text`, up to the first that isn't done, and gives the number of its answer.
+    /// Does the calls of the script `text` up to the first that isn't done, and gives the number of its answer.
     pub fn script(&mut self, alloc: Global, text: &[u8]) -> i32
         ensures { Says text.now self.old result self.new }
     {
@@ -124,7 +125,7 @@ impl Held {
         }
     }
 
-    /// Does the calls of `text` up to the first that isn't done, notes its line, and gives the number of its answer.
+    /// Does the `calls` of `text` up to the first that isn't done, notes its line, and gives the number of its answer.
     fn play(&mut self, text: &[u8], calls: &[Call<'_>]) -> i32
         ensures { Plays text.now calls.now self.old result self.new }
     {
@@ -133,7 +134,7 @@ impl Held {
         answer_code(made.answer)
     }
 
-    /// Notes the line of a fault, and gives its number.
+    /// Notes the line of `fault`, and gives its number.
     fn refuse(&mut self, fault: ScriptFault) -> i32
         ensures line { self.new ≡ noting (fault_line fault.kind fault.line) self.old }
         ensures code { result ≡ codes.script_code fault.kind }
@@ -145,7 +146,7 @@ impl Held {
         script_code(fault.kind)
     }
 
-    /// Hands out the first bytes that wait, as many as `room` has room for, and gives their number.
+    /// Moves the first of the waiting bytes to the start of `room`, as many as it has room for, and gives their number.
     pub fn take_into(&mut self, room: &mut [u8]) -> usize
         ensures hands { Hands self.old room.old result self.new }
         ensures room { room.new ≡ take result (self.old).outbox.waiting ++ drop result room.old }
@@ -153,7 +154,7 @@ impl Held {
         self.outbox.take_into(room)
     }
 
-    /// Throws away what waits, and forgets what is known of the terminal: not all that was sent got there.
+    /// Throws away the waiting bytes and makes the session lost, since not all sent bytes reached the terminal.
     pub fn lose(&mut self)
         ensures { Loses self.old self.new }
     {
@@ -162,7 +163,7 @@ impl Held {
     }
 }
 
-/// The line of the call that wasn't done; 0 where all were.
+/// The line in `text` of the call that `made` didn't do; 0 if all were done.
 fn line_left(text: &[u8], made: Made) -> usize
     ensures { result ≡ line_left text.now made.done made.answer }
 {
@@ -173,7 +174,7 @@ fn line_left(text: &[u8], made: Made) -> usize
     }
 }
 
-/// Whether a call was done.
+/// Whether `answer` is that of a call that was done.
 fn is_done(answer: Answer) -> bool
     ensures { result ≡ is_done answer }
 {

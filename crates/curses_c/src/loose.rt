@@ -1,4 +1,4 @@
-//! A box as its pointer.
+//! A box taken apart into its pointer and its allocator.
 ghost use Rattle.std.specs.Prelude.{◌≡◌};
 ghost use Rattle.std.specs.Box.Ownership.{box_owns};
 
@@ -17,7 +17,7 @@ impl<T, A: Allocator> Model for Loose<T, A> {
 }
 
 impl<T: Drop, A: Allocator> Loose<T, A> {
-    /// The parts of `whole`.
+    /// Takes `whole` apart.
     pub(crate) fn of(whole: Box<T, A>) -> Loose<T, A>
         ensures { result.value ≡ whole.value }
     {
@@ -25,7 +25,7 @@ impl<T: Drop, A: Allocator> Loose<T, A> {
         Loose { at, alloc }
     }
 
-    /// The box again.
+    /// Makes the box again.
     pub(crate) fn into_box(self) -> Box<T, A>
         ensures { result.value ≡ self.value }
     {

@@ -14,9 +14,9 @@ use crate::requests::Request;
 use std::alloc::Global;
 use ti_cert::Checked;
 
-/// Opens a session on the terminal of `rows` and `cols` that an entry drives: the one of the compiled file `entry`, or
-/// of `name` in the source text `entry`. Without a `certificate` it makes one. A session that was open is closed;
-/// where no session can be opened it stays open.
+/// Opens a session on a terminal of `rows` and `cols` for an entry: that of the compiled file `entry`, or of `name` in
+/// the source text `entry`. If `certificate` is empty, it makes one. A session that was open is closed; if none can be
+/// opened, it stays open.
 #[unsafe(no_mangle)]
 pub extern "C" fn ticurses_raw_open(
     alloc: Global,
@@ -66,7 +66,7 @@ fn open(
     }
 }
 
-/// What `certificate` shows, or, where it is empty, what one that is made here does.
+/// Verifies `certificate` for the entry of `described`; if it is empty, makes the entry's own and verifies that.
 fn checked_for(alloc: Global, described: &Described, certificate: &[u8]) -> Result<Checked, Failure>
     ensures shown { IfOk result (IsShown described.now.entry described.now.size.rows described.now.size.cols) }
     ensures accepted { IfOk result (IsTableFor described.now.entry described.now.size.rows described.now.size.cols
@@ -80,7 +80,7 @@ fn checked_for(alloc: Global, described: &Described, certificate: &[u8]) -> Resu
     }
 }
 
-/// What the entry's certificate, which is made here, shows.
+/// Makes the certificate of the entry of `described`, and verifies it.
 fn checked_by_own(alloc: Global, described: &Described) -> Result<Checked, Failure>
     ensures shown { IfOk result (IsShown described.now.entry described.now.size.rows described.now.size.cols) }
     ensures accepted { IfOk result (IsOwnTable described.now.entry described.now.size.rows described.now.size.cols) }
@@ -90,7 +90,7 @@ fn checked_by_own(alloc: Global, described: &Described) -> Result<Checked, Failu
     checked_by(alloc, described, text.as_slice())
 }
 
-/// Closes a session; a handle that holds none stays as it is. Nothing is sent: `endwin` comes before it.
+/// Closes the session of `handle`; a handle that holds none stays as it is. Nothing is sent: `endwin` comes before it.
 #[unsafe(no_mangle)]
 pub extern "C" fn ticurses_raw_close(alloc: Global, handle: &mut Handle)
     ensures { (handle.new).slot.held ≡ None }
@@ -98,7 +98,7 @@ pub extern "C" fn ticurses_raw_close(alloc: Global, handle: &mut Handle)
     let _ = handle.take(alloc);
 }
 
-/// Does the calls of a script, `text`, up to the first that isn't done. What they send waits to be taken.
+/// Does the calls of the script `text` up to the first that isn't done. The bytes that they send wait to be taken.
 #[unsafe(no_mangle)]
 pub extern "C" fn ticurses_raw_call(alloc: Global, handle: &mut Handle, text: &[u8]) -> i32
     ensures { Answers closed (Says text.now) (handle.old).slot.held result (handle.new).slot.held }
@@ -112,7 +112,7 @@ pub extern "C" fn ticurses_raw_call(alloc: Global, handle: &mut Handle, text: &[
     code
 }
 
-/// `addstr` in `window`, of a `text` that may have any bytes.
+/// Does `addstr` in `window`, with any bytes as `text`.
 #[unsafe(no_mangle)]
 pub extern "C" fn ticurses_raw_addstr(
     alloc: Global,
@@ -132,7 +132,7 @@ pub extern "C" fn ticurses_raw_addstr(
     code
 }
 
-/// Does the call that the numbers of `request` are. Its output waits to be taken.
+/// Does the call that the numbers of `request` encode. The bytes that it sends wait to be taken.
 #[unsafe(no_mangle)]
 pub extern "C" fn ticurses_raw_make(alloc: Global, handle: &mut Handle, request: &Request) -> i32
     ensures { Answers closed (Does request.now) (handle.old).slot.held result (handle.new).slot.held }
@@ -168,7 +168,7 @@ pub extern "C" fn ticurses_raw_init_pair_or_default(
     code
 }
 
-/// How many bytes wait.
+/// The number of bytes that wait; 0 if `handle` is closed.
 #[unsafe(no_mangle)]
 pub extern "C" fn ticurses_raw_waiting(alloc: Global, handle: &mut Handle) -> usize
     ensures { Answers 0 (λ h count k. (k ≡ h) × (count ≡ length h.outbox.waiting)) (handle.old).slot.held result
@@ -182,8 +182,8 @@ pub extern "C" fn ticurses_raw_waiting(alloc: Global, handle: &mut Handle) -> us
     count
 }
 
-/// Moves the first of the bytes that wait to the start of `room`, as many as it has room for, and gives their number.
-/// The rest of the room stays as it is.
+/// Moves the first of the waiting bytes to the start of `room`, as many as it has room for, and gives their number. The
+/// rest of the room stays as it is.
 #[unsafe(no_mangle)]
 pub extern "C" fn ticurses_raw_output(alloc: Global, handle: &mut Handle, room: &mut [u8]) -> usize
     ensures { Fetches (handle.old).slot.held room.old (result, room.new) (handle.new).slot.held }
@@ -197,7 +197,7 @@ pub extern "C" fn ticurses_raw_output(alloc: Global, handle: &mut Handle, room: 
     count
 }
 
-/// Some of what was sent did not reach the terminal: what waits is thrown away, and the next refresh begins anew.
+/// Throws away the waiting bytes and makes the next refresh begin anew, since not all sent bytes reached the terminal.
 #[unsafe(no_mangle)]
 pub extern "C" fn ticurses_raw_lost(alloc: Global, handle: &mut Handle) -> i32
     ensures { Answers closed (λ h code k. Loses h k × (code ≡ pos 0)) (handle.old).slot.held result
