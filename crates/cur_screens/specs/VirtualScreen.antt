@@ -82,7 +82,7 @@ colored (Some p) (Some f) None v = (v, Err BadPair)
 colored (Some p) None b v = (v, Err BadPair)
 colored None f b v = (v, Err BadPair)
 
--- init_pair of a terminal whose default colors may stand in pairs (ncurses' use_default_colors): pairs 1 to 63
+-- init_pair of a terminal that allows its default colors in pairs (ncurses' use_default_colors): pairs 1 to 63
 abbrev pub init_pair_or_default : ℤ → ℤ → ℤ → Screen → Screen × Result (Unit {0}) Refusal
 init_pair_or_default p f b v = colored (place_below p pair_count) (color_or_default f) (color_or_default b) v
 
