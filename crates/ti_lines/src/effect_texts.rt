@@ -10,8 +10,8 @@ use itoa::Buffer;
 use std::alloc::{AllocError, Global};
 use vt_effects::{Effect, Erasure, Move, Region, Rendering, Scroll, Sets, Switch};
 
-/// The text of an effect: its words in a fixed order with a space between each two, without words
-/// for what is kept; `-` if there are none.
+/// The text of `effect`: its words in a fixed order with a space between each two, without words for what is kept; `-`
+/// if there are none.
 ///
 /// The words are `row=k`, `row+k` or `row-k`, and likewise for `col`; `nopend`; `all`, `tail`,
 /// `head`, `rest` or `next=n`; `up` or `down`; `look:` and for bold, faint, underline, blink,

@@ -25,7 +25,7 @@ pub trait Judge {
     /// How lines and ends are judged.
     ghost rules: { Rules Self Self.Fault };
 
-    /// Judges one more line, given without its LF.
+    /// Judges one more line, `line`, given without its LF.
     ///
     /// # Errors
     /// The line's fault, or out of memory. The judge's content is then unspecified.
