@@ -73,7 +73,7 @@ here_after cols r c s e p q lt on = (
 abbrev pub standing : Belief → ℕ → ℕ → Belief
 standing b r c = record b { place = record { row = r; col = c } }
 
--- printed in a state, as in another one in which the cursor is there
+-- printing from a state that the character changes as it does another state, in which the cursor is at the place
 typed_from : (t : Table) (g : ℕ → ℕ → Ink) (b : Belief) (r c : ℕ) (x : Ink) → c < t.cols → IsPrinted x.byte → b.brush ≡ x.brush → b.graphic ≡ Some x.graphic
     → (s v : State) → s.rest ≡ [] → IsOfSize t.rows t.cols s → act (Print x.byte) s.screen ≡ act (Print x.byte) v.screen → Agrees t g (standing b r c) v → Ends s (x.byte ∷ []) (Agrees t (put_at r c x g) (standing b r (c + 1)))
 unfolding typed
@@ -132,7 +132,7 @@ sized_at t s r c lr lc h =
       cols = h.cols;
     }
 
--- the cursor, the brush and the set are known for it
+-- the next character is known to go to the place, in the brush and the set of an ink
 pub record IsPoised (cols : ℕ) (b : Belief) (r c : ℕ) (x : Ink) : Type 0 where
   pub place : IsNext cols b.place r c
   pub brush : b.brush ≡ x.brush
