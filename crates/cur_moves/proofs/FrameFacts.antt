@@ -216,7 +216,7 @@ framed_as t top bottom row g h b e s x = record {
   seen = x.seen;
 }
 
--- ---- between a frame and what is believed of the whole screen
+-- ---- between a frame and the belief about the whole screen
 
 -- the whole screen in the plain brush is a frame
 pub entered : (t : Table) (g : ℕ → ℕ → Ink) (b : Belief) (p : Place) → b.brush ≡ plain_brush → (s : State) → Agrees t g b s
@@ -239,7 +239,7 @@ entered t g b p e s a = record {
 plain_colored : (t : Table) → IsColored t plain_brush
 plain_colored t = record { foreground = λ e. refl; background = λ e. refl }
 
--- and the other way round
+-- a frame of the whole screen agrees with the belief
 pub left : (t : Table) (g : ℕ → ℕ → Ink) (b : Belief) (row : ℕ) → 0 < t.rows → b.brush ≡ plain_brush → (s : State) → Framed t (whole t g row) (record b { place = record { row = row; col = 0 } }) s
     → Agrees t g (record b { place = record { row = row; col = 0 } }) s
 left t g b row some e s x = record {
@@ -270,7 +270,7 @@ screen_entered t top bottom g b row is_top is_bottom plain at s a = record {
   seen = a.seen;
 }
 
--- and the other way round
+-- a frame of the whole screen, with the cursor where it is believed, agrees with the belief
 pub screen_left : (t : Table) (top bottom : ℕ) (g : ℕ → ℕ → Ink) (b : Belief) (row : ℕ) → 0 < t.rows → top ≡ 0 → bottom ≡ t.rows - 1 → b.brush ≡ plain_brush → b.place ≡ record { row = row; col = 0 } → (s : State)
     → Framed t (framed top bottom g row) b s → Agrees t g b s
 screen_left t top bottom g b row some is_top is_bottom plain at s x = record {
@@ -283,7 +283,7 @@ screen_left t top bottom g b row some is_top is_bottom plain at s x = record {
   seen = x.seen;
 }
 
--- the bytes of all lines of a scroll together
+-- the bytes of all lines of a scroll together, with margins
 pub scroll_enough : (t : Table) (count : ℕ) → brush_limit t + ((count + 2) * t.longest.scroll + 2 * t.longest.cup) ≤ (count + 4) * cell_limit t
 scroll_enough t count =
     let l = t.longest.scroll in
@@ -293,7 +293,7 @@ scroll_enough t count =
     let f : (count + 4) * m ≡ m * (count + 2) + 2 * m = grind arith in
     omega (arith, a, e, f)
 
--- where no margins are sent
+-- the bytes of a scroll for which no margins are sent
 pub screen_enough : (t : Table) (count : ℕ) → brush_limit t + (t.longest.cup + count * t.longest.scroll) ≤ (count + 4) * cell_limit t
 screen_enough t count =
     let l = t.longest.scroll in

@@ -7,12 +7,12 @@ use Rattle.cur_steps.specs.Inks.{look_of}
 use Rattle.cur_steps.specs.declared.inks.Ink.{Ink}
 use Rattle.cur_moves.specs.Scrolls.{shifted}
 
--- by no line
+-- a scroll by no line changes nothing
 pub shifted_none : (top bottom : ℕ) (up : Bool) (g : ℕ → ℕ → Ink) (i j : ℕ) → g i j ≡ shifted (record { top = top; bottom = bottom; count = 0; up = up }) g i j
 shifted_none top bottom true g i j = grind (arith, nat_tests)
 shifted_none top bottom false g i j = grind (arith, nat_tests)
 
--- by one more line
+-- a scroll by n lines, and then by one, is a scroll by n + 1
 pub shifted_next : (top bottom n : ℕ) (up : Bool) (g : ℕ → ℕ → Ink) (i j : ℕ)
     → shifted (record { top = top; bottom = bottom; count = 1; up = up }) (shifted (record { top = top; bottom = bottom; count = n; up = up }) g) i j
     ≡ shifted (record { top = top; bottom = bottom; count = n + 1; up = up }) g i j

@@ -7,7 +7,7 @@ use Rattle.cur_steps.specs.declared.inks.Ink.{Ink}
 pub use Rattle.cur_moves.specs.declared.erasures.ErasedPart.{ErasedPart}
 pub use Rattle.cur_moves.specs.declared.erasures.ErasedPart.TheVariants.{Head, Part, Rest}
 
--- the row whose line erases it
+-- the row whose line erases this part
 abbrev pub erasure_row : ErasedPart → Row
 erasure_row Head = El1
 erasure_row (Part n) = Ech n

@@ -56,7 +56,7 @@ abbrev pub Moves : {W T E : Type 0} → (W → W → List ℕ → Type 0) → (W
 Moves went failures before after answer t limit f h b =
     Steps went failures before after answer (IsPaint t) limit (IsLost t) (Framed t f b) (Framed t h b)
 
--- these margins, with the cursor in the column before all others of this line
+-- these margins, with the cursor in the first column of this line
 abbrev pub framed : ℕ → ℕ → (ℕ → ℕ → Ink) → ℕ → Frame
 framed top bottom g row = record { top = top; bottom = bottom; cells = g; place = Some (record { row = row; col = 0 }) }
 

@@ -9,7 +9,7 @@ use Rattle.cur_steps.specs.Inks.{blank_ink}
 use Rattle.cur_steps.specs.declared.inks.Ink.{Ink}
 pub use Rattle.cur_moves.specs.declared.scrolls.Scroll.{Scroll}
 
--- the line of the cursor from which the region scrolls
+-- the line in which the cursor makes the region scroll
 abbrev pub edge : Scroll → ℕ
 edge x = if x.up then x.bottom else x.top
 
@@ -17,7 +17,7 @@ edge x = if x.up then x.bottom else x.top
 abbrev pub scroll_row : Scroll → Row
 scroll_row x = if x.up then Ind else Ri
 
--- the region's lines this many lines further up or down, blank lines at the free end, and all other lines as they were
+-- the region's lines moved up or down by a number of lines, blank lines at the free end, and all other lines unchanged
 abbrev pub shifted : Scroll → (ℕ → ℕ → Ink) → ℕ → ℕ → Ink
 shifted x g i j =
     if nat_le x.top i && nat_le i x.bottom then
@@ -31,7 +31,7 @@ cell_of g None j = blank_ink
 cell_of g (Some i) j = g i j
 
 -- the region is two lines of the screen or more, and there are lines for its margins, for those of the whole screen,
--- and for a scroll that way
+-- and for a scroll in that direction
 pub record CanScroll (t : Table) (x : Scroll) : Type 0 where
   pub region : x.top < x.bottom
   pub bottom : x.bottom < t.rows

@@ -17,7 +17,7 @@ use ti_rows::Row;
 /// The part that is erased.
 #[derive(Clone, Copy)]
 pub enum ErasedPart {
-    /// The cursor's line as far as the cursor, its place included.
+    /// The cursor's line up to the cursor, its place included.
     Head,
     /// This many cells of the cursor's line, from the cursor on.
     Part(u16),
@@ -44,7 +44,7 @@ pub fn erasing_line<C: Certificate>(checked: &C, erasure: ErasedPart) -> Option<
     checked.line(row_of_erasure(erasure))
 }
 
-/// Erases `erasure` by its string `line`, from `at`, where the cursor is known to be.
+/// Erases `erasure` by its string `line`, from `at`, where the cursor must be known to be.
 fn erase_here<C: Certificate, W: Wire>(
     checked: &C,
     line: &[u8],
@@ -82,7 +82,7 @@ fn reach_plainly<C: Certificate, W: Wire>(
     brush_as(checked, belief, wire, Brush::plain())
 }
 
-/// Erases `erasure` by its string `line`, from the place `at` of a line that is shown as far as that place.
+/// Erases `erasure` by its string `line`, from `at`. The line must already show the target up to `at`.
 pub fn erase_from<C: Certificate, N: Picture, W: Wire>(
     target: &Target<'_, C, N>,
     belief: &mut Belief,

@@ -18,8 +18,8 @@ pub(crate) struct Way {
     pub bytes: usize,
 }
 
-/// A row with the shortest line that leads to line `row` and column `col` from what is known of the cursor's place,
-/// `from`.
+/// A row with the shortest line that leads to line `row` and column `col`, from the cursor's place `from` if that is
+/// known, else from anywhere.
 pub(crate) fn shortest<C: Certificate>(checked: &C, from: Option<Place>, row: u16, col: u16) -> Way
     requires checked { IsChecked (C.table checked.now) }
     requires row { row < (C.table checked.now).rows }
@@ -41,7 +41,7 @@ pub(crate) fn shortest<C: Certificate>(checked: &C, from: Option<Place>, row: u1
     shorter(checked, best, by_row_name(at, row, col))
 }
 
-/// The way by `cup`, which leads there from every place.
+/// The way by `cup`, which leads to line `row` and column `col` from every place.
 fn straight<C: Certificate>(checked: &C, row: u16, col: u16) -> Way
     requires checked { IsChecked (C.table checked.now) }
     requires row { row < (C.table checked.now).rows }

@@ -122,7 +122,7 @@ fn follow_route<C: Certificate, N: Picture, W: Wire>(
     }
 }
 
-/// Moves the cursor to `at`, in a line that is shown as far as that place.
+/// Moves the cursor to `at`. The line must already show the target up to `at`.
 pub fn reach<C: Certificate, N: Picture, W: Wire>(
     target: &Target<'_, C, N>,
     belief: &mut Belief,
@@ -166,7 +166,8 @@ pub(crate) fn reach_by_line<C: Certificate, W: Wire>(
     send_line(checked, way.line, checked.line(way.line).unwrap(), wire)
 }
 
-/// The number of bytes of a shortest line that leads to `at` from what is known of the cursor's place, `from`.
+/// The number of bytes of a shortest line that leads to `at`, from the cursor's place `from` if that is known, else
+/// from anywhere.
 pub fn line_bytes<C: Certificate>(checked: &C, from: Option<Place>, at: Place) -> usize
     requires row { at.row < (C.table checked.now).rows }
     requires col { at.col < (C.table checked.now).cols }
