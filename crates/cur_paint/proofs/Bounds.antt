@@ -33,14 +33,14 @@ most t old new b cursor mode =
 not_moved : (p : Place) → moves p p.row p.col ≡ 0
 not_moved p = grind (arith, nat_tests)
 
--- no move is needed to the cursor's own place
+-- a cursor at the wanted place needs no move
 stays : (cols : ℕ) (now : Place) (cursor : Option Place) → IsPlaced cols cursor now → last_move cols now cursor ≡ 0
 stays cols now None h = refl
 stays cols now (Some p) h =
     let at : Place = seen_at cols now in
     ap (λ (n : ℕ). moves at n p.col) (sym h.0) ∙ ap (λ (n : ℕ). moves at at.row n) (sym h.1) ∙ not_moved at
 
--- a place on the screen is reached
+-- the cursor is at a place on the screen once it is believed there
 pub reached : (cols : ℕ) (p : Place) → p.col < cols → IsPlaced cols (Some p) (record { row = p.row; col = p.col })
 reached cols p lt = (refl, sym (stands_at cols p.row p.col lt).1)
 
@@ -51,7 +51,7 @@ placed_at t (Some p) now w e = let Q : Place → Type 0 = λ q. IsPlaced t.cols 
 pub at_as : (cursor : Option Place) (at now : Place) → cursor ≡ Some at → now ≡ at → IsAt cursor now
 at_as cursor at now e f = subst (λ (o : Option Place). IsAt o now) (sym e) f
 
--- the place is the one in every state that agrees
+-- a place that the cursor has in a state that agrees is also its believed place
 pub placed_as : (t : Table) (g : ℕ → ℕ → Ink) (b : Belief) (cursor : Option Place) (s : State) → Agrees t g b s → IsCursor cursor s.screen.row s.screen.col → IsPlaced t.cols cursor b.place
 placed_as t g b cursor s h k =
     let P : ℕ → Type 0 = λ n. IsCursor cursor n (seen_at t.cols b.place).col in
@@ -73,7 +73,7 @@ nothing d x y l e f h =
     let R : ℕ → Type 0 = λ n. 0 * l + (if (n == 0) then 0 else 1) * l ≡ 0 in
     subst P (sym e) (subst Q (sym f) (subst R (sym h) (omega arith)))
 
--- once more where a cell differs, where the cursor is to move, and where its mode is to change
+-- the bound has a cell's limit once more if a cell differs, or the cursor must move or change its mode
 due : (d l : ℕ) (s : Bool) → ((d == 0) && s) ≡ false → (d + 1) * l ≤ d * l + (if (d == 0) && s then 0 else 1) * l
 due d l s e =
     let P : Bool → Type 0 = λ x. (d + 1) * l ≤ d * l + (if x then 0 else 1) * l in
@@ -110,7 +110,7 @@ due_changed t old new b cursor mode lt =
     let d = all_differ old new t.cols t.rows in
     due d (cell_limit t) (is_settled t.cols b cursor mode) (refuted_first (d == 0) (is_settled t.cols b cursor mode) (some_left d lt))
 
--- nothing is due where nothing is to be done
+-- the bound is 0 if nothing is to be done
 pub none_due : (t : Table) (old new : ℕ → ℕ → Ink) (b : Belief) (cursor : Option Place) (mode : Mode) → all_differ old new t.cols t.rows ≡ 0 → IsPlaced t.cols cursor b.place → b.mode ≡ Some mode → paint_limit t old new b cursor mode ≡ 0
 none_due t old new b cursor mode e p k = nothing (all_differ old new t.cols t.rows) (last_move t.cols b.place cursor) (changes b.mode mode) (cell_limit t) e (stays t.cols b.place cursor p) (unchanged b.mode mode k)
 
@@ -146,7 +146,7 @@ one_more (suc d) l settled lt =
     let P : Bool → Type 0 = λ x. suc d * l + l ≤ suc d * l + (if x && settled then 0 else 1) * l in
     subst P (sym f) (omega arith)
 
--- some bytes, followed by a repair that takes fewer cells, by more than these bytes
+-- the bound is enough for some bytes and a repair that has fewer cells, by more than these bytes
 pub fewer_enough : (t : Table) (n : ℕ) (blank old new : ℕ → ℕ → Ink) (b : Belief) (cursor : Option Place) (mode : Mode) → n + all_differ blank new t.cols t.rows < all_differ old new t.cols t.rows
     → n + renewal_limit t blank new ≤ paint_limit t old new b cursor mode
 fewer_enough t n blank old new b cursor mode lt =
@@ -160,7 +160,7 @@ fewer_enough t n blank old new b cursor mode lt =
     let m : y * l + l ≤ paint_limit t old new b cursor mode = one_more y l (is_settled t.cols b cursor mode) (omega (arith, lt)) in
     omega (arith, a, e, k, c, m)
 
--- a scroll, followed by a repair that takes fewer cells, by as many as the scroll counts for
+-- the bound is enough for a scroll and a repair that has fewer cells, by as many as the scroll counts for
 pub scrolled_enough : (t : Table) (k : ℕ) (moved old new : ℕ → ℕ → Ink) (b : Belief) (cursor : Option Place) (mode : Mode) → 0 < k → k + all_differ moved new t.cols t.rows ≤ all_differ old new t.cols t.rows
     → k * cell_limit t + renewal_limit t moved new ≤ paint_limit t old new b cursor mode
 scrolled_enough t k moved old new b cursor mode some le =

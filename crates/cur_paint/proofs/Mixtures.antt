@@ -19,7 +19,7 @@ use Rattle.cur_steps.specs.declared.inks.Ink.{Ink}
 pub agrees_as : (t : Table) (g h : ℕ → ℕ → Ink) (b : Belief) → ((i j : ℕ) → i < t.rows → j < t.cols → g i j ≡ h i j) → (s : State) → Agrees t g b s → Agrees t h b s
 agrees_as t g h b e s a = record { ready = a.ready; cells = λ i j li lj. rw (← e i j li lj) (a.cells i j li lj); place = a.place; brush = a.brush; colored = a.colored; set = a.set; seen = a.seen }
 
--- one place more
+-- one more place
 pub mixed_put : (old new : ℕ → ℕ → Ink) (r c i j : ℕ) → put_at r c (new r c) (mixed old new r c) i j ≡ mixed old new r (c + 1) i j
 mixed_put old new r c i j = grind (arith, nat_tests)
 
@@ -29,11 +29,11 @@ mixed_same old new r c i j e = grind (arith, nat_tests)
 pub mixed_blank : (old new : ℕ → ℕ → Ink) (r c cols i j : ℕ) → j < cols → ((k : ℕ) → c ≤ k → k < cols → new r k ≡ blank_ink) → tail_blank r c (mixed old new r c) i j ≡ mixed old new r cols i j
 mixed_blank old new r c cols i j lt h = grind (arith, nat_tests, h j)
 
--- the line is new as far as the place
+-- the line is new up to the place
 pub mixed_before : (old new : ℕ → ℕ → Ink) (r c : ℕ) → BeginsAs (mixed old new r c) new r c
 mixed_before old new r c k lt = grind (arith, nat_tests)
 
--- columns that are shown already
+-- columns that are right already, before the first mended one
 pub mixed_front : (old new : ℕ → ℕ → Ink) (r c i j : ℕ) → ((k : ℕ) → k < c → old r k ≡ new r k) → mixed old new r 0 i j ≡ mixed old new r c i j
 mixed_front old new r c i j h = grind (arith, nat_tests, h j)
 
@@ -57,7 +57,7 @@ found_different old new r c a b p q e =
 pub span_more : (old new : ℕ → ℕ → Ink) (i from n : ℕ) → span old new i from (n + 1) ≡ span old new i from n + differs old new i (from + n)
 span_more old new i from n = let same : suc n ≡ n + 1 = omega arith in let P : ℕ → Type 0 = λ m. span old new i from m ≡ span old new i from n + differs old new i (from + n) in subst P same refl
 
--- what was counted in a line from its start on, and one place more
+-- the count of a line from its start on, and one more place
 pub span_next : (old new : ℕ → ℕ → Ink) (i n count one : ℕ) → count ≡ span old new i 0 n → one ≡ differs old new i n → count + one ≡ span old new i 0 (n + 1)
 span_next old new i n count one e f =
     let there : 0 + n ≡ n = omega arith in
@@ -100,7 +100,7 @@ span_parts old new i a cols le =
     let Q : ℕ → Type 0 = λ m. span old new i 0 a + span old new i m (cols - a) ≡ span old new i 0 (a + (cols - a)) in
     subst P same (subst Q zeroth (span_join old new i 0 a (cols - a)))
 
--- two parts of what comes from a column on
+-- two parts of a line from a column on
 pub span_split : (old new : ℕ → ℕ → Ink) (i from a cols : ℕ) → from ≤ a → a ≤ cols → span old new i from (a - from) + span old new i a (cols - a) ≡ span old new i from (cols - from)
 span_split old new i from a cols le more =
     let there : from + (a - from) ≡ a = omega arith in
@@ -119,7 +119,7 @@ all_grows old new cols n (suc m) le = elim (cases_lt n (suc m)) [
   | inr ge ↦ (let P : ℕ → Type 0 = λ k. all_differ old new cols k ≤ all_differ old new cols (suc m) in let same : suc m ≡ n = omega arith in subst P same (omega arith))
 ]
 
--- columns that are shown already
+-- a test that adds nothing to the count holds
 zero_same : (b : Bool) → ◌≡◌ {A = ℕ} (if b then 0 else 1) 0 → b ≡ true
 zero_same true e = refl
 zero_same false e = absurd (omega (arith, e))

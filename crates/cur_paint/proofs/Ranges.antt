@@ -31,20 +31,20 @@ none_differs old new i j e =
     let f : same (old i j) (new i j) ≡ true = subst (λ (x : Ink). same (old i j) x ≡ true) e (same_self (old i j)) in
     ap (λ (x : Bool). if x then 0 else 1) f
 
--- cells that are the same don't count
+-- equal cells add nothing to the count
 pub span_none : (old new : ℕ → ℕ → Ink) (i from n : ℕ) → ((j : ℕ) → from ≤ j → j < from + n → old i j ≡ new i j) → span old new i from n ≡ 0
 span_none old new i from zero h = refl
 span_none old new i from (suc n) h =
     omega (arith, span_none old new i from n (λ j a b. h j a (omega (arith, b))), none_differs old new i (from + n) (h (from + n) (omega arith) (omega arith)))
 
--- only the columns that may differ count
+-- only the columns that may differ add to the count
 pub span_within : (old new : ℕ → ℕ → Ink) (i from end cols : ℕ) → IsSameOutside old new i from end cols → from ≤ end → end ≤ cols → span old new i from (end - from) ≡ span old new i 0 cols
 span_within old new i from end cols h order within =
     let front : span old new i 0 from ≡ 0 = span_none old new i 0 from (λ j a b. h.before j (omega (arith, b))) in
     let back : span old new i end (cols - end) ≡ 0 = span_none old new i end (cols - end) (λ j a b. h.after j a (omega (arith, b, within))) in
     omega (arith, front, back, span_parts old new i from cols (omega (arith, order, within)), span_split old new i from end cols order within)
 
--- one more place, of those from a column on
+-- one more place of a line from a column on
 pub span_on : (old new : ℕ → ℕ → Ink) (i from n count one : ℕ) → count ≡ span old new i from n → one ≡ differs old new i (from + n) → count + one ≡ span old new i from (n + 1)
 span_on old new i from n count one e f = omega (arith, e, f, span_more old new i from n)
 

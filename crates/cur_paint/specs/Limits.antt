@@ -31,11 +31,11 @@ abbrev pub last_move : ℕ → Place → Option Place → ℕ
 last_move cols now None = 0
 last_move cols now (Some p) = moves (seen_at cols now) p.row p.col
 
--- the last things to do: the cursor's mode and its place
+-- the most bytes of the strings that give the cursor its mode and its place, the last ones of a refresh
 abbrev pub cursor_limit : Table → ℕ
 cursor_limit t = modes_limit t + t.longest.cup
 
--- before them, the default rendition and the plain set
+-- the most bytes of the strings that make the rendition the default one and the plain set active, just before those
 abbrev pub rest_limit : Table → ℕ
 rest_limit t = plain_limit t + t.longest.sets
 

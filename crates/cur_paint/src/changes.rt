@@ -3,14 +3,14 @@ ghost use Rattle.std.specs.Prelude.{◌≡◌, ◌<◌, ◌≤◌, ℕ};
 
 use cur_moves::Scroll;
 
-/// Columns of a line: from one on, up to but without another.
+/// The columns of a line from the column `from` up to, but not including, the column `end`.
 #[derive(Clone, Copy)]
 pub struct Columns {
     pub from: usize,
     pub end: usize,
 }
 
-/// Lines of a screen: from one on, up to but without another.
+/// The lines of a screen from the line `from` up to, but not including, the line `end`.
 #[derive(Clone, Copy)]
 pub struct LineRange {
     pub from: usize,
@@ -43,8 +43,8 @@ pub trait Changes {
         ensures same { (old new : ℕ → ℕ → Ink) → between self.now old new
             → IsSameOutside old new row result.from result.end cols };
 
-    /// The scroll by which lines may have moved from one screen to the other, if that is known. Nothing is promised of
-    /// it.
+    /// The scroll by which lines may have moved from one screen to the other, if that is known. No clause says that it
+    /// is right.
     fn scroll(&self) -> Option<Scroll> {
         None
     }
@@ -60,7 +60,7 @@ pub trait Changes {
     }
 }
 
-/// The lines from the first of either range to the last.
+/// The lines from the first line of `a` or `b` to the last line of either.
 fn joined(a: LineRange, b: LineRange) -> LineRange
     ensures from { result.from ≤ a.from }
     ensures also_from { result.from ≤ b.from }
