@@ -76,7 +76,7 @@ keeps_last : {C : Type 0} (t : Table) (partners : ℕ → Option ℕ) (before af
     → IsLast t partners before last → IsLast t partners after last
 keeps_last t partners before after last known same_screen h e = ap (ink_at t partners) same_screen ∙ h (known e)
 
--- the mode shown last changes only with what is shown
+-- the mode shown last changes only with the screen shown last
 mode_kept : (o : Emission) (answer : Answer) (last m : Mode) → is_shown o answer ≡ false → mode_after o answer last m ≡ last
 mode_kept Update Done last m e = absurd (cc)
 mode_kept Update (Was n) last m e = refl

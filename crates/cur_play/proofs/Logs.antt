@@ -75,7 +75,7 @@ scene_shown t b call answer a e (Stepped f) =
 scene_shown t b call answer a e (NoRoom takes done f same) = absurd (not_refused answer _ (is_done (output_of call) answer e).answer f)
 scene_shown t b call answer a e (Failed sent done f same) = absurd (not_failed answer (is_done (output_of call) answer e).answer f)
 
--- what is shown is the virtual screen after the call
+-- the shown screen is the virtual screen after the call
 shows_after : (t : Table) (partners : ℕ → Option ℕ) (d : Scene) (a : Scene) (s : State) → a ≡ shown_scene d → Shows t (ink_at t partners d.screen) (wanted_of d.screen d.mode) s → Shows t (ink_at t partners a.screen) (wanted_of a.screen a.mode) s
 shows_after t partners d a s e h =
     let P : Scene → Type 0 = λ x. Shows t (ink_at t partners x.screen) (wanted_of x.screen x.mode) s in
@@ -120,7 +120,7 @@ last_sized Nothing answer last v n f e h = e
 last_sized Bell answer last v n f e h = e
 last_sized End answer last v n f e h = e
 
--- the last screen by what was drawn, and by what is there after the call
+-- the screen shown last is the same whether it is taken from the drawing or from the scene after the call
 last_same : {C : Type 0} (t : Table) (partners : ℕ → Option ℕ) (o : Emission) (answer : Answer) (p : Painted C) (last : Screen) (d a : Scene) → (is_shown o answer ≡ true → a ≡ shown_scene d)
     → IsLast t partners p (last_after o answer last d.screen) → IsLast t partners p (last_after o answer last a.screen)
 last_same t partners Update Done p last d a e h =
@@ -133,7 +133,7 @@ last_same t partners Nothing answer p last d a e h = h
 last_same t partners Bell answer p last d a e h = h
 last_same t partners End answer p last d a e h = h
 
--- the cursor's last mode likewise
+-- the mode shown last is the same whether it is taken from the drawing or from the scene after the call
 settled_same : {C : Type 0} (o : Emission) (answer : Answer) (p : Painted C) (last_mode : Mode) (d a : Scene) → (is_shown o answer ≡ true → a ≡ shown_scene d)
     → IsSettled p (mode_after o answer last_mode d.mode) → IsSettled p (mode_after o answer last_mode a.mode)
 settled_same Update Done p last_mode d a e h =

@@ -27,13 +27,14 @@ use Rattle.cur_play.specs.declared.runs.LogEntry.{LogEntry}
 use Rattle.cur_play.specs.declared.sends.Emission.{Emission}
 use Rattle.cur_play.specs.declared.sends.Emission.TheVariants.{Nothing, Update, Bell, End}
 
--- ---- what a run is about, and a moment of it
+-- ---- the subject of a run, and a moment of it
 
--- the wire, by what went out between two moments and how often it has failed, and the terminal, by its certificate
+-- a wire, given by the bytes that go out between two moments and the count of its failures, and a terminal, given by
+-- its certificate
 pub record Subject (W : Type 0) : Type 1 where
   pub went : W → W → List ℕ → Type 0
   pub failures : W → ℕ
-  -- holds of the wire after each call
+  -- a property of the wire after each call
   pub rests : W → Type 0
   pub table : Table
   pub partners : ℕ → Option ℕ
@@ -46,15 +47,15 @@ subject_at went failures rests t partners =
 abbrev pub subject_of : {W : Type 0} → (W → W → List ℕ → Type 0) → (W → ℕ) → Table → (ℕ → Option ℕ) → Subject W
 subject_of went failures t partners = subject_at went failures (λ a. Unit {0}) t partners
 
--- on a wire that may hold bytes back: it holds none after any call
+-- the subject of a run on a wire that may hold bytes back: it holds none after any call
 abbrev pub paced_subject_of : {W : Type 0} → (W → W → List ℕ → Type 0) → (W → ℕ) → (W → List ℕ) → Table → (ℕ → Option ℕ)
     → Subject W
 paced_subject_of went failures held t partners = subject_at went failures (λ a. held a ≡ []) t partners
 
--- where a run stands between two calls
+-- the state of a run between two calls
 pub record Moment (W : Type 0) : Type 0 where
   pub wire : W
-  -- all that went out since the run began
+  -- all bytes that went out since the run began
   pub bytes : List ℕ
   pub scene : Scene
   -- the screen that was shown last, and the cursor's mode then
@@ -76,7 +77,7 @@ pub record IsAfter (t : Table) (bytes : List ℕ) (s : State) : Type 0 where
   pub fresh : IsFresh t begun
   pub runs : Runs begun bytes s
 
--- ---- what a call sends
+-- ---- the bytes that a call sends
 
 -- The bytes that a call must send if nothing fails. The terminal is in a state of the kind, the session has this
 -- status, and the cursor is shown in the mode `now`, if that is known; the virtual screen and the cursor's mode are
@@ -94,25 +95,26 @@ pub record IsFront (whole : List ℕ → Type 0) (bytes : List ℕ) : Type 0 whe
   pub is : whole (bytes ++ back)
   pub some_left : 0 < length back
 
--- by the answer: all of it if the call was done, a proper prefix if the wire failed, and nothing otherwise
+-- the bytes that went out, by the answer: all of them if the call was done, a proper prefix if the wire failed, and
+-- none otherwise
 abbrev pub Emits : (List ℕ → Type 0) → Answer → List ℕ → Type 0
 Emits says Done bytes = says bytes
 Emits says WireFailed bytes = IsFront says bytes
 Emits says answer bytes = bytes ≡ []
 
--- ---- what was shown last, and the most that a refresh sends
+-- ---- the screen shown last, and the most that a refresh sends
 
 -- the virtual screen was shown
 abbrev pub is_shown : Emission → Answer → Bool
 is_shown Update Done = true
 is_shown _ _ = false
 
--- the screen that was shown last
+-- the screen shown last, after a call
 abbrev pub last_after : Emission → Answer → Screen → Screen → Screen
 last_after Update Done last v = v
 last_after _ _ last v = last
 
--- the mode in which the cursor was shown last
+-- the mode in which the cursor was shown last, after a call
 abbrev pub mode_after : Emission → Answer → Mode → Mode → Mode
 mode_after Update Done last m = m
 mode_after _ _ last m = last
@@ -124,8 +126,8 @@ most t Known false last v = (in_lines last v t.cols t.rows + 1) * cell_limit t
 most t Known true last v = fresh_limit t
 most t _ clear last v = fresh_limit t
 
--- No cell of the virtual screen differs from what was shown last, nor does the cursor's mode, and the terminal, in this
--- state, has its cursor where it is wanted, or the cursor may be anywhere. Nothing is to be cleared.
+-- No cell of the virtual screen differs from the screen shown last, nor does the cursor's mode, and the terminal, in
+-- this state, has its cursor at the wanted place, or no place is wanted. Nothing is to be cleared.
 pub record IsUnchanged (t : Table) (last : Screen) (last_mode : Mode) (s : State) (v : Screen) (m : Mode) : Type 0 where
   pub same : in_lines last v t.cols t.rows ≡ 0
   pub cursor : IsCursor (place_of v.cursor) s.screen.row s.screen.col
@@ -146,23 +148,23 @@ Due about before call =
     let now = shown_mode before.scene.status (Some before.last_mode) in
     Says t about.partners (IsAfter t before.bytes) before.scene.status now d.screen d.mode (output_of call)
 
--- the most that a refresh sends then
+-- the most that a refresh by this call sends
 abbrev pub most_at : {W : Type 0} → Subject W → Moment W → Call → ℕ
 most_at about before call =
     let v = (scene_at about before call).screen in
     most about.table before.scene.status v.clearok before.last v
 
--- nothing differs from what was shown last, and the terminal is in this state
+-- nothing differs from the screen shown last, and the terminal is in this state
 abbrev pub IsUnchangedAt : {W : Type 0} → Subject W → Moment W → State → Call → Type 0
 IsUnchangedAt about before s call =
     let d = scene_at about before call in
     IsUnchanged about.table before.last before.last_mode s d.screen d.mode
 
--- every terminal that begins in a first state takes all the bytes and is then in such a state
+-- every terminal that begins in a first state takes all the bytes and is then in a state of this kind
 abbrev pub FromFresh : {W : Type 0} → Subject W → List ℕ → (State → Type 0) → Type 0
 FromFresh about bytes kind = (s : State) → IsFresh about.table s → Ends s bytes kind
 
--- it shows the virtual screen of the scene
+-- the terminal shows the virtual screen of the scene
 abbrev pub ShowsScene : {W : Type 0} → Subject W → Scene → State → Type 0
 ShowsScene about scene =
     let t = about.table in
@@ -191,11 +193,11 @@ pub record Tells {W : Type 0} (about : Subject W) (before : Moment W) (call : Ca
   pub shows : is_shown (output_of call) e.answer ≡ true → FromFresh about after.bytes (ShowsScene about after.scene)
   -- a refresh keeps its bound, done or cut short
   pub bound : output_of call ≡ Update → length piece ≤ most_at about before call
-  -- a refresh sends nothing if the terminal is known and nothing differs from what was shown last, with the cursor
+  -- a refresh sends nothing if the terminal is known and nothing differs from the screen shown last, with the cursor
   -- where the bytes sent before have left it
   pub idle : output_of call ≡ Update → before.scene.status ≡ Known → (s : State) → IsAfter about.table before.bytes s
       → IsUnchangedAt about before s call → piece ≡ []
-  -- what was shown last
+  -- the screen shown last, and the cursor's mode then
   pub last : after.last ≡ last_after (output_of call) e.answer before.last after.scene.screen
   pub last_mode : after.last_mode ≡ mode_after (output_of call) e.answer before.last_mode after.scene.mode
 

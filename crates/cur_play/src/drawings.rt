@@ -59,7 +59,7 @@ pub(crate) fn draw<C: Certificate>(
     show(desk, screen, stale, painter, call)
 }
 
-/// Does a call on more than windows; a call that only sends does nothing here.
+/// Does `call` if it is one on more than windows; nothing for a call that only sends.
 fn show<C: Certificate>(
     desk: &mut Desk,
     screen: &mut Virtual,

@@ -52,7 +52,7 @@ pub(crate) fn change(
     }
 }
 
-/// As `shape`; also marks in `touched` every place that the call may change.
+/// As `shape`; also marks in `touched` every place that `call` may change.
 fn shape_marked(
     desk: &mut Desk,
     touched: &mut Touched,
@@ -86,7 +86,7 @@ fn shape_marked(
     }
 }
 
-/// Does a call that draws lines or copies from one window to another; `None` for any other call.
+/// Does `call` in `desk` if it draws lines or copies from one window to another; `None` for any other call.
 fn shape(desk: &mut Desk, call: &Call<'_>) -> Option<Result<(), Refusal>>
     ensures { Does desk.old desk.new result (shaping desk.old call.now) }
 {
