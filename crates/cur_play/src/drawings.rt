@@ -59,7 +59,7 @@ pub(crate) fn draw<C: Certificate>(
     show(desk, screen, stale, painter, call)
 }
 
-/// Does `call` if it is one on more than windows; nothing for a call that only sends.
+/// Does `call`, if it works on more than windows. A call that only sends does nothing here.
 fn show<C: Certificate>(
     desk: &mut Desk,
     screen: &mut Virtual,
