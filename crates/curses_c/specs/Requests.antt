@@ -1,4 +1,5 @@
--- The calls that numbers are, as include/ticurses.h fills them (X/Open Curses Issue 7): one table, by their kinds.
+-- The calls that numbers encode, as include/ticurses.h fills them in (X/Open Curses Issue 7): one table, by their
+-- kinds.
 use Rattle.std.specs.Prelude.{ℕ, ℤ, pos, negsuc, ◌==◌, ◌&&◌, nat_le, List, [], ◌∷◌, ◌++◌, Option, Some, None}
 use Rattle.std.specs.Prelude.{option_map, if◌then◌else◌}
 use Rattle.cur_drawing.specs.Calls.{default_border}
@@ -127,7 +128,7 @@ curs_set r = Some (CursSet r.first)
 abbrev pub init_pair : Request → Option Call
 init_pair r = Some (InitPair r.first r.second r.third)
 
--- the number of a kind, and the call that arguments are for that kind
+-- the number of a kind, and the call that arguments encode for it
 abbrev pub Row : Type 0
 Row = ℕ × (Request → Option Call)
 
@@ -203,6 +204,6 @@ call_in (row ∷ rows) r = if r.kind == row.0 then row.1 r else call_in rows r
 abbrev pub table : List Row
 table = rows_made ++ (rows_written ++ (rows_styled ++ rows_shown))
 
--- the call that numbers are; none if the kind has no row, or if a number is none that the call takes
+-- the call that numbers encode; none if the kind has no row, or if its call doesn't take one of the numbers
 abbrev pub call_of : Request → Option Call
 call_of r = call_in table r

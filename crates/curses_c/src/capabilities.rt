@@ -12,7 +12,7 @@ use std::alloc::Global;
 use ti_caps::{Cap, Entry, Kind, by_name, is_kind};
 use ti_compiled::{Packed, decode};
 
-/// An entry that is asked: a compiled file as it is, or one of a source text.
+/// The entry that a program asks about: a compiled file as it is, or an entry of a source text.
 #[derive(Drop)]
 enum Asked<'a> {
     File(Packed<'a>),
@@ -101,7 +101,7 @@ fn flag_of(alloc: Global, entry: &[u8], name: &[u8], cap: &[u8]) -> Result<bool,
     Ok(ask(alloc, entry, name)?.flag(place))
 }
 
-/// The capability of a kind that a text names.
+/// The capability of `kind` that `text` names. Fails with `BadName` if there is none.
 fn named(kind: Kind, text: &[u8]) -> Result<Cap, Failure>
     ensures found { IfOk result (λ cap. spec.named kind text.now ≡ Some cap) }
     ensures none { IfErr result (λ e. (spec.named kind text.now ≡ None) × (e ≡ Failure.BadName)) }
@@ -116,7 +116,8 @@ fn named(kind: Kind, text: &[u8]) -> Result<Cap, Failure>
     }
 }
 
-/// The entry of a compiled file, or, if there is a name, of a source text.
+/// The entry of the compiled file `bytes`, or, if there is a `name`, of that name in the source text `bytes`. Fails
+/// with `BadEntry` if it can't be read, or with `NoMemory`.
 fn ask<'a>(alloc: Global, bytes: &'a [u8], name: &[u8]) -> Result<Asked<'a>, Failure>
     ensures holds { IfOk result (λ asked. spec.Holds bytes.now name.now (spec.content asked)) }
     ensures none { IfErr result (spec.HoldsNone bytes.now name.now) }
@@ -131,7 +132,7 @@ fn ask<'a>(alloc: Global, bytes: &'a [u8], name: &[u8]) -> Result<Asked<'a>, Fai
 }
 
 impl<'a> Asked<'a> {
-    /// The string of a capability.
+    /// The string of the capability `cap`. Fails with `NoCap` if the entry has none.
     fn string(&self, cap: Cap) -> Result<&[u8], Failure>
         ensures has { IfOk result (λ text. string_at (spec.content self.now) cap ≡ Some text.now) }
         ensures lacks { IfErr result (λ e. (string_at (spec.content self.now) cap ≡ None) × (e ≡ Failure.NoCap)) }
@@ -146,7 +147,7 @@ impl<'a> Asked<'a> {
         }
     }
 
-    /// The number of a capability.
+    /// The number of the capability `cap`. Fails with `NoCap` if the entry has none.
     fn number(&self, cap: Cap) -> Result<u32, Failure>
         ensures has { IfOk result (λ number. number_at (spec.content self.now) cap ≡ Some number) }
         ensures lacks { IfErr result (λ e. (number_at (spec.content self.now) cap ≡ None) × (e ≡ Failure.NoCap)) }
@@ -161,7 +162,7 @@ impl<'a> Asked<'a> {
         }
     }
 
-    /// Whether the entry has a flag.
+    /// Whether the entry has the flag `cap`.
     fn flag(&self, cap: Cap) -> bool
         ensures { result ≡ flag_at (spec.content self.now) cap }
     {
@@ -172,7 +173,8 @@ impl<'a> Asked<'a> {
     }
 }
 
-/// Writes the string of a capability to the start of `room`, if it has room for it.
+/// Writes the string of the capability `cap` to the start of `room`, if `room` is long enough. `needed` gets the
+/// string's length, or 0 if there is none.
 fn deliver_string(asked: &Asked<'_>, cap: Cap, room: &mut [u8], needed: &mut usize) -> i32
     ensures { Answers (spec.IsString (spec.content asked.now) cap) (spec.LacksString (spec.content asked.now) cap)
         room.old room.new needed.new result }
@@ -180,7 +182,8 @@ fn deliver_string(asked: &Asked<'_>, cap: Cap, room: &mut [u8], needed: &mut usi
     deliver(asked.string(cap), room, needed)
 }
 
-/// Writes the string that was found to the start of `room`, if it has room for it.
+/// Writes the string that was found to the start of `room`, if `room` is long enough. `needed` gets the string's
+/// length, or 0 if none was found.
 fn deliver(answer: Result<&[u8], Failure>, room: &mut [u8], needed: &mut usize) -> i32
     ensures { Delivers (λ text. text.now) answer.entry room.old room.new needed.new result }
 {

@@ -26,7 +26,7 @@ pub enum Failure {
     NoCertificate,
     /// The caller's room is too small.
     NoRoom,
-    /// The numbers are no call.
+    /// The numbers encode no call.
     BadCall,
     /// No capability of the kind has the name.
     BadName,

@@ -46,7 +46,7 @@ fn end_of(text: &[u8]) -> Option<usize>
     text.iter().position(|byte| *byte == b'\n')
 }
 
-/// Whether a line is empty or begins with `#`.
+/// Whether `line` is empty or begins with `#`.
 fn is_skipped(line: &[u8]) -> bool
     ensures { result ≡ is_skipped line.now }
 {

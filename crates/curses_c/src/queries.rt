@@ -81,7 +81,7 @@ pub extern "C" fn ticurses_raw_size(
     tell_two(answer, rows, cols)
 }
 
-/// Writes two numbers to where the program wants them, if there are any.
+/// Writes the two numbers of `answer` to `first` and `second`, if it has them, and gives the number of the answer.
 fn tell_two(answer: Result<(u16, u16), Refusal>, first: &mut u16, second: &mut u16) -> i32
     ensures { Tells answer (first.old, second.old) (first.new, second.new) result }
 {

@@ -1,4 +1,4 @@
-//! Calls as numbers, which include/ticurses.h fills.
+//! Calls as numbers, which include/ticurses.h fills in.
 ghost use Rattle.std.specs.Prelude.{◌≡◌};
 ghost use Rattle.cur_scripts.specs.Arguments.{default_of};
 ghost use Rattle.cur_scripts.specs.Numbers.{as_flag};
@@ -53,7 +53,7 @@ pub struct Request {
     pub frame: Frame,
 }
 
-/// The call that the numbers are, if they are one.
+/// The call that the numbers of `request` encode, if they encode one.
 #[tactic(auto, using(crate::proofs::Rows::made_alone, crate::proofs::Rows::written_alone, crate::proofs::Rows::styled_alone, crate::proofs::Rows::shown_alone))]
 pub(crate) fn call_of<'a>(request: &Request) -> Option<Call<'a>>
     ensures { result ≡ spec.call_of request.now }
@@ -443,7 +443,7 @@ fn flag_in(number: i32) -> Option<bool>
     }
 }
 
-/// Eight attributes.
+/// The attributes that `number` encodes, if it is 0 to 255.
 fn attrs_in(number: i32) -> Option<Attrs>
     ensures { result ≡ spec.attrs_in number }
 {

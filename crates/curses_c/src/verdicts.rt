@@ -80,7 +80,7 @@ fn reason(alloc: Global, subject: &Subject<'_>) -> Result<Vec<u8>, Failure>
     }
 }
 
-/// The words of a refusal.
+/// The words of the refusal `no`. Fails with `NoMemory` if memory runs out, or if that was the cause of `no`.
 fn words_of(alloc: Global, no: &No) -> Result<Vec<u8>, Failure>
     ensures says { IfOk result (λ words. words.items ≡ no_text no.now) }
     ensures lacks { IfErr result (λ e. e ≡ Failure.NoMemory) }
@@ -100,7 +100,8 @@ fn or_no_memory(words: Result<Vec<u8>, AllocError>) -> Result<Vec<u8>, Failure>
     }
 }
 
-/// Writes the text of an answer to the start of `room`, if it has room for it.
+/// Writes the text of `answer` to the start of `room`, if `room` is long enough. `needed` gets the text's length, or 0
+/// if there is none.
 fn deliver(answer: Result<Vec<u8>, Failure>, room: &mut [u8], needed: &mut usize) -> i32
     ensures { spec.Delivers (λ text. text.items) answer room.old room.new needed.new result }
 {
@@ -116,7 +117,7 @@ fn deliver(answer: Result<Vec<u8>, Failure>, room: &mut [u8], needed: &mut usize
     }
 }
 
-/// Writes a text to the start of `room`, if it has room for it.
+/// Writes `text` to the start of `room`; gives the number of `NoRoom`, and writes nothing, if `room` is too short.
 pub fn fill(text: &[u8], room: &mut [u8]) -> i32
     ensures { spec.Fills text.now room.old room.new result }
 {
