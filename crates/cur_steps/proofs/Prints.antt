@@ -73,7 +73,7 @@ here_after cols r c s e p q lt on = (
 abbrev pub standing : Belief → ℕ → ℕ → Belief
 standing b r c = record b { place = record { row = r; col = c } }
 
--- printing from a state that the character changes as it does another state, in which the cursor is at the place
+-- printing in a state, if the character has the same effect on a second state, whose cursor is at the place
 typed_from : (t : Table) (g : ℕ → ℕ → Ink) (b : Belief) (r c : ℕ) (x : Ink) → c < t.cols → IsPrinted x.byte → b.brush ≡ x.brush → b.graphic ≡ Some x.graphic
     → (s v : State) → s.rest ≡ [] → IsOfSize t.rows t.cols s → act (Print x.byte) s.screen ≡ act (Print x.byte) v.screen → Agrees t g (standing b r c) v → Ends s (x.byte ∷ []) (Agrees t (put_at r c x g) (standing b r (c + 1)))
 unfolding typed

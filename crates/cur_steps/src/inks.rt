@@ -30,7 +30,7 @@ pub struct Cells {
     pub count: usize,
 }
 
-/// A screen that answers which ink each of its places has.
+/// A screen that can be asked for the ink of each of its places.
 pub trait Picture {
     ghost use Rattle.std.specs.Prelude.{◌+◌, ◌≤◌, length};
     ghost use Rattle.cur_steps.specs.Inks.{byte_as, same, blank_ink};
@@ -159,7 +159,7 @@ pub fn is_plain_ink(ink: Ink) -> bool
     is_same(Ink::blank(), Ink { byte: b' ', ..ink })
 }
 
-/// Whether `a` and `b` have one character, one set and one brush.
+/// Whether `a` and `b` have the same character, set and brush.
 pub fn is_same(a: Ink, b: Ink) -> bool
     ensures value { result ≡ spec.same a b }
 {

@@ -8,7 +8,7 @@ use crate::lines::has_line;
 use ti_conforms::Certificate;
 use ti_rows::{Attributes, Row};
 
-/// Whether an attribute can be seen without `sgr`: it must be on (`on`), and the entry must have `row`, its own string.
+/// Whether an attribute can be seen without `sgr`: it is on (`on`), and the entry has `row`, its own string.
 fn is_seen<C: Certificate>(checked: &C, on: bool, row: Row) -> bool
     ensures { result ≡ (on && has (C.table checked.now) row) }
 {
