@@ -22,16 +22,16 @@ same_at v w i j =
     same_character (content_at v i j) (content_at w i j)
     && same_colors (colors_at v (content_at v i j).pair) (colors_at w (content_at w i j).pair)
 
--- differing places among one: none or one
+-- 1 if a place differs, else 0
 abbrev pub cells_differ : Screen → Screen → ℕ → ℕ → ℕ
 cells_differ v w i j = if same_at v w i j then 0 else 1
 
--- differing places among the first ones of a line
+-- the number of differing places among the first n of a line
 abbrev pub in_line : Screen → Screen → ℕ → ℕ → ℕ
 in_line v w i zero = 0
 in_line v w i (suc n) = in_line v w i n + cells_differ v w i n
 
--- differing places in the first lines
+-- the number of differing places in the first n lines
 abbrev pub in_lines : Screen → Screen → ℕ → ℕ → ℕ
 in_lines v w cols zero = 0
 in_lines v w cols (suc n) = in_lines v w cols n + in_line v w n cols

@@ -149,7 +149,7 @@ impl<'a, C: Certificate> PrintedScreen<'a, C> {
         shows_ink(self.checked, self.means, colors, cell, Ink { byte, ..ink })
     }
 
-    /// Whether each cell without attributes and of pair 0 is surely printed like `ink` if it has its character.
+    /// Whether each cell without attributes and of pair 0 is surely printed in the set and the brush of `ink`.
     #[tactic(auto, using(crate::proofs::Plainly::bare_told))]
     fn shows_bare(&self, ink: Ink) -> bool
         ensures { result ≡ true → (cell : Content) (byte : ℕ) → IsBare cell → is_other cell byte ≡ false

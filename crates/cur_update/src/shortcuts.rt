@@ -26,8 +26,8 @@ pub(crate) fn is_other(cell: Cell, byte: u8) -> bool
     !(cell.attrs().has(Attrs::ALTCHARSET) | (cell.byte() == byte))
 }
 
-/// Sets `shown[n]` unless cell `n` of `line` certainly shows another character than `text[n]`: it must be of the
-/// alternate set, or have that character. Returns whether every cell noted so has no attributes and pair 0.
+/// Sets `shown[n]` unless cell `n` of `line` certainly shows another character than `text[n]`: the cells noted are of
+/// the alternate set, or have that character. Returns whether every one of them has no attributes and pair 0.
 pub(crate) fn note_alike(line: &[Cell], text: &[u8], shown: &mut [bool]) -> bool
     requires text { length line.now ≤ length text.now }
     requires room { length line.now ≤ length shown.old }
