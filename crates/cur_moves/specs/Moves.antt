@@ -71,7 +71,7 @@ pub record IsWay (t : Table) (from : Option Place) (row col : ℕ) (line : Row) 
   pub there : has t line ≡ true
   pub short : length (text_of t line) ≤ t.longest.cup
 
--- a row's line, if there is one, has no fewer bytes
+-- a row's line, if there is one, has n bytes or more
 abbrev pub IsAtMost : Table → ℕ → Row → Type 0
 IsAtMost t n line = has t line ≡ true → n ≤ length (text_of t line)
 
