@@ -41,7 +41,7 @@ use Rattle.curses_c.specs.declared.queries.Standing.{Standing}
 use Rattle.curses_c.specs.declared.requests.Frame.{Frame}
 use Rattle.curses_c.specs.declared.requests.Request.{Request}
 
--- eight attributes
+-- the attributes that a number from 0 to 255 encodes
 abbrev pub attrs_in : ℤ → Option Attrs
 attrs_in (pos n) = if nat_le n 255 then Some (record { 0 = n }) else None
 attrs_in (negsuc n) = None
