@@ -33,7 +33,7 @@ mixed_blank old new r c cols i j lt h = grind (arith, nat_tests, h j)
 pub mixed_before : (old new : ℕ → ℕ → Ink) (r c : ℕ) → BeginsAs (mixed old new r c) new r c
 mixed_before old new r c k lt = grind (arith, nat_tests)
 
--- columns that are right already, before the first mended one
+-- if a line's first columns are right already, mending may begin after them
 pub mixed_front : (old new : ℕ → ℕ → Ink) (r c i j : ℕ) → ((k : ℕ) → k < c → old r k ≡ new r k) → mixed old new r 0 i j ≡ mixed old new r c i j
 mixed_front old new r c i j h = grind (arith, nat_tests, h j)
 

@@ -18,7 +18,8 @@ use cur_steps::{Belief, Blank, Picture, Place, is_mode};
 use ti_conforms::Certificate;
 use ti_rows::Row;
 
-/// The number of cells by which a scroll must do better than by its lines, since it sends margins twice, and moves.
+/// The number of cells that a scroll must save beyond the number of lines that it moves by, since it also sends margins
+/// twice, and moves.
 const BESIDE: usize = 4;
 
 /// Whether nothing has to be sent from a known state: no cell differs, and the cursor is where `wanted` says and in its
@@ -47,8 +48,8 @@ pub(crate) fn is_still<C: Certificate, O: Picture, N: Picture, D: Changes>(
     !differ_in_more(screens, changes, 0)
 }
 
-/// Whether the cursor is at the place `cursor`, if there is one; `now` is its believed place on a screen of `cols`
-/// columns.
+/// Whether the cursor is at the place `cursor`; true if there is none. `now` is its believed place on a screen of
+/// `cols` columns.
 fn is_in_place(now: Place, cols: usize, cursor: Option<Place>) -> bool
     ensures seen { result ≡ true → IsPlaced cols cursor now }
     ensures counted { result ≡ false → last_move cols now cursor ≡ 1 }

@@ -55,8 +55,8 @@ fn tally_of<B: Picture, O: Picture, N: Picture>(
     tally
 }
 
-/// Bytes that clearing saves above the last line that isn't blank, and below it; and bytes that it takes, for unchanged
-/// cells that are printed again too.
+/// The bytes that clearing saves, above the last line that isn't blank and below it, and the bytes that it costs, with
+/// those of unchanged cells that are printed again.
 #[derive(Clone, Copy)]
 struct Balance {
     above: usize,
@@ -119,8 +119,8 @@ pub(crate) fn saves<C: Certificate, B: Picture, O: Picture, N: Picture>(
     balance.again < balance.above.saturating_add(below)
 }
 
-/// Whether the line `row` may differ by `changes` and is blank on the `new` screen: a cheap look at whether it becomes
-/// blank.
+/// Whether the line `row` may differ according to `changes` and is blank on the `new` screen: a cheap look at whether
+/// it becomes blank.
 fn may_become_blank<N: Picture, D: Changes>(
     new: &N,
     changes: &D,

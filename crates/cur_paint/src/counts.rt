@@ -34,7 +34,8 @@ fn count_columns<O: Picture, N: Picture>(old: &O, new: &N, row: usize, columns: 
     count
 }
 
-/// The number of cells in which line `row` differs. Only the columns that may differ by `changes` are compared.
+/// The number of cells in which line `row` differs. Only the columns that may differ according to `changes` are
+/// compared.
 fn count_line<O: Picture, N: Picture, D: Changes>(
     old: &O,
     new: &N,

@@ -17,8 +17,8 @@ use cur_steps::{Belief, Picture, Place, set_as, show_as};
 use cur_wires::{Wire, WireFault};
 use ti_conforms::Certificate;
 
-/// Mends all differences, in the columns that may differ by `changes`, then makes the rendition the default one and
-/// sets the cursor as `wanted` says.
+/// Mends all differences, in the columns that may differ according to `changes`, then makes the rendition the default
+/// one and sets the cursor as `wanted` says.
 pub(crate) fn paint<C: Certificate, O: Picture, N: Picture, D: Changes, W: Wire>(
     screens: &Screens<'_, C, O, N>,
     belief: &mut Belief,

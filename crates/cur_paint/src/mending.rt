@@ -19,7 +19,7 @@ use cur_steps::{Belief, Cells, Ink, Picture, Place};
 use cur_wires::{Wire, WireFault};
 use ti_conforms::Certificate;
 
-/// Mends all lines, in the columns that may differ by `changes`.
+/// Mends all lines, in the columns that may differ according to `changes`.
 pub(crate) fn mend_screen<C: Certificate, O: Picture, N: Picture, D: Changes, W: Wire>(
     screens: &Screens<'_, C, O, N>,
     belief: &mut Belief,

@@ -14,8 +14,8 @@ use cur_steps::{Cells, Picture};
 use ti_conforms::Certificate;
 use ti_rows::Row;
 
-/// The column of a line from which on the rest of the screen is to be erased, or past the line if it isn't; and a line
-/// below that isn't blank, if there is one.
+/// The column of a line from which on the rest of the screen is to be erased, or a column past the line if it isn't;
+/// and a line below that isn't blank, if there is one.
 #[derive(Clone, Copy)]
 pub(crate) struct Bottom {
     pub col: usize,

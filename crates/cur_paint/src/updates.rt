@@ -28,9 +28,9 @@ use cur_wires::{Wire, WireFault};
 use ti_conforms::Certificate;
 
 /// Makes the terminal show the new one of the `screens`, with the cursor as `wanted` says. The old one is the screen
-/// that a terminal known by `session` shows; only the columns that may differ by `changes` are looked at, unless much
-/// of the screen becomes blank. If anything is sent, it ends with the default rendition, the plain set and no pending
-/// wrap at the cursor's place. On `WireFault`, a prefix of lawful bytes went out, and the session is lost.
+/// that a terminal known by `session` shows; only the columns that may differ according to `changes` are looked at,
+/// unless much of the screen becomes blank. If anything is sent, it ends with the default rendition, the plain set and
+/// no pending wrap at the cursor's place. On `WireFault`, a prefix of lawful bytes went out, and the session is lost.
 pub fn update<C: Certificate, O: Picture, N: Picture, D: Changes, W: Wire>(
     screens: &Screens<'_, C, O, N>,
     session: &mut Knowledge,
