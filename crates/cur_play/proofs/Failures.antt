@@ -83,7 +83,7 @@ stays_last : (m n : ℕ) → m ≡ last_count → n ≡ last_count → (k : ℕ)
 stays_last m n e f k le (inl lt) = inl (omega (arith, e, f, lt))
 stays_last m n e f k le (inr ge) = let same : k ≡ n = omega (arith, le, ge) in inr (e, same ∙ f)
 
--- a count that rose by one value also rose by any later one
+-- a count that has risen at one moment has also risen at any later one
 pub rose_sooner : (m n k : ℕ) → Rose m n → n ≤ k → Rose m k
 rose_sooner m n k (inl lt) le = inl (omega (arith, lt, le))
 rose_sooner m n k (inr last) le = stays_last m n last.0 last.1 k le (cases_lt n k)

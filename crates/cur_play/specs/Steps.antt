@@ -84,7 +84,8 @@ drawn t s (Screen k) = (s, Done)
 drawn t s (CursSet n) = on_mode s (set_mode t n s.mode)
 drawn t s (InitPair p f b) = on_screen s (screens.init_pair p f b s.screen)
 
--- a call beside those of a list, which sends nothing: a pair gets its colors, where -1 is the terminal's default
+-- a call that isn't among those of a list, and sends nothing: a pair gets its colors, where -1 is the terminal's
+-- default
 abbrev pub recolored : {C : Type 0} → ℤ → ℤ → ℤ → Stage C → Stage C × Answer
 recolored p f b s =
     let x = screens.init_pair_or_default p f b s.screen in
