@@ -128,8 +128,8 @@ impl Window {
     }
 
     /// Changes the background to `put`, in the cells of `grid` too: its old character becomes the new one, its old
-    /// attributes and pair the new ones (`bkgd`). Fails with `BadCell` for a byte outside 32 to 126, else with
-    /// `BadPair` for a pair above 63; nothing has changed then.
+    /// attributes and pair the new ones (`bkgd`). `BadCell` for a byte outside 32 to 126, else `BadPair`; nothing has
+    /// then changed.
     pub fn change_background(&mut self, grid: &mut Grid<Cell>, put: Put) -> Result<(), Refusal>
         requires { IsCanvas grid.old self.old }
         ensures value { step grid.new self.new result ≡ change_background put (canvas grid.old self.old) }
