@@ -20,7 +20,7 @@ use grids::{Area, Grid, Place};
 impl Desk {
     /// Copies the whole window `id` to the virtual screen. The screen's cursor becomes the window's, or none if the
     /// window leaves it anywhere; the screen takes over the window's `clearok` and the desk's hint. `screen` must have
-    /// the desk's size. Fails with `Full` or `NoWindow`, then with `PadKind` for a pad; nothing has changed then.
+    /// the desk's size. `Full`, `NoWindow`, `PadKind` for a pad; nothing has then changed.
     pub fn noutrefresh(&mut self, id: usize, screen: &mut Virtual) -> Result<(), Refusal>
         requires rows { (screen.old).rows ≡ (self.old).rows }
         requires cols { (screen.old).cols ≡ (self.old).cols }
