@@ -72,7 +72,7 @@ alike_by_singles t k a b e s ready = sym (seen_shown t k a) ∙ ap (λ (x : Attr
 pub alike_itself : (t : Table) (a b : Attributes) → a ≡ b → LookAlike t a b
 alike_itself t a b e s ready = ap (λ (x : Attributes). shown t.looks x) e
 
--- ---- what is believed
+-- ---- the believed attributes
 
 -- a state agrees with any attributes that look like the believed ones
 pub looks_kept : (t : Table) (g : ℕ → ℕ → Ink) (b : Belief) (a : Attributes) → LookAlike t b.brush.attributes a → (s : State) → Agrees t g b s → Agrees t g (with_attributes b a) s

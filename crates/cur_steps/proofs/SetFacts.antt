@@ -120,7 +120,7 @@ ends_plain t checked bytes other is (Behind x r e) s h =
       there = ap (λ (y : Screen). is_graphic y.charset) u.there.screen ∙ m.there.screen;
     }
 
--- ---- what is known behind them
+-- ---- the set known after them
 
 pub leaves_plain : (t : Table) → IsChecked t → (bytes other : List ℕ) → t.line_of Rmacs ≡ Some other → IsBeside bytes other → (before : Option Bool) → LeavesSet t bytes before (Some false)
 leaves_plain t checked bytes other is beside before s u h so runs =
