@@ -27,12 +27,12 @@ no_columns = record { from = 0; end = 0 }
 abbrev pub found_at : List Columns → ℕ → Columns
 found_at columns i = slice_index_or columns i no_columns
 
--- the columns of these lines were found: outside of them a line is as it was
+-- the columns of these lines were found: outside of them a line is unchanged
 abbrev pub AreFoundIn : List Columns → ℕ → ℕ → ℕ → (ℕ → ℕ → Ink) → (ℕ → ℕ → Ink) → Type 0
 AreFoundIn columns from end cols old new =
     (i : ℕ) → from ≤ i → i < end → AreAlikeOutside old new i i (found_at columns i).from (found_at columns i).end cols
 
--- those of the first n lines were found that may differ
+-- the lines among the first n that may differ were found, and their columns
 pub record AreFound (lines : LineRange) (columns : List Columns) (n cols : ℕ) (old new : ℕ → ℕ → Ink) : Type 0 where
   pub found : AreFoundIn columns lines.from lines.end cols old new
   pub others : AreSameOutside old new lines.from lines.end n cols

@@ -1,4 +1,4 @@
--- The columns of the lines from the first one that may differ to the one before this one were found.
+-- The columns were found of each line from the first one that may differ to the one before this one.
 use Rattle.std.proofs.Common.{◌≡◌, ℕ, length}
 use Rattle.cur_steps.specs.declared.inks.Ink.{Ink}
 use Rattle.cur_update.specs.Shift.{AreFoundIn, IsShift}

@@ -1,4 +1,4 @@
--- For the cells that were gone through it is noted whether they are printed so; of the others, whether they may be.
+-- For each cell passed, it is noted whether it is printed so; for each other cell, whether it may be.
 use Rattle.std.proofs.Common.{◌≡◌, ◌<◌, ◌≤◌, ℕ, false, length, not, slice_index_or}
 use Rattle.cur_drawing.specs.Cells.{space}
 use Rattle.cur_steps.specs.Inks.{same}
