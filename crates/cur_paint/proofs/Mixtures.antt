@@ -15,7 +15,7 @@ use Rattle.vt_term.specs.Screen.{State}
 use Rattle.cur_steps.proofs.Sameness.{same_equal}
 use Rattle.cur_steps.specs.declared.inks.Ink.{Ink}
 
--- the same cells in other words
+-- a state agrees with equal cells in other words
 pub agrees_as : (t : Table) (g h : ℕ → ℕ → Ink) (b : Belief) → ((i j : ℕ) → i < t.rows → j < t.cols → g i j ≡ h i j) → (s : State) → Agrees t g b s → Agrees t h b s
 agrees_as t g h b e s a = record { ready = a.ready; cells = λ i j li lj. rw (← e i j li lj) (a.cells i j li lj); place = a.place; brush = a.brush; colored = a.colored; set = a.set; seen = a.seen }
 
@@ -77,7 +77,7 @@ times_grows a b l le = grind arith
 pub sum_limit : (a b c l : ℕ) → c ≡ a + b → a * l + b * l ≤ c * l
 sum_limit a b c l e = let P : ℕ → Type 0 = λ n. a * l + b * l ≤ n * l in subst P (sym e) (grind arith)
 
--- the same column in other words
+-- a state agrees with a mixture up to an equal column in other words
 pub agrees_at : (t : Table) (old new : ℕ → ℕ → Ink) (r c d : ℕ) (b : Belief) → c ≡ d → (s : State) → Agrees t (mixed old new r c) b s → Agrees t (mixed old new r d) b s
 agrees_at t old new r c d b e s h = let P : ℕ → Type 0 = λ n. Agrees t (mixed old new r n) b s in subst P e h
 

@@ -11,7 +11,7 @@ use Rattle.cur_wires.proofs.Stops.{steps_next, steps_fail, steps_wider}
 use Rattle.cur_paint.proofs.Mixtures.{mixed_before, span_parts, span_split, times_grows, front_shown, agrees_at, rest_done}
 use Rattle.cur_paint.proofs.mending.mend_bottom.Goals as goal
 
--- what comes before a part, and at least one cell
+-- the cells before a part, and at least one cell in it
 one_more : (a b n l : ℕ) → a + b ≤ n → 0 < b → a * l + l ≤ n * l
 one_more a b n l le lt = grind arith
 
