@@ -198,7 +198,7 @@ pub by_one : (t : Table) (top bottom count : ℕ) (up : Bool) (g : ℕ → ℕ �
 by_one t top bottom count true g b some lb = up_by_one t top bottom g b some lb
 by_one t top bottom count false g b some lb = down_by_one t top bottom g b some
 
--- ---- the same cells in other words
+-- ---- equal cells in other words
 
 pub framed_as : (t : Table) (top bottom row : ℕ) (g h : ℕ → ℕ → Ink) (b : Belief) → ((i j : ℕ) → g i j ≡ h i j) → (s : State) → Framed t (framed top bottom g row) b s → Framed t (framed top bottom h row) b s
 framed_as t top bottom row g h b e s x = record {
