@@ -68,7 +68,7 @@ pub record IsScreenful (d : State) (s : Slot) : Type 0 where
 abbrev pub HasAll : State → Slot → Type 0
 HasAll d s = (s.parent ≡ None) ⊎ IsScreenful d s
 
--- The marks after a window was copied to a screen with the marks `o`: none for a grid of which the window has all,
+-- The marks after a window was copied to a screen with the marks `o`: none for its grid if the window has all of that,
 -- else the previous ones; for each other grid also the screen's.
 pub record MarksCopied (t u : Markings) (o : Marking) (d : State) (s : Slot) : Type 0 where
   pub whole : s.root < length t → HasAll d s → grid_marks u s.root ≡ none_marked (length (grid_marks t s.root).lines)

@@ -12,8 +12,7 @@ use cur_screens::{Marks, Origin, ScreenCopy, Virtual, blank_grid, whole_area};
 use grids::{Area, Place};
 use std::alloc::AllocError;
 
-// The calls that the crate of pads uses. A pad is a window that isn't on the screen, of which parts
-// can be shown.
+// The calls that the crate of pads uses. A pad is a window that isn't on the screen; parts of it can be shown.
 impl Desk {
     /// Whether window `id` is a pad or a part of one. `Full`, `NoWindow`.
     pub fn is_pad(&self, id: usize) -> Result<bool, Refusal>
