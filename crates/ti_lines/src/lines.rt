@@ -93,8 +93,7 @@ fn tail(bytes: &[u8], at: usize) -> &[u8]
     &bytes[at..]
 }
 
-/// How many bytes to ask for while `unread` bytes are taken and not passed, of which there must be
-/// at most `budget`.
+/// How many bytes to ask for while `unread` bytes, at most `budget` of them, are taken and not passed.
 fn wanted(unread: usize, budget: u32) -> usize
     requires { unread ≤ budget }
     ensures some { 0 < result }
