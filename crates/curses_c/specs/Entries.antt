@@ -96,6 +96,6 @@ pub record IsCertified (entry : Content) (rows cols : ℕ) (text : List ℕ) : T
   pub conforms : Conforms entry rows cols
   pub certificate : IsCertificateOf entry rows cols text
 
--- there is a no that is true of the entry, and the first one
+-- there is a no that is true of the entry, the first that applies
 abbrev pub IsUncertified : Content → ℕ → ℕ → Failure → Type 0
 IsUncertified entry rows cols e = (refusal : No) × IsNo entry rows cols refusal × IsOf causes.NoMemory NoCertificate refusal.cause e
