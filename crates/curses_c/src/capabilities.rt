@@ -19,8 +19,10 @@ enum Asked<'a> {
     Text(Entry),
 }
 
-/// Writes the string of an entry's capability to the start of `room`: of the compiled file `entry`, or of the entry of
-/// `name` in the source text `entry`. `needed` is its length, or 0 if there is none.
+/// Writes the string of an entry's capability `cap` to the start of `room`: of the compiled file `entry`, or of the
+/// entry of `name` in the source text `entry`. `needed` is its length, or 0 if there is none. Returns 0, or the number
+/// of `BadName` if no string capability is named `cap`, of `BadEntry` if the entry can't be read, of `NoCap` if it
+/// lacks the string, of `NoRoom` if `room` is too short, or of `NoMemory`.
 #[unsafe(no_mangle)]
 pub extern "C" fn ticurses_raw_string(
     alloc: Global,
@@ -43,7 +45,10 @@ pub extern "C" fn ticurses_raw_string(
     }
 }
 
-/// The number of an entry's capability.
+/// Writes the number of an entry's capability `cap` to `number`: of the compiled file `entry`, or of the entry of
+/// `name` in the source text `entry`. Returns 0, or the number of `BadName` if no number capability is named `cap`, of
+/// `BadEntry` if the entry can't be read, of `NoCap` if it lacks the number, or of `NoMemory`; `number` stays as it is
+/// then.
 #[unsafe(no_mangle)]
 pub extern "C" fn ticurses_raw_number(
     alloc: Global,
@@ -72,7 +77,9 @@ fn number_of(alloc: Global, entry: &[u8], name: &[u8], cap: &[u8]) -> Result<u32
     ask(alloc, entry, name)?.number(place)
 }
 
-/// Whether an entry has a flag.
+/// Writes to `flag` whether an entry has the flag `cap`: that of the compiled file `entry`, or of `name` in the source
+/// text `entry`. Returns 0, or the number of `BadName` if no flag is named `cap`, of `BadEntry` if the entry can't be
+/// read, or of `NoMemory`; `flag` stays as it is then.
 #[unsafe(no_mangle)]
 pub extern "C" fn ticurses_raw_flag(
     alloc: Global,

@@ -21,7 +21,8 @@ pub struct Standing {
     pub pair: u8,
 }
 
-/// The line, from 1, of the last text of calls that wasn't done; 0 if all of it was, or if no line is at fault.
+/// Writes to `line` the line, from 1, of the last text of calls that wasn't done; 0 if all of it was, or if no line is
+/// at fault. Returns 0, or the number of `Closed`.
 #[unsafe(no_mangle)]
 pub extern "C" fn ticurses_raw_failed(alloc: Global, handle: &mut Handle, line: &mut usize) -> i32
     ensures { Asks (λ h. Ok h.failed) (handle.old).slot.held (handle.new).slot.held line.old line.new result }
@@ -34,7 +35,8 @@ pub extern "C" fn ticurses_raw_failed(alloc: Global, handle: &mut Handle, line: 
     OK
 }
 
-/// The place of a window's cursor in the window (`getyx`).
+/// Writes the place of the cursor of `window`, counted in the window, to `row` and `col` (`getyx`). Returns 0, or the
+/// number of `Closed` or of a refusal if there is no such window; nothing is written then.
 #[unsafe(no_mangle)]
 pub extern "C" fn ticurses_raw_cursor(
     alloc: Global,
@@ -61,7 +63,8 @@ fn cursor_of(desk: &Desk, window: usize) -> Result<(u16, u16), Refusal>
     Ok((window.row, window.col))
 }
 
-/// The numbers of lines and columns of a window (`getmaxyx`).
+/// Writes the numbers of lines and columns of `window` to `rows` and `cols` (`getmaxyx`). Returns 0, or the number of
+/// `Closed` or of a refusal if there is no such window; nothing is written then.
 #[unsafe(no_mangle)]
 pub extern "C" fn ticurses_raw_size(
     alloc: Global,
@@ -95,7 +98,8 @@ fn tell_two(answer: Result<(u16, u16), Refusal>, first: &mut u16, second: &mut u
     }
 }
 
-/// The contents of `row`, `col` of a window (`mvwinch`, except that the cursor stays).
+/// Writes the content of line `row` and column `col` of `window` to `cell` (`mvwinch`, except that the cursor stays).
+/// Returns 0, or the number of `Closed` or of a refusal if there is no such window or place; nothing is written then.
 #[unsafe(no_mangle)]
 pub extern "C" fn ticurses_raw_cell(
     alloc: Global,

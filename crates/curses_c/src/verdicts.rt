@@ -10,7 +10,9 @@ use ti_checker::{Cause, No, check};
 use ti_verdicts::no_words;
 
 /// Writes the certificate of an entry for `rows` and `cols` to the start of `room`: the entry of the compiled file
-/// `entry`, or of `name` in the source text `entry`. `needed` is its length, or 0 if there is none.
+/// `entry`, or of `name` in the source text `entry`. `needed` is its length, or 0 if there is none. Returns 0, or the
+/// number of `BadSize`, of `BadEntry` if the entry can't be read, of `NoCertificate` if it has none, of `NoRoom` if
+/// `room` is too short, or of `NoMemory`.
 #[unsafe(no_mangle)]
 pub extern "C" fn ticurses_raw_check(
     alloc: Global,
@@ -43,8 +45,9 @@ fn certificate(alloc: Global, subject: &Subject<'_>) -> Result<Vec<u8>, Failure>
     certificate_of(alloc, &described)
 }
 
-/// Writes the reason why an entry has no certificate to the start of `room`: the line that begins with `no`. `needed`
-/// is its length, or 0 if the entry has a certificate.
+/// Writes the reason why an entry has no certificate for `rows` and `cols` to the start of `room`: the line that begins
+/// with `no`. `needed` is its length, or 0 if the entry has a certificate. Returns 0, or the number of `BadSize`, of
+/// `BadEntry` if the entry can't be read, of `NoRoom` if `room` is too short, or of `NoMemory`.
 #[unsafe(no_mangle)]
 pub extern "C" fn ticurses_raw_reason(
     alloc: Global,
@@ -128,8 +131,9 @@ pub fn fill(text: &[u8], room: &mut [u8]) -> i32
     OK
 }
 
-/// Whether `certificate` shows that each checked string of an entry has the effect that programs rely on, on a terminal
-/// of `rows` and `cols`.
+/// Checks that `certificate` shows that each checked string of an entry has the effect that programs rely on, on a
+/// terminal of `rows` and `cols`. Returns 0 if it does, else the number of `BadSize`, of `BadEntry` if the entry can't
+/// be read, of `BadCertificate`, or of `NoMemory`.
 #[unsafe(no_mangle)]
 pub extern "C" fn ticurses_raw_verify(
     alloc: Global,
