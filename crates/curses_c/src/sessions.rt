@@ -16,7 +16,8 @@ use ti_cert::Checked;
 
 /// Opens a session on a terminal of `rows` and `cols` for an entry: that of the compiled file `entry`, or of `name` in
 /// the source text `entry`. If `certificate` is empty, it makes one. A session that was open is closed; if none can be
-/// opened, it stays open.
+/// opened, it stays open. Returns 0, or the number of `BadSize`, of `BadEntry` if the entry can't be read, of
+/// `NoCertificate` if none can be made, of `BadCertificate` if it isn't the entry's, or of `NoMemory`.
 #[unsafe(no_mangle)]
 pub extern "C" fn ticurses_raw_open(
     alloc: Global,
@@ -99,6 +100,7 @@ pub extern "C" fn ticurses_raw_close(alloc: Global, handle: &mut Handle)
 }
 
 /// Does the calls of the script `text` up to the first that isn't done. The bytes that they send wait to be taken.
+/// Returns 0 if all were done, else the number of that call's answer, of the text's fault, or of `Closed`.
 #[unsafe(no_mangle)]
 pub extern "C" fn ticurses_raw_call(alloc: Global, handle: &mut Handle, text: &[u8]) -> i32
     ensures { Answers closed (Says text.now) (handle.old).slot.held result (handle.new).slot.held }
@@ -112,7 +114,7 @@ pub extern "C" fn ticurses_raw_call(alloc: Global, handle: &mut Handle, text: &[
     code
 }
 
-/// Does `addstr` in `window`, with any bytes as `text`.
+/// Does `addstr` in `window`, with any bytes as `text`. Returns the number of the answer, or of `Closed`.
 #[unsafe(no_mangle)]
 pub extern "C" fn ticurses_raw_addstr(
     alloc: Global,
@@ -132,7 +134,8 @@ pub extern "C" fn ticurses_raw_addstr(
     code
 }
 
-/// Does the call that the numbers of `request` encode. The bytes that it sends wait to be taken.
+/// Does the call that the numbers of `request` encode. The bytes that it sends wait to be taken. Returns the number of
+/// its answer, of `BadCall` if the numbers encode no call, or of `Closed`.
 #[unsafe(no_mangle)]
 pub extern "C" fn ticurses_raw_make(alloc: Global, handle: &mut Handle, request: &Request) -> i32
     ensures { Answers closed (Does request.now) (handle.old).slot.held result (handle.new).slot.held }
@@ -147,7 +150,7 @@ pub extern "C" fn ticurses_raw_make(alloc: Global, handle: &mut Handle, request:
 }
 
 /// Sets the colors of `pair`, 1 to 63, to `foreground` and `background`, each 0 to 7, or -1 for the terminal's default
-/// color.
+/// color. Returns the number of the answer, or of `Closed`.
 #[unsafe(no_mangle)]
 pub extern "C" fn ticurses_raw_init_pair_or_default(
     alloc: Global,
@@ -182,8 +185,8 @@ pub extern "C" fn ticurses_raw_waiting(alloc: Global, handle: &mut Handle) -> us
     count
 }
 
-/// Moves the first of the waiting bytes to the start of `room`, as many as it has room for, and gives their number. The
-/// rest of the room stays as it is.
+/// Moves the first of the waiting bytes to the start of `room`, as many as it has room for, and returns their number: 0
+/// if `handle` is closed. The rest of the room stays as it is.
 #[unsafe(no_mangle)]
 pub extern "C" fn ticurses_raw_output(alloc: Global, handle: &mut Handle, room: &mut [u8]) -> usize
     ensures { Fetches (handle.old).slot.held room.old (result, room.new) (handle.new).slot.held }
@@ -198,6 +201,7 @@ pub extern "C" fn ticurses_raw_output(alloc: Global, handle: &mut Handle, room: 
 }
 
 /// Throws away the waiting bytes and makes the next refresh begin anew, since not all sent bytes reached the terminal.
+/// Returns 0, or the number of `Closed`.
 #[unsafe(no_mangle)]
 pub extern "C" fn ticurses_raw_lost(alloc: Global, handle: &mut Handle) -> i32
     ensures { Answers closed (λ h code k. Loses h k × (code ≡ pos 0)) (handle.old).slot.held result
