@@ -1,4 +1,4 @@
-//! The row by which the cursor moves: of those that lead to a place, one with the shortest line.
+//! The row by which the cursor moves to a place: one with the shortest line.
 ghost use Rattle.std.specs.Prelude.{ℕ, ◌≡◌, ◌<◌, ◌≤◌, length, Option, Some, IfSome};
 ghost use Rattle.ti_conforms.specs.Certified.{IsChecked, text_of};
 ghost use Rattle.cur_steps.specs.declared.beliefs.Place.{Place};
