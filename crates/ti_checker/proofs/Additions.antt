@@ -60,7 +60,7 @@ pub no_rows : (entry : Content) → RowsNotes entry [] []
 unfolding RowsNotes
 no_rows entry = refl
 
--- ---- why there are none
+-- ---- strings that send no whole tokens
 
 faulty : (rows cols : ℕ) (string : List ℕ) (row : Row) (cause : Cause) → SendsNoTokens string row cause → IsFaulty rows cols string row cause
 faulty rows cols string row (Parm fault) h = h

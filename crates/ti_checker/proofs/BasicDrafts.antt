@@ -163,7 +163,7 @@ by_cause entry rows cols row NoResync size b range checked f = absurd (its_claim
 pub only_memory : (entry : Content) (rows cols : ℕ) (refusal : No) → IsSize rows cols → IsBasic entry rows cols → IsOfRow entry rows cols refusal → refusal.cause ≡ NoMemory
 only_memory entry rows cols refusal size b h = by_cause entry rows cols h.row refusal.cause size b h.range h.checked h.fault
 
--- nor is it for any other reason
+-- a basic entry is refused only if memory runs out
 pub never_refused : (entry : Content) (rows cols : ℕ) (refusal : No) → IsSize rows cols → IsBasic entry rows cols → IsNo entry rows cols refusal → refusal.cause ≡ NoMemory
 never_refused entry rows cols refusal size b (OfEntry h) = absurd (not_unfit entry refusal b.fit h)
 never_refused entry rows cols refusal size b (OfRow fit h) = only_memory entry rows cols refusal size b h

@@ -1,4 +1,4 @@
--- All that is wrong with an entry's strings together.
+-- The list of the refusals for an entry's clashes is right.
 use Rattle.std.proofs.Common.{◌≡◌, ℕ, Bool, true, false, List, Option, Some, None, refl, sym, subst}
 use Rattle.std.specs.Prelude.{is_some}
 use Rattle.vt_term.specs.Size.{IsSize}

@@ -34,7 +34,7 @@ same_effect rows cols string l m same is js =
     (one_sent string l.row l.bytes m.bytes is.sends (subst (λ (r : Row). Sends string r m.bytes) (sym same) js.sends)) is.has.splits js.has.splits is.has.recorded
     (subst (λ (r : Row). record_of rows cols (start_of rows cols r) js.has.tokens ≡ Some m.effect) (sym same) js.has.recorded)
 
--- ---- the rows before teach one thing
+-- ---- the rows before teach one look of the attributes
 
 pub one_teaching : OneTeaching
 one_teaching rows cols string row looks others (AtFirst _ _ first e) (AtFirst _ _ second f) = f ∙ sym e
@@ -54,7 +54,7 @@ never_untamed rows cols string row r s =
     let tokens : r.is.has.tokens ≡ s.holds.tokens = (one_splitting s.bytes s.holds.tokens r.is.has.tokens [] [] s.holds.whole (subst (λ (x : List ℕ). Splits x r.is.has.tokens []) (sym same) r.is.has.splits)).0 in
     none-some r.effect (sym s.holds.unrecorded ∙ (ap (λ (x : List (List ℕ)). record_of rows cols (start_of rows cols row) x) (sym tokens) ∙ r.is.has.recorded))
 
--- a property of the bytes that the string sends holds of the bytes that the no names
+-- a property of the bytes that the string sends holds of the bytes that the refusal names
 is_such : (Such : Looks → Effect → Type 0) (rows cols : ℕ) (string : List ℕ) (row : Row) → SendsSuch Such rows cols string row → (s : SendsSome string row (λ bytes. HasUnasked rows cols string row bytes)) → Such s.holds.unasked.looks s.holds.has.effect
 is_such Such rows cols string row r s =
     let same : s.bytes ≡ r.bytes = one_sent string row s.bytes r.bytes s.sends r.is.sends in
@@ -66,7 +66,7 @@ pub never_unasked : NeverUnasked
 never_unasked rows cols string row r s =
     s.holds.unasked.unasked (is_such (λ looks e. IsAskedOf looks row e) rows cols string row (record { bytes = r.bytes; effect = r.effect; is = r.is; looks = r.looks; taught = r.taught; such = r.asked }) s)
 
--- ---- nor about a row that leads elsewhere than wanted
+-- ---- no doubt about a row that leads elsewhere than wanted
 
 never_strays : (Alike : Screen → Screen → Type 0) → ((t : Screen) → Alike t t) → (rows cols : ℕ) (string : List ℕ) (row : Row) → SendsSuch (λ looks e. Strays Alike rows cols looks row e) rows cols string row
     → SendsSome string row (λ bytes. HasUnasked rows cols string row bytes) → ⊥

@@ -1,4 +1,4 @@
--- A no that claims something excludes a yes.
+-- If a refusal that claims something is true, the entry doesn't conform; with `TooLong`, it has no certificate.
 use Rattle.std.proofs.Common.{◌≡◌, ℕ, ◌+◌, Bool, true, false, List, [], length, take, drop, Some, refl, sym, ap, subst, ◌∙◌, arith}
 use Rattle.std.proofs.lemmas.Bool.{true≢false}
 use Rattle.std.specs.Prelude.{Result, Ok, Err}
@@ -42,7 +42,7 @@ use Rattle.ti_checker.specs.declared.causes.Cause.{Cause}
 use Rattle.ti_checker.specs.declared.causes.Cause.TheVariants.{FlagOut, Absent, AcsByte, Parm, StaticRead, Unfinished, Stuck, NotTame, BadLook, WrongEffect, NotShown, TooLong, NoResync, NoMemory}
 use Rattle.ti_checker.specs.declared.causes.No.{No}
 
--- ---- what a string sends
+-- ---- the bytes that a string sends
 
 sent_right : (entry : Content) (rows cols : ℕ) (c : Conforms entry rows cols) (row : Row) → IsInRange rows cols row → is_checked entry row ≡ true → (string : List ℕ) → string_of entry row ≡ Some string
     → SendsRight rows cols c.table.looks string row
@@ -81,7 +81,7 @@ not_broken rows cols looks string row bytes p r stand b =
     let same : e.after ≡ record { screen = b.after; rest = [] } = runs_once start (record { screen = b.after; rest = [] }) e.after bytes b.runs e.runs in
     b.unwanted looks stand (right_alone rows cols looks row bytes r) (subst (λ (s : State). Wants looks row (screen_of rows cols p) s.screen) same e.wanted)
 
--- what holds of the bytes that a string sends holds of those that are right
+-- a property of the bytes that a string sends holds of its right bytes
 sent_is : (rows cols : ℕ) (looks : Looks) (string : List ℕ) (row : Row) (Holds : List ℕ → Type 0) → (r : SendsRight rows cols looks string row) → SendsSome string row Holds → Holds r.bytes
 sent_is rows cols looks string row Holds r s = subst Holds (same_bytes string row s.bytes r.bytes s.sends r.sends) s.holds
 
@@ -104,7 +104,7 @@ none_faulty rows cols looks string row FlagOut r stand h = absurd h
 none_faulty rows cols looks string row Absent r stand h = absurd h
 none_faulty rows cols looks string row AcsByte r stand h = absurd h
 
--- ---- what a no claims
+-- ---- the claims of a refusal
 
 by_reason : (entry : Content) (why : Unfit) → IsFit entry → IsUnfit entry why → ⊥
 by_reason entry (unfit.FlagOut cap) fit h = flag_not_out entry cap fit h.1
@@ -131,7 +131,7 @@ no_excludes_yes entry rows cols refusal (OfRow fit h) not_long c = row_claims en
 no_excludes_yes entry rows cols refusal (OfAll fit written h) not_long c = all_claims entry rows cols refusal c h
 no_excludes_yes entry rows cols refusal (OutOfMemory e) not_long c = subst ClaimsNothing (sym e) tt
 
--- ---- where the lines are too long
+-- ---- lines that are too long
 
 abbrev is_too_long : Cause → Bool
 is_too_long TooLong = true

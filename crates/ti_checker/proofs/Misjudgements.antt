@@ -56,7 +56,7 @@ misjudged rows cols string looks row bytes tokens TooLong size taught sends spli
 misjudged rows cols string looks row bytes tokens Unfinished size taught sends split m = absurd m.misfit
 misjudged rows cols string looks row bytes tokens Stuck size taught sends split m = absurd m.misfit
 
--- an effect that isn't the one that is asked for is that of the tokens
+-- the fault of an effect that isn't the one that is asked for is a fault of the tokens with that record
 pub misfit_misjudged : (rows cols : ℕ) (looks : Looks) (row : Row) (tokens : List (List ℕ)) (e : Effect) (cause : Cause) → record_of rows cols (start_of rows cols row) tokens ≡ Some e → IsMisfit rows cols looks row e cause → IsMisjudged rows cols looks row tokens cause
 misfit_misjudged rows cols looks row tokens e FlagOut recorded m = absurd m
 misfit_misjudged rows cols looks row tokens e Absent recorded m = absurd m
@@ -75,7 +75,7 @@ misfit_misjudged rows cols looks row tokens e NotShown recorded m = record { eff
 
 -- ---- an effect that is asked for
 
--- what the row adds is what the next one is taught
+-- the looks with those that the row shows are taught before the next row
 pub taught_next : (rows cols : ℕ) (string : List ℕ) (row : Row) (before after : Looks) (bytes : List ℕ) (e : Effect) → IsInRange rows cols row → IsTaught rows cols string row before
     → IsLineFor rows cols string (record { row = row; bytes = bytes; effect = e }) → IsAskedOf before row e → after ≡ learned row e before → (next : Row) → Follows rows cols row next → IsTaught rows cols string next after
 taught_next rows cols string row before after bytes e range taught is asked same next f = After (record { row = row; bytes = bytes; effect = e }) next before after range f taught is asked same

@@ -1,4 +1,4 @@
--- An attribute alone that shows a mark which isn't its own: by the effect, and by the run.
+-- An attribute alone shows a mark that isn't its own, by its effect or by the run.
 use Rattle.std.proofs.Common.{◌≡◌, inl, inr, ℕ, ◌==◌, ◌||◌, ◌&&◌, ◌<◌, not, Bool, true, false, if◌then◌else◌, List, [], Some, None, refl, sym, ap, subst, ◌∙◌, arith}
 use Rattle.std.proofs.lemmas.Bool.{true≢false, false≢true, eqb-true}
 use Rattle.vt_term.specs.Screen.{State, Screen, Charset}
@@ -66,7 +66,7 @@ not_mislooks rows cols row bytes tokens e split recorded own m =
     false≢true (sym own ∙ (sym (ap (λ (x : Marks). shows_other row (marks_after e.rendition x)) m.unmarked)
     ∙ (sym (ap (λ (x : State). shows_other row (marks_of x.screen.rendition)) same) ∙ m.other)))
 
--- ---- where the row is right
+-- ---- rows that are right
 
 small_single : (n : ℕ) → is_single n ≡ true → n < 64
 small_single n h = by_one (n == 1) _ (λ t. omega (arith, eqb-true n 1 t))
@@ -123,7 +123,7 @@ none_other l Bold s t u w = ap (λ (x : Screen). shows_other Bold (marks_of x.re
 none_other l Invis s t u w = ap (λ (x : Screen). shows_other Invis (marks_of x.rendition)) w ∙ ap (λ (m : Marks). shows_other Invis (record m { concealed = true })) u
 none_other l _ s t u w = refl
 
--- what is right shows no other mark
+-- bytes that are right for a row show no mark but the attribute's own
 pub right_looks : (rows cols : ℕ) (l : Looks) (row : Row) (bytes : List ℕ) → IsRight rows cols l row bytes → Mislooks rows cols row bytes → ⊥
 right_looks rows cols l row bytes r m =
     let s : State = record { screen = m.before; rest = [] } in

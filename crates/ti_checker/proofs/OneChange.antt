@@ -1,4 +1,4 @@
--- The record of a text erases cells or scrolls, and not both; and it scrolls only where each start is at a margin.
+-- The record of a text doesn't both erase and scroll, and it scrolls only if each start is at a margin.
 use Rattle.std.proofs.Common.{◌≡◌, ◌⊎◌, inl, inr, ℕ, ◌+◌, ◌-◌, ◌==◌, min, ◌&&◌, Bool, true, false, if◌then◌else◌, List, [], ◌∷◌, Option, None, Some, IfSome, refl, sym, subst}
 use Rattle.std.proofs.lemmas.Bool.{and_parts}
 use Rattle.std.specs.Option.{unwrap_or, option_and_then}
@@ -18,11 +18,11 @@ use Rattle.vt_effects.specs.Effect.{moved, unchanged}
 use Rattle.vt_effects.specs.Record.{all_extended, and_back, and_forward, are_whole, back_by, cells_erased, display_erased, erases_nothing, erases_screen, extended, forward_by, if_some, is_first, is_kept, is_still, is_unmoved, keeps_background, keeps_margins, line_erased, line_fed, line_reversed, margins_set, may_scroll, mode_set, modes_set, on_bottom, on_top, record_of, screen_erased, scrolling, tabbed, with_col, with_row}
 use Rattle.ti_rows.proofs.StartFacts.{never}
 
--- each start is on its bottom or on its top margin
+-- each start is on its bottom margin, or each one on its top margin
 abbrev pub IsAtMargin : ℕ → Start → Type 0
 IsAtMargin rows start = (on_bottom rows start.row_min start.margins ≡ true) ⊎ (on_top rows start.row_max start.margins ≡ true)
 
--- nothing scrolls, or nothing is erased
+-- nothing scrolls; or nothing is erased, and each start is at a margin
 abbrev pub IsOneChange : ℕ → Start → Effect → Type 0
 IsOneChange rows start e = (e.scroll ≡ scrolls.Still) ⊎ ((e.erasure ≡ erasures.Nothing) × IsAtMargin rows start)
 

@@ -1,4 +1,4 @@
--- The cells after an effect, where all were alike before it.
+-- The cells after an effect, if all were alike before it.
 use Rattle.std.proofs.Common.{◌≡◌, ℕ, ◌+◌, ◌-◌, ◌<◌, ◌≤◌, ◌==◌, ◌&&◌, ◌||◌, Bool, true, false, if◌then◌else◌, length, inl, inr, refl, sym, ap, subst, ◌∙◌, arith}
 use Rattle.std.proofs.lemmas.Bool.{cases_lt, leb-true}
 use Rattle.std.proofs.lemmas.List.{get_or-replicate, get_or_past, length-replicate}
@@ -26,7 +26,7 @@ uniform_wide rows cols i b lt = ap (λ (l : List Look). length l) (line_is rows 
 uniform_at : (rows cols i j b : ℕ) (d : Look) → i < rows → j < cols → cell_at d (uniform rows cols (filled_with b)) i j ≡ filled_with b
 uniform_at rows cols i j b d lt near = ap (λ (l : List Look). slice_index_or l j d) (line_is rows cols i b lt) ∙ get_or-replicate cols j (filled_with b) d near
 
--- each place of such a grid, and what stands beyond it, can be printed
+-- each place of a grid whose cells are all alike, and each place beyond it, has a character that can be printed
 pub printed_at : (rows cols i j b : ℕ) → 32 ≤ b → b ≤ 126 → IsPrinted (look_at (uniform rows cols (filled_with b)) i j).byte
 printed_at rows cols i j b low high = elim (cases_lt i rows) [
   | inl lt ↦ elim (cases_lt j cols) [
@@ -70,7 +70,7 @@ erased_wide rows cols i b row col erasures.Head x lt = blanked_wide rows cols i 
 erased_wide rows cols i b row col erasures.Rest x lt = blanked_wide rows cols i b (λ y z. nat_lt row y || ((y == row) && nat_le col z)) x lt
 erased_wide rows cols i b row col (erasures.Next n) x lt = blanked_wide rows cols i b (λ y z. (y == row) && (nat_le col z && nat_lt z (col + n))) x lt
 
--- ---- and after a scroll
+-- ---- after a scroll
 
 chosen_from : (within moves there here : Bool) (far near x f : Look) → (moves ≡ true → far ≡ (if there then x else f)) → near ≡ (if here then x else f)
     → (if within then (if moves then far else x) else near) ≡ (if (if within then (if moves then there else true) else here) then x else f)
@@ -109,7 +109,7 @@ one_choice false true x f apart h = absurd (apart (sym h))
 seen : (r : Look) (b : ℕ) → 33 ≤ b → r.byte ≡ 32 → r ≡ filled_with b → ⊥
 seen r b le is h = let same : r.byte ≡ b = ap (λ (x : Look). x.byte) h in omega (arith, le, is, same)
 
--- a place that becomes blank by one of them alone
+-- two effects leave different grids if a place becomes blank by one of them alone
 pub grids_apart : (rows cols i j : ℕ) (e f : Effect) (p : Probe) → CanShow rows p → i < rows → j < cols
     → (becomes_blank e p i j ≡ becomes_blank f p i j → ⊥) → HaveOneGrid e f (screen_of rows cols p) → ⊥
 grids_apart rows cols i j e f p see lt near apart h =

@@ -19,7 +19,7 @@ use Rattle.ti_checker.specs.declared.probes.Probe.{Probe}
 use Rattle.ti_checker.specs.declared.trials.Choices.{Choices}
 use Rattle.ti_checker.proofs.Places.{printed_at, uniform_wide}
 
--- a choice of two is within them
+-- a choice of two numbers is within them
 from_least : (b : Bool) (a z : ℕ) → a ≤ z → a ≤ (if b then z else a)
 from_least true a z h = h
 from_least false a z h = omega arith
@@ -34,7 +34,7 @@ none_pending false = refl
 
 -- ---- margins
 
--- where they hang on the cursor there is room for a line above or below it
+-- if the margins depend on the cursor, there is room for a line above or below it
 abbrev HasRoom : Margins → ℕ → ℕ → Type 0
 HasRoom margins.OnBottom row last = 1 ≤ row
 HasRoom margins.OnTop row last = row < last
@@ -68,7 +68,7 @@ on_screen narrow margins.OnBottom row last h room = h
 on_screen true margins.OnTop row last h room = lowered_in (nat_lt row last) row last room
 on_screen false margins.OnTop row last h room = omega arith
 
--- ---- a start whose corners lie in the size
+-- ---- a start whose corners lie on the screen
 
 record Fits (rows cols : ℕ) (s : Start) : Type 0 where
   row_order : s.row_min ≤ s.row_max
@@ -125,9 +125,9 @@ calm rows cols a b x y c size ab br xy yc = record { free = free rows cols c _ s
 wherever : (rows cols : ℕ) (c : Choices) → IsSize rows cols → IsFree rows cols (screen_of rows cols (probe_by c (record { row_min = 0; row_max = rows - 1; col_min = 0; col_max = cols - 1; pending = true; margins = margins.Whole }) rows))
 wherever rows cols c size = let two = size.0 in let wide = size.2 in free rows cols c _ size (whole_fits rows cols 0 (rows - 1) 0 (cols - 1) true (omega arith) (omega (arith, two)) (omega arith) (omega (arith, wide))) refl
 
--- ---- of each row
+-- ---- the probes of each row
 
--- the last line is on the screen, and room for one above or below it
+-- the probe of these choices is a start of the row
 pub probe_starts : (rows cols : ℕ) (row : Row) (c : Choices) → IsSize rows cols → IsInRange rows cols row → Starts rows cols row (screen_of rows cols (probe_by c (start_of rows cols row) rows))
 probe_starts rows cols (Cup row col) c size range = any rows cols c _ size (legal_fits rows cols size)
 probe_starts rows cols (Csr top bottom) c size range = any rows cols c _ size (legal_fits rows cols size)
@@ -161,7 +161,7 @@ probe_starts rows cols Ri c size range = (record { any = any rows cols c (start_
     fits = let two = size.0 in let wide = size.2 in record { row_order = omega arith; row_in = omega (arith, two); col_order = omega arith; col_in = omega (arith, wide); room = λ c. (let h = to_greatest c.low 0 (rows - 1 - 1) (omega arith) in omega (arith, two, h)) }
 probe_starts rows cols _ c size range = wherever rows cols c size
 
--- so is the probe of a number
+-- the probe with a number is a start of the row
 pub numbered_starts : (rows cols n : ℕ) (row : Row) (p : Probe) (s : Start) (c : Choices) → p ≡ probe_by c s rows → s ≡ start_of rows cols row → c ≡ choices_of n → IsSize rows cols → IsInRange rows cols row → Starts rows cols row (screen_of rows cols p)
 numbered_starts rows cols n row p s c is start choices size range =
     subst (λ (q : Probe). Starts rows cols row (screen_of rows cols q)) (sym (is ∙ (ap (λ (t : Start). probe_by c t rows) start ∙ ap (λ (d : Choices). probe_by d (start_of rows cols row) rows) choices)))

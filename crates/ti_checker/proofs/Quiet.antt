@@ -1,4 +1,4 @@
--- `csr` and `clear` change no charset, where every row stands.
+-- `csr` and `clear` change no charset, if every row stands.
 use Rattle.std.proofs.Common.{◌≡◌, inl, inr, ℕ, zero, suc, ◌-◌, true, List, [], length, replicate, Some, refl, sym, ap, subst, ◌∙◌, arith}
 use Rattle.std.specs.Prelude.{slice_index_or}
 use Rattle.std.proofs.lemmas.Bool.{cases_Bool}

@@ -1,4 +1,5 @@
--- The table of what an entry sends, beside that of an entry that conforms; and noes of all strings together.
+-- The table of what an entry sends, compared with that of an entry that conforms; and refusals about all strings
+-- together.
 use Rattle.std.proofs.Common.{◌≡◌, inl, inr, ◌&&◌, ℕ, ◌-◌, Bool, true, false, List, [], Option, None, Some, if◌then◌else◌, refl, sym, ap, subst, ◌∙◌}
 use Rattle.std.specs.Prelude.{Result, Ok, Err, is_some}
 use Rattle.std.proofs.lemmas.Bool.{false≢true, and_parts, cases_Bool}
@@ -78,7 +79,7 @@ line_there entry rows cols a b h sends row bytes there =
     let range = h.only row bytes there in
     sym (same_line entry row (a.line_of row) (b.line_of row) (h.sends row range) (sends row range)) ∙ there
 
--- what can be had or settled by the one can so by the other
+-- a charset that one table can reach or settle, the other can too
 had_too : (entry : Content) (rows cols : ℕ) (a b : Table) → HasSent entry rows cols a → EntryAgrees rows cols entry b.line_of → (c : Charset) → CanHave a c → CanHave b c
 had_too entry rows cols a b h sends c (AtReset _ e) = AtReset c e
 had_too entry rows cols a b h sends d (AfterToken c _ token r o e) =
@@ -90,7 +91,7 @@ settled_too entry rows cols a b h size sends d (AfterResync c _ r l) =
 settled_too entry rows cols a b h size sends d (AfterLine c _ row bytes s there keeps l) =
     AfterLine c d row bytes (settled_too entry rows cols a b h size sends c s) (line_there entry rows cols a b h sends row bytes there) keeps l
 
--- ---- a clash of the one is one of the other
+-- ---- a clash of one table is a clash of the other
 
 misswitches_too : (entry : Content) (rows cols : ℕ) (a b : Table) → HasSent entry rows cols a → b.rows ≡ rows → EntryAgrees rows cols entry b.line_of → (row : Row) (c : Charset) → Misswitches a row c → Misswitches b row c
 misswitches_too entry rows cols a b h size sends row c m = record {
@@ -116,7 +117,7 @@ never_clashes entry rows cols a b pairs clashes.Acsc h size sends m g = g.settle
     same row range = ap (λ (o : Option (List ℕ)). is_some o) (same_line entry row (a.line_of row) (b.line_of row) (h.sends row range) (sends row range))
 never_clashes entry rows cols a b pairs clashes.Clear h size sends m g = g.escapes (λ rest e. m.3 rest (resync_same entry rows cols a b h size sends ∙ e))
 
--- ---- where the entry conforms
+-- ---- an entry that conforms
 
 both : (a b : Bool) → a ≡ true → b ≡ true → (a && b) ≡ true
 both true b e f = f
@@ -165,7 +166,7 @@ none_at_smacs entry rows cols c p h o = never_wrong entry rows cols c Smacs p (s
 pub none_at_rmacs : (entry : Content) (rows cols : ℕ) → Conforms entry rows cols → (p : Probe) → HasClash entry rows cols (clashes.Rmacs p.charset) → OfSent entry rows cols (λ t. RunsWrong rows cols Rmacs p t) → ⊥
 none_at_rmacs entry rows cols c p h o = never_wrong entry rows cols c Rmacs p (settled_too entry rows cols h.table c.table h.has c.rows_are c.sends p.charset h.is.1.settles) o
 
--- ---- where each row stands, there is such a table
+-- ---- if each row stands, there is a table of what the entry sends
 
 bytes_of : Result (List ℕ) ParmFault → Option (List ℕ)
 bytes_of (Ok bytes) = Some bytes
@@ -209,7 +210,7 @@ within : (a b : Bool) (o : Option (List ℕ)) (bytes : List ℕ) → (if a && b 
 within true b o bytes h = refl
 within false b o bytes h = absurd (none-some bytes h)
 
--- such a table, with looks and sets that the strings alone don't say
+-- a table of what the entry sends, with looks and sets that the strings alone don't determine
 abbrev pub table_with : Content → ℕ → ℕ → Looks → (Charset → Bool) → (Charset → Bool) → Table
 table_with entry rows cols looks reached settled = record {
   rows = rows;
@@ -237,7 +238,7 @@ of_sent entry rows cols Is size stands always =
     let has : HasSent entry rows cols t = has_sent entry rows cols no_looks (λ c. false) (λ c. false) size stands in
     record { table = t; has = has; is = always t has }
 
--- the entry's line that says what a row's line in such a table is
+-- among the lines there is one for the row with these bytes
 pub record ItsLine (lines : List RowLine) (row : Row) (bytes : List ℕ) : Type 0 where
   pub line : RowLine
   pub among : IsAmong lines line
@@ -255,7 +256,7 @@ its_line entry rows cols lines t h are row bytes there =
       | inr unchecked ↦ absurd (none-some bytes (sym ((h.sends row range).unchecked unchecked) ∙ there))
     ]
 
--- ---- noes of all strings together
+-- ---- refusals about all strings together
 
 pub runs_wrong : (rows cols : ℕ) (row : Row) (p : Probe) (t : Table) → Starts rows cols row (screen_of rows cols p) → Misswitches t row p.charset → RunsWrong rows cols row p t
 runs_wrong rows cols row p t starts m =
@@ -288,9 +289,9 @@ no_told entry rows cols refusal (clashes.Rmacs c) size fit written told all =
 no_told entry rows cols refusal clashes.Acsc size fit written told all = OfAll fit written (AtAcsc told (of_sent entry rows cols (Clashes entry clashes.Acsc) size written.stands all))
 no_told entry rows cols refusal clashes.Clear size fit written told all = OfAll fit written (AtClear told (of_sent entry rows cols (Clashes entry clashes.Clear) size written.stands all))
 
--- ---- what was found of all strings is so of each table of what is sent
+-- ---- the facts found of all strings hold of each table of what is sent
 
--- what was found of the strings that lead out of an unknown state, and of `smacs`
+-- the changes found of the strings that lead out of an unknown state, and of `smacs`
 pub record AreChanges (entry : Content) (rows cols : ℕ) (r : Resync) (smacs : Option Sets) : Type 0 where
   pub smcup : RowChanges entry rows cols Smcup r.smcup
   pub enacs : RowChanges entry rows cols Enacs r.enacs

@@ -14,7 +14,7 @@ use Rattle.ti_checker.specs.Alone.{marks_of, ShowsAlone, ShowsBy}
 use Rattle.ti_checker.proofs.Mislooked.{just_marks}
 use Rattle.ti_checker.proofs.Teaching.{same_sets}
 
--- a mark that goes on where it was off
+-- a mark that was off is on afterwards exactly if it is added
 from_none : (l b : Bool) → b ≡ false → l ≡ (l || b)
 from_none true b h = refl
 from_none false b h = sym h

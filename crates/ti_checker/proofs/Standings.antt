@@ -1,4 +1,5 @@
--- The lines of an entry whose rows stand are in their order, with none missing, and each is asked for.
+-- The lines of an entry whose rows stand are in their order, none is missing, and each has the effect that is asked
+-- for.
 use Rattle.std.proofs.Common.{◌≡◌, ◌⊎◌, ℕ, true, List, [], ◌∷◌, Option, None, Some, inl, inr, refl, sym, ap, subst, ◌∙◌}
 use Rattle.std.proofs.lemmas.Bool.{and_from}
 use Rattle.ti_caps.specs.Entry.{Content}
@@ -18,7 +19,7 @@ use Rattle.ti_checker.specs.First.{EachStands}
 use Rattle.ti_checker.specs.Limit.{IsLineOf, InOrder, AreLines}
 use Rattle.ti_checker.proofs.Learnings.{Falls, AreBefore, asked_before}
 
--- all lines of the entry, in two parts, of which the first has the latest first
+-- all lines of the entry in two parts, the first with its latest line first
 record Parted (entry : Content) (rows cols : ℕ) (before rest : List RowLine) : Type 0 where
   each : (line : RowLine) → IsAmong before line → IsLineOf entry rows cols line
   left : (line : RowLine) → IsAmong rest line → IsLineOf entry rows cols line
@@ -32,7 +33,7 @@ required entry row fit (inl e) = same_checked entry row Clear e ∙ and_from (ha
 required entry row fit (inr (inl e)) = same_checked entry row (Cup 0 0) e ∙ and_from (has_string entry (Cup 0 0)) true fit.cup refl
 required entry row fit (inr (inr e)) = same_checked entry row Sgr0 e ∙ and_from (has_string entry Sgr0) true fit.sgr0 refl
 
--- what has to stand is checked
+-- the row of a line that must be there is checked
 due_checked : (entry : Content) (rows cols : ℕ) (before : List RowLine) (next : Option Row) (row : Row) → IsFit entry → ((line : RowLine) → IsAmong before line → IsLineOf entry rows cols line)
     → (IsOfCap next row → is_checked entry row ≡ true) → IsRequiredLine row ⊎ (HasCap before row ⊎ IsOfCap next row) → is_checked entry row ≡ true
 due_checked entry rows cols before next row fit each own (inl d) = required entry row fit d

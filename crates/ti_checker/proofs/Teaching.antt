@@ -46,7 +46,7 @@ agree_first : (rows cols : ℕ) (row : Row) (l m : Looks) → rank rows cols row
 agree_first rows cols (Sgr a) l m zero = λ b lt. absurd (omega (arith, zero, lt))
 agree_first rows cols _ l m zero = tt
 
--- what the row before shows is the same with both
+-- if the row is one of `sgr`, both looks show it by the same marks
 abbrev SameHere : Row → Looks → Looks → Type 0
 SameHere row l m = (a : Attributes) → row ≡ Sgr a → shown l a ≡ shown m a
 
@@ -64,7 +64,7 @@ agree_next rows cols (Sgr a) (Sgr b) e before after m f is agree here = sets_mor
 agree_next rows cols _ (Sgr b) e before after m f is agree here = let o = f.same_order in absurd (omega (arith, o))
 agree_next rows cols _ _ e before after m f is agree here = tt
 
--- ---- all of them
+-- ---- all rows before a row
 
 pub one_sent : (string : List ℕ) (row : Row) (a b : List ℕ) → Sends string row a → Sends string row b → a ≡ b
 one_sent string row a b s t = cc (s.sends, t.sends)
@@ -120,7 +120,7 @@ greater n k h single le = by_case (eq-or-lt_of_le le)
     by_case (inl e) = absurd (false≢true (sym single ∙ (ap (λ (x : ℕ). not (is_single x || x == 64)) e ∙ h)))
     by_case (inr lt) = lt
 
--- a set with one attribute more than those that are off has at least that attribute's number
+-- an attribute that is on counts in the number of its set
 has_bit : (b : Bool) → b ≡ true → bit b ≡ 1
 has_bit b h = ap bit h
 

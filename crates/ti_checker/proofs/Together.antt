@@ -1,4 +1,4 @@
--- Noes, and what leads out of an unknown state as a text.
+-- Refusals, and the bytes that lead out of an unknown state as a text.
 use Rattle.std.proofs.Common.{◌≡◌, inl, inr, ℕ, ◌-◌, ◌+◌, ◌<◌, suc, true, List, [], ◌∷◌, ◌++◌, Some, length, get_or, take, zero, sym, ap, subst, ◌∙◌, arith}
 use Rattle.std.proofs.lemmas.Bool.{cases_Bool}
 use Rattle.ti_caps.specs.Entry.{Content}
@@ -50,7 +50,7 @@ string_fault : (entry : Content) (rows cols : ℕ) (string : List ℕ) (row : Ro
 string_fault entry rows cols string row TooLong there f = absurd f
 string_fault entry rows cols string row _ there f = record { string = string; there = there; faulty = f }
 
--- a row that was looked at once more
+-- a fault found when a row is expanded once more is a refusal about that row
 pub row_again : (entry : Content) (rows cols : ℕ) (refusal : No) (string : List ℕ) (row : Row) (cause : Cause) → IsFit entry → EachWritten entry rows cols → IsInRange rows cols row → is_checked entry row ≡ true
     → string_of entry row ≡ Some string → refusal.cap ≡ cap_of row → refusal.params.items ≡ params row → refusal.cause ≡ cause → IsFaulty rows cols string row cause → IsOfPart entry rows cols refusal
 row_again entry rows cols refusal string row cause fit written range checked there cap given e f = PartRow fit (record {
@@ -64,7 +64,7 @@ row_again entry rows cols refusal string row cause fit written range checked the
   within = within_before entry rows cols row written.within;
 })
 
--- why nothing is sent is a fault of the string
+-- the reason why a string sends nothing is a fault of the string
 pub unsendable : (rows cols : ℕ) (string : List ℕ) (row : Row) (cause : Cause) → IsUnsendable string row cause → IsFaulty rows cols string row cause
 unsendable rows cols string row (Parm fault) h = h
 unsendable rows cols string row StaticRead h = h
@@ -108,7 +108,7 @@ in_range rows cols size (suc (suc (suc (suc (suc (suc i)))))) d lt = absurd (ome
 pub resync_ranges : (rows cols : ℕ) (given : List Row) → IsSize rows cols → given ≡ resync_rows rows → AreInRange rows cols given
 resync_ranges rows cols given size is = subst (λ (l : List Row). AreInRange rows cols l) (sym is) (in_range rows cols size)
 
--- one row more is sent
+-- the text with the bytes of one more row
 pub sent_more : (entry : Content) (height width : ℕ) (rows : List Row) (i : ℕ) (d row : Row) (text bytes new : List ℕ) → i < length rows → row ≡ get_or rows i d → IsInRange height width row → IsPart entry row bytes
     → SendsAll entry height width (take i rows) text → new ≡ text ++ bytes → SendsAll entry height width (take (i + 1) rows) new
 sent_more entry height width rows i d row text bytes new lt is range part before joined t agrees =

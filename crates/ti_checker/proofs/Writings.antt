@@ -1,4 +1,4 @@
--- The text that is written of an entry's lines is that of a certificate.
+-- The text written for an entry's lines is that of a certificate.
 use Rattle.std.proofs.Common.{◌<◌, ℕ, Bool, true, false, List, [], ◌∷◌, ◌++◌, reverse, Option, None, Some, inl, inr, refl, sym, subst, arith}
 use Rattle.std.specs.Prelude.{is_some}
 use Rattle.std.specs.List.{AllByRecursion}
@@ -77,7 +77,7 @@ col_min_small : (rows cols : ℕ) (row : Row) → IsSize rows cols → IsInRange
 col_min_small rows cols (Cub n) size range = omega (arith, range.1, size.3)
 col_min_small rows cols _ size range = omega arith
 
--- what falls into tokens is bytes
+-- each number is a byte, as in a text that splits into tokens
 abbrev Small : List ℕ → Type 0
 Small xs = AllByRecursion (λ b. b < 256) xs
 
@@ -152,7 +152,7 @@ certificate entry rows cols text size is fit stands f = record {
   few = f.short;
 }
 
--- a table of what is sent has just these lines
+-- a table of what the entry sends has exactly these lines
 together : (entry : Content) (rows cols : ℕ) (lines : List RowLine) → IsSize rows cols → EachStands entry rows cols → AreLines entry rows cols (λ row. Unit {0}) lines → GoTogether entry rows cols
     → OfLines rows cols (reverse lines) (λ t. GoesTogether (is_some (string_at entry acsc)) t)
 together entry rows cols lines size stands are goes = record {

@@ -25,9 +25,9 @@ use Rattle.ti_checker.specs.Probes.{screen_of}
 use Rattle.ti_checker.specs.Taught.{IsTaught}
 use Rattle.ti_checker.specs.declared.probes.Probe.{Probe}
 
--- The probe is a start of the row, and the run of the bytes from it has an end that isn't wanted, for all looks of the
--- attributes with which the string's rows before this one are right, and with which the one attribute that this row
--- turns on looks as the bytes show it from a start without marks.
+-- The probe is a start of the row, and the run of the bytes from it has an end that isn't wanted. This must hold for
+-- all looks of attributes with which the string's rows before this one are right, and which show the one attribute that
+-- the row turns on, if it is just one, as the bytes do from a start without marks.
 pub record Breaks (rows cols : ℕ) (string : List ℕ) (row : Row) (bytes : List ℕ) (p : Probe) : Type 0 where
   pub starts : Starts rows cols row (screen_of rows cols p)
   pub after : Screen
@@ -35,12 +35,13 @@ pub record Breaks (rows cols : ℕ) (string : List ℕ) (row : Row) (bytes : Lis
   pub unwanted : (looks : Looks) → StandBefore rows cols looks string row → ShowsAlone rows cols row bytes looks
       → Wants looks row (screen_of rows cols p) after → ⊥
 
--- the looks agree on the marks that the parameter lists of `sgr` before this one show
+-- for a row of `sgr`, both looks show each parameter list before it by the same marks; for other rows, nothing is
+-- needed
 abbrev pub AgreeBefore : Row → Looks → Looks → Type 0
 AgreeBefore (Sgr a) l m = (b : Attributes) → number_of b < number_of a → shown l b ≡ shown m b
 AgreeBefore _ l m = Unit {0}
 
--- the marks after the effect, starting from these marks
+-- the marks after an effect's rendering, starting from these marks
 abbrev pub marks_after : Rendering → Marks → Marks
 marks_after e m = record {
   bold = switched e.bold m.bold;
@@ -63,7 +64,8 @@ pub record IsShown (rows cols : ℕ) (taught : Looks) (row : Row) (e : Effect) (
   pub starts : Starts rows cols row (screen_of rows cols p)
   pub unwanted : NotWanted rows cols taught row e p
 
--- the run of bytes with such an effect is then wrong
+-- if the probe shows that the effect of the bytes isn't wanted, with the looks that the rows before taught, the run of
+-- the bytes from it isn't wanted either (`Breaks`)
 abbrev pub ShownBreaks : Type 0
 ShownBreaks = (rows cols : ℕ) (string : List ℕ) (taught : Looks) (row : Row) (bytes : List ℕ)
     → (tokens : List (List ℕ)) (e : Effect) (p : Probe) → IsTaught rows cols string row taught → Splits bytes tokens []
@@ -72,13 +74,14 @@ ShownBreaks = (rows cols : ℕ) (string : List ℕ) (taught : Looks) (row : Row)
 
 -- ---- (Serves the code alone.) The wanted ends of an effect.
 
--- the rows with two wanted ends: both colors stay or become default, or the cursor becomes visible or all stays
+-- the rows with two wanted ends: after `sgr` both colors stay or both are default, after `cvvis` the cursor becomes
+-- visible or all stays
 abbrev pub has_choice : Row → Bool
 has_choice (Sgr a) = true
 has_choice Cvvis = true
 has_choice _ = false
 
--- the rows whose end may have any cells, cursor, rendition and sets
+-- the rows whose wanted end has the cells, the cursor's place, the rendition and the sets that the effect itself leaves
 abbrev pub is_free : Row → Bool
 is_free Smcup = true
 is_free Rmcup = true
@@ -87,7 +90,7 @@ is_free _ = false
 abbrev pub wanted_end : Looks → Row → Effect → Effect
 wanted_end l row e = if is_free row then record e { margins = None; visible = switches.Kept } else asked l row e
 
--- the two ends
+-- the effect, changed so that the one that is asked for leads to the one or the other of two wanted ends
 abbrev pub with_defaults : Effect → Effect
 with_defaults e =
     record e {
@@ -102,7 +105,7 @@ without_defaults e =
       visible = switches.Kept;
     }
 
--- looks each of which is seen when these marks are on
+-- the looks by which standout shows exactly these marks, and each other attribute its own mark if it is one of them
 abbrev pub looks_of : Marks → Looks
 looks_of m = record {
   standout = m;
@@ -114,11 +117,11 @@ looks_of m = record {
   invisible = m.concealed;
 }
 
--- the looks by which the end of the effect is judged: those taught, or those that the effect shows from a start without
--- marks
+-- the looks by which the end of the effect is judged: those taught, for a row of `sgr` that doesn't turn on just one
+-- attribute; for other rows, those that the effect shows from a start without marks
 abbrev pub looks_for : Looks → Row → Effect → Looks
 looks_for taught row e = if is_several row then taught else looks_of (marks_after e.rendition no_marks)
 
--- two effects have one end
+-- two effects lead from the screen to one end
 abbrev pub EndAlike : Effect → Effect → Screen → Type 0
 EndAlike e f s = applied e s ≡ applied f s

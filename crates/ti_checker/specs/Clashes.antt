@@ -1,4 +1,4 @@
--- All that is wrong with an entry's strings together, of which each is right by itself.
+-- The clashes of an entry's strings: all that is wrong with them together, though each is right by itself.
 use Rattle.std.specs.Prelude.{ℕ, ◌≡◌, ◌++◌, is_some, Bool, true, false, List, [], ◌∷◌, Option, Some, None}
 use Rattle.vt_term.specs.Screen.{Charset}
 use Rattle.ti_caps.specs.Entry.{Content, string_at}
@@ -20,23 +20,23 @@ use Rattle.ti_checker.specs.declared.causes.Cause.TheVariants.{BadLook, WrongEff
 use Rattle.ti_checker.specs.declared.causes.No.{No}
 use Rattle.ti_checker.specs.declared.probes.Probe.{Probe}
 
--- of `smacs` or `rmacs`: a no where it leaves the other set active from a charset that strings can leave, with a start
--- that has that charset; nothing where it doesn't
+-- the refusals about `smacs` or `rmacs`: if it leaves the wrong set active from a charset that strings can leave, one
+-- that names a start with such a charset; otherwise none
 pub data OfSwitch (entry : Content) (rows cols : ℕ) (row : Row) (nos : List No) : Type 0 where
   GoesWrong : (refusal : No) (p : Probe) → nos ≡ refusal ∷ [] → IsAbout refusal (cap_of row) (WrongEffect p)
       → OfSent entry rows cols (λ t. Misswitches t row p.charset)
       → OfSent entry rows cols (λ t. RunsWrong rows cols row p t) → OfSwitch entry rows cols row nos
   GoesRight : nos ≡ [] → OfAllSent entry rows cols (λ t. SwitchesRight t row) → OfSwitch entry rows cols row nos
 
--- of another capability: a no where this is so of the strings, nothing where it isn't
+-- the refusals about another capability: one if `Is` holds of the strings, otherwise none
 pub data OfStrings (entry : Content) (rows cols cap : ℕ) (cause : Cause) (Is : Table → Type 0) (nos : List No)
     : Type 0 where
   IsSo : (refusal : No) → nos ≡ refusal ∷ [] → IsAbout refusal cap cause → OfSent entry rows cols Is
       → OfStrings entry rows cols cap cause Is nos
   IsNotSo : nos ≡ [] → OfAllSent entry rows cols (λ t. Is t → ⊥) → OfStrings entry rows cols cap cause Is nos
 
--- The entry is fit, each row stands with all lines short enough, and of each of the four things that may be wrong with
--- all strings together there is a no where it is.
+-- The entry is fit, each row stands with all lines short enough, and there is one refusal for each of the four clashes
+-- that the strings have.
 pub record AreClashes (entry : Content) (rows cols : ℕ) (nos : List No) : Type 0 where
   pub fit : IsFit entry
   pub written : EachWritten entry rows cols
@@ -51,16 +51,17 @@ pub record AreClashes (entry : Content) (rows cols : ℕ) (nos : List No) : Type
   pub of_clear : OfStrings entry rows cols (cap_of Clear) NoResync (λ t. BeginsOpen t) clear
   pub are : nos ≡ ((smacs ++ rmacs) ++ acsc) ++ clear
 
--- ---- (Serves the code alone.) The same by what was computed, and what is added of each.
+-- ---- (Serves the code alone.) The refusals for the clashes that were computed, and a list to which each is added.
 
--- a no about `smacs` or `rmacs` where a charset is named, with a start in which nothing but the charset matters
+-- one refusal about the row's capability if a charset is named, with a probe that has it and is a free start
+-- (`IsFree`); otherwise none
 abbrev pub IsSwitchTold : ℕ → ℕ → Row → Option Charset → List No → Type 0
 IsSwitchTold rows cols row None own = own ≡ []
 IsSwitchTold rows cols row (Some before) own =
     (refusal : No) × (p : Probe) × (own ≡ refusal ∷ []) × IsAbout refusal (cap_of row) (WrongEffect p)
     × (p.charset ≡ before) × IsFree rows cols (screen_of rows cols p)
 
--- a no with this cause where it is so
+-- one refusal about the capability with this cause if it is so, otherwise none
 abbrev pub IsTold : Bool → ℕ → Cause → List No → Type 0
 IsTold false cap cause own = own ≡ []
 IsTold true cap cause own = (refusal : No) × (own ≡ refusal ∷ []) × IsAbout refusal cap cause

@@ -1,5 +1,5 @@
--- With `NotTame` and `NotShown` a string may be right; but neither is reported of a row that stands, and `NotShown` of
--- no row that leads to a place, a rendition, modes or cells that aren't wanted.
+-- With `NotTame` and `NotShown` a string may be right. But neither is true of a row that stands, and `NotShown` isn't
+-- true of a row that leads to a place, a rendition, modes or cells that aren't wanted.
 use Rattle.std.specs.Prelude.{ℕ, ◌≡◌, List}
 use Rattle.vt_effects.specs.declared.effects.Effect.{Effect}
 use Rattle.ti_rows.specs.declared.rows.Looks.{Looks}

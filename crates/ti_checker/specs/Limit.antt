@@ -47,7 +47,7 @@ pub record PassesLimit (entry : Content) (rows cols : ℕ) (row : Row) : Type 0 
   pub are : AreLines entry rows cols (λ other. IsUpTo rows cols row other) lines
   pub long : limit < length (text_with entry rows cols lines)
 
--- the lines of the rows before it are not too long
+-- the lines of the rows before this one are not too long with `end`
 pub record StaysWithin (entry : Content) (rows cols : ℕ) (row : Row) : Type 0 where
   pub lines : List RowLine
   pub are : AreLines entry rows cols (λ other. Precedes rows cols other row) lines
@@ -65,7 +65,7 @@ pub record FitsLimit (entry : Content) (rows cols : ℕ) : Type 0 where
 abbrev pub most : ℕ
 most = 67108860
 
--- without `end`
+-- the text with the entry's size and pairs, and these lines, without `end`
 abbrev pub front_with : Content → ℕ → ℕ → List RowLine → List ℕ
 front_with entry rows cols lines =
     ended (size_text rows cols ∷ (acsc_lines (string_at entry acsc) ++ map line_text lines))

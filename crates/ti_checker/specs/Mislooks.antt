@@ -37,7 +37,7 @@ own_mark Bold = Some (record no_marks { bold = true })
 own_mark Invis = Some (record no_marks { concealed = true })
 own_mark _ = None
 
--- one of these marks isn't among its own
+-- whether one of these marks isn't among the attribute's own
 abbrev pub has_other : Marks → Marks → Bool
 has_other own m =
     (m.bold && not own.bold) || ((m.faint && not own.faint) || ((m.underline && not own.underline)

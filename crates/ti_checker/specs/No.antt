@@ -1,4 +1,4 @@
--- When a no is so.
+-- When a refusal is true.
 use Rattle.std.specs.Prelude.{ℕ, ◌≡◌, true, false, is_some, List, [], Some, None, Err}
 use Rattle.ti_caps.specs.Entry.{Content, string_at}
 use Rattle.ti_parm.specs.Meaning.{meaning}
@@ -41,21 +41,22 @@ use Rattle.ti_checker.specs.Strays.{IsAlwaysWanted, IsRecorded}
 use Rattle.ti_checker.specs.Switches.{OfSent, OfAllSent, RunsWrong}
 use Rattle.ti_checker.specs.Taught.{IsAskedOf, IsTaught}
 
--- ---- what is wrong with a string for a row
+-- ---- the fault of a string for a row
 
--- the string sends bytes of which this holds
+-- the string sends bytes for the row, and `Holds` holds of them
 pub record SendsSome (string : List ℕ) (row : Row) (Holds : List ℕ → Type 0) : Type 0 where
   pub bytes : List ℕ
   pub sends : Sends string row bytes
   pub holds : Holds bytes
 
--- whole control functions without one effect from all starts of the row
+-- the bytes are whole control functions, and have no effect record from the row's starts
 pub record IsUntamed (rows cols : ℕ) (row : Row) (bytes : List ℕ) : Type 0 where
   pub tokens : List (List ℕ)
   pub whole : Splits bytes tokens []
   pub unrecorded : record_of rows cols (start_of rows cols row) tokens ≡ None
 
--- whole control functions with one effect from all starts of the row, and no attribute that shows another one's mark
+-- the bytes are whole control functions and have an effect record from the row's starts, and no attribute alone shows a
+-- mark that isn't its own
 pub record HasOwnEffect (rows cols : ℕ) (row : Row) (bytes : List ℕ) : Type 0 where
   pub tokens : List (List ℕ)
   pub whole : Splits bytes tokens []
@@ -63,28 +64,29 @@ pub record HasOwnEffect (rows cols : ℕ) (row : Row) (bytes : List ℕ) : Type 
   pub recorded : record_of rows cols (start_of rows cols row) tokens ≡ Some effect
   pub own : Mislooks rows cols row bytes → ⊥
 
--- an effect that isn't the one that is asked for, where attributes look as the rows of the string before this one
--- teach, though attributes can look in one way with which its end from each start of the row is wanted
+-- The effect isn't the one that is asked for with the looks that the string's rows before this one teach. But there are
+-- looks, which agree with those, with which its end from each start of the row is wanted.
 pub record IsUnasked (rows cols : ℕ) (string : List ℕ) (row : Row) (e : Effect) : Type 0 where
   pub looks : Looks
   pub taught : IsTaught rows cols string row looks
   pub unasked : IsAskedOf looks row e → ⊥
   pub wanted : IsAlwaysWanted rows cols looks row e
 
--- whole control functions with such an effect
+-- the bytes have an effect record for which `IsUnasked` holds
 pub record HasUnasked (rows cols : ℕ) (string : List ℕ) (row : Row) (bytes : List ℕ) : Type 0 where
   pub has : HasOwnEffect rows cols row bytes
   pub unasked : IsUnasked rows cols string row has.effect
 
--- and from a start they run to an end that isn't wanted
+-- the bytes have an effect record, and from the probe, a start of the row, they run to an end that isn't wanted
 pub record HasWrong (rows cols : ℕ) (string : List ℕ) (row : Row) (bytes : List ℕ) (p : Probe) : Type 0 where
   pub has : HasOwnEffect rows cols row bytes
   pub breaks : Breaks rows cols string row bytes p
 
--- The fault is one of the string's run; what is sent ends within a sequence, or has a byte that fits nothing; it has no
--- one effect from all starts of the row; one attribute shows a mark that isn't its own; from a start of the row it runs
--- to an end that isn't wanted; or its effect isn't the one that is asked for, though from each start its end is wanted.
--- Each of these excludes those before it. With `NotTame` and `NotShown` the string may still be right.
+-- The fault of a string for a row, by its cause. The string's run fails, or reads a static variable before it sets it;
+-- the bytes that it sends end within a sequence, or have a byte that fits nothing; they have no effect record; an
+-- attribute alone shows a mark that isn't its own; from a start of the row they run to an end that isn't wanted; or
+-- their effect isn't the one that is asked for, though its end from each start is wanted. Each of these excludes those
+-- before it. With `NotTame` and `NotShown` the string may still be right, and `NoMemory` claims nothing.
 abbrev pub IsFaulty : ℕ → ℕ → List ℕ → Row → Cause → Type 0
 IsFaulty rows cols string row (Parm fault) = meaning string (values row) zeros ≡ Err fault
 IsFaulty rows cols string row StaticRead = ReadsStatic string row
@@ -97,7 +99,7 @@ IsFaulty rows cols string row NotShown = SendsSome string row (λ bytes. HasUnas
 IsFaulty rows cols string row NoMemory = Unit {0}
 IsFaulty rows cols string row _ = ⊥
 
--- ---- (Serves the code alone.) The same by the step that finds it: sending, cutting into tokens, and judging the
+-- ---- (Serves the code alone.) The fault by the step that finds it: sending, cutting into tokens, and judging the
 -- effect.
 
 abbrev pub IsUnsendable : List ℕ → Row → Cause → Type 0
@@ -134,9 +136,9 @@ abbrev pub IsMisjudged : ℕ → ℕ → Looks → Row → List (List ℕ) → C
 IsMisjudged rows cols looks row tokens NotTame = record_of rows cols (start_of rows cols row) tokens ≡ None
 IsMisjudged rows cols looks row tokens cause = Misfits rows cols looks row tokens cause
 
--- ---- what is wrong with an entry's string
+-- ---- the fault of an entry's string
 
--- its string for a checked row is so
+-- the refusal names a checked row of the size, and the entry's string has that fault for it
 pub record HasFaulty (entry : Content) (rows cols : ℕ) (refusal : No) : Type 0 where
   pub row : Row
   pub cap_is : refusal.cap ≡ cap_of row
@@ -147,9 +149,9 @@ pub record HasFaulty (entry : Content) (rows cols : ℕ) (refusal : No) : Type 0
   pub there : string_of entry row ≡ Some string
   pub faulty : IsFaulty rows cols string row refusal.cause
 
--- ---- a no of `check`, by cases
+-- ---- a refusal of `check`, by cases
 
--- the capability, without parameters, and what is wrong with it
+-- the refusal names the capability, without parameters, and the cause
 pub record IsAbout (refusal : No) (cap : ℕ) (cause : Cause) : Type 0 where
   pub cap_is : refusal.cap ≡ cap
   pub no_params : refusal.params.items ≡ []
@@ -160,26 +162,27 @@ cause_of_unfit (unfit.FlagOut cap) = FlagOut
 cause_of_unfit (unfit.Absent row) = Absent
 cause_of_unfit unfit.AcsByte = AcsByte
 
--- The entry is at fault, whatever its strings send, and this is the first reason: of `xmc`, `hc`, `gn` and `os` the
--- first that it has, then of `clear`, `cup` and `sgr0` the first that it hasn't, then `acsc`.
+-- The entry is at fault, whatever its strings send, and the refusal names the first reason: the first of `xmc`, `hc`,
+-- `gn` and `os` that it has; then the first of `clear`, `cup` and `sgr0` that it lacks; then `acsc`.
 pub record IsOfEntry (entry : Content) (refusal : No) : Type 0 where
   pub why : Unfit
   pub first : IsUnfit entry why
   pub about : IsAbout refusal (cap_of_unfit why) (cause_of_unfit why)
 
--- the string for a row is at fault
+-- the entry's string has this fault for the row
 pub record HasFaultyString (entry : Content) (rows cols : ℕ) (row : Row) (cause : Cause) : Type 0 where
   pub string : List ℕ
   pub there : string_of entry row ≡ Some string
   pub faulty : IsFaulty rows cols string row cause
 
--- or the lines up to the row's, with `end`, are longer than a certificate may be
+-- the fault of a row: with `TooLong`, the lines up to the row's, with `end`, are longer than a certificate may be; with
+-- any other cause, its string has that fault
 abbrev pub IsRowFault : Content → ℕ → ℕ → Row → Cause → Type 0
 IsRowFault entry rows cols row TooLong = PassesLimit entry rows cols row
 IsRowFault entry rows cols row cause = HasFaultyString entry rows cols row cause
 
--- A checked row is at fault, and it is the first along the lines of a certificate: all that come before it stand, and
--- their lines are not too long.
+-- The refusal names a checked row that is at fault, the first one in the order of a certificate's lines: all rows
+-- before it stand, and their lines are not too long.
 pub record IsOfRow (entry : Content) (rows cols : ℕ) (refusal : No) : Type 0 where
   pub row : Row
   pub cap_is : refusal.cap ≡ cap_of row
@@ -191,17 +194,18 @@ pub record IsOfRow (entry : Content) (rows cols : ℕ) (refusal : No) : Type 0 w
       → RowStands entry rows cols other
   pub within : StaysWithin entry rows cols row
 
--- what is wrong with all strings together is so of what the entry sends
+-- the clash is one of a table with exactly what the entry sends
 abbrev pub HasClash : Content → ℕ → ℕ → Clash → Type 0
 HasClash entry rows cols clash = OfSent entry rows cols (λ t. IsClash (is_some (string_at entry acsc)) t clash)
 
--- (Serves the code alone.) Nothing is wrong with them together, whatever stands in a table of what the entry sends.
+-- (Serves the code alone.) No table with exactly what the entry sends has a clash.
 abbrev pub GoTogether : Content → ℕ → ℕ → Type 0
 GoTogether entry rows cols = OfAllSent entry rows cols (λ t. GoesTogether (is_some (string_at entry acsc)) t)
 
--- The strings are at fault together, by the first clash: `smacs` or `rmacs` leaves the other set active, and does so
--- from a start with that charset; the graphic set can stay active where letters of line graphics can't be sent, which
--- is a fault of `acsc`; what leads out of an unknown state doesn't begin with ESC, which is one of `clear`.
+-- The strings are at fault together, and the refusal names their first clash. About `smacs` or `rmacs`: the probe is a
+-- start with a charset that strings can leave, and the run from it ends with the wrong set active. About `acsc`: the
+-- graphic set can stay active although letters of line graphics can't be sent. About `clear`: the bytes that lead out
+-- of an unknown state don't begin with ESC.
 pub data IsOfAll (entry : Content) (rows cols : ℕ) (refusal : No) : Type 0 where
   AtSmacs : (p : Probe) → IsAbout refusal (cap_of Smacs) (WrongEffect p)
       → HasClash entry rows cols (clashes.Smacs p.charset) → OfSent entry rows cols (λ t. RunsWrong rows cols Smacs p t)
@@ -213,34 +217,34 @@ pub data IsOfAll (entry : Content) (rows cols : ℕ) (refusal : No) : Type 0 whe
   AtClear : IsAbout refusal (cap_of Clear) NoResync → HasClash entry rows cols clashes.Clear
       → IsOfAll entry rows cols refusal
 
--- The entry as a whole is at fault; or it is fit, and a row is; or each row stands with all lines short enough, and the
--- strings are at fault together; or memory ran out, which claims nothing.
+-- The entry as a whole is at fault; or it is fit, and a row is at fault; or it is fit, each row stands with all lines
+-- short enough, and the strings are at fault together; or memory ran out, which claims nothing.
 pub data IsNo (entry : Content) (rows cols : ℕ) (refusal : No) : Type 0 where
   OfEntry : IsOfEntry entry refusal → IsNo entry rows cols refusal
   OfRow : IsFit entry → IsOfRow entry rows cols refusal → IsNo entry rows cols refusal
   OfAll : IsFit entry → EachWritten entry rows cols → IsOfAll entry rows cols refusal → IsNo entry rows cols refusal
   OutOfMemory : refusal.cause ≡ NoMemory → IsNo entry rows cols refusal
 
--- of the entry as a whole or of a row, and so not of all strings together
+-- the refusal is about the entry as a whole or about a row, not about all strings together; or memory ran out
 pub data IsOfPart (entry : Content) (rows cols : ℕ) (refusal : No) : Type 0 where
   PartEntry : IsOfEntry entry refusal → IsOfPart entry rows cols refusal
   PartRow : IsFit entry → IsOfRow entry rows cols refusal → IsOfPart entry rows cols refusal
   PartMemory : refusal.cause ≡ NoMemory → IsOfPart entry rows cols refusal
 
--- (Serves the code alone.) The same of a row that is refused, by its string and the text before it.
+-- (Serves the code alone.) The fault of a row, by its string and the text before its line.
 abbrev pub IsRowRefused : ℕ → ℕ → List ℕ → Row → List ℕ → Cause → Type 0
 IsRowRefused rows cols string row text TooLong = Overflows rows cols string row text
 IsRowRefused rows cols string row text cause = IsFaulty rows cols string row cause
 
--- a string with one of these may be right
+-- the causes with which a string may be right
 abbrev pub ClaimsNothing : Cause → Type 0
 ClaimsNothing NotTame = Unit {0}
 ClaimsNothing NotShown = Unit {0}
 ClaimsNothing NoMemory = Unit {0}
 ClaimsNothing _ = ⊥
 
--- (Serves the code alone.) The no that names a clash: for `smacs` and `rmacs` with a start in which nothing but the
--- charset matters
+-- (Serves the code alone.) The refusal that names a clash: for `smacs` and `rmacs` with a probe that has the charset
+-- and is a free start (`IsFree`).
 abbrev pub IsToldAs : ℕ → ℕ → No → Clash → Type 0
 IsToldAs rows cols refusal (clashes.Smacs c) =
     (p : Probe) × IsAbout refusal (cap_of Smacs) (WrongEffect p) × (p.charset ≡ c)

@@ -21,7 +21,7 @@ use Rattle.ti_checker.specs.declared.causes.No.{No}
 
 -- ---- the notes
 
--- the string sends just these whole tokens for the row
+-- the string sends bytes for the row that are exactly these whole tokens
 pub record SendsTokens (string : List ℕ) (row : Row) (tokens : List (List ℕ)) : Type 0 where
   pub bytes : List ℕ
   pub sends : Sends string row bytes

@@ -11,8 +11,8 @@ use Rattle.ti_rows.specs.declared.rows.Looks.{Looks}
 use Rattle.ti_rows.specs.declared.rows.Row.{Row}
 use Rattle.ti_checker.specs.Breakage.{AgreeBefore}
 
--- From some start of the row, whatever its cells are, the effect leads to an end that is like none of the wanted ones,
--- for all looks that agree with what the rows before taught.
+-- From some start of the row the effect leads to an end that is like none of the wanted ones (`Alike`), for all looks
+-- that agree with what the rows before taught.
 pub record Strays (Alike : Screen → Screen → Type 0) (rows cols : ℕ) (taught : Looks) (row : Row) (e : Effect)
     : Type 0 where
   pub start : Screen
@@ -20,7 +20,7 @@ pub record Strays (Alike : Screen → Screen → Type 0) (rows cols : ℕ) (taug
   pub apart : (looks : Looks) (wanted : Screen) → AgreeBefore row taught looks → Wants looks row start wanted
       → Alike (applied e start) wanted → ⊥
 
--- the cursor is in one place, with or without a pending wrap, and the margins are the same
+-- the cursor's place, a pending wrap and the margins are the same
 pub record HaveOnePlace (s t : Screen) : Type 0 where
   pub row : s.row ≡ t.row
   pub col : s.col ≡ t.col
@@ -34,12 +34,12 @@ HaveOneRendition s t = s.rendition ≡ t.rendition
 abbrev pub HaveSameCells : Screen → Screen → Type 0
 HaveSameCells s t = s.grid ≡ t.grid
 
--- the active set, both sets and the cursor's visibility are the same
+-- both sets, the active one and the cursor's visibility are the same
 pub record HaveSameModes (s t : Screen) : Type 0 where
   pub charset : s.charset ≡ t.charset
   pub visible : s.visible ≡ t.visible
 
--- the effect leads to a place, a rendition, cells or modes that aren't wanted
+-- from some start, the effect leads to a place, a rendition, cells or modes that no wanted end has
 abbrev pub LeadsElsewhere : ℕ → ℕ → Looks → Row → Effect → Type 0
 LeadsElsewhere rows cols taught row e = Strays HaveOnePlace rows cols taught row e
 
@@ -52,7 +52,7 @@ LeavesOtherCells rows cols taught row e = Strays HaveSameCells rows cols taught 
 abbrev pub LeavesOtherModes : ℕ → ℕ → Looks → Row → Effect → Type 0
 LeavesOtherModes rows cols taught row e = Strays HaveSameModes rows cols taught row e
 
--- (Serves the code alone.) the effect is the record of some text from the row's start
+-- (Serves the code alone.) The effect is the record of some tokens from the row's start.
 abbrev pub IsRecorded : ℕ → ℕ → Row → Effect → Type 0
 IsRecorded rows cols row e = (tokens : List (List ℕ)) × (record_of rows cols (start_of rows cols row) tokens ≡ Some e)
 

@@ -30,18 +30,18 @@ pub record HasSent (entry : Content) (rows cols : ℕ) (t : Table) : Type 0 wher
   pub sends : EntryAgrees rows cols entry t.line_of
   pub only : (row : Row) (bytes : List ℕ) → t.line_of row ≡ Some bytes → IsInRange rows cols row
 
--- `Is` holds of one such table
+-- `Is` holds of some table with exactly what the entry sends
 pub record OfSent (entry : Content) (rows cols : ℕ) (Is : Table → Type 0) : Type 0 where
   pub table : Table
   pub has : HasSent entry rows cols table
   pub is : Is table
 
--- (Serves the code alone.) `Is` holds of each such table
+-- `Is` holds of each table with exactly what the entry sends
 abbrev pub OfAllSent : Content → ℕ → ℕ → (Table → Type 0) → Type 0
 OfAllSent entry rows cols Is = (t : Table) → HasSent entry rows cols t → Is t
 
--- The probe is a start of the row, and the run of the row's bytes from it ends without the set active that the row,
--- `smacs` or `rmacs`, must activate.
+-- The probe is a start of the row, and the run of the row's bytes from it ends with the wrong set active: not the one
+-- that the row, `smacs` or `rmacs`, must activate.
 pub record RunsWrong (rows cols : ℕ) (row : Row) (p : Probe) (t : Table) : Type 0 where
   pub bytes : List ℕ
   pub there : t.line_of row ≡ Some bytes
@@ -70,7 +70,7 @@ pub record IsChangeOf (entry : Content) (row : Row) (tokens : List (List ℕ)) (
 abbrev pub IsBefore : ℕ → ℕ → ℕ → ℕ → Row → Type 0
 IsBefore rows cols n k row = (order row < n) ⊎ ((order row ≡ n) × (rank rows cols row < k))
 
--- the tokens and the change of the row's string are among these
+-- the tokens of the row's string are among these, and so is its change if the row leaves settled charsets settled
 pub record IsCounted (entry : Content) (all : List (List ℕ)) (changes : List Sets) (row : Row) : Type 0 where
   pub tokens : List (List ℕ)
   pub change : Sets
@@ -78,8 +78,8 @@ pub record IsCounted (entry : Content) (all : List (List ℕ)) (changes : List S
   pub reached : (token : List ℕ) → IsAmong tokens token → IsAmong all token
   pub settled : settles row ≡ true → IsAmong changes change
 
--- facts seen of an entry's strings: the marks that tokens turn on, and the changes by strings, of all strings for the
--- rows so far
+-- facts seen of the entry's strings for the rows so far: the marks that their tokens turn on, and the changes by those
+-- strings that leave settled charsets settled
 pub record IsSeen (entry : Content) (rows cols : ℕ) (reach : Reach) (changes : List Sets) (n k : ℕ) : Type 0 where
   pub tokens : List (List ℕ)
   pub reach_is : reach ≡ reach_of tokens
@@ -88,7 +88,7 @@ pub record IsSeen (entry : Content) (rows cols : ℕ) (reach : Reach) (changes :
   pub counted : (row : Row) → IsInRange rows cols row → is_checked entry row ≡ true → IsBefore rows cols n k row
       → IsCounted entry tokens changes row
 
--- the bytes that a string sends for a row are seen as well
+-- the facts after those of the bytes that a string sends for a row are added
 pub record IsSeenToo (string : List ℕ) (row : Row) (old : Reach) (before : List Sets) (new : Reach)
     (after : List Sets) : Type 0 where
   pub tokens : List (List ℕ)
@@ -97,6 +97,6 @@ pub record IsSeenToo (string : List ℕ) (row : Row) (old : Reach) (before : Lis
   pub reach_is : new ≡ joined old (reach_of tokens)
   pub changes_are : after ≡ with_change (settles row) before change
 
--- the change by the row's line, in each table of what is sent
+-- the change by the row's line, `None` if there is no line, in each table with exactly what the entry sends
 abbrev pub RowChanges : Content → ℕ → ℕ → Row → Option Sets → Type 0
 RowChanges entry rows cols row change = OfAllSent entry rows cols (λ t. ChangesBy t row change)

@@ -14,8 +14,9 @@ use Rattle.ti_checker.specs.Limit.{IsLineFor}
 abbrev pub IsAskedOf : Looks → Row → Effect → Type 0
 IsAskedOf looks row e = e ≡ asked (learned row e looks) row e
 
--- The looks that the rows of the string before this one teach: none before the first; and each row whose effect is the
--- one that is asked for adds what it shows. Only in `sgr` does one row teach what another is asked for.
+-- The looks that the rows of the string before this one teach: `no_looks` before the first row, and then each row,
+-- whose effect must be the one that is asked for, adds what it shows. Only in `sgr` does one row teach what another is
+-- asked for.
 pub data IsTaught (rows cols : ℕ) (string : List ℕ) : Row → Looks → Type 0 where
   AtFirst : (row : Row) (looks : Looks) → IsFirst rows cols row → looks ≡ no_looks
       → IsTaught rows cols string row looks

@@ -30,7 +30,7 @@ choices_of n = record {
 abbrev pub all_marks : Bool → Marks
 all_marks on = record { bold = on; faint = on; underline = on; blink = on; negative = on; concealed = on }
 
--- the margins, with the cursor in this row
+-- the margins of a probe, wide or narrow, with the cursor in this row
 abbrev pub top_by : Bool → Margins → ℕ → ℕ → ℕ
 top_by narrow margins.Whole row last = 0
 top_by narrow margins.Legal row last = if narrow && nat_lt 1 last then 1 else 0
@@ -68,7 +68,7 @@ probe_by c s rows = record {
   fill = 120;
 }
 
--- ---- facts known if a probe shows nothing
+-- ---- facts known of an effect that a probe doesn't show wrong
 
 -- from the probe two effects lead to one end
 pub record EndSo (rows cols : ℕ) (e f : Effect) (p : Probe) : Type 0 where
@@ -84,7 +84,7 @@ pub record EndSo (rows cols : ℕ) (e f : Effect) (p : Probe) : Type 0 where
   pub visible : switched e.visible p.visible ≡ switched f.visible p.visible
   pub cells : (i j : ℕ) → i < rows → j < cols → becomes_blank e p i j ≡ becomes_blank f p i j
 
--- an effect whose end is wanted with these looks
+-- the effect `f`, which has a wanted end of the row with these looks
 pub data IsEnd (l : Looks) (row : Row) (e f : Effect) : Type 0 where
   Only : has_choice row ≡ false → f ≡ wanted_end l row e → IsEnd l row e f
   WithDefaults : has_choice row ≡ true → f ≡ asked l row (with_defaults e) → IsEnd l row e f

@@ -57,7 +57,7 @@ pub(crate) fn marks_after(rendering: Rendering, marks: Marks) -> Marks
     }
 }
 
-/// Looks each of which is seen when all of `marks` are on.
+/// The looks by which standout shows exactly `marks`, and each other attribute its own mark if it is one of them.
 fn looks_of(marks: Marks) -> Looks
     ensures { result ≡ spec.looks_of marks }
 {
@@ -145,14 +145,16 @@ fn differ(first: &Effect, second: &Effect, size: Size, probe: &Probe) -> bool
         || cells_differ(first, second, size, probe)
 }
 
-/// Whether the row has two wanted ends: both colors stay or become default, or the cursor becomes visible or all stays.
+/// Whether `row` has two wanted ends: after `sgr` both colors stay or both are default, after `cvvis` the cursor
+/// becomes visible or all stays.
 fn has_choice(row: Row) -> bool
     ensures { result ≡ spec.has_choice row }
 {
     matches!(row, Row::Sgr(_) | Row::Cvvis)
 }
 
-/// Whether the row's end may have any cells, cursor, rendition and sets.
+/// Whether the wanted end of `row` has the cells, the cursor's place, the rendition and the sets that the effect itself
+/// leaves.
 fn is_free(row: Row) -> bool
     ensures { result ≡ spec.is_free row }
 {
@@ -213,8 +215,8 @@ fn is_several(row: Row) -> bool
     }
 }
 
-/// The looks by which the end of `effect` is judged: those that the rows before `taught`, or those that `effect` shows
-/// from a start without marks.
+/// The looks by which the end of `effect` is judged: `taught`, the looks that the rows before teach, if `row` is one of
+/// `sgr` that doesn't turn on just one attribute; else those that `effect` shows from a start without marks.
 fn looks_for(taught: Looks, row: Row, effect: &Effect) -> Looks
     ensures { result ≡ spec.looks_for taught row effect.now }
 {
@@ -225,9 +227,9 @@ fn looks_for(taught: Looks, row: Row, effect: &Effect) -> Looks
     }
 }
 
-/// Whether `effect` leads from `probe`, a start of the row, to an end that isn't wanted, for all looks that agree with
-/// what the rows before `taught` and with which the one attribute that the row turns on looks as the effect shows it
-/// from a start without marks.
+/// Whether `effect` leads from `probe`, which must be a start of `row`, to an end that isn't wanted. This holds for all
+/// looks that agree with `taught`, the looks that the rows before teach, and by which the one attribute that the row
+/// turns on looks as the effect shows it from a start without marks.
 pub(crate) fn breaks(row: Row, taught: Looks, effect: &Effect, size: Size, probe: &Probe) -> bool
     requires starts { Starts size.rows size.cols row (screen_of size.rows size.cols probe.now) }
     requires seen { CanShow size.rows probe.now }

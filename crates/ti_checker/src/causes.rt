@@ -28,7 +28,7 @@ pub enum Cause {
     Unfinished,
     /// The bytes that are sent have a byte that fits nothing.
     Stuck,
-    /// The effect of the bytes that are sent depends on the state they start from. The string may be right.
+    /// The bytes that are sent have no one effect record for all the states they start from. The string may be right.
     NotTame,
     /// An attribute alone shows a mark that isn't its own.
     BadLook,

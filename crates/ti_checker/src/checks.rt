@@ -14,14 +14,14 @@ use std::alloc::Global;
 use ti_caps::Entry;
 use vt_term::Size;
 
-/// The certificate of an entry for a size: a text whose lines are just what the entry's strings send. Each
-/// string is expanded, read and judged once, and all of them together at the end; that the text is accepted as
-/// it is by `ti_cert::verify` is a law.
+/// The certificate of `entry` for `size`: a text with exactly the lines that the entry's strings send. Each string is
+/// judged once for each of its rows, and all strings together at the end. The text itself isn't read again: it is
+/// proved that `ti_cert::verify` accepts it as it is.
 ///
 /// # Errors
-/// What is wrong first: with the entry as a whole, along the lines of a certificate, or with all strings
-/// together. Every cause but `NotTame`, `NotShown` and `NoMemory` states a fault of the entry, and
-/// `TooLong` that its certificate would pass the limit.
+/// The first refusal: of the entry as a whole, then of a row, in the order of a certificate's lines, then of all
+/// strings together. Every cause but `NotTame`, `NotShown` and `NoMemory` states a fault of the entry; `TooLong` states
+/// that its certificate would pass the limit.
 #[tactic(auto, using(crate::proofs::Together::entry_no, crate::proofs::Together::part_no))]
 pub fn check(alloc: Global, entry: &Entry, size: Size) -> Result<Vec<u8>, No>
     ensures conforms { IfOk result (λ text. Conforms entry.now size.rows size.cols) }

@@ -1,4 +1,4 @@
-//! All that is wrong with an entry's strings together.
+//! Listing the clashes of an entry's strings: all that is wrong with them together.
 
 ghost use Rattle.std.specs.Prelude.{IfErr, IfOk, OnOk};
 ghost use Rattle.ti_checker.specs.Clashes as spec;
@@ -15,7 +15,7 @@ use ti_conforms::acsc;
 use ti_rows::Row;
 use vt_term::{Charset, Size};
 
-/// Adds a no about the row's capability, if there is a charset from which its string goes wrong.
+/// Adds to `nos` a refusal about the capability of `row`, if its string goes wrong from a charset, which is `before`.
 fn push_switch(
     row: Row,
     before: Option<Charset>,
@@ -31,7 +31,7 @@ fn push_switch(
     Ok(())
 }
 
-/// Adds a no about a capability, if this is so.
+/// Adds to `nos` a refusal about `cap` with `cause`, if `is_so`.
 fn push_where(is_so: bool, cap: Cap, cause: Cause, nos: &mut Vec<No>) -> Result<(), AllocError>
     ensures { OnOk result (spec.AddsWhere is_so cap cause nos.old.items nos.new.items) }
 {
@@ -41,7 +41,7 @@ fn push_where(is_so: bool, cap: Cap, cause: Cause, nos: &mut Vec<No>) -> Result<
     Ok(())
 }
 
-/// The noes about these clashes, in their order.
+/// The refusals about the clashes `all`, in their order. Fails if memory runs out.
 fn noes_of(alloc: Global, all: AllClashes, size: Size) -> Result<Vec<No>, AllocError>
     ensures { IfOk result (λ nos. spec.AreTold size.rows size.cols all nos.items) }
 {
@@ -53,13 +53,13 @@ fn noes_of(alloc: Global, all: AllClashes, size: Size) -> Result<Vec<No>, AllocE
     Ok(nos)
 }
 
-/// All that is wrong with the strings of an entry together, where each is right by itself: of `smacs` and of `rmacs` a
-/// no that names a start from which it leaves the other set active; of `acsc` one if strings can leave the graphic set
-/// active where letters of line graphics can't be sent; of `clear` one if what leads out of an unknown state doesn't
-/// begin with ESC. [`check`](crate::check) answers the first of them.
+/// The clashes of the strings of `entry` for `size`, each of which is right by itself: a refusal about `smacs` and one
+/// about `rmacs` that names a start from which the string leaves the wrong set active; one about `acsc` if strings can
+/// leave the graphic set active although letters of line graphics can't be sent; one about `clear` if the bytes that
+/// lead out of an unknown state don't begin with ESC. [`check`](crate::check) answers the first of them.
 ///
 /// # Errors
-/// What is wrong with the entry as a whole or with one string, as `check` says, so that nothing is known of all strings
+/// The refusal of `check` about the entry as a whole or about a row, after which nothing is known of all strings
 /// together; or out of memory.
 #[tactic(auto, using(crate::proofs::Together::entry_of_part, crate::proofs::Together::memory_of_part))]
 pub fn clashes(alloc: Global, entry: &Entry, size: Size) -> Result<Vec<No>, No>

@@ -1,4 +1,4 @@
-//! The text of a certificate, line by line.
+//! Writing the text of a certificate, line by line.
 
 ghost use Rattle.std.specs.Prelude.{◌≡◌, ◌<◌, ◌≤◌, ◌+◌, ◌++◌, ◌∷◌, ℕ, List, [], length, IfErr, IfOk, OnOk};
 ghost use Rattle.ti_caps.specs.Entry.{string_at};
@@ -32,25 +32,25 @@ use ti_rows::{CAPABILITIES, Looks, Row};
 use vt_effects::Effect;
 use vt_term::Size;
 
-/// A certificate's text so far, and what its lines are made in.
+/// A certificate's text so far, and the memory in which its lines are made.
 #[derive(Drop)]
 struct Draft {
     text: Vec<u8>,
-    /// What the rows are judged in.
+    /// Judges the rows.
     judge: Judge,
-    /// The words of the present row's effect.
+    /// The words of the current row's effect.
     words: Vec<u8>,
-    /// What the strings of its lines do to the charsets.
+    /// The changes of the charsets by the strings of the lines so far.
     seen: Seen,
 }
 
-/// The most bytes of a certificate before its last line.
+/// The most bytes that a certificate may have before its last line.
 const MOST: usize = 67_108_860;
 
 /// Room for the certificate of a common screen, so that it isn't copied as it grows.
 const ROOM: usize = 163_840;
 
-/// Adds the first line.
+/// Adds to `text` the first line, which has the size.
 fn push_size(alloc: Global, size: Size, text: &mut Vec<u8>) -> Result<(), AllocError>
     ensures { OnOk result (text.new.items ≡ text.old.items ++ (size_text size.rows size.cols ++ 10 ∷ [])) }
 {
@@ -60,7 +60,7 @@ fn push_size(alloc: Global, size: Size, text: &mut Vec<u8>) -> Result<(), AllocE
     text.extend_from_slice(first.as_bytes())
 }
 
-/// Adds the line of alternate characters.
+/// Adds to `text` the line of the alternate characters `pairs`.
 fn push_pairs(pairs: &[u8], text: &mut Vec<u8>) -> Result<(), AllocError>
     ensures { OnOk result (text.new.items ≡ text.old.items ++ (acsc_text pairs.now ++ 10 ∷ [])) }
 {
@@ -70,7 +70,7 @@ fn push_pairs(pairs: &[u8], text: &mut Vec<u8>) -> Result<(), AllocError>
     Ok(())
 }
 
-/// Adds the lines before those of the capabilities.
+/// Adds to `text` the lines that come before those about capabilities.
 fn push_head(alloc: Global, entry: &Entry, size: Size, text: &mut Vec<u8>) -> Result<(), AllocError>
     ensures { OnOk result (text.new.items ≡ text.old.items
         ++ ended (size_text size.rows size.cols ∷ acsc_lines (string_at entry.now entries.acsc))) }
@@ -83,7 +83,7 @@ fn push_head(alloc: Global, entry: &Entry, size: Size, text: &mut Vec<u8>) -> Re
 }
 
 impl Draft {
-    /// The lines before those of the capabilities.
+    /// A draft with the lines that come before those about capabilities.
     fn new(alloc: Global, entry: &Entry, size: Size) -> Result<Draft, AllocError>
         ensures drafted { IfOk result (λ draft. told.IsDrafted entry.now size.rows size.cols (λ row. order row < 0)
             draft.text.items) }
@@ -103,7 +103,7 @@ impl Draft {
         })
     }
 
-    /// Adds what the bytes of a row that were judged do to the charsets.
+    /// Adds the changes of the charsets by the bytes of `row`, the row judged last, whose effect is `effect`.
     fn learn(&mut self, row: Row, effect: &Effect) -> Result<(), Cause>
         ensures text { self.new.text.items ≡ self.old.text.items }
         ensures bytes { self.new.judge.bytes.items ≡ self.old.judge.bytes.items }
@@ -120,7 +120,7 @@ impl Draft {
         }
     }
 
-    /// Adds the line of a row whose bytes were judged.
+    /// Adds the line of `row`, the row judged last, whose effect is `effect`.
     fn push_line(&mut self, row: Row, effect: &Effect) -> Result<(), AllocError>
         ensures text { OnOk result (self.new.text.items ≡ self.old.text.items
             ++ (line_text (record { row = row; bytes = self.old.judge.bytes.items; effect = effect.now }) ++ 10 ∷ [])) }
@@ -150,7 +150,8 @@ impl Draft {
     }
 }
 
-/// Adds the line of a row.
+/// Judges `string` for `row`, and adds the row's line. `looks` must have the looks that the string's rows before this
+/// one teach; those that this one shows are added.
 fn push_row(
     alloc: Global,
     string: &[u8],
@@ -179,7 +180,7 @@ fn push_row(
     }
 }
 
-/// Adds the lines of a capability where the entry has it and it is checked.
+/// Adds the lines of the capability whose first row is `first`, if the entry has it and it is checked.
 fn push_cap(
     alloc: Global,
     entry: &Entry,
@@ -215,7 +216,7 @@ fn push_cap(
     }
 }
 
-/// Adds the lines of the capability at this place in the order of names.
+/// Adds the lines of the capability at `place` in the order of names.
 fn push_at(
     alloc: Global,
     entry: &Entry,
@@ -254,14 +255,14 @@ fn push_caps(alloc: Global, entry: &Entry, size: Size, draft: &mut Draft) -> Res
     Ok(())
 }
 
-/// The text of all lines of an entry, and what their strings do to the charsets.
+/// The text of all lines of an entry, and the changes of the charsets by their strings.
 #[derive(Drop)]
 pub(crate) struct Written {
     pub text: Vec<u8>,
     pub seen: Seen,
 }
 
-/// The whole text, with the last line.
+/// The whole text of `draft`, with the last line added.
 fn finished(draft: Draft) -> Result<Written, AllocError>
     ensures text { IfOk result (λ written. written.text.items ≡ draft.text.items ++ (end_text ++ 10 ∷ [])) }
     ensures seen { IfOk result (λ written. written.seen ≡ draft.seen) }
@@ -275,7 +276,8 @@ fn finished(draft: Draft) -> Result<Written, AllocError>
     })
 }
 
-/// The text of the lines of a fit entry, each of which was judged.
+/// Judges each row of `entry`, which must be fit, and writes the text of all lines. The error is the first refusal
+/// about a row, or out of memory.
 #[tactic(auto, using(crate::proofs::Together::memory_of_part))]
 pub(crate) fn draft_of(alloc: Global, entry: &Entry, size: Size) -> Result<Written, No>
     requires { IsFit entry.now }

@@ -1,4 +1,4 @@
-//! A string judged for a row.
+//! Judging a string for a row.
 
 ghost use Rattle.std.specs.Prelude.{◌≡◌, ℕ, List, [], IfErr, IfOk, OnOk, Some};
 ghost use Rattle.ti_checker.specs.First.{SendsAsked};
@@ -22,7 +22,8 @@ use ti_rows::{Looks, Row};
 use vt_effects::{Effect, effect_of_text};
 use vt_term::{Scanner, Size, TextFault, TextFaultKind, Token, TokenFault, TokenFaultKind, tokens};
 
-/// The fault of an effect that isn't the one that is asked for. `taught` has the looks that the rows before taught.
+/// The fault of `effect`, which must not be the one that is asked for. `taught` has the looks that the rows before
+/// teach.
 fn misfit(row: Row, taught: Looks, effect: &Effect, size: Size) -> Cause
     requires range { IsInRange size.rows size.cols row }
     requires unasked { IsAskedOf taught row effect.now → ⊥ }
@@ -85,8 +86,8 @@ fn row_effect(
     }
 }
 
-/// The effect that was `found`, which must be the one that is asked for; `None` where the bytes have none. `taught` has
-/// the looks that the rows before taught.
+/// Checks that `found`, the effect of the row's bytes or `None`, is the one that is asked for, and returns it. `taught`
+/// has the looks that the rows before teach. The error is the fault of the effect.
 #[tactic(auto, using(crate::proofs::Misjudgements::misfit_misjudged))]
 fn judged(row: Row, found: Option<Effect>, size: Size, taught: Looks) -> Result<Effect, Cause>
     requires { IsInRange size.rows size.cols row }

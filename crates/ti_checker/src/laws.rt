@@ -30,7 +30,7 @@ pub fn sequences_told_apart()
     ensures dropped { (token behind : List ℕ) → IsDropped token behind → is_whole_sequence token ≡ false }
 {}
 
-/// An unknown number of SGR changes no rendition, and each other number changes some.
+/// An unknown number of SGR changes no rendition; any other number changes some rendition.
 pub fn unknown_renditions_change_nothing()
     ensures unknown { (number : Option ℕ) (rendition : Rendition) → is_unknown_rendition number ≡ true
         → rendered (unwrap_or number 0) rendition ≡ rendition }
@@ -38,7 +38,7 @@ pub fn unknown_renditions_change_nothing()
         → (rendition : Rendition) × (rendered (unwrap_or number 0) rendition ≢ rendition) }
 {}
 
-/// To set or reset an unknown mode changes no screen, and each other mode changes some.
+/// Setting or resetting an unknown mode changes no screen; setting or resetting any other mode changes some screen.
 pub fn unknown_modes_change_nothing()
     ensures unknown { (kind : ModeKind) (on : Bool) (number : Option ℕ) (screen : Screen)
         → is_unknown_mode kind number ≡ true → mode_set kind on (unwrap_or number 0) screen ≡ screen }
@@ -52,9 +52,9 @@ pub fn one_list_of_notes()
         → others ≡ notes }
 {}
 
-/// An entry that a refusal is true of doesn't conform, unless the refusal claims nothing: its cause is `NotTame`,
-/// `NotShown` or `NoMemory`. `TooLong` says nothing about the effects of the entry's strings, only that the entry has
-/// no certificate.
+/// If a refusal of an entry is true, the entry doesn't conform, unless the cause is one that claims no fault:
+/// `NotTame`, `NotShown` or `NoMemory`. `TooLong` says nothing about the effects of the entry's strings, only that the
+/// entry has no certificate.
 pub fn no_excludes_yes()
     ensures conforms { (entry : Content) (rows cols : ℕ) (refusal : No) → IsNo entry rows cols refusal
         → refusal.cause ≢ TooLong → Conforms entry rows cols → ClaimsNothing refusal.cause }

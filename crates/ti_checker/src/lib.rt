@@ -1,4 +1,4 @@
-//! The checker: a certificate for an entry and a size, or what is wrong with the entry.
+//! The checker: a certificate for an entry and a size, or the reason why there is none.
 #![tactic(auto)]
 
 mod breakage;

@@ -22,8 +22,8 @@ fn own_marks(attributes: Attributes) -> Marks
     }
 }
 
-/// The mark of the attribute that the row turns on alone, by `sgr` or by a string of its own. Standout has
-/// none, as it may look like anything.
+/// The mark of the attribute that `row` turns on alone, by `sgr` or by a string of its own. Standout has none: it may
+/// look like anything.
 fn own_mark(row: Row) -> Option<Marks>
     ensures { result ≡ spec.own_mark row }
 {
@@ -63,7 +63,7 @@ fn own_mark(row: Row) -> Option<Marks>
     }
 }
 
-/// Whether one of these marks isn't among an attribute's own.
+/// Whether one of `marks` isn't among `own`, an attribute's own marks.
 fn has_other(own: Marks, marks: Marks) -> bool
     ensures { result ≡ spec.has_other own marks }
 {
@@ -75,8 +75,8 @@ fn has_other(own: Marks, marks: Marks) -> bool
         || (marks.concealed && !own.concealed)
 }
 
-/// Whether the row turns one attribute on alone, and its effect turns on a mark that isn't the attribute's
-/// own.
+/// Whether `row` turns one attribute on alone, and `effect` leaves a mark on that isn't the attribute's own, starting
+/// without marks.
 pub(crate) fn looks_other(row: Row, effect: &Effect) -> bool
     ensures { result ≡ spec.looks_other row effect.now }
 {

@@ -23,7 +23,7 @@ pub struct CheckNote {
     pub bytes: Bytes,
 }
 
-/// Adds a note if the token is ignored.
+/// Adds a note to the others if the token is ignored.
 fn push_ignored(
     alloc: Global,
     cap: Cap,

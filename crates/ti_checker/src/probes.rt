@@ -3,14 +3,14 @@
 use ti_rows::Marks;
 use vt_term::{Charset, Color};
 
-/// A state of the terminal: nothing open of a sequence, autowrap on, insertion off, and in every place
-/// the character `fill` in default rendition. Rows and columns count from 0.
+/// A state of the terminal in which no sequence is open, autowrap is on, insertion is off, and every place has the
+/// character `fill` in default rendition. Rows and columns count from 0.
 #[derive(Clone, Copy, Debug, PartialEq, Eq)]
 pub struct Probe {
     /// The cursor.
     pub row: u16,
     pub col: u16,
-    /// The last column was just printed.
+    /// Whether the last column was just printed.
     pub pending: bool,
     /// The first and the last line of the scrolling region.
     pub top: u16,

@@ -1,4 +1,4 @@
-//! What leads a terminal out of an unknown state.
+//! The bytes that lead a terminal out of an unknown state.
 
 ghost use Rattle.std.specs.Prelude.{◌≡◌, ◌∷◌, ℕ, List, IfErr, IfOk, false, true};
 ghost use Rattle.ti_checker.specs.First.{EachWritten};
@@ -17,7 +17,7 @@ use ti_conforms::resync_rows;
 use ti_rows::Row;
 use vt_term::Size;
 
-/// What the entry sends for the row, nothing where it isn't checked.
+/// The bytes that `entry` sends for `row`, none if the row isn't checked.
 fn sent_for(alloc: Global, entry: &Entry, row: Row, size: Size) -> Result<Vec<u8>, No>
     requires fit { IsFit entry.now }
     requires written { EachWritten entry.now size.rows size.cols }
@@ -34,7 +34,7 @@ fn sent_for(alloc: Global, entry: &Entry, row: Row, size: Size) -> Result<Vec<u8
     }
 }
 
-/// What the entry sends for these rows, one after another.
+/// The bytes that `entry` sends for `rows`, one after another.
 #[tactic(auto, using(crate::proofs::Together::memory_of_part))]
 fn sent_for_all(alloc: Global, entry: &Entry, rows: &[Row], size: Size) -> Result<Vec<u8>, No>
     requires fit { IsFit entry.now }
@@ -58,7 +58,7 @@ fn begins_with_escape(text: &[u8]) -> bool
     matches!(text, [27, ..])
 }
 
-/// Whether what the entry sends to lead a terminal out of an unknown state begins with ESC.
+/// Whether the bytes that `entry` sends to lead a terminal out of an unknown state begin with ESC.
 pub(crate) fn escapes(alloc: Global, entry: &Entry, size: Size) -> Result<bool, No>
     requires fit { IsFit entry.now }
     requires written { EachWritten entry.now size.rows size.cols }

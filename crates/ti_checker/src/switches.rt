@@ -1,4 +1,4 @@
-//! Which character set the strings of an entry leave active, all of them together.
+//! The character set that the strings of an entry, all of them together, leave active.
 
 ghost use Rattle.std.specs.Prelude.{◌≡◌, ℕ, List, [], IfErr, IfOk, OnOk, is_some};
 ghost use Rattle.ti_caps.specs.Entry.{string_at};
@@ -31,7 +31,8 @@ use ti_rows::{NO_MARKS, Row};
 use vt_effects::{Sets, effect_of};
 use vt_term::{Charset, Size};
 
-/// What strings do to the charsets: marks that their tokens turn on, and what whole strings leave.
+/// The facts seen of strings: the marks of the charsets that their tokens turn on, and the changes of the charsets by
+/// whole strings.
 #[derive(Drop)]
 pub(crate) struct Seen {
     pub reach: Reach,
@@ -39,7 +40,7 @@ pub(crate) struct Seen {
 }
 
 impl Seen {
-    /// Of no strings.
+    /// The facts of no strings.
     pub fn new(alloc: Global) -> Seen
         ensures reach { result.reach ≡ reach_of [] }
         ensures changes { result.changes.items ≡ [] }
@@ -50,7 +51,8 @@ impl Seen {
         }
     }
 
-    /// Adds what the string of a row leaves, if that counts.
+    /// Adds `change`, the change of the charsets by the string of `row`, if strings of this row leave settled charsets
+    /// settled.
     pub fn add_change(&mut self, row: Row, change: Sets) -> Result<(), AllocError>
         ensures reach { self.new.reach ≡ self.old.reach }
         ensures changes { OnOk result (self.new.changes.items
@@ -63,7 +65,7 @@ impl Seen {
     }
 }
 
-/// What a string that is sent for a row leaves of each charset.
+/// The change of the charsets by the bytes that `string` sends for `row`. The error is the string's fault.
 fn change_by(alloc: Global, string: &[u8], row: Row, size: Size) -> Result<Sets, Cause>
     ensures change { IfOk result (λ change. (tokens : List (List ℕ)) × spec.IsChange string.now row tokens change) }
     ensures faulty { IfErr result (λ cause. IsFaulty size.rows size.cols string.now row cause) }
@@ -76,7 +78,7 @@ fn change_by(alloc: Global, string: &[u8], row: Row, size: Size) -> Result<Sets,
     }
 }
 
-/// What the entry's string for `row` does to the charsets, `None` where the row isn't checked.
+/// The change of the charsets by the entry's string for `row`, `None` if the row isn't checked.
 fn change_of(alloc: Global, entry: &Entry, row: Row, size: Size) -> Result<Option<Sets>, No>
     requires fit { IsFit entry.now }
     requires written { EachWritten entry.now size.rows size.cols }
@@ -93,7 +95,7 @@ fn change_of(alloc: Global, entry: &Entry, row: Row, size: Size) -> Result<Optio
     }
 }
 
-/// What the entry's strings that lead out of an unknown state do to the charsets.
+/// The changes of the charsets by those of the entry's strings that lead out of an unknown state and may change them.
 fn resync_sets(alloc: Global, entry: &Entry, size: Size) -> Result<Resync, No>
     requires fit { IsFit entry.now }
     requires written { EachWritten entry.now size.rows size.cols }
@@ -111,7 +113,7 @@ fn resync_sets(alloc: Global, entry: &Entry, size: Size) -> Result<Resync, No>
     })
 }
 
-/// A start of `smacs` and `rmacs` with this charset.
+/// A start of `smacs` and `rmacs` with the charset `charset`.
 pub(crate) fn probe_with(charset: Charset, size: Size) -> Probe
     ensures charset { result.charset ≡ charset }
     ensures free { IsFree size.rows size.cols (screen_of size.rows size.cols result) }
@@ -154,7 +156,7 @@ fn has_pairs(entry: &Entry) -> bool
     entry.get_string(acsc()).is_some()
 }
 
-/// What is asked of all strings together.
+/// The facts that are asked of an entry's strings, beside [`Seen`], to judge them together.
 #[derive(Clone, Copy)]
 struct Together {
     resync: Resync,
@@ -163,7 +165,8 @@ struct Together {
     begins: bool,
 }
 
-/// What the entry's strings do together, of which each is right by itself. `seen` is what all of them do.
+/// The facts, beside `seen`, by which the strings of `entry` are judged together. Each string must be right by itself,
+/// and `seen` must have the facts of all of them.
 fn together_of(alloc: Global, entry: &Entry, size: Size, seen: &Seen) -> Result<Together, No>
     requires fit { IsFit entry.now }
     requires written { EachWritten entry.now size.rows size.cols }
@@ -184,8 +187,9 @@ fn together_of(alloc: Global, entry: &Entry, size: Size, seen: &Seen) -> Result<
     })
 }
 
-/// Judges all strings of the entry together, of which each is right by itself, as an audit of their lines
-/// does. `seen` is what all of them do.
+/// Checks the strings of `entry` against each other, as an audit of their lines does. Each string must be right by
+/// itself, and `seen` must have the facts of all of them. The error is the refusal that names the first clash, or out
+/// of memory.
 #[tactic(auto, using(crate::proofs::Together::part_no))]
 pub(crate) fn check_together(
     alloc: Global,
@@ -214,8 +218,8 @@ pub(crate) fn check_together(
     }
 }
 
-/// All that is wrong with the strings of the entry together, of which each is right by itself. `seen` is what all of
-/// them do.
+/// The clashes of the strings of `entry`. Each string must be right by itself, and `seen` must have the facts of all of
+/// them.
 pub(crate) fn clashes_together(
     alloc: Global,
     entry: &Entry,
