@@ -1,4 +1,4 @@
--- The lines of a certificate are those that are asked for where attributes look as all of them say.
+-- The lines of a certificate are those that are asked for if attributes look as all lines say.
 use Rattle.std.proofs.Common.{◌≡◌, ◌==◌, nat_lt, ℕ, Bool, true, false, if◌then◌else◌, List, [], ◌∷◌, ◌++◌, reverse, inl, inr, refl, sym, ap, subst, ◌∙◌, arith}
 use Rattle.std.proofs.lemmas.Bool.{true≢false, eq-eqb, or_left, or_right, lt-ltb}
 use Rattle.ti_conforms.specs.Charsets.{IsAmong}
@@ -14,7 +14,7 @@ use Rattle.ti_cert.specs.Texts.{StandsNext, StandInOrder}
 use Rattle.ti_cert.proofs.Preservation.{learned_keeps}
 use Rattle.ti_cert.proofs.Texts.{turned}
 
--- each of these lines is asked for, where attributes look as all of them say
+-- each of these lines has the effect that is asked for, if attributes look as all of them say
 abbrev pub AreAsked : List RowLine → Type 0
 AreAsked lines = (line : RowLine) → IsAmong lines line → line.effect ≡ asked (looks_of lines) line.row line.effect
 
@@ -28,7 +28,7 @@ lower : (rows cols : ℕ) (one row : Row) → Precedes rows cols one row → ord
 lower rows cols one row (inl lt) same = absurd (omega (arith, lt, same))
 lower rows cols one row (inr p) same = lt-ltb (rank rows cols one) (rank rows cols row) p.1
 
--- a line before stays asked for, whatever one more line says of the looks
+-- an earlier line stays one that is asked for, whatever one more line says of the looks
 stays_asked : (rows cols : ℕ) (lines : List RowLine) (line one : RowLine) → StandsNext rows cols lines line → IsAmong lines one → (b : Bool) → speaks_of lines (rival line.row) ≡ b
     → asked (looks_of lines) one.row one.effect ≡ asked (if b then looks_of lines else learned line.row line.effect (looks_of lines)) one.row one.effect
 stays_asked rows cols lines line one s a true e = refl

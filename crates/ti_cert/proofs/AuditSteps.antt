@@ -120,7 +120,7 @@ first_wrong p text at never = λ said tells. by_awaited p.awaited at said tells
     by_awaited lines_awaited.Rows e said t = cc
     by_awaited (lines_awaited.Ended settled) e said t = cc
 
--- at the second line nothing is said but the size
+-- before the second line only the size is known
 at_second : (p : Progress) (answer : Result Progress CertFaultKind) (text : List ℕ) → p.awaited ≡ lines_awaited.Acsc
     → (Stands p [] → p.acsc ≡ None → Becomes p answer (JudgesSecond p.size.rows p.size.cols text)) → AnswersLine p text answer
 at_second p answer text at f = λ said tells. by_awaited p.awaited at said tells
@@ -223,7 +223,7 @@ has_cap (line ∷ lines) row other same e = by_cases (has_cap lines row other sa
     by_cases later (inl f) = record { line = line; among = inl refl; of_cap = sym (eqb-true (order row) (order line.row) f) ∙ same }
     by_cases later (inr f) = let c = later f in record { line = c.line; among = inr c.among; of_cap = c.of_cap }
 
--- what has to be there is there, where nothing is lacking
+-- the lines that must be there are there if none is missing
 has_needed : (p : Progress) (lines : List RowLine) (kind : CertFaultKind) → Stands p lines → IsComplete p.size.rows p.size.cols lines None → LacksNeeded p.known.strings kind → ⊥
 has_needed p lines kind st complete (NoClear none) = complete Clear (record { range = tt; absent = absent; before = tt; due = inl (inl refl) })
   where
@@ -280,7 +280,7 @@ last_closes p settled has_pairs same none concluded = λ pairs lines st pa. reco
 
 -- a line about a capability
 
--- at another size that is the same
+-- a property of a size is one of an equal size
 pub sized : (P : ℕ → ℕ → Type 0) (a b c d : ℕ) → a ≡ c → b ≡ d → P a b → P c d
 sized P a b c d e f h = subst (λ (n : ℕ). P n d) e (subst (λ (n : ℕ). P a n) f h)
 
@@ -366,7 +366,7 @@ lists_more k lines line new l a looks = record {
     kept other (inl e) = subst (λ (x : RowLine). row_string new.strings x.row ≡ Some x.bytes) (sym e) a.there
     kept other (inr h) = a.kept other.row other.bytes (l.kept other h)
 
--- it is the last, and nothing is missing before it
+-- the new line is the last, and nothing is missing before it
 last_more : (rows cols : ℕ) (lines : List RowLine) (line : RowLine) → IsInPlace rows cols lines line.row → IsLastRow rows cols (line ∷ lines) line.row
 last_more rows cols lines line i = record {
   range = i.range;
@@ -388,7 +388,7 @@ last_more rows cols lines line i = record {
     due row (inr (inl c)) = inr (of_cap row c.line c.among c.of_cap)
     due row (inr (inr o)) = inr (inr o)
 
--- a line that is right, and what is known with it
+-- a line that is right, and the facts known with it
 pub row_stands : (p : Progress) (line : RowLine) (tokens : List (List ℕ)) (effect : Effect) (looks : Looks) (new : Known) → fault_in_place p line.row ≡ None → Splits line.bytes tokens []
     → HasRecord p.known.strings.rows p.known.strings.cols looks line.row tokens effect → effect ≡ line.effect → looks ≡ looks_with p.known line.row effect
     → Adds p.known.strings new.strings line.row line.bytes → new.looks ≡ looks → (Holds p.known → Holds new) → (last : Option Row) → last ≡ Some line.row → (read room : List ℕ)
@@ -472,6 +472,6 @@ judged_at p lines_awaited.First settled pairs lines e t = absurd t
 judged_at p lines_awaited.Acsc settled pairs lines e t = absurd t
 judged_at p lines_awaited.Rows settled pairs lines e t = absurd t
 
--- the record of a line's bytes, where the size is known by other names
+-- the record of a line's bytes, with the size under other names
 pub recorded_for : (rows cols r q : ℕ) (row : Row) (bytes : List ℕ) (found : Option Effect) → IsRecordOf r q (start_of r q row) bytes found → r ≡ rows → q ≡ cols → IsRecordOf rows cols (start_of rows cols row) bytes found
 recorded_for rows cols r q row bytes found h er eq = subst (λ (n : ℕ). IsRecordOf n cols (start_of n cols row) bytes found) er (subst (λ (n : ℕ). IsRecordOf r n (start_of r n row) bytes found) eq h)

@@ -1,4 +1,4 @@
--- The table of a basic text is just what the basic entry sends.
+-- The table of a basic text has exactly what the basic entry sends.
 use Rattle.std.proofs.Common.{◌≡◌, ◌&&◌, ℕ, Bool, true, false, List, map, reverse, Option, Some, None, Result, Ok, inl, inr, refl, sym, ap, subst, ◌∙◌}
 use Rattle.std.specs.Prelude.{is_some}
 use Rattle.std.proofs.lemmas.Bool.{and_parts, false≢true}
@@ -31,7 +31,7 @@ use Rattle.ti_cert.proofs.BasicOrder.{Kind, IsClear, IsCup, IsEl, IsHome, IsSgr0
 use Rattle.ti_cert.proofs.BasicTogether.{AreBasic}
 use Rattle.ti_cert.proofs.BasicTexts.{basic_accepted, are_basic}
 
--- ---- which rows of a basic entry are checked
+-- ---- the rows of a basic entry that are checked
 
 -- the rows of its certificate
 abbrev rows_of : Content → ℕ → ℕ → List Row
@@ -105,7 +105,7 @@ table_for entry table t = record { fit = t.basic.fit; pairs = pairs.0 ∙ sym t.
         (subst (λ (r : Row). IsAmong (rows_of entry table.known.strings.rows table.known.strings.cols) r) h.of_row k)) in
         false≢true (sym off ∙ on))
 
--- ---- what that says of agreeing
+-- ---- a basic entry and its table agree
 
 abbrev IsOf : Content → tables.CheckedTable → ℕ → ℕ → Type 0
 IsOf entry table rows cols = IsSize rows cols × IsBasic entry rows cols × IsTableOf rows cols (basic_text_of entry rows cols) table

@@ -1,4 +1,4 @@
--- A text that is accepted with just the lines of a basic entry is its basic text.
+-- A text that is accepted with exactly the lines of a basic entry is its basic text.
 use Rattle.std.proofs.Common.{◌≡◌, ℕ, List, [], ◌∷◌, map, reverse, None, Result, Ok, inl, inr, refl, sym, ap, subst, ◌∙◌}
 use Rattle.std.proofs.lemmas.Bool.{and_parts}
 use Rattle.std.proofs.lemmas.Option.{same_Some}
@@ -26,7 +26,7 @@ use Rattle.ti_cert.proofs.BasicOrder.{Rises, kind_of, in_range, rows_rise}
 use Rattle.ti_cert.proofs.BasicLines.{HasTokens, tokens_of, has_tokens}
 use Rattle.ti_cert.proofs.BasicAgreement.{checked_kind, among_checked, some_string}
 
--- ---- the rows of lines that stand in order
+-- ---- the rows of lines that are in order
 
 abbrev rows_in : List RowLine → List Row
 rows_in lines = map (λ line. line.row) lines

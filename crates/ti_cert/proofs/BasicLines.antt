@@ -55,7 +55,7 @@ pub tokens_of : Row → List (List ℕ)
 tokens_of Clear = home_text ∷ erase ∷ []
 tokens_of row = basic_bytes row ∷ []
 
--- what is known of a row's tokens
+-- the facts known of a row's tokens
 pub record HasTokens (rows cols : ℕ) (row : Row) : Type 0 where
   pub splits : Splits (basic_bytes row) (tokens_of row) []
   pub recorded : record_of rows cols (start_of rows cols row) (tokens_of row) ≡ Some (basic_effect row)

@@ -28,7 +28,7 @@ use Rattle.ti_cert.proofs.BasicTogether.{AreBasic, lines_together}
 abbrev pub basic_lines : ℕ → ℕ → Bool → Bool → List RowLine
 basic_lines rows cols home el = map basic_line (basic_rows rows cols home el)
 
--- ---- which lines these are
+-- ---- the elements of this list
 
 listed_only : (rest : List Row) (line : RowLine) → IsAmong (map basic_line rest) line → IsAmong rest line.row × (line ≡ basic_line line.row)
 listed_only rest line a =
@@ -42,7 +42,7 @@ are_basic rows cols home el = record {
   all = λ row a. reversed_has (basic_lines rows cols home el) (basic_line row) (mapped_has basic_line (basic_rows rows cols home el) row a);
 }
 
--- ---- each can be written, is short and stands in its place
+-- ---- each line can be written, is short and is in its place
 
 stand : (rows cols : ℕ) (home el : Bool) (before : List RowLine) (rest : List Row) → IsSize rows cols → IsReady rows cols home el before rest → StandInOrder rows cols before (map basic_line rest)
 stand rows cols home el before [] size ready = ready_end rows cols home el before ready
@@ -56,7 +56,7 @@ stand rows cols home el before (row ∷ rest) size ready =
       stand rows cols home el (basic_line row ∷ before) rest size (ready_next rows cols home el before row rest ready),
     )
 
--- what is so of each of these rows
+-- each of these rows is a row of a basic certificate
 abbrev EachIs : ℕ → ℕ → Bool → Bool → List Row → Type 0
 EachIs rows cols home el rest = (row : Row) → IsAmong rest row → Kind rows cols home el row
 
@@ -72,7 +72,7 @@ short rows cols home el (row ∷ rest) size each =
     let l = ended_length (line_text (basic_line row)) (row_lines (map basic_line rest)) in
     omega (arith, line, more, l)
 
--- ---- how many they are
+-- ---- the number of lines
 
 lines_length : (cols from n : ℕ) → cols ≤ 500 → length (flat_map (λ row. map (λ col. Cup row col) (range_with_len 0 cols)) (range_with_len from n)) ≤ n * 500
 lines_length cols from zero h = omega arith

@@ -1,4 +1,5 @@
--- The lines of a basic certificate go together: no string changes the character sets, and what leads out of an unknown state begins with ESC.
+-- The lines of a basic certificate go together: no string changes the character sets, and the bytes that lead out of an
+-- unknown state begin with ESC.
 use Rattle.std.proofs.Common.{◌≡◌, ◌⊎◌, ℕ, Bool, true, false, if◌then◌else◌, List, [], ◌∷◌, ◌++◌, Some, None, inl, inr, refl, sym, ap, subst, ◌∙◌}
 use Rattle.std.proofs.lemmas.Bool.{true≢false}
 use Rattle.std.proofs.lemmas.Option.{same_Some, none-some}
@@ -24,7 +25,7 @@ use Rattle.ti_cert.proofs.Elements.{among_either}
 use Rattle.ti_cert.proofs.BasicOrder.{IsClear, IsSgr0, kind_of, in_range, each_there}
 use Rattle.ti_cert.proofs.BasicLines.{HasTokens, tokens_of, has_tokens}
 
--- a table of just these strings
+-- a table of exactly the basic strings
 pub basic_table : ℕ → ℕ → Bool → Bool → Table
 basic_table rows cols home el = record {
   rows = rows;
@@ -74,7 +75,7 @@ has_reset rows cols home el size _ (AtReset c e) = e
 has_reset rows cols home el size _ (AfterToken c d token has o e) =
     e ∙ (tokens_keep rows cols home el o.row o.bytes o.tokens size (is_one rows cols home el o.row o.bytes o.there) o.whole token o.among c ∙ has_reset rows cols home el size c has)
 
--- what leads out of an unknown state
+-- the bytes that lead out of an unknown state
 resync_is : (rows cols : ℕ) (home el : Bool) → resync (basic_table rows cols home el) ≡ sgr0_text ++ clear_text
 unfolding resync_of basic_table
 resync_is rows cols home el = refl
@@ -123,7 +124,7 @@ together rows cols home el size = record {
   quiet = λ c d has leads. plain_at_reset d (resync_keeps rows cols home el size c d leads ∙ has_reset rows cols home el size c has);
 }
 
--- lines that are just those of a basic certificate
+-- the lines are exactly those of a basic certificate
 pub record AreBasic (rows cols : ℕ) (home el : Bool) (lines : List RowLine) : Type 0 where
   pub each : (line : RowLine) → IsAmong lines line → IsAmong (basic_rows rows cols home el) line.row × (line ≡ basic_line line.row)
   pub all : (row : Row) → IsAmong (basic_rows rows cols home el) row → IsAmong lines (basic_line row)

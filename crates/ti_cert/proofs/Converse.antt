@@ -15,7 +15,7 @@ use Rattle.ti_cert.specs.declared.faults.CertFaultKind.{CertFaultKind}
 use Rattle.ti_cert.proofs.LineTexts.{no_end, row_lacks, acsc_lacks, size_lacks, not_end, no_pairs, end_no_pairs}
 use Rattle.ti_cert.proofs.Texts.{ended_length, turned, that_of_certificate, accepted_together}
 
--- all lines go together, where the pairs are these
+-- all lines go together, with these pairs
 abbrev AreTogether : ℕ → ℕ → Option (List ℕ) → List RowLine → Type 0
 AreTogether rows cols pairs lines = OfLines rows cols lines (λ t. GoesTogether (is_some pairs) t)
 
@@ -50,7 +50,7 @@ rest_passes rows cols budget number pairs before (line ∷ lines) final said e r
     (rest_passes rows cols (budget - (length (line_text line) + 1)) (number + 1) pairs (line ∷ before) lines final (Listing pairs (line ∷ before)) (e ∙ turned line lines before) (reads_on rows cols pairs (line ∷ before)) each.1 stand.1
     (omega (arith, few, l)) together)
 
--- the line of alternate characters, where there are any
+-- the line of alternate characters, if there is one
 second_passes : (rows cols budget number : ℕ) (pairs : Option (List ℕ)) (lines final : List RowLine) → final ≡ reverse lines ++ [] → IsAcsc pairs → AllByRecursion IsLine lines → StandInOrder rows cols [] lines
     → length (ended (acsc_lines pairs ++ row_lines lines)) ≤ budget → AreTogether rows cols pairs final → JudgedFrom (rules_of rows cols) budget number Sized (ended (acsc_lines pairs ++ row_lines lines)) (Ok (Ended pairs final))
 second_passes rows cols budget number None lines final e acsc each stand few together = rest_passes rows cols budget number None [] lines final Sized e (reads_first rows cols) each stand few together

@@ -1,5 +1,5 @@
--- Lines that were judged one by one and go together are judged, where a table says which charsets can be reached and
--- settled.
+-- Lines that were judged one by one and go together are judged, by a table that has the charsets that can be reached
+-- and settled.
 use Rattle.std.proofs.Common.{◌≡◌, ◌&&◌, ℕ, Bool, true, false, List, [], ◌∷◌, ◌++◌, Option, Some, None, inl, inr, refl, sym, ap, subst, ◌∙◌}
 use Rattle.std.specs.Prelude.{is_some}
 use Rattle.std.proofs.lemmas.Bool.{true≢false, cases_Bool, cases_eq}
@@ -34,7 +34,7 @@ record_sets rows cols row tokens e recorded c =
     let sets : SetsAs e s (steps tokens s) = (records_tell rows cols (start_of rows cols row) tokens e recorded).settings s refl (record { autowrap = refl; inserting = refl }) in
     sym (over_steps tokens s) ∙ sets.charset
 
--- ---- what is known
+-- ---- the facts known
 
 -- the bytes are whole tokens, and their record is the one that the table asks for
 pub record IsAsked (t : Table) (row : Row) (bytes : List ℕ) : Type 0 where
@@ -44,7 +44,7 @@ pub record IsAsked (t : Table) (row : Row) (bytes : List ℕ) : Type 0 where
   pub recorded : record_of t.rows t.cols (start_of t.rows t.cols row) tokens ≡ Some effect
   pub asked_for : effect ≡ asked t.looks row effect
 
--- each line is such a one, those that have to be there are, and all go together
+-- each line is such a line, those that must be there are there, and all go together
 pub record Closed (t : Table) (pairs : Bool) : Type 0 where
   pub lines : (row : Row) (bytes : List ℕ) → t.line_of row ≡ Some bytes → IsAsked t row bytes
   pub clear : is_some (t.line_of Clear) ≡ true
@@ -102,7 +102,7 @@ asked_line t pairs p row bytes there =
       active = λ c h. active_by t p.together.graphic p.together.plain row bytes there c (after c) (p.sets.can_settle c h) (leads_by_record t row bytes l c);
     }
 
--- what a row's line does to the sets, nothing where there is none
+-- the change of the sets by a row's line, `None` if there is no line
 record Change (t : Table) (row : Row) : Type 0 where
   sets : Option Sets
   is : ChangesSets t row sets
@@ -133,7 +133,7 @@ keeps_of t pairs p row same (Some bytes) e =
     let l = p.lines row bytes e in
     record { tokens = l.tokens; whole = l.whole; leads = λ c. record_sets t.rows t.cols row l.tokens l.effect l.recorded c ∙ (ap (λ (x : Effect). designated x.charset c) l.asked_for ∙ same t.looks l.effect c) }
 
--- ---- what leads out of an unknown state
+-- ---- the bytes that lead out of an unknown state
 
 begins : (text : List ℕ) → (((rest : List ℕ) → text ≡ 27 ∷ rest → ⊥) → ⊥) → (rest : List ℕ) × (text ≡ 27 ∷ rest)
 begins [] never = absurd (never (λ rest e. cc))

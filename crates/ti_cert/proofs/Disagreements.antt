@@ -1,4 +1,4 @@
--- A disagreement that is found is so, and excludes a yes.
+-- A disagreement that is found is true, and excludes that the certificate is the entry's.
 use Rattle.std.proofs.Common.{◌≡◌, ◌<◌, ◌==◌, ◌&&◌, ◌||◌, ℕ, Bool, true, false, not, List, [], ◌∷◌, length, Option, None, Some, if◌then◌else◌, inl, inr, sym, ap, subst, ◌∙◌, arith, rules}
 use Rattle.std.specs.Prelude.{is_some}
 use Rattle.std.specs.List.{AllByRecursion, slice_get}
@@ -27,7 +27,7 @@ use Rattle.ti_cert.specs.declared.faults.AgreeFault.TheVariants.{Disagree, NoMem
 use Rattle.ti_cert.proofs.GroupFacts.{if_true, there_some, first_string}
 use Rattle.ti_cert.proofs.Ranges.{is_allowed}
 
--- ---- what is found
+-- ---- a disagreement that is found is true
 
 -- a capability with a line has one for its first parameter list
 first_there : (s : Strings) (row : Row) → IsFirst s.rows s.cols row → SomeLine (λ r. row_string s r) (order row) → (x : List ℕ) × (row_string s row ≡ Some x)
@@ -56,7 +56,7 @@ sends_none table entry rows cols row fault fit pairs r c at first unchecked some
     let x = first_there table.known.strings row is_first some in
     other_at table entry row fault fit pairs at is_first.range (λ l. let no : None ≡ Some x.0 = sym (l.unchecked unchecked) ∙ x.1 in cc no)
 
--- by what is found of the lines
+-- a line that differs is a disagreement
 pub line_differs : (table : CheckedTable) (entry : caps.Content) (rows cols : ℕ) (e : sends.Disagreement) (row : Row) (fault : AgreeFault) → IsFit entry → table.acsc ≡ string_at entry acsc → rows ≡ table.known.strings.rows → cols ≡ table.known.strings.cols → IsAtRow row fault
     → e ≡ other.Disagree row → IsNotAgreed rows cols entry (λ r. row_string table.known.strings r) e → IsDisagreeing table entry fault
 line_differs table entry rows cols e row fault fit pairs r c at is h =
@@ -77,12 +77,12 @@ pub pairs_at : (table : CheckedTable) (entry : caps.Content) (cap : ℕ) (fault 
 pairs_at table entry cap (Disagree named numbers) fit at is differs = OtherPairs fit (at.0 ∙ is) differs at.1
 pairs_at table entry cap NoMemory fit at is differs = absurd at
 
--- of the table of a text
+-- a disagreement of a text's table is one of the text
 pub text_disagrees : (rows cols : ℕ) (text : List ℕ) (entry : caps.Content) (table : CheckedTable) (fault : AgreeFault) → table.known.strings.rows ≡ rows → table.known.strings.cols ≡ cols → IsTableOf rows cols text table
     → IsDisagreeing table entry fault → TextDisagrees rows cols text entry fault
 text_disagrees rows cols text entry table fault r c made h = record { table = table; rows_are = r; cols_are = c; made = made; disagrees = h }
 
--- ---- what it excludes
+-- ---- a disagreement excludes a yes
 
 none_there : (o : Option ℕ) → o ≡ None → is_some o ≡ true → ⊥
 none_there None e h = false≢true h

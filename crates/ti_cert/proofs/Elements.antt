@@ -31,7 +31,7 @@ mapped_has f [] x a = absurd a
 mapped_has f (y ∷ xs) x (inl e) = inl (ap f e)
 mapped_has f (y ∷ xs) x (inr a) = inr (mapped_has f xs x a)
 
--- what one of these elements becomes
+-- the image of one of the elements
 pub record IsMapped {A B : Type 0} (f : A → B) (xs : List A) (y : B) : Type 0 where
   pub from : A
   pub among : IsAmong xs from
@@ -55,7 +55,7 @@ NeverBack Before = (x y : _) → Before x y → Before y x → ⊥
 abbrev pub IsWithin : {A : Type 0} → List A → List A → Type 0
 IsWithin xs ys = (z : _) → IsAmong xs z → IsAmong ys z
 
--- without the first of both
+-- the elements without the first of each list
 pub tail_within : {A : Type 0} (Before : A → A → Type 0) → NeverBack Before → (x y : A) (xs ys : List A) → x ≡ y → ((z : A) → IsAmong xs z → Before x z) → IsWithin xs (y ∷ ys) → IsWithin xs ys
 tail_within Before never x y xs ys e above over z a = by_part (over z a)
   where
@@ -68,7 +68,7 @@ first_same Before never x y xs ys p q (inl e) b = e
 first_same Before never x y xs ys p q (inr a) (inl e) = sym e
 first_same Before never x y xs ys p q (inr a) (inr b) = absurd (never x y (p.0 y b) (q.0 x a))
 
--- two with the same elements are one
+-- two rising lists with the same elements are equal
 pub same_rising : {A : Type 0} (Before : A → A → Type 0) → NeverBack Before → (xs ys : List A) → RisesBy Before xs → RisesBy Before ys → IsWithin xs ys → IsWithin ys xs → xs ≡ ys
 same_rising Before never [] [] p q over back = refl
 same_rising Before never [] (y ∷ ys) p q over back = absurd (back y (inl refl))

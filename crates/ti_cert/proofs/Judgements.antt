@@ -44,7 +44,7 @@ resync_head k settled = ap (λ (xs : List ℕ). head_of xs) (sym (in_order (chec
 pub resync_begins : (k : Known) (settled : Charsets) → first_of_resync k.strings ≡ Some 27 → (rest : List ℕ) × (resync (checked_of k settled) ≡ 27 ∷ rest)
 resync_begins k settled escape = tail_of (resync (checked_of k settled)) 27 (sym (resync_head k settled) ∙ escape)
 
--- what the strings do that lead out of an unknown state, and `smacs`
+-- the changes of the charsets by the strings that lead out of an unknown state, and by `smacs`
 pub record ChangeCharsets (k : Known) (r : Resync) (smacs : Option Sets) : Type 0 where
   pub smcup_is : Changes k.strings Smcup r.smcup
   pub enacs_is : Changes k.strings Enacs r.enacs
@@ -57,13 +57,13 @@ line_change k settled row _ (NoString none) = NoLine none
 line_change k settled row _ (OfString bytes there tokens whole effect recorded) =
     ByLine bytes there effect.charset (record { tokens = tokens; whole = whole; leads = record_sets k.strings.rows k.strings.cols row tokens effect recorded })
 
--- what a line does by its record
+-- a line leads from each charset as the change of its record does
 line_leads : (k : Known) (h : Holds k) (row : Row) (bytes : List ℕ) (there : row_string k.strings row ≡ Some bytes) → LeadsAs bytes (h.lines row bytes there).effect.charset
 line_leads k h row bytes there =
     let l : IsKept k h.all row bytes = h.lines row bytes there in
     record { tokens = l.tokens; whole = l.whole; leads = record_sets k.strings.rows k.strings.cols row l.tokens l.effect l.has.recorded }
 
--- all that was kept of the lines is what they do
+-- the facts kept of the lines are those of the table
 seen_of : (k : Known) (settled : Charsets) → Holds k → AreSeen (checked_of k settled) k.reach k.changes
 unfolding line_leads
 seen_of k settled h = record {
@@ -110,7 +110,7 @@ found_of k settled r smacs escapes h s begun opened = record {
   begins = λ on never. let b = resync_begins k settled (begun on) in never b.0 b.1;
 }
 
--- what is known of all lines at the end of a certificate
+-- the facts known of all lines at the end of a certificate
 record Ends (k : Known) (settled : Charsets) (r : Resync) (smacs : Option Sets) (has_acsc escapes : Bool) : Type 0 where
   holds : Holds k
   clear : is_some (row_string k.strings Clear) ≡ true

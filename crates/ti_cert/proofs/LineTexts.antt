@@ -1,4 +1,5 @@
--- A line of a certificate has no LF inside, and one about a capability is neither that of alternate characters nor the last one.
+-- A line of a certificate has no LF inside, and a line about a capability is neither that of alternate characters nor
+-- the last one.
 use Rattle.std.proofs.Common.{◌≡◌, ◌<◌, ◌==◌, ◌&&◌, ℕ, suc, Bool, true, false, not, if◌then◌else◌, List, [], ◌∷◌, ◌++◌, Option, Some, None, refl, sym, ap, ◌∙◌, arith}
 use Rattle.std.specs.Prelude.{bytes_eq}
 use Rattle.std.specs.Fmt.{decimal}
@@ -47,7 +48,7 @@ numbers_lack : (ns : List ℕ) → AllByRecursion (λ n. n < 65536) ns → lacks
 numbers_lack [] h = refl
 numbers_lack (n ∷ ns) h = both_lack 10 (decimal n) (32 ∷ numbers_text ns) (decimal_lacks 10 n (omega arith) h.0) (numbers_lack ns h.1)
 
--- no name is that of the line of alternate characters
+-- no capability has the word with which the line of alternate characters begins as its name
 each_is_no_acsc : agree_below (λ n. not (bytes_eq (name_in_order n) acsc_word)) (λ _. true) capabilities ≡ true
 unfolding name_in_order
 each_is_no_acsc = refl

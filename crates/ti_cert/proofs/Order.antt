@@ -23,7 +23,7 @@ less_trans rows cols a b c (inl h) (inr k) = inl (omega (arith, h, k.0))
 less_trans rows cols a b c (inr h) (inl k) = inl (omega (arith, h.0, k))
 less_trans rows cols a b c (inr h) (inr k) = inr (h.0 ∙ k.0, omega (arith, h.1, k.1))
 
--- the order tells any two lines apart
+-- of any two rows, one precedes the other or both are equal
 which_first : (rows cols : ℕ) (a b : Row) → IsInRange rows cols a → IsInRange rows cols b → (a ≡ b) ⊎ (Precedes rows cols a b ⊎ Precedes rows cols b a)
 which_first rows cols a b ra rb = by_order (cases_order (order a) (order b))
   where

@@ -1,4 +1,4 @@
--- Strings that are kept one after another, when one more is added.
+-- Adding one more to strings that are kept one after another.
 use Rattle.std.proofs.Common.{◌≡◌, ◌≤◌, ◌-◌, ℕ, List, [], ◌∷◌, ◌++◌, length, length-append, map, take, drop, Some, zero, suc, refl, ap, ◌∙◌, subst, arith}
 use Rattle.std.specs.List.{AllByRecursion, slice_get}
 use Rattle.std.proofs.lemmas.List.{map-append, take-append-le, drop-append-le, length-drop}

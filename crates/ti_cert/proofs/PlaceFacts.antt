@@ -1,4 +1,4 @@
--- A line about a capability is in its place, or which fault it has there.
+-- A line about a capability is in its place, or has the fault that is found.
 use Rattle.std.proofs.Common.{◌≡◌, ◌⊎◌, ◌<◌, ◌≤◌, ◌+◌, ◌==◌, ◌||◌, nat_lt, ℕ, Bool, true, false, if◌then◌else◌, List, Option, Some, None, Result, Err, inl, inr, refl, sym, ap, subst, ◌∙◌, arith}
 use Rattle.std.proofs.lemmas.Bool.{true≢false, ltb-true, ltb-false, eqb-true, eqb-false, cases_lt, or_cases, or_parts}
 use Rattle.std.proofs.lemmas.Option.{same_Some, none-some}

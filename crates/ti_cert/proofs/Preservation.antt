@@ -81,7 +81,7 @@ lower rows cols r a b e later = let h : nat_lt (number_of b) (number_of a) ≡ t
 not_itself : (rows cols : ℕ) (r : Row) {A : Type 0} → r ≡ Smso → (order r ≡ 39 → nat_lt (rank rows cols r) 0 ≡ true) → A
 not_itself rows cols r e later = let h : nat_lt 0 0 ≡ true = ap (λ (x : Row). nat_lt (rank rows cols x) 0) (sym e) ∙ later (ap order e) in cc
 
--- a line that was judged before is judged the same with what one more line tells of the looks
+-- a line that was judged before is judged as before with the looks that one more line teaches
 pub learned_keeps : (rows cols : ℕ) (l : Looks) (row : Row) (e : Effect) (r : Row) (f : Effect) → (order r ≡ order (rival row) → ⊥)
     → (order r ≡ order row → nat_lt (rank rows cols r) (rank rows cols row) ≡ true) → asked l r f ≡ asked (learned row e l) r f
 learned_keeps rows cols l Clear e r f never later = refl

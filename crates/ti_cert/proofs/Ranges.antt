@@ -1,4 +1,4 @@
--- Which parameters a size allows, as a test and as a fact.
+-- The parameters that a size allows, as a test and as a fact.
 use Rattle.std.proofs.Common.{◌≡◌, ◌<◌, ◌≤◌, ◌&&◌, ◌↔◌, nat_lt, nat_le, ℕ, Bool, true, false, IsTrue, refl, sym}
 use Rattle.std.proofs.lemmas.Bool.{ltb-true, lt-ltb, leb-true, le-leb}
 use Rattle.ti_rows.specs.declared.rows.Row.{Row}

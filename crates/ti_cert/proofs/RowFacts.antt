@@ -1,4 +1,4 @@
--- A capability and its parameters name one row at most, and it is found by the capability's name.
+-- A capability and its parameters name at most one row, and it is found by the capability's name.
 use Rattle.std.proofs.Common.{Bor, ◌≡◌, ◌≢◌, ℕ, ◌<◌, ◌==◌, Bool, true, false, List, Option, Some, None, IfSome, IfNone, inl, inr, refl, sym, ap, ◌∙◌, arith}
 use Rattle.std.proofs.lemmas.Option.{same_Some, none-some}
 use Rattle.std.specs.Prelude.{option_copied}
@@ -46,12 +46,12 @@ same_order a b e =
       | inr (inr less) ↦ absurd (never_same (order b) (order a) less (orders_small a) (sym same))
     ]
 
--- of one capability there is a row for each list of parameters at most
+-- a capability has at most one row for each list of parameters
 one_row : (a b : Row) (cap : ℕ) (numbers : List ℕ) → IsRowOf cap numbers a → IsRowOf cap numbers b → a ≡ b
 one_row a b cap numbers p q = same_Some a b
     (sym (params_found a a refl) ∙ (ap (λ (ns : List ℕ). with_params a ns) (p.1 ∙ sym q.1) ∙ params_found a b (same_order a b (p.0 ∙ sym q.0))))
 
--- a name that stands for this place alone is that of this capability
+-- if the row's name is found at the place of a capability, that capability is the row's
 cap_named : (row : Row) (cap : ℕ) (text : List ℕ) → name_of row ≡ text → place_in text ≡ Some cap → cap_of row ≡ cap
 cap_named row cap text named_so placed =
     let small = strings_small (order row) (orders_small row) in
@@ -72,7 +72,7 @@ pub no_row_named : (cap : ℕ) (text numbers : List ℕ) (found : Option Row) �
 no_row_named cap text numbers (Some row) e none = tt
 no_row_named cap text numbers None e none = λ row is. none row (sym (name_of_cap row) ∙ (ap name_at is.0 ∙ sym e))
 
--- the bytes of the row that was found are those of every such row
+-- the bytes of the row that was found are those of every row of this capability with these parameters
 pub line_found : (t : Table) (cap : ℕ) (numbers : List ℕ) (row : Row) (bytes : Option (List ℕ)) → IsRowOf cap numbers row → bytes ≡ t.line_of row → (other : Row) → IsRowOf cap numbers other → bytes ≡ t.line_of other
 line_found t cap numbers row bytes is e other such = e ∙ ap t.line_of (one_row row other cap numbers is such)
 

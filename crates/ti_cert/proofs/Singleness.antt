@@ -31,11 +31,11 @@ use Rattle.ti_cert.specs.Texts.{OneTable, OneFault, NoOther}
 use Rattle.ti_cert.specs.declared.faults.CertFaultKind.{CertFaultKind}
 use Rattle.ti_cert.specs.declared.faults.CertFaultKind.TheVariants.{BadLine, OutOfOrder, NotWhole, NotTame, NotShown}
 
--- at most one is so
+-- `Is` holds of at most one element
 abbrev Single : {A : Type 0} → (A → Type 0) → Type 0
 Single {A} Is = (a b : A) → Is a → Is b → a ≡ b
 
--- either the one is so, or something that excludes it, and then another
+-- either `Is` holds, or `Other` and `Later` do, where `Other` excludes `Is`
 abbrev Else : {A : Type 0} → (A → Type 0) → Type 0 → (A → Type 0) → A → Type 0
 Else Is Other Later a = Is a ⊎ (Other × Later a)
 
@@ -427,7 +427,7 @@ pub one_answer : (rows cols : ℕ) (text : List ℕ) (one other : Result Said (L
 unfolding Judged JudgedFrom
 one_answer rows cols text a b p q = one_of_lines rows cols limit 1 Nothing (cut_of text).lines (cut_of text).last a b p q
 
--- what an audit makes of a text
+-- the answer of an audit for a text
 
 same_end : (a b : Option (List ℕ)) (l m : List RowLine) → (x y : Answer) → x ≡ Ok (Ended a l) → y ≡ Ok (Ended b m) → x ≡ y → (a ≡ b) × (l ≡ m)
 same_end a b l m x y ex ey e = (cc, cc)

@@ -1,4 +1,4 @@
--- How attributes look that have strings of their own, when one more line is known.
+-- The looks of attributes that have strings of their own, after one more line.
 use Rattle.std.proofs.Common.{◌≡◌, ◌==◌, ◌||◌, ℕ, not, Bool, true, false, if◌then◌else◌, List, [], ◌∷◌, length, refl, sym, ap, subst, ◌∙◌, arith}
 use Rattle.std.specs.Prelude.{is_some}
 use Rattle.std.specs.List.{slice_get}
@@ -122,7 +122,7 @@ first_there : (g : List (List ℕ)) → is_some (slice_get g 0) ≡ not (length 
 first_there [] = refl
 first_there (x ∷ xs) = sym (not_zero (length (x ∷ xs)) 0 (omega arith))
 
--- a capability without parameters has strings where it has a line
+-- a capability without parameters has strings exactly if it has a line
 pub looks_stand : (s : Strings) (l : Looks) → LooksAlone (λ row. has_group s row) l → LooksAlone (λ row. is_some (row_string s row)) l
 looks_stand s l looks off = kept (λ row. has_group s row) (λ row. is_some (row_string s row)) l (looks (sym (there 35) ∙ off)) (there 40) (there 29) (there 1) (there 18) (there 2) (there 27) (there 39)
   where

@@ -1,4 +1,4 @@
--- Lines that stand in order: each comes before those behind it, and has its effect.
+-- Lines in their order: each comes before those after it, and has its effect.
 use Rattle.std.proofs.Common.{ℕ, List, [], ◌∷◌, inl, inr, sym, subst}
 use Rattle.ti_conforms.specs.Charsets.{IsAmong}
 use Rattle.ti_lines.specs.declared.row_lines.RowLine.{RowLine}

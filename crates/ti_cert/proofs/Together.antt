@@ -1,4 +1,4 @@
--- What was found wrong with all lines together is so by the terminal's own tokens, and so is that nothing is.
+-- A clash that was found is one by the terminal's own tokens; if none was found, there is none by these tokens.
 use Rattle.std.proofs.Common.{◌≡◌, ◌&&◌, ℕ, Bool, true, false, not, List, [], ◌++◌, Option, Some, None, refl, sym, ap, subst, ◌∙◌}
 use Rattle.std.specs.Prelude.{is_some, IfNone, IfSome}
 use Rattle.std.proofs.lemmas.Bool.{true≢false, and_right}
@@ -27,7 +27,7 @@ use Rattle.ti_cert.specs.declared.clashes.Clash.{Clash}
 use Rattle.ti_cert.specs.declared.clashes.Clash.TheVariants as clashes
 use Rattle.ti_cert.specs.declared.clashes.Resync.{Resync}
 
--- ---- what leads out of an unknown state
+-- ---- the bytes that lead out of an unknown state
 
 -- a string leads charsets as its change says
 of_change : (t : Table) (row : Row) (o : Option Sets) → ChangesBy t row o → Leads (text_of t row) (λ c. designated (or_kept o) c)
@@ -35,7 +35,7 @@ of_change t row _ (NoLine none) = subst (λ (b : List ℕ). Leads b (λ c. c)) (
 of_change t row _ (ByLine bytes there change l) = subst (λ (b : List ℕ). Leads b (λ c. designated change c)) (sym (ap (λ (o : Option (List ℕ)). or_nothing o) there))
     (record { tokens = l.tokens; whole = l.whole; leads = l.leads })
 
--- `csr` and `clear` leave them alone
+-- `csr` and `clear` leave the charsets as they are
 keeps : (t : Table) (row : Row) (o : Option (List ℕ)) → t.line_of row ≡ o → KeepsSets t row → Leads (or_nothing o) (λ c. c)
 keeps t row None e k = leads_nothing
 keeps t row (Some bytes) e k = let l : LeadsAs bytes kept = k bytes e in record { tokens = l.tokens; whole = l.whole; leads = l.leads }
@@ -56,7 +56,7 @@ by_line bytes change l c = record { tokens = l.tokens; whole = l.whole; is = sym
 line_led : (bytes : List ℕ) (change : Sets) (c d : Charset) → LeadsAs bytes change → LeadsBy bytes c d → d ≡ designated change c
 line_led bytes change c d p l = led bytes (λ x. designated change x) c d (record { tokens = p.tokens; whole = p.whole; leads = p.leads }) l
 
--- ---- charsets that can be had and settled
+-- ---- charsets that can be reached and settled
 
 had : (t : Table) (tokens : List (List ℕ)) → ((token : List ℕ) → IsAmong tokens token → Occurs t token) → (c : Charset) → Reached tokens c → CanHave t c
 had t tokens occurs c (AtReset _ e) = sets.AtReset c e
@@ -72,7 +72,7 @@ token_reached t reach changes s d (sets.AfterToken c _ token r o e) =
     let same = one_splitting o.bytes o.tokens l.leads.tokens [] [] o.whole l.leads.whole in
     AfterToken c d token (token_reached t reach changes s c r) (l.reached token (subst (λ (ts : List (List ℕ)). IsAmong ts token) (sym same.0) o.among)) e
 
--- all that is known where charsets were computed
+-- all facts known once the charsets are computed
 record Settles (t : Table) (reach : Reach) (changes : List Sets) (r : Resync) (smacs : Option Sets) (escapes : Bool) (settled : Charsets) : Type 0 where
   found : IsFound t reach changes r smacs escapes
   all : AreSettled reach changes r settled
@@ -108,14 +108,14 @@ is_settled t reach changes r smacs escapes settled p d (AfterLine c _ row bytes 
     p.all.close_complete d (After c d (p.all.close_sound c (is_settled t reach changes r smacs escapes settled p c s))
     (record { change = x.change; among = x.settled keeps; leads = line_led bytes x.change c d x.leads l }))
 
--- a table's sets are just those that can be had and settled
+-- the reached and the settled charsets of the table are exactly those that can be reached and settled
 pub record SetsAre (t : Table) : Type 0 where
   pub had : (c : Charset) → t.reached c ≡ true → CanHave t c
   pub reached : (c : Charset) → CanHave t c → t.reached c ≡ true
   pub can_settle : (c : Charset) → t.settled c ≡ true → CanSettle t c
   pub settled : (c : Charset) → CanSettle t c → t.settled c ≡ true
 
--- so are those that were computed
+-- the charsets that were computed are exactly those too
 pub sets_are : (t : Table) (reach : Reach) (changes : List Sets) (r : Resync) (smacs : Option Sets) (escapes : Bool) (settled : Charsets) → IsFound t reach changes r smacs escapes → AreSettled reach changes r settled
     → ((c : Charset) → t.reached c ≡ can_have reach c) → ((c : Charset) → t.settled c ≡ closing.has settled c) → SetsAre t
 sets_are t reach changes r smacs escapes settled found all had has = record {
@@ -137,7 +137,7 @@ switched_by t settled row _ graphic (NoLine none) a bytes there c d s l = absurd
 switched_by t settled row _ graphic (ByLine own is change leads) a bytes there c d s l =
     ap (λ (x : Charset). is_graphic x) (line_led own change c d leads (subst (λ (b : List ℕ). LeadsBy b c d) (same_Some bytes own (sym there ∙ is)) l)) ∙ a c s
 
--- one that activates the other set does that by its tokens
+-- a string whose change activates the other set does so by its tokens
 misled_by : (t : Table) (settled : Charsets) (row : Row) (o : Option Sets) (graphic : Bool) (c : Charset) → ChangesBy t row o → Misleads settled o graphic c → CanSettle t c
     → ((d : Charset) → is_graphic d ≡ not graphic → Activates row d → ⊥) → Misswitches t row c
 misled_by t settled row _ graphic c (NoLine none) m s never = absurd m
@@ -166,7 +166,7 @@ change_there : (t : Table) (row : Row) (o : Option Sets) → ChangesBy t row o �
 change_there t row _ (NoLine none) = ap (λ (p : Option (List ℕ)). is_some p) none
 change_there t row _ (ByLine bytes there change l) = ap (λ (p : Option (List ℕ)). is_some p) there
 
--- which of the strings that switch sets are there
+-- whether both strings that switch sets are there
 sets_there : (t : Table) (smacs rmacs : Option Sets) (pairs : Bool) → ChangesBy t Smacs smacs → ChangesBy t Rmacs rmacs → (pairs && has_sets t) ≡ (pairs && (is_some smacs && is_some rmacs))
 sets_there t smacs rmacs pairs s r =
     ap (λ (b : Bool). pairs && (b && is_some (t.line_of Rmacs))) (change_there t Smacs smacs s) ∙ ap (λ (b : Bool). pairs && (is_some smacs && b)) (change_there t Rmacs rmacs r)
@@ -176,7 +176,8 @@ stays_plain : (t : Table) (reach : Reach) (changes : List Sets) (r : Resync) (sm
 stays_plain t reach changes r smacs escapes settled pairs p plain s =
     never_both s.charset s.graphic (plain (sym (sets_there t smacs r.rmacs pairs p.found.smacs_is p.found.rmacs_is) ∙ s.unsent) s.charset (is_settled t reach changes r smacs escapes settled p s.charset s.settles))
 
--- ---- what leads out of an unknown state leaves the plain set active, since what is sent twice leaves what it leaves once
+-- ---- the bytes that lead out of an unknown state leave the plain set active, since tokens sent twice leave what they
+-- leave once
 
 plain_if : (c : Charset) → (is_graphic c ≡ true → ⊥) → is_graphic c ≡ false
 plain_if c never = by_set (is_graphic c) refl
@@ -208,7 +209,7 @@ quiet t reach changes r smacs escapes pairs p right never c d h l =
     let e : d ≡ designated_all (parts_of r) c = led (resync t) (λ x. designated_all (parts_of r) x) c d (resync_leads t reach changes r smacs escapes p) l in
     plain_if d (quiet_by t pairs r.rmacs (designated (or_kept r.sgr0) (designated (or_kept r.enacs) (designated (or_kept r.smcup) c))) d p.rmacs_is e (AfterResync c d h l) right never)
 
--- ---- nothing is wrong with all lines together
+-- ---- lines without a clash
 
 pub together : (t : Table) (reach : Reach) (changes : List Sets) (r : Resync) (smacs : Option Sets) (escapes pairs : Bool) (settled : Charsets) → AreSettled reach changes r settled
     → NoneClashes settled smacs r.rmacs (pairs && (is_some smacs && is_some r.rmacs)) escapes → IsFound t reach changes r smacs escapes → GoesTogether pairs t
@@ -224,7 +225,7 @@ together t reach changes r smacs escapes pairs settled all n found =
       quiet = quiet t reach changes r smacs escapes pairs found right never;
     }
 
--- ---- what was found wrong is so
+-- ---- a clash that was found is one
 
 not_graphic : (d : Charset) → is_graphic d ≡ not true → Activates Smacs d → ⊥
 not_graphic d off on = never_both d on off

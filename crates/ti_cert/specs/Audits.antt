@@ -34,7 +34,7 @@ abbrev pub all_bytes : List RowLine → ℕ
 all_bytes [] = 0
 all_bytes (line ∷ lines) = length line.bytes + all_bytes lines
 
--- the strings are those of the lines, and attributes look as the lines say
+-- the strings are exactly those of the lines, and attributes look as the lines say
 pub record Lists (k : Known) (lines : List RowLine) : Type 0 where
   pub found : (row : Row) (bytes : List ℕ) → row_string k.strings row ≡ Some bytes → GivesBytes lines row bytes
   pub kept : (line : RowLine) → IsAmong lines line → row_string k.strings line.row ≡ Some line.bytes
@@ -53,7 +53,7 @@ abbrev pub IsUpTo : ℕ → ℕ → List RowLine → Option Row → Type 0
 IsUpTo rows cols lines None = (line : RowLine) → IsAmong lines line → ⊥
 IsUpTo rows cols lines (Some last) = IsLastRow rows cols lines last
 
--- the size and all lines about capabilities
+-- the progress has its own size and exactly these lines about capabilities, which are in their order
 pub record Stands (p : Progress) (lines : List RowLine) : Type 0 where
   pub rows : p.known.strings.rows ≡ p.size.rows
   pub cols : p.known.strings.cols ≡ p.size.cols
@@ -73,7 +73,8 @@ Tells p awaited said = ⊥
 abbrev pub TellsNow : Progress → Said → Type 0
 TellsNow p said = Tells p p.awaited said
 
--- the judgement holds of the lines, whatever they are
+-- after a line without fault: the judgement gives a meaning of the lines, the new progress agrees with it, and the size
+-- stays
 pub record Steps (q : Progress) (size_rows size_cols : ℕ) (Judges : Result Said CertFaultKind → Type 0) : Type 0 where
   pub after : Said
   pub judges : Judges (Ok after)
@@ -121,7 +122,8 @@ pub record IsTableMade (p : Progress) (table : CheckedTable) : Type 0 where
   pub known : table.known ≡ p.known
   pub acsc : table.acsc ≡ p.acsc
 
--- the answer to a line after the first two, to a line about a capability, and to the last line
+-- the answer to a line after the size and the pairs, if there are pairs; to a line about a capability; and to the last
+-- line
 abbrev pub AnswersLater : Progress → List ℕ → Result Progress CertFaultKind → Type 0
 AnswersLater p text answer =
     (pairs : Option (List ℕ)) (lines : List RowLine) → Stands p lines → p.acsc ≡ pairs
@@ -136,15 +138,15 @@ AnswersLast p answer =
     (pairs : Option (List ℕ)) (lines : List RowLine) → Stands p lines → p.acsc ≡ pairs
     → Becomes p answer (JudgesLast p.size.rows p.size.cols pairs lines)
 
--- refused with this fault, or out of memory
+-- the refusal with this fault is an answer, or memory ran out
 abbrev pub OrNoMemory : CertFaultKind → (Result Progress CertFaultKind → Type 0) → Type 0
 OrNoMemory kind Answers = Answers (Err kind) ⊎ (kind ≡ NoMemory)
 
--- bytes that are no whole control functions, or out of memory
+-- the bytes aren't whole control functions, or memory ran out
 abbrev pub IsTokenFault : List ℕ → CertFaultKind → Type 0
 IsTokenFault bytes kind = ((kind ≡ NotWhole) × (IsWholeText bytes → ⊥)) ⊎ (kind ≡ NoMemory)
 
--- the fault of the effect of tokens
+-- the fault of a line about this row that states this effect and has these tokens
 pub data Misshows (k : Known) (row : Row) (stated : Effect) (tokens : List (List ℕ))
     (kind : CertFaultKind) : Type 0 where
   NoRecord : record_of k.strings.rows k.strings.cols (start_of k.strings.rows k.strings.cols row) tokens ≡ None
@@ -156,7 +158,7 @@ pub data Misshows (k : Known) (row : Row) (stated : Effect) (tokens : List (List
       → (stated ≡ asked (looks_with k row stated) row stated → ⊥)
       → IsMisfit row stated kind → Misshows k row stated tokens kind
 
--- the fault of a text that is no line about a capability
+-- the fault of a text that isn't a line about a capability
 pub data IsMisplacedBy (text : List ℕ) (kind : CertFaultKind) : Type 0 where
   HasPairs : (bytes : List ℕ) → IsAcscText text bytes → kind ≡ OutOfOrder → IsMisplacedBy text kind
   HasNoPairs : ((bytes : List ℕ) → IsAcscText text bytes → ⊥) → kind ≡ BadLine → IsMisplacedBy text kind
@@ -169,7 +171,7 @@ pub data LacksRecord (s : Strings) (kind : CertFaultKind) : Type 0 where
       → Splits bytes tokens [] → record_of s.rows s.cols (start_of s.rows s.cols row) tokens ≡ None → LacksRecord s kind
   RanOut : kind ≡ NoMemory → LacksRecord s kind
 
--- a required line is missing
+-- a line that a resynchronization needs is missing: `clear`, `sgr0`, or `csr` of the whole screen if `csr` has lines
 pub data LacksNeeded (s : Strings) (kind : CertFaultKind) : Type 0 where
   NoClear : row_string s Clear ≡ None → LacksNeeded s kind
   NoSgr0 : row_string s Sgr0 ≡ None → LacksNeeded s kind

@@ -26,24 +26,25 @@ pub record Known : Type 0 where
 abbrev pub looks_with : Known → Row → Effect → Looks
 looks_with k row e = if has_group k.strings (rival row) then k.looks else learned row e k.looks
 
--- the line's bytes are whole tokens, and their record is the one that the table asks for
+-- the tokens have this record from the row's start, and it is the one that is asked for with these looks
 pub record HasRecord (rows cols : ℕ) (looks : Looks) (row : Row) (tokens : List (List ℕ))
     (effect : Effect) : Type 0 where
   pub recorded : record_of rows cols (start_of rows cols row) tokens ≡ Some effect
   pub asked_for : effect ≡ asked looks row effect
 
--- the record found of these tokens, from the row's start, or none
+-- the record of these tokens from the row's start, or `None`, is the one found
 abbrev pub IsRecord : Known → Row → List (List ℕ) → Option Effect → Type 0
 IsRecord k row tokens found =
     found ≡ record_of k.strings.rows k.strings.cols (start_of k.strings.rows k.strings.cols row) tokens
 
--- the bytes are whole tokens of such a record
+-- the bytes are whole tokens with such a record
 pub record TellsRecord (rows cols : ℕ) (looks : Looks) (row : Row) (bytes : List ℕ) (effect : Effect) : Type 0 where
   pub tokens : List (List ℕ)
   pub whole : Splits bytes tokens []
   pub has : HasRecord rows cols looks row tokens effect
 
--- the kept part of a line: its tokens are among all of them, and its change is among the changes
+-- the facts kept of a line: its bytes are whole tokens with such a record, and these tokens are among `all`; its change
+-- is among the changes if the row leaves settled charsets settled
 pub record IsKept (k : Known) (all : List (List ℕ)) (row : Row) (bytes : List ℕ) : Type 0 where
   pub tokens : List (List ℕ)
   pub whole : Splits bytes tokens []
@@ -52,7 +53,7 @@ pub record IsKept (k : Known) (all : List (List ℕ)) (row : Row) (bytes : List 
   pub reached : (token : List ℕ) → IsAmong tokens token → IsAmong all token
   pub settled : settles row ≡ true → IsAmong k.changes effect.charset
 
--- a change is that of tokens
+-- the change is that of the record of some tokens, for some row and size, and these tokens are among `all`
 pub record IsChange (all : List (List ℕ)) (change : Sets) : Type 0 where
   pub rows : ℕ
   pub cols : ℕ
@@ -63,7 +64,7 @@ pub record IsChange (all : List (List ℕ)) (change : Sets) : Type 0 where
   pub is : change ≡ effect.charset
   pub reached : (token : List ℕ) → IsAmong tokens token → IsAmong all token
 
--- the token is one of a string's
+-- the token is one of those of a string
 pub record IsFrom (k : Known) (token : List ℕ) : Type 0 where
   pub row : Row
   pub bytes : List ℕ
@@ -72,7 +73,7 @@ pub record IsFrom (k : Known) (token : List ℕ) : Type 0 where
   pub whole : Splits bytes tokens []
   pub among : IsAmong tokens token
 
--- the change is that of a string
+-- the change is that of a string whose row leaves settled charsets settled
 pub record IsTold (k : Known) (change : Sets) : Type 0 where
   pub row : Row
   pub bytes : List ℕ
@@ -94,7 +95,7 @@ pub record Holds (k : Known) : Type 0 where
   pub told : (change : Sets) → IsAmong k.changes change → IsTold k change
   pub looks : LooksAlone (λ row. has_group k.strings row) k.looks
 
--- the changes with that of one more line
+-- the changes, with that of one more line if the first argument is true
 abbrev pub with_change : Bool → List Sets → Sets → List Sets
 with_change true changes change = changes ++ change ∷ []
 with_change false changes change = changes

@@ -1,4 +1,4 @@
--- What the lines of a table do to the character sets, as far as it is needed to judge all of them together.
+-- The changes of the character sets by a table's lines, as far as they are needed to judge all lines together.
 use Rattle.std.specs.Prelude.{ℕ, ◌≡◌, Bool, true, false, List, [], ◌∷◌, not, Option, Some, None}
 use Rattle.vt_term.specs.Screen.{Charset, is_graphic}
 use Rattle.vt_term.specs.Text.{Splits}
@@ -19,13 +19,13 @@ use Rattle.ti_cert.specs.declared.clashes.Clash.{Clash}
 use Rattle.ti_cert.specs.declared.clashes.Clash.TheVariants as clashes
 use Rattle.ti_cert.specs.declared.clashes.Resync.{Resync}
 
--- the bytes are whole tokens, which change each charset so
+-- the bytes are whole tokens, which lead from each charset as the change does
 pub record LeadsAs (bytes : List ℕ) (change : Sets) : Type 0 where
   pub tokens : List (List ℕ)
   pub whole : Splits bytes tokens []
   pub leads : (c : Charset) → charset_over tokens c ≡ designated change c
 
--- so does a line that leaves charsets settled
+-- the change is that of a line that leaves settled charsets settled
 pub record IsOfLine (t : Table) (change : Sets) : Type 0 where
   pub row : Row
   pub bytes : List ℕ
@@ -33,14 +33,14 @@ pub record IsOfLine (t : Table) (change : Sets) : Type 0 where
   pub keeps : settles row ≡ true
   pub leads : LeadsAs bytes change
 
--- the line's tokens are among these, and what it does is among these changes
+-- the line's tokens are among these, and so is its change if the row leaves settled charsets settled
 pub record IsLineSeen (tokens : List (List ℕ)) (changes : List Sets) (row : Row) (bytes : List ℕ) : Type 0 where
   pub change : Sets
   pub leads : LeadsAs bytes change
   pub reached : (token : List ℕ) → IsAmong leads.tokens token → IsAmong tokens token
   pub settled : settles row ≡ true → IsAmong changes change
 
--- the marks that the tokens of all lines turn on, and what each line does that leaves charsets settled
+-- the marks that the tokens of all lines turn on, and the changes by those lines that leave settled charsets settled
 pub record AreSeen (t : Table) (reach : Reach) (changes : List Sets) : Type 0 where
   pub tokens : List (List ℕ)
   pub reach_is : reach ≡ reach_of tokens
@@ -48,17 +48,17 @@ pub record AreSeen (t : Table) (reach : Reach) (changes : List Sets) : Type 0 wh
   pub told : (change : Sets) → IsAmong changes change → IsOfLine t change
   pub lines : (row : Row) (bytes : List ℕ) → t.line_of row ≡ Some bytes → IsLineSeen tokens changes row bytes
 
--- what the row's line does, nothing where there is none
+-- the change by the row's line, `None` if there is no line
 pub data ChangesBy (t : Table) (row : Row) : Option Sets → Type 0 where
   NoLine : t.line_of row ≡ None → ChangesBy t row None
   ByLine : (bytes : List ℕ) → t.line_of row ≡ Some bytes → (change : Sets) → LeadsAs bytes change
       → ChangesBy t row (Some change)
 
--- the row's line, where there is one, changes no charset
+-- the row's line changes no charset, if there is a line
 abbrev pub KeepsSets : Table → Row → Type 0
 KeepsSets t row = (bytes : List ℕ) → t.line_of row ≡ Some bytes → LeadsAs bytes kept
 
--- all that is needed of the lines
+-- the facts of the lines by which they are judged together
 pub record IsFound (t : Table) (reach : Reach) (changes : List Sets) (r : Resync) (smacs : Option Sets)
     (escapes : Bool) : Type 0 where
   pub seen : AreSeen t reach changes
@@ -72,23 +72,24 @@ pub record IsFound (t : Table) (reach : Reach) (changes : List Sets) (r : Resync
   pub opens : escapes ≡ false → BeginsOpen t
   pub begins : escapes ≡ true → BeginsOpen t → ⊥
 
--- ---- (Serves the code alone.) The same by the charsets that are computed.
+-- ---- (Serves the code alone.) Clashes by the charsets that are computed.
 
--- what leads out of an unknown state does this, string by string; `csr` and `clear` do nothing
+-- the changes by the strings that lead out of an unknown state, one after another; `csr` and `clear` change nothing
 abbrev pub parts_of : Resync → List Sets
 parts_of r = or_kept r.smcup ∷ or_kept r.enacs ∷ or_kept r.sgr0 ∷ or_kept r.rmacs ∷ []
 
--- from each of these charsets the string activates this set
+-- from each of these charsets the change, if there is one, activates this set
 abbrev pub Leads : Charsets → Option Sets → Bool → Type 0
 Leads s None graphic = Unit {0}
 Leads s (Some change) graphic = (c : Charset) → closing.has s c ≡ true → is_graphic (designated change c) ≡ graphic
 
--- from this one of them it activates the other
+-- there is a change, and from this one of the charsets it activates the other set
 abbrev pub Misleads : Charsets → Option Sets → Bool → Charset → Type 0
 Misleads s None graphic c = ⊥
 Misleads s (Some change) graphic c = (closing.has s c ≡ true) × (is_graphic (designated change c) ≡ not graphic)
 
--- the charsets that can be settled: those that are left of what can be had, and all to which changes lead from these
+-- the charsets that can be settled: those to which the strings that lead out of an unknown state lead from the charsets
+-- that a terminal can have, and all to which `changes` lead from these
 pub record AreSettled (reach : Reach) (changes : List Sets) (r : Resync) (settled : Charsets) : Type 0 where
   pub first : Charsets
   pub first_sound : (d : Charset) → closing.has first d ≡ true → Leaves reach (parts_of r) d
@@ -112,12 +113,12 @@ pub record NoneClashes (s : Charsets) (smacs rmacs : Option Sets) (sent escapes 
   pub unsent : sent ≡ false → Leads s (Some kept) false
   pub escapes_is : escapes ≡ true
 
--- it activates the other set from the charset that is named, or from none where none is
+-- the change activates the other set from the charset that is named; if none is named, it does so from no charset
 abbrev pub OfChange : Charsets → Option Sets → Bool → Option Charset → Type 0
 OfChange s change graphic None = Leads s change graphic
 OfChange s change graphic (Some c) = Misleads s change graphic c
 
--- all that clashes
+-- all clashes that are found
 pub record AreFound (s : Charsets) (smacs rmacs : Option Sets) (sent escapes : Bool) (all : AllClashes) : Type 0 where
   pub of_smacs : OfChange s smacs true all.smacs
   pub of_rmacs : OfChange s rmacs false all.rmacs

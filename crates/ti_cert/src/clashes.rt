@@ -1,5 +1,5 @@
-//! What may be wrong with strings together, though each is right: the charsets that they leave, and what
-//! leads a terminal out of an unknown state.
+//! The clashes of strings: all that may be wrong with them together, though each is right. They are about the charsets
+//! that strings leave, and about the bytes that lead a terminal out of an unknown state.
 
 ghost use Rattle.std.specs.Prelude.{◌≡◌, ◌&&◌, IfErr, IfNone, IfOk, IfSome, OnOk, Some, false, is_some, true};
 ghost use Rattle.ti_cert.specs.Clashes as clashes;
@@ -12,34 +12,34 @@ use ti_conforms::{Charsets, KEPT, Reach, or_kept};
 use vt_effects::Sets;
 use vt_term::Charset;
 
-/// What is wrong with strings together.
+/// A fault of strings together, though each is right by itself.
 #[derive(Clone, Copy, Debug, PartialEq, Eq)]
 pub enum Clash {
     /// After `smacs`, from this charset that strings can leave, the graphic set isn't active.
     Smacs(Charset),
     /// After `rmacs`, from this charset that strings can leave, the graphic set is active.
     Rmacs(Charset),
-    /// The graphic set can stay active where letters of line graphics can't be sent.
+    /// The graphic set can stay active although letters of line graphics can't be sent.
     Acsc,
-    /// What leads out of an unknown state doesn't begin with ESC.
+    /// The bytes that lead out of an unknown state don't begin with ESC.
     Clear,
 }
 
-/// All that is wrong with strings together, each of four things by itself: what [`Clash`] names one by one.
+/// All clashes of strings, each of the four that [`Clash`] names by itself.
 #[derive(Clone, Copy, Debug, PartialEq, Eq)]
 pub struct AllClashes {
     /// A charset that strings can leave, from which `smacs` goes wrong.
     pub smacs: Option<Charset>,
     /// A charset that strings can leave, from which `rmacs` goes wrong.
     pub rmacs: Option<Charset>,
-    /// Whether the graphic set can stay active where letters of line graphics can't be sent.
+    /// Whether the graphic set can stay active although letters of line graphics can't be sent.
     pub acsc: bool,
-    /// Whether what leads out of an unknown state doesn't begin with ESC.
+    /// Whether the bytes that lead out of an unknown state don't begin with ESC.
     pub clear: bool,
 }
 
 impl AllClashes {
-    /// The first of them; `None` where nothing is wrong.
+    /// The first of the clashes, `None` if there is none.
     pub fn first(self) -> Option<Clash>
         ensures { result ≡ clashes.first_of self }
     {
@@ -56,8 +56,8 @@ impl AllClashes {
     }
 }
 
-/// What the strings that lead a terminal out of an unknown state do to the charsets, `None` where there is
-/// no such string. `csr` and `clear` do nothing to them.
+/// The changes of the charsets by the strings that lead a terminal out of an unknown state, `None` for a string that
+/// isn't there. `csr` and `clear` change no charset.
 #[derive(Clone, Copy, Debug, PartialEq, Eq)]
 pub struct Resync {
     pub smcup: Option<Sets>,
@@ -66,7 +66,7 @@ pub struct Resync {
     pub rmacs: Option<Sets>,
 }
 
-/// What `resync` leaves of each charset that `reach` allows.
+/// The charsets to which `resync` leads from those that `reach` allows.
 fn first_settled(resync: Resync, reach: Reach) -> Charsets
     ensures sound { (d : Charset) → closing.has result d ≡ true → closing.Leaves reach (spec.parts_of resync) d }
     ensures complete { (d : Charset) → closing.Leaves reach (spec.parts_of resync) d → closing.has result d ≡ true }
@@ -93,7 +93,8 @@ fn settled_from(first: Charsets, changes: &[Sets]) -> Charsets
     settled
 }
 
-/// The charsets that can be settled: what `resync` leaves, and all to which `changes` lead from there.
+/// The charsets that can be settled: those to which `resync` leads from the ones that `reach` allows, and all to which
+/// `changes` lead from there.
 fn settled_of(reach: Reach, changes: &[Sets], resync: Resync) -> Charsets
     ensures { spec.AreSettled reach changes.now resync result }
 {
@@ -101,7 +102,8 @@ fn settled_of(reach: Reach, changes: &[Sets], resync: Resync) -> Charsets
     settled_from(first, changes)
 }
 
-/// One of the `settled` charsets from which `change` activates another set than this.
+/// One of the `settled` charsets from which `change` activates the wrong set. The right one is the graphic set if
+/// `graphic`, else the plain one.
 fn misled(settled: &Charsets, change: Option<Sets>, graphic: bool) -> Option<Charset>
     ensures some { IfSome result (spec.Misleads settled.now change graphic) }
     ensures none { IfNone result (spec.Leads settled.now change graphic) }
@@ -112,7 +114,7 @@ fn misled(settled: &Charsets, change: Option<Sets>, graphic: bool) -> Option<Cha
     }
 }
 
-/// Whether letters of line graphics can be sent.
+/// Whether letters of line graphics can be sent: `acsc` and both strings that switch sets are there.
 fn all_there(has_acsc: bool, smacs: Option<Sets>, rmacs: Option<Sets>) -> bool
     ensures { result ≡ (has_acsc && (is_some smacs && is_some rmacs)) }
 {
@@ -135,7 +137,7 @@ fn is_plain(settled: &Charsets, sent: bool) -> bool
 }
 
 /// All clashes of strings that can leave the `settled` charsets. `sent` says whether letters of line graphics can be
-/// sent, and `escapes` whether what leads out of an unknown state begins with ESC.
+/// sent, and `escapes` whether the bytes that lead out of an unknown state begin with ESC.
 fn clashes_of(
     settled: &Charsets,
     smacs: Option<Sets>,
@@ -153,8 +155,11 @@ fn clashes_of(
     }
 }
 
-/// All of four things that are wrong with strings together: `smacs`, `rmacs`, charsets that stay graphic, and what
-/// leads out of an unknown state. The parameters are those of [`first_clash`].
+/// All clashes of strings, each of four by itself: `smacs`, `rmacs`, charsets that stay graphic, and the bytes that
+/// lead out of an unknown state. `reach` has the marks that the tokens of all strings turn on, `changes` the change by
+/// each string that leaves settled charsets settled, and `resync` and `smacs` the changes by these strings. `has_acsc`
+/// says whether there are pairs of alternate characters, and `escapes` whether the bytes that lead out of an unknown
+/// state begin with ESC.
 pub fn all_clashes(
     reach: Reach,
     changes: &[Sets],
@@ -171,11 +176,11 @@ pub fn all_clashes(
     clashes_of(&settled, smacs, resync.rmacs, sent, escapes)
 }
 
-/// The first of four things that may be wrong with strings together: `smacs`, `rmacs`, charsets that stay
-/// graphic, and what leads out of an unknown state. `reach` has the marks that the tokens of all strings turn
-/// on, `changes` what each string does that leaves charsets settled, `resync` and `smacs` what these strings do,
-/// and `escapes` says whether what leads out of an unknown state begins with ESC. If nothing is wrong, the
-/// charsets that can be settled.
+/// Checks strings against each other. Returns the charsets that can be settled, or the first clash: of `smacs`, of
+/// `rmacs`, of charsets that stay graphic, or of the bytes that lead out of an unknown state. `reach` has the marks
+/// that the tokens of all strings turn on, `changes` the change by each string that leaves settled charsets settled,
+/// and `resync` and `smacs` the changes by these strings. `has_acsc` says whether there are pairs of alternate
+/// characters, and `escapes` whether the bytes that lead out of an unknown state begin with ESC.
 pub fn first_clash(
     reach: Reach,
     changes: &[Sets],

@@ -19,7 +19,7 @@ pub enum CertFaultKind {
     OutOfOrder,
     /// The bytes are no whole control functions.
     NotWhole,
-    /// The effect of the bytes depends on the state they start from.
+    /// The bytes have no one effect record for all the states they start from.
     NotTame,
     /// The effect isn't the one that the line states, or isn't the one that is asked for.
     NotShown,

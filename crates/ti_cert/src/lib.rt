@@ -1,4 +1,4 @@
-//! Certificates: judged alone, compared with an entry, and what a yes means for a terminal.
+//! Certificates: judging one alone, comparing it with an entry, and the meaning of a yes for a terminal.
 #![tactic(auto)]
 
 mod agreement;

@@ -11,7 +11,7 @@ use ti_rows::Row;
 use vt_effects::{Effect, effect_of_text};
 use vt_term::{Scanner, Size, TextFault, TextFaultKind};
 
-/// The fault of a line whose bytes are no whole control functions.
+/// The fault of a line whose bytes aren't whole control functions.
 pub(crate) fn not_whole(fault: TextFault) -> CertFaultKind
     ensures { (bytes : List ℕ) → HasFault bytes fault → IsTokenFault bytes result }
 {
@@ -21,7 +21,7 @@ pub(crate) fn not_whole(fault: TextFault) -> CertFaultKind
     }
 }
 
-/// The effect of bytes from the row's start, if they have one. The error is `NotWhole`.
+/// The effect of `bytes` from the start of `row`, if they have one. The error is `NotWhole`.
 pub(crate) fn row_effect(
     scanner: &mut Scanner,
     bytes: &[u8],

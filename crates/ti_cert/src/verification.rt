@@ -176,7 +176,7 @@ fn handed_out(alloc: Global, table: Table) -> Result<Checked, VerifyFault>
 /// Judges the certificate that `reader` has left, and compares it with `entry`.
 ///
 /// # Errors
-/// `Cert` with the certificate's first fault, `Agree` where it is that of another entry or memory runs
+/// `Cert` with the certificate's first fault, `Agree` if it is that of another entry or memory runs
 /// out.
 pub fn verify_from<R: Reader>(
     alloc: Global,
@@ -213,7 +213,7 @@ pub fn verify_from<R: Reader>(
 /// Judges the certificate `text`, and compares it with `entry`.
 ///
 /// # Errors
-/// `Cert` with the certificate's first fault, `Agree` where it is that of another entry or memory runs
+/// `Cert` with the certificate's first fault, `Agree` if it is that of another entry or memory runs
 /// out.
 pub fn verify(alloc: Global, entry: &Entry, size: Size, text: &[u8]) -> Result<Checked, VerifyFault>
     ensures accepted { IfOk result (IsTableOf size.rows size.cols text.now) }
