@@ -6,7 +6,7 @@ use Rattle.vt_term.specs.Color.{Color, Black, Red, Green, Yellow, Blue, Magenta,
 use Rattle.vt_term.specs.Look.{Rendition}
 use Rattle.vt_term.specs.Screen.{Charset, Settings}
 
--- the words if a condition is true, else none
+-- the words if the condition is true, else none
 abbrev pub if_so : Bool → List ℕ → List ℕ
 if_so b words = if b then words else []
 

@@ -1,4 +1,5 @@
--- What programs want of each checked string, in words. A row's words are those of the group that it is in.
+-- The results that programs want from each checked string, in words. Each row is in one of four groups, whose words it
+-- gets.
 use Rattle.std.specs.Prelude.{ℕ, List, [], ◌∷◌, ◌++◌, codes}
 use Rattle.std.specs.Fmt.{decimal}
 use Rattle.vt_term.specs.Color.{color_number}
@@ -99,7 +100,7 @@ abbrev pub look_text : Row → List ℕ
 look_text (Sgr a) = attributes_text a
 look_text row = fixed_look_text row
 
--- character sets, the cursor's visibility, and what stands around a program
+-- character sets, the cursor's visibility, and the strings that begin and end a program's screen
 abbrev pub around : List ℕ
 around = codes "cells change by one erasure at most, and the scrolling region and the cursor's visibility stay"
 

@@ -1,4 +1,5 @@
-//! Why an entry gets no certificate: what a checked string sends, what is wanted of it, and what it does.
+//! Explanations why an entry gets no certificate: the bytes that a checked string sends, the result that is wanted, and
+//! the one that is seen.
 
 use crate::escapes::push_spelled;
 use crate::numbers::push_numbers;
@@ -15,30 +16,30 @@ use ti_rows::Row;
 use vt_effects::effect_of;
 use vt_term::{Size, Terminal, tokens};
 
-/// Said of a string that reads a static variable.
+/// The words about a string that reads a static variable.
 pub const STATIC_READ: &[u8] =
     b" reads a static variable, %gA to %gZ, before it sets it: what it sends depends on what a program has sent \
       before";
 
-/// Said where no effect describes what a string sends.
+/// The words about a string whose bytes no effect describes.
 pub const NOT_TAME: &[u8] =
     b"the string may be right: no single effect describes what it sends from every state in which programs send it, \
       so it was not judged (what prints, inserts, deletes, or erases after a change of the background has none, nor \
       have moves that only some edges of the screen cut short)";
 
-/// Said where a certificate would be too long.
+/// The words about a certificate that would be too long.
 pub const TOO_LONG: &[u8] =
     b"the strings up to this one may be right: a certificate has a line for each list of parameters, with what is \
       sent in hexadecimal, and it may have 67108864 bytes; with this line and the last it would be longer, so a \
       shorter string or a smaller size of the screen is needed";
 
-/// Said of the first string that is sent in an unknown state.
+/// The words about the first string that is sent in an unknown state.
 pub const NO_RESYNC: &[u8] =
     b"smcup, enacs, sgr0, rmacs, csr of the whole screen and clear, sent one after another, are to lead a terminal \
       out of any state, so they have to begin with ESC: a sequence that was cut off would take any other first byte \
       as part of it";
 
-/// Said where the line drawing set can stay active.
+/// The words about strings that can leave the line drawing set active.
 pub const STAYS_GRAPHIC: &[u8] =
     b"each string is right by itself, but they can leave the line drawing set active, and a program switches sets \
       only where acsc, smacs and rmacs are all there: its letters would show as lines";
@@ -80,8 +81,8 @@ pub fn explain_absent(cap: Cap, remarks: &mut Remarks) {
     remarks.add(name(cap), words);
 }
 
-/// Explains which letter of line drawing gets a character from `pairs`, which are those of `acsc`, that can't be
-/// printed.
+/// Explains to which letter of line drawing `pairs`, the value of `acsc`, give a character that can't be printed. Adds
+/// nothing if there is no such letter.
 pub fn explain_pairs(
     alloc: Global,
     pairs: Option<&[u8]>,
@@ -100,7 +101,7 @@ pub fn explain_pairs(
     Ok(())
 }
 
-/// The first row whose string the entry sends to lead a terminal of `size` out of an unknown state.
+/// The first of the rows that lead a terminal of `size` out of an unknown state for which the entry sends any bytes.
 pub fn first_of_resync(alloc: Global, entry: &Entry, size: Size) -> Option<Row> {
     let csr = Row::Csr(0, (size.rows - 1) as u16);
     for row in [
@@ -129,8 +130,9 @@ fn sends_some(alloc: Global, entry: &Entry, row: Row) -> bool {
     }
 }
 
-/// Adds a line with the entry's string for `row` and what it sends, and hands that out; or with `unsent`, where it
-/// can't be expanded.
+/// Adds a line with the entry's string for `row` and the bytes that it sends, and returns these bytes. If the string
+/// can't be expanded, the line has the words `unsent` instead of the bytes, and the result is `None`. If the entry
+/// doesn't have the string, no line is added.
 pub fn explain_field(
     alloc: Global,
     entry: &Entry,
@@ -189,7 +191,7 @@ fn first_name(names: &[u8]) -> &[u8] {
     }
 }
 
-/// Why a checked string can't be expanded: all its parameters are numbers.
+/// The reason why a checked string can't be expanded. All its parameters are numbers.
 pub fn unsent_words(fault: ParmFault) -> &'static [u8] {
     match fault {
         ParmFault::WrongKind => b" takes a number for a text",
@@ -197,8 +199,8 @@ pub fn unsent_words(fault: ParmFault) -> &'static [u8] {
     }
 }
 
-/// Explains that `bytes`, which a string sends for `row`, could not be shown right: that string alone, or all strings
-/// of the entry together.
+/// Explains that `bytes`, which a string sends for `row`, weren't judged right, though nothing wrong was found: because
+/// of this string alone, or, at `clear`, because of all strings of the entry together.
 pub fn explain_unshown(
     alloc: Global,
     size: Size,
@@ -215,8 +217,8 @@ pub fn explain_unshown(
     Ok(())
 }
 
-/// Whether the effect of `bytes` is the one that is wanted of `row`, where attributes can't be seen. Which set `smacs`
-/// and `rmacs` leave active is no part of it.
+/// Whether the effect of `bytes` is the one that is asked for by `row`, if no attribute can be seen. The set that
+/// `smacs` and `rmacs` leave active doesn't count.
 fn does_its_own(alloc: Global, size: Size, row: Row, bytes: &[u8]) -> bool {
     let Ok(found) = tokens(alloc, bytes) else {
         return false;
@@ -227,7 +229,7 @@ fn does_its_own(alloc: Global, size: Size, row: Row, bytes: &[u8]) -> bool {
     }
 }
 
-/// Explains which renditions `bytes` turn on, which a string sends for `row`, a single attribute.
+/// Explains which renditions `bytes` turn on. They must be sent by a string for `row`, which turns on one attribute.
 pub fn explain_look(
     alloc: Global,
     size: Size,
@@ -246,8 +248,8 @@ pub fn explain_look(
     Ok(())
 }
 
-/// Explains by a run that `bytes`, which a string sends for `row`, do something wrong on `terminal`, whose cells all
-/// show the character `fill`.
+/// Explains what is wrong with `bytes`, which a string sends for `row`, by running them on `terminal`. All cells of the
+/// terminal must show the character `fill`.
 pub fn explain_run(
     alloc: Global,
     row: Row,

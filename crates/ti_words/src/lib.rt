@@ -1,4 +1,4 @@
-//! Words for people: what went wrong and where, in plain words, for the further lines below a message's fixed one.
+//! Words for people: further lines below the fixed line of a message, which say plainly what went wrong and where.
 #![tactic(auto)]
 
 mod certificates;

@@ -6,8 +6,8 @@ ghost use Rattle.ti_words.specs.Starts as spec;
 use std::alloc::{AllocError, Global};
 use vt_term::{Charset, Color, Rendition, Settings, Size};
 
-/// The state `start` of a terminal of `size`, in which every cell shows the character `fill`: the cursor, and what is
-/// not as after a reset.
+/// The words for the state `start` of a terminal of `size`, in which every cell must show the character `fill`: this
+/// character, the cursor, and the settings that aren't as after a reset.
 pub fn start_words(
     alloc: Global,
     size: Size,
@@ -27,13 +27,13 @@ pub fn start_words(
     Ok(words)
 }
 
-/// Said where a wrap is pending.
+/// The words for a pending wrap.
 pub const PENDING: &[u8] = b", and the next character wraps to the next line";
 
-/// Said where the cursor can't be seen.
+/// The words for a hidden cursor.
 pub const HIDDEN: &[u8] = b", the cursor is hidden";
 
-/// Appends `more` to `words` where something `is_so`.
+/// Appends `more` to `words` if `is_so`.
 pub fn push_if(is_so: bool, more: &[u8], words: &mut Vec<u8>) -> Result<(), AllocError>
     ensures { OnOk result (words.new.items ≡ words.old.items ++ spec.if_so is_so more.now) }
 {
@@ -44,7 +44,7 @@ pub fn push_if(is_so: bool, more: &[u8], words: &mut Vec<u8>) -> Result<(), Allo
     }
 }
 
-/// Appends where the cursor is.
+/// Appends the place of the cursor.
 pub fn push_cursor(
     alloc: Global,
     settings: &Settings,
@@ -74,7 +74,7 @@ pub fn push_margins(
     words.extend_from_slice(text.as_bytes())
 }
 
-/// Appends the scrolling region, where it isn't the whole screen of `size`.
+/// Appends the scrolling region, if it isn't the whole screen of `size`.
 fn push_region(
     alloc: Global,
     size: Size,
@@ -90,7 +90,7 @@ fn push_region(
     }
 }
 
-/// Appends the `rendition`, where it isn't plain.
+/// Appends the words for `rendition`, if it isn't plain.
 fn push_look(rendition: Rendition, words: &mut Vec<u8>) -> Result<(), AllocError>
     ensures { OnOk result (words.new.items ≡ words.old.items ++ spec.look_text rendition) }
 {
@@ -101,7 +101,7 @@ fn push_look(rendition: Rendition, words: &mut Vec<u8>) -> Result<(), AllocError
     }
 }
 
-/// Appends `front` and what the `rendition` is.
+/// Appends `front` and the words for `rendition`.
 fn push_after(front: &[u8], rendition: Rendition, words: &mut Vec<u8>) -> Result<(), AllocError>
     ensures { OnOk result (words.new.items
         ≡ words.old.items ++ (front.now ++ spec.rendition_text rendition)) }
@@ -135,7 +135,8 @@ fn has_colors(rendition: Rendition) -> bool
     !(rendition.foreground.is_none() && rendition.background.is_none())
 }
 
-/// Appends the marks of `rendition` that are on, or that there are none, and colors other than the default ones.
+/// Appends the words for `rendition`: the marks that are on, or that it is plain if none is, and both colors if one
+/// isn't the default.
 #[tactic(auto, unfolding(crate::specs::Starts::rendition_text))]
 pub fn push_rendition(rendition: Rendition, words: &mut Vec<u8>) -> Result<(), AllocError>
     ensures { OnOk result (words.new.items ≡ words.old.items ++ spec.rendition_text rendition) }
@@ -160,7 +161,7 @@ fn push_marks(rendition: Rendition, words: &mut Vec<u8>) -> Result<(), AllocErro
     push_if(rendition.concealed, b" invisible", words)
 }
 
-/// Appends the colors of `rendition`, where one is not the default.
+/// Appends both colors of `rendition`, if one isn't the default.
 fn push_colors(rendition: Rendition, words: &mut Vec<u8>) -> Result<(), AllocError>
     ensures { OnOk result (words.new.items ≡ words.old.items ++ spec.colors_text rendition) }
 {
@@ -189,7 +190,7 @@ fn color_name(color: Option<Color>) -> &'static [u8]
     }
 }
 
-/// Appends which sets G0 and G1 are, and which of them is active, where that is not as after a reset.
+/// Appends the words for the sets G0 and G1 and for the active one, if they aren't as after a reset.
 fn push_sets(charset: Charset, words: &mut Vec<u8>) -> Result<(), AllocError>
     ensures { OnOk result (words.new.items
         ≡ words.old.items ++ spec.if_so (not (spec.is_reset charset)) (spec.sets_text charset)) }
@@ -201,7 +202,7 @@ fn push_sets(charset: Charset, words: &mut Vec<u8>) -> Result<(), AllocError>
     }
 }
 
-/// Appends which sets G0 and G1 are, and which of them is active.
+/// Appends the words for the sets G0 and G1 and for the active one.
 pub fn push_charset(charset: Charset, words: &mut Vec<u8>) -> Result<(), AllocError>
     ensures { OnOk result (words.new.items ≡ words.old.items ++ spec.sets_text charset) }
 {

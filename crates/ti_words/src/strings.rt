@@ -42,7 +42,7 @@ pub fn explain_token(alloc: Global, sent: &[u8], fault: TokenFault, remarks: &mu
     }
 }
 
-/// Explains where the bytes `sent` by a checked string are not whole, if they aren't.
+/// Explains why the bytes `sent` by a checked string are not whole. Adds nothing if they are.
 pub fn explain_whole(alloc: Global, sent: &[u8], remarks: &mut Remarks) -> Result<(), AllocError> {
     let fault = match tokens(alloc, sent) {
         Ok(_) => return Ok(()),
@@ -87,7 +87,7 @@ pub fn explain_parm(fault: ParmFault, remarks: &mut Remarks) {
     }
 }
 
-/// The reason why a string can't be expanded, with parameters of both kinds.
+/// The reason why a string can't be expanded, if its parameters can be numbers and texts.
 pub fn parm_words(fault: ParmFault) -> &'static [u8] {
     match fault {
         ParmFault::Underflow => b" has a code that takes a value from the empty stack",

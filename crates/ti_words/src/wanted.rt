@@ -1,4 +1,4 @@
-//! What programs want of each checked string.
+//! The results that programs want from each checked string, in words.
 
 ghost use Rattle.std.specs.Prelude.{◌≡◌, ◌++◌, IfOk, OnOk, codes};
 ghost use Rattle.std.specs.Fmt.{decimal};
@@ -9,7 +9,7 @@ use crate::starts::push_if;
 use std::alloc::{AllocError, Global};
 use ti_rows::{Attributes, Row};
 
-/// What is wanted of the string for `row`, in words.
+/// The result that programs want from the string for `row`, in words.
 pub fn wanted_words(alloc: Global, row: Row) -> Result<Vec<u8>, AllocError>
     ensures { IfOk result (λ words. words.items ≡ spec.wanted_text row) }
 {
@@ -21,7 +21,7 @@ pub fn wanted_words(alloc: Global, row: Row) -> Result<Vec<u8>, AllocError>
     Ok(words)
 }
 
-/// The line that says what is wanted of the string for `row`.
+/// The line that states the result that programs want from the string for `row`.
 pub fn wanted_line(alloc: Global, row: Row) -> Result<Vec<u8>, AllocError>
     ensures { IfOk result (λ line. line.items ≡ codes "wanted: " ++ spec.wanted_text row) }
 {
@@ -32,7 +32,7 @@ pub fn wanted_line(alloc: Global, row: Row) -> Result<Vec<u8>, AllocError>
 
 const NO_MORE: &[u8] = b", and nothing else changes";
 
-/// Appends what is wanted of a string with parameters, but for `sgr`.
+/// Appends the wanted result of a string with parameters, except for `sgr`; nothing for other rows.
 fn push_numbered(alloc: Global, row: Row, words: &mut Vec<u8>) -> Result<(), AllocError>
     ensures { OnOk result (words.new.items ≡ words.old.items ++ spec.numbered_text row) }
 {
@@ -70,7 +70,7 @@ const ERASED: &[u8] = b"the cells from the cursor on, as many as ";
 
 const ARE_BLANK: &[u8] = b" and at most to the end of its row, are blank, and nothing else changes";
 
-/// Appends the `number` between what stands in front of it and behind it.
+/// Appends `front`, `number` in decimal, and `behind`.
 fn push_number(
     alloc: Global,
     front: &[u8],
@@ -104,7 +104,7 @@ fn push_region(alloc: Global, top: u16, bottom: u16, words: &mut Vec<u8>) -> Res
     words.extend_from_slice(text.as_bytes())
 }
 
-/// What is wanted of moves, erasures and scrolling without parameters.
+/// The wanted result of moves, erasures, scrolling and the bell without parameters; empty for other rows.
 fn fixed_words(row: Row) -> &'static [u8]
     ensures { result.now ≡ spec.fixed_text row }
 {
@@ -137,7 +137,7 @@ fn fixed_words(row: Row) -> &'static [u8]
     }
 }
 
-/// Appends what is wanted of renditions and colors.
+/// Appends the wanted result of `sgr` and of renditions and colors without parameters; nothing for other rows.
 fn push_look(alloc: Global, row: Row, words: &mut Vec<u8>) -> Result<(), AllocError>
     ensures { OnOk result (words.new.items ≡ words.old.items ++ spec.look_text row) }
 {
@@ -159,7 +159,7 @@ fn push_look(alloc: Global, row: Row, words: &mut Vec<u8>) -> Result<(), AllocEr
     }
 }
 
-/// Appends what is wanted of `sgr` with these `attributes`.
+/// Appends the wanted result of `sgr` with these `attributes`.
 fn push_attributes(
     alloc: Global,
     attributes: Attributes,
@@ -171,7 +171,7 @@ fn push_attributes(
     push_listed(names.as_slice(), words)
 }
 
-/// Appends that just the attributes with these `names` are on.
+/// Appends the words that only the renditions of the attributes with these `names` are on.
 fn push_listed(names: &[u8], words: &mut Vec<u8>) -> Result<(), AllocError>
     ensures { OnOk result (words.new.items ≡ words.old.items ++ spec.listed_text names.now) }
 {
@@ -180,7 +180,7 @@ fn push_listed(names: &[u8], words: &mut Vec<u8>) -> Result<(), AllocError>
     words.extend_from_slice(b"; both colors stay or become default, and cells and cursor stay")
 }
 
-/// The names of these attributes, or that there are none.
+/// The names of `attributes`, or the word for none.
 fn names_or_none(alloc: Global, attributes: Attributes) -> Result<Vec<u8>, AllocError>
     ensures { IfOk result (λ names. names.items ≡ spec.or_none (spec.names_text attributes)) }
 {
@@ -205,7 +205,7 @@ fn push_names(attributes: Attributes, names: &mut Vec<u8>) -> Result<(), AllocEr
     push_if(attributes.invisible, b" invisible", names)
 }
 
-/// What is wanted of renditions and colors without parameters.
+/// The wanted result of renditions and colors without parameters; empty for other rows.
 fn look_words(row: Row) -> &'static [u8]
     ensures { result.now ≡ spec.fixed_look_text row }
 {
@@ -231,7 +231,8 @@ fn look_words(row: Row) -> &'static [u8]
 const AROUND: &[u8] =
     b"cells change by one erasure at most, and the scrolling region and the cursor's visibility stay";
 
-/// What is wanted of character sets, of the cursor's visibility, and of what stands around a program.
+/// The wanted result of character sets, of the cursor's visibility, and of the strings that begin and end a program's
+/// screen; empty for other rows.
 fn mode_words(row: Row) -> &'static [u8]
     ensures { result.now ≡ spec.mode_text row }
 {
