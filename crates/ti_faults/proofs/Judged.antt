@@ -1,4 +1,4 @@
--- A string judged in the place of an entry's own.
+-- A string judged in place of an entry's own.
 use Rattle.std.proofs.Common.{◌≡◌, ◌⊎◌, inl, inr, ◌<◌, ◌+◌, ℕ, zero, suc, Bool, true, false, ◌&&◌, List, [], ◌∷◌, ◌++◌, Option, Some, refl, sym, subst, ap, ◌∙◌, eq-eqb, arith}
 use Rattle.std.proofs.Math.Nat.{eq-or-lt_of_le}
 use Rattle.std.proofs.lemmas.Bool.{false≢true}
@@ -21,7 +21,7 @@ use Rattle.ti_faults.specs.Standard.{where_so}
 use Rattle.ti_faults.specs.declared.mended.Mended.{Mended}
 use Rattle.ti_faults.specs.Remedies.{SendsAllRight, SuggestionsAreRight, may_stay, IsAccepted, IsRejected, IsIfAccepted, Accepted, Rejected}
 
--- ---- what is said of a capability that no fault names
+-- ---- a capability that no fault names
 
 both_left : (a b : Bool) → (a && b) ≡ true → a ≡ true
 both_left true b h = refl
@@ -55,13 +55,13 @@ cap_stands entry rows cols (suc n) place nos p lt out all h = by_place (eq-or-lt
     by_place (inl same) earlier = of_cap entry rows cols place h.1 p out (own_all p h.0 h.1 there) (subst (λ (m : ℕ). OfCap entry rows cols m h.1) (sym same) h.4)
     by_place (inr less) earlier = earlier place h.0 p less out (front_all p h.0 h.1 there) h.3
 
--- what holds of all that is listed holds of the faults of the entry as a whole and of single rows
+-- a property of all listed faults holds of the faults of the entry as a whole and of single rows
 rest_all : (entry : Content) (rows cols : ℕ) (refusal : No) (p : No → Bool) (found nos : List No) → OfRest entry rows cols refusal found nos → list_all p nos ≡ true → list_all p found ≡ true
 rest_all entry rows cols refusal p found nos (Single some is) h = subst (λ (l : List No). list_all p l ≡ true) is h
 rest_all entry rows cols refusal p found nos (Together clashes none all is) h = ap (λ (l : List No). list_all p l) none
 rest_all entry rows cols refusal p found nos (Alone other none of_part claims is) h = ap (λ (l : List No). list_all p l) none
 
--- ---- so each row sends what is right
+-- ---- each row sends the right bytes
 
 same_Some : (a b : List ℕ) → Some a ≡ Some b → a ≡ b
 same_Some a b e = cc
@@ -93,7 +93,7 @@ all_right entry rows cols row string faults p out checked there all (Faulty f) =
     λ fault k. out fault (k.cap_is ∙ ap (λ (n : ℕ). 83 + string_in_order n) k.of_cap) in
     standing entry rows cols row string (cap_stands entry rows cols capabilities (order row) f.single p (orders_small row) of_row single f.of_single) checked there
 
--- ---- what is accepted is right
+-- ---- an accepted string is right
 
 own_out : (row : Row) (fault : No) → fault.cap ≡ cap_of row → may_stay row fault ≡ false
 own_out row fault same = rw (eq-eqb fault.cap (cap_of row) same) refl
@@ -101,7 +101,7 @@ own_out row fault same = rw (eq-eqb fault.cap (cap_of row) same) refl
 pub accepted_right : SuggestionsAreRight
 accepted_right rows cols m row string all ok = all_right m.entry rows cols row string m.left.items (may_stay row) (own_out row) ok.checked ok.there ok.may_stay all
 
--- ---- the string, where it is accepted
+-- ---- the string, if it is accepted
 
 pub if_accepted : (m : Mended) (row : Row) (string : List ℕ) (answer : Bool) (given found : Option (List ℕ)) → given ≡ Some string → found ≡ where_so answer string
     → (answer ≡ true → IsAccepted m row string) → (answer ≡ false → IsRejected m row string) → IsIfAccepted m row given found

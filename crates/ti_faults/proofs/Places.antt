@@ -1,4 +1,4 @@
--- The row of a capability, by going over all places.
+-- The row of a capability, found by trying all places.
 use Rattle.std.proofs.Common.{◌≡◌, ◌≢◌, ◌⊎◌, inl, inr, ◌<◌, ◌≤◌, ◌+◌, ℕ, Option, Some, is_some, true, sym, ap, ◌∙◌, arith}
 use Rattle.std.proofs.Math.Nat.{eq-or-lt_of_le}
 use Rattle.ti_rows.specs.declared.rows.Row.{Row}

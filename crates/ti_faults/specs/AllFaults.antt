@@ -9,24 +9,25 @@ use Rattle.ti_faults.specs.Shown.{AreShown}
 pub use Rattle.ti_faults.specs.Shown.{HasCertificate}
 use Rattle.ti_faults.specs.declared.mended.Mended.{Mended}
 
--- `smacs` and `rmacs` are right only together
+-- the other one of `smacs` and `rmacs`, which are right only together; or the capability itself, if it is neither
 abbrev pub other_of : ℕ → ℕ
 other_of cap =
     if cap == cap_of Smacs then cap_of Rmacs else (if cap == cap_of Rmacs then cap_of Smacs else cap)
 
--- A fault of the mended entry that none of these tells: of a capability that none of them is of, nor of the other one
--- of `smacs` and `rmacs`.
+-- A fault of the mended entry was hidden by the shown ones if none of them is about its capability or, for `smacs` and
+-- `rmacs`, about the other one.
 abbrev pub is_hidden : List No → No → Bool
 is_hidden shown fault = not (names shown fault.cap) && not (names shown (other_of fault.cap))
 
--- Where faults are shown, others may be hidden: those that are left once each capability that they are of is mended.
--- They are of all strings together, which are judged only where each string is right by itself: each clash of them.
+-- If faults are shown, others may be hidden: those of other capabilities that are left once each capability with a
+-- shown fault is mended. They are faults of all strings together, which are judged only if each string is right by
+-- itself.
 pub data AreHidden (entry : Content) (rows cols : ℕ) (shown hidden : List No) : Type 0 where
   NoneShown : shown ≡ [] → hidden ≡ [] → AreHidden entry rows cols shown hidden
   SomeShown : (m : Mended) → IsBestMended entry rows cols shown m
       → hidden ≡ filter (is_hidden shown) m.left.items → AreHidden entry rows cols shown hidden
 
--- so there is no fault exactly where there is a certificate
+-- all faults: those that the entry shows, and then those that these hide; none exactly if there is a certificate
 pub record AreAllFaults (entry : Content) (rows cols : ℕ) (nos : List No) : Type 0 where
   pub shown : List No
   pub are_shown : AreShown entry rows cols shown

@@ -66,6 +66,6 @@ abbrev pub candidate : Content → Choice → Row → Option (List ℕ)
 candidate entry choice row =
     if takes_second choice row then general entry row else or_other (matching entry row) (general entry row)
 
--- the string with which one at fault is mended
+-- the string with which a capability at fault is mended: the candidate, or else that of the standards
 abbrev pub stand_in : Content → Choice → Row → Option (List ℕ)
 stand_in entry choice row = or_other (candidate entry choice row) (standard row)

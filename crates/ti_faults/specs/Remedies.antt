@@ -15,7 +15,7 @@ use Rattle.ti_faults.specs.Mended.{names}
 use Rattle.ti_faults.specs.Shown.{AreShown}
 use Rattle.ti_faults.specs.declared.mended.Mended.{Mended}
 
--- `smacs` and `rmacs` are right only together
+-- the capability that is right only together with the row's, for `smacs` and `rmacs`; or else the row's own
 abbrev pub partner_of : Row → ℕ
 partner_of Smacs = cap_of Rmacs
 partner_of Rmacs = cap_of Smacs
@@ -38,7 +38,7 @@ pub data IsRejected (m : Mended) (row : Row) (string : List ℕ) : Type 0 where
   AtFault : list_all (may_stay row) m.left.items ≡ false → IsRejected m row string
   NotThere : (string_of m.entry row ≡ Some string → ⊥) → IsRejected m row string
 
--- the string, if there is one, exactly if it is accepted
+-- the string that is found: the given one, if there is one and it is accepted; else none
 pub data IsIfAccepted (m : Mended) (row : Row) : Option (List ℕ) → Option (List ℕ) → Type 0 where
   Accepted : (string : List ℕ) (given found : Option (List ℕ)) → given ≡ Some string → found ≡ Some string
       → IsAccepted m row string → IsIfAccepted m row given found
@@ -46,7 +46,7 @@ pub data IsIfAccepted (m : Mended) (row : Row) : Option (List ℕ) → Option (L
       → IsRejected m row string → IsIfAccepted m row given found
   NoString : (given found : Option (List ℕ)) → given ≡ None → found ≡ None → IsIfAccepted m row given found
 
--- the suggestion for a capability: the string with which it was mended, or nothing if it isn't a checked one
+-- the suggestion for a capability: the candidate, if it is accepted; none if the capability isn't a checked one
 pub data IsSuggestion (entry : Content) (m : Mended) (cap : ℕ) (found : Option (List ℕ)) : Type 0 where
   OfChecked : (row : Row) → cap_of row ≡ cap → IsIfAccepted m row (candidate entry m.choice row) found
       → IsSuggestion entry m cap found
@@ -57,7 +57,8 @@ abbrev pub SendsAllRight : ℕ → ℕ → List ℕ → ℕ → Type 0
 SendsAllRight rows cols string place =
     (row : Row) → IsInRange rows cols row → order row ≡ place → (looks : Looks) × SendsRight rows cols looks string row
 
--- an accepted string does so, if the faults that are left are those that the mended entry shows
+-- each row of a capability with an accepted string is right, if the faults that are left are those that the mended
+-- entry shows
 abbrev pub SuggestionsAreRight : Type 0
 SuggestionsAreRight =
     (rows cols : ℕ) (m : Mended) (row : Row) (string : List ℕ) → AreShown m.entry rows cols m.left.items

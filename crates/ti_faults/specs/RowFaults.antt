@@ -16,7 +16,7 @@ abbrev pub CapStands : Content → ℕ → ℕ → ℕ → Type 0
 CapStands entry rows cols place =
     (row : Row) → IsInRange rows cols row → order row ≡ place → RowStands entry rows cols row
 
--- one of its rows is at fault, and it is the first: those before it stand
+-- the refusal names a row of the capability that is at fault, and the capability's rows before it stand
 pub record IsCapFault (entry : Content) (rows cols place : ℕ) (refusal : No) : Type 0 where
   pub row : Row
   pub of_cap : order row ≡ place

@@ -11,20 +11,21 @@ use Rattle.ti_faults.specs.Lacks.{Lacks}
 use Rattle.ti_faults.specs.RowFaults.{OfCaps}
 use Rattle.ti_rows.specs.Names.{capabilities}
 
--- these, or this one where there are none
+-- these refusals, or `refusal` alone if there are none
 abbrev pub or_one : List No → No → List No
 or_one [] refusal = refusal ∷ []
 or_one (first ∷ nos) refusal = first ∷ nos
 
--- there is a certificate of the entry, which conforms
+-- the entry conforms, and has a certificate
 pub record HasCertificate (entry : Content) (rows cols : ℕ) : Type 0 where
   pub conforms : Conforms entry rows cols
   pub text : List ℕ
   pub certificate : IsCertificateOf entry rows cols text
 
--- What is listed where the no of `check` is `refusal`, and these are the faults of the entry as a whole and of single
--- rows. Where there are such faults, they are. Where there is none, all strings are judged together, and each clash is
--- listed. A no stands alone where the entry can't be judged so: each row stands, but the certificate would be too long.
+-- The listed faults of an entry with the refusal `refusal` by `check`, where `found` has the faults of the entry as a
+-- whole and of single rows. If `found` has any, they are listed. If it has none, all strings are judged together, and
+-- each clash is listed. The refusal is listed alone if the entry can't be judged so: each row stands, but the
+-- certificate would be too long.
 pub data OfRest (entry : Content) (rows cols : ℕ) (refusal : No) (found nos : List No) : Type 0 where
   Single : found ≢ [] → nos ≡ found → OfRest entry rows cols refusal found nos
   Together : (clashes : List No) → found ≡ [] → AreClashes entry rows cols clashes → nos ≡ or_one clashes refusal
@@ -32,8 +33,8 @@ pub data OfRest (entry : Content) (rows cols : ℕ) (refusal : No) (found nos : 
   Alone : (other : No) → found ≡ [] → IsOfPart entry rows cols other → other.cause ≢ NoMemory → nos ≡ refusal ∷ []
       → OfRest entry rows cols refusal found nos
 
--- There is none, as the no of `check` says. What the entry as a whole is at fault for comes first, then the first
--- faulty row of each checked capability; where there is neither, what is wrong with all strings together.
+-- The faults of an entry that gets a refusal of `check`, other than for memory: first those of the entry as a whole,
+-- then the first faulty row of each checked capability; or, if there are none of these, the clashes of all strings.
 pub record AreFaults (entry : Content) (rows cols : ℕ) (nos : List No) : Type 0 where
   pub refusal : No
   pub refused : IsNo entry rows cols refusal
@@ -44,7 +45,7 @@ pub record AreFaults (entry : Content) (rows cols : ℕ) (nos : List No) : Type 
   pub of_single : OfCaps entry rows cols capabilities single
   pub are : OfRest entry rows cols refusal (whole ++ single) nos
 
--- no fault exactly where there is a certificate
+-- the faults that the entry shows as it is: none exactly if there is a certificate
 pub data AreShown (entry : Content) (rows cols : ℕ) (nos : List No) : Type 0 where
   NoFault : nos ≡ [] → HasCertificate entry rows cols → AreShown entry rows cols nos
   Faulty : AreFaults entry rows cols nos → AreShown entry rows cols nos

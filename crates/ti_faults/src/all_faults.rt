@@ -11,7 +11,7 @@ use ti_checker::No;
 use ti_rows::Row;
 use vt_term::Size;
 
-/// The other one of `smacs` and `rmacs`, or the capability itself.
+/// The other one of `smacs` and `rmacs` if `cap` is one of them, else `cap` itself.
 fn other_of(cap: Cap) -> Cap
     ensures { result ≡ spec.other_of cap }
 {
@@ -24,14 +24,15 @@ fn other_of(cap: Cap) -> Cap
     }
 }
 
-/// Whether a fault that is left where the others are mended was hidden by them.
+/// Whether the fault `no`, which is left once the faults `shown` are mended, was hidden by them: none of them is about
+/// its capability or, for `smacs` and `rmacs`, about the other one.
 fn is_hidden(shown: &[No], no: &No) -> bool
     ensures { result ≡ spec.is_hidden shown.now no.now }
 {
     !names(shown, no.cap) && !names(shown, other_of(no.cap))
 }
 
-/// Those of the faults `left` that the faults `shown` hid.
+/// The faults of `left` that the faults `shown` hid.
 fn only_hidden(alloc: Global, left: Vec<No>, shown: &[No]) -> Result<Vec<No>, AllocError>
     ensures { IfOk result (λ hidden. hidden.items ≡ filter (spec.is_hidden shown.now) left.items) }
 {
@@ -40,7 +41,7 @@ fn only_hidden(alloc: Global, left: Vec<No>, shown: &[No]) -> Result<Vec<No>, Al
         .collect(alloc)
 }
 
-/// The faults of all strings together that the faults `shown` of an entry hide.
+/// The faults of all strings together that the faults `shown` of `entry` hide. Fails if memory runs out.
 fn hidden_faults(
     alloc: Global,
     entry: &Entry,
@@ -56,12 +57,12 @@ fn hidden_faults(
     only_hidden(alloc, mended.left, shown)
 }
 
-/// All faults of an entry for a size, as `check` names them: each of `xmc`, `hc`, `gn` and `os` that it has, each of
-/// `clear`, `cup` and `sgr0` that it lacks, an `acsc` with a partner that can't be printed; then, for each checked
-/// capability with a faulty row, the first such row, in the order of a certificate's lines; then all that is wrong with
-/// all strings together once these are mended, of `smacs`, `rmacs`, `acsc` and `clear` a no each. Where there is none
-/// of these, but no certificate either, it is the no of `check` about the certificate's length. There are none exactly
-/// where `check` gives a certificate.
+/// All faults of `entry` for `size`, as `check` names them. First come each of `xmc`, `hc`, `gn` and `os` that it has,
+/// each of `clear`, `cup` and `sgr0` that it lacks, and an `acsc` with a partner that can't be printed; then, for each
+/// checked capability with a faulty row, the first such row, in the order of a certificate's lines; then the clashes of
+/// all strings once these are mended, one refusal each about `smacs`, `rmacs`, `acsc` and `clear`. If there are none of
+/// these, but no certificate either, the only fault is the refusal of `check` about the certificate's length. There are
+/// no faults exactly if `check` gives a certificate.
 ///
 /// # Errors
 /// Out of memory.

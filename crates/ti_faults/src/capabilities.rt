@@ -7,7 +7,7 @@ ghost use Rattle.ti_rows.specs.declared.rows.Row as rows;
 use ti_caps::Cap;
 use ti_rows::{CAPABILITIES, Row};
 
-/// The first parameter list of the capability at this place in the order of names.
+/// The first row of the capability at `place` in the order of names.
 #[tactic(auto, using(crate::proofs::Places::has_first, crate::proofs::Places::first_order))]
 fn first_row(place: usize) -> Row
     requires { place < capabilities }
@@ -16,7 +16,7 @@ fn first_row(place: usize) -> Row
     Row::first(place).unwrap()
 }
 
-/// The first parameter list of a capability, if it is a checked one.
+/// The first row of `cap`, if it is a checked capability.
 pub fn row_of(cap: Cap) -> Option<Row>
     ensures found { IfSome result (λ row. cap_of row ≡ cap) }
     ensures none { IfNone result ((row : rows.Row) → cap_of row ≢ cap) }

@@ -7,8 +7,8 @@ use crate::mended::names;
 use ti_checker::No;
 use ti_rows::Row;
 
-/// Whether an entry with these faults seems to be for a terminal of another kind: both its `clear` and its `cup` are
-/// among the capabilities at fault. Then the standards' strings are no remedies.
+/// Whether an entry with these `faults` seems to be for a terminal of another kind: both its `clear` and its `cup` are
+/// among the capabilities at fault. The standards' strings are no remedies then.
 pub fn is_of_another_kind(faults: &[No]) -> bool
     ensures { result ≡ spec.is_of_another_kind faults.now }
 {

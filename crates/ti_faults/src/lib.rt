@@ -1,5 +1,5 @@
-//! All faults of an entry at once: what it lacks as a whole, the first faulty row of each checked capability, and the
-//! faults of all strings together once these are mended. The mended entry has the standards' strings.
+//! All faults of an entry at once: those of the entry as a whole, the first faulty row of each checked capability, and
+//! the clashes of all strings once these are mended; and the strings that would be right in place of those at fault.
 #![tactic(auto)]
 
 mod all_faults;

@@ -19,7 +19,7 @@ use ti_conforms::acsc;
 use ti_rows::Row;
 use vt_term::Size;
 
-/// An entry with a string of the standards in place of each one at fault, and the faults that are left then.
+/// An entry in which each capability at fault is mended, and the faults that are left then.
 #[derive(Drop)]
 pub struct Mended {
     /// The mended entry.

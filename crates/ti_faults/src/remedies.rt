@@ -90,8 +90,9 @@ fn accepted(mended: &Mended, row: Row, string: Option<&'static [u8]>) -> Option<
 }
 
 /// The string that is suggested for `cap`, one of the capabilities at fault in `entry`, from which `mended` was made:
-/// the string with which it was mended, if no fault that is left there speaks against it. So all suggestions by one
-/// mended entry are right together. `None` if a fault speaks against the string, or if no standard has one.
+/// the candidate for it, if the mended entry has that string and no fault that is left there speaks against it. So all
+/// suggestions by one mended entry are right together. `None` otherwise, also if there is no candidate, or if `cap`
+/// isn't a checked capability.
 pub fn suggestion(entry: &Entry, mended: &Mended, cap: Cap) -> Option<&'static [u8]>
     ensures found { spec.IsSuggestion entry.now mended.now cap (option_copied result) }
     ensures fits { IfSome result (λ bytes. IsTrue (string_fits bytes.now)) }

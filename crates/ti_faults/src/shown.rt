@@ -12,7 +12,7 @@ use ti_caps::Entry;
 use ti_checker::{Cause, No, check, clashes};
 use vt_term::Size;
 
-/// The noes, or `refusal` where there are none.
+/// The refusals `nos`, or `refusal` alone if there are none.
 fn or_one(nos: Vec<No>, refusal: No) -> Result<Vec<No>, AllocError>
     ensures { IfOk result (λ found. found.items ≡ spec.or_one nos.items refusal) }
 {
@@ -23,8 +23,8 @@ fn or_one(nos: Vec<No>, refusal: No) -> Result<Vec<No>, AllocError>
     Ok(nos)
 }
 
-/// What is wrong with all strings of an entry together, of which neither the whole nor a single row is at fault, and
-/// which gets the no `refusal` of `check`.
+/// The clashes of all strings of `entry`, or `refusal`, which is its refusal by `check`, if there are none. Neither the
+/// entry as a whole nor one of its rows must be at fault.
 fn clashes_or_one(
     alloc: Global,
     entry: &Entry,
@@ -42,7 +42,7 @@ fn clashes_or_one(
     }
 }
 
-/// All faults of an entry that gets the no `refusal` of `check`.
+/// The faults that `entry` shows as it is. `refusal` must be its refusal by `check`, other than for memory.
 fn faults_beside(
     alloc: Global,
     entry: &Entry,
@@ -61,11 +61,11 @@ fn faults_beside(
     Ok(nos)
 }
 
-/// The faults that an entry shows for a size, as `check` names them: each of `xmc`, `hc`, `gn` and `os` that it has,
-/// each of `clear`, `cup` and `sgr0` that it lacks, an `acsc` with a partner that can't be printed; then, for each
-/// checked capability with a faulty row, the first such row, in the order of a certificate's lines. Where there is none
-/// of these, but no certificate either, they are all that is wrong with all strings together, or the no of `check`
-/// about the certificate's length. There are none exactly where `check` gives a certificate.
+/// The faults that `entry` shows for `size`, as `check` names them. First come each of `xmc`, `hc`, `gn` and `os` that
+/// it has, each of `clear`, `cup` and `sgr0` that it lacks, and an `acsc` with a partner that can't be printed; then,
+/// for each checked capability with a faulty row, the first such row, in the order of a certificate's lines. If there
+/// are none of these, but no certificate either, the faults are the clashes of all strings, or the refusal of `check`
+/// about the certificate's length. There are no faults exactly if `check` gives a certificate.
 ///
 /// # Errors
 /// Out of memory.
