@@ -17,7 +17,7 @@ use Rattle.ti_surveys.specs.declared.asked.Asked.{Asked}
 use Rattle.ti_words.specs.Shown.{shown}
 use Rattle.ti_verdicts.specs.FaultAnswers.{fault_answer}
 
--- the line of a name and the words about it, as far as they can be shown
+-- the line of a name and the words about it, in which each byte that can't be printed is in octal
 abbrev pub line_of : List ℕ → List ℕ → List ℕ
 line_of name words = shown (name ++ words) ++ 10 ∷ []
 
@@ -25,13 +25,13 @@ line_of name words = shown (name ++ words) ++ 10 ∷ []
 abbrev pub one_line : List ℕ → List ℕ → Answer → Told
 one_line name words answer = record { lines = line_of name words; places = []; answers = answer ∷ [] }
 
--- there is a certificate
+-- there is a certificate, and the line says so
 pub record HasYes (Certifies : List ℕ → Type 0) (name : List ℕ) (told : Told) : Type 0 where
   pub text : List ℕ
   pub certified : Certifies text
   pub says : told ≡ one_line name (codes " yes") answers.Yes
 
--- there is a refusal, which claims something
+-- there is a refusal, other than for memory, and the line names it
 pub record HasNo (Refuses : No → Type 0) (name : List ℕ) (told : Told) : Type 0 where
   pub refusal : No
   pub refused : Refuses refusal

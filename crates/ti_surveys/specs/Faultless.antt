@@ -9,7 +9,7 @@ use Rattle.ti_source.specs.declared.types.RawEntry.{RawEntry}
 use Rattle.ti_source.specs.declared.types.SourceFault.{SourceFault}
 use Rattle.ti_surveys.specs.Lines.{ResolvesApart}
 
--- these are the entries, and each is resolved as in the whole text
+-- the entries are those of the whole text, and each is resolved as in the whole text
 pub record AreOfWhole (raws whole : List RawEntry) (faults : List (Option SourceFault)) : Type 0 where
   pub same : raws ≡ whole
   pub resolved : (place : ℕ) (entry : Result Content CommandRefusal) → ResolvesApart raws faults place entry

@@ -69,31 +69,31 @@ pub record IsFilePart (Says : Saying) (Refuses : Refusing) (path : List ℕ) (pa
 
 -- ---- a file
 
--- a file that begins as a compiled one does
+-- whether the file begins as a compiled one does
 abbrev pub is_compiled : List ℕ → Bool
 is_compiled (first ∷ second ∷ rest) = ((first == 0x1a) && (second == 0x01)) || ((first == 0x1e) && (second == 0x02))
 is_compiled _ = false
 
--- the entry of a compiled file
+-- the statement about a compiled file that has an entry
 pub record HasEntry (Says : Saying) (Refuses : Refusing) (path bytes : List ℕ) (said : Told) : Type 0 where
   pub packed : Content
   pub reads : read_of bytes ≡ Ok packed
   pub told : IsFilePart Says Refuses path packed said
 
--- the compiled file has a fault
+-- the statement about a compiled file that has a fault
 pub record IsFaultyFile (Refuses : Refusing) (path bytes : List ℕ) (said : Told) : Type 0 where
   pub fault : PackFault
   pub faulty : read_of bytes ≡ Err fault
   pub told : IsLack Refuses (Pack fault) path None said
 
--- the entries of a source text, each read by itself
+-- the statements about the entries of a source text, each read by itself
 pub record HasEntries (Says : Saying) (Refuses : Refusing) (path bytes : List ℕ) (said : Told) : Type 0 where
   pub raws : List RawEntry
   pub faults : List (Option SourceFault)
   pub reads : IsApart bytes raws faults
   pub each : IsToldOfEach (IsSourcePart Says Refuses path bytes raws faults) (range_with_len 0 (length raws)) said
 
--- the source text is too long, or has a fault before its first entry
+-- the statement about a source text that is too long, or has a fault before its first entry
 pub record LacksEntries (Refuses : Refusing) (path bytes : List ℕ) (said : Told) : Type 0 where
   pub fault : SourceFault
   pub faulty : FailsBy fault.kind fault (apart_of bytes)

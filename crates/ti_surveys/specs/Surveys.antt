@@ -26,13 +26,13 @@ HasLines Are held path told = HasBytes (held path) longest_file (λ bytes. Are p
 abbrev pub MayHaveLines : OfFile → Held → List ℕ → Told → Type 0
 MayHaveLines Are held path told = HasLines Are held path told ⊎ (told ≡ nothing)
 
--- (Serves the code alone.) a path has its statement, or can't be read, as the failure says
+-- (Serves the code alone.) The path has its statements; or it can't be read, and the failure says so.
 abbrev pub EndsPath : OfFile → Held → List ℕ → Told → Option Failure → Type 0
 EndsPath Are held path told None = HasLines Are held path told
 EndsPath Are held path told (Some failure) = (told ≡ nothing) × IsFileFailure path failure
 
--- The failure is that of the first path that can't be read. Each path before it has its lines, and each behind it has
--- its lines or none.
+-- The failure is that of the first path that can't be read. Each path before it has its lines, and each path after it
+-- has its lines or none.
 pub record Misses (Are : OfFile) (held : Held) (paths : List (List ℕ)) (told : Told) (failure : Failure) : Type 0 where
   pub front : List (List ℕ)
   pub path : List ℕ
@@ -45,7 +45,7 @@ pub record Misses (Are : OfFile) (held : Held) (paths : List (List ℕ)) (told :
   pub after : IsToldOfEach (MayHaveLines Are held) behind later
   pub says : told ≡ followed_by first later
 
--- each path has its lines; or one can't be read
+-- each path has its lines; or some path can't be read, and the failure is that of the first one
 abbrev pub EndsPaths : OfFile → Held → List (List ℕ) → Told → Option Failure → Type 0
 EndsPaths Are held paths told None = IsToldOfEach (HasLines Are held) paths told
 EndsPaths Are held paths told (Some failure) = Misses Are held paths told failure

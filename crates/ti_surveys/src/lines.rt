@@ -57,7 +57,7 @@ fn name_or<'a>(name: Option<&'a [u8]>, path: &'a str) -> &'a [u8]
     }
 }
 
-/// The line of `name`, with the `words` about it, as far as they can be shown.
+/// The line of `name`, with the `words` about it. Each byte outside 32 to 126 is in octal.
 fn line(alloc: Global, name: &[u8], words: &[u8]) -> Result<Vec<u8>, AllocError>
     ensures { IfOk result (λ line. line.items ≡ spec.line_of name.now words.now) }
 {
@@ -86,7 +86,7 @@ fn words_of(alloc: Global, no: &No) -> Result<Vec<u8>, AllocError>
     Ok(words)
 }
 
-/// The words for an entry or a file that can't be read, with `why`.
+/// The words for an entry or a file that can't be read, with the reason `why`.
 fn refused(alloc: Global, why: &[u8]) -> Result<Vec<u8>, AllocError>
     ensures { IfOk result (λ words. words.items ≡ spec.refusal_text why.now) }
 {
@@ -205,7 +205,7 @@ fn no_line(alloc: Global, name: &[u8], no: &No) -> Result<Said, AllocError>
     one_line(alloc, name, words.as_slice(), Answer::No(no.cause))
 }
 
-/// The line of `name`, whose entry or file can't be read, with `why`.
+/// The line of `name`, whose entry or file can't be read, with the reason `why`.
 fn refused_line(alloc: Global, name: &[u8], why: &[u8]) -> Result<Said, AllocError>
     ensures { IfOk result (λ said. told_of said
         ≡ spec.one_line name.now (spec.refusal_text why.now) Answer.Refused) }

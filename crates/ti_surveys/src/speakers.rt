@@ -34,14 +34,14 @@ pub trait Speaker {
     /// Whether hints about the fields of a source text are wanted beside its statements.
     fn hints(&self) -> bool;
 
-    /// Its statement about the entry that was `found`.
+    /// Its statement about the entry that was `found`, whose place in a source must be one of the source's entries.
     fn say(&self, alloc: Global, found: &FileEntry<'_>) -> Result<Said, AllocError>
         requires { IfSome found.now.stands.now (λ there. there.place < length there.raws.now) }
         ensures { IfOk result (λ said. says self.now found.now.path.now (place_if found.now.stands.now)
             found.now.name.now found.now.entry.now (told_of said)) };
 
     /// Its statement that the file at `path` has an entry of this `name` that can't be read, or no entries if there is
-    /// no name, with `why`.
+    /// no name, with the reason `why`.
     fn refuse(
         &self,
         alloc: Global,

@@ -27,11 +27,11 @@ pub struct Surveyed {
     pub failure: Option<Failure>,
 }
 
-/// Says for each entry of each file that the `words` name whether the `certifier` writes a certificate, or why not, or
-/// lists all faults of each, as the `words` ask for; and counts the answers. An entry that can't be read has its line
-/// too. For each listed fault of a source's entry, the reply's notes give the place of its value. If a file can't be
-/// read, the reply fails as the first such file does, and the others are surveyed all the same. The `watcher` sees how
-/// far the survey has come.
+/// Surveys the files that the `words` name. For each entry of each file the reply says whether the `certifier` writes a
+/// certificate, or why not; or it lists all faults of the entry, if the `words` ask for them. An entry that can't be
+/// read has its line too, and the last line counts the answers. For each listed fault of a source's entry, the reply's
+/// notes give the place of its value. If a file can't be read, the reply has the failure of the first such file, and
+/// the others are surveyed all the same. The `watcher` receives reports of how far the survey has come.
 ///
 /// # Errors
 /// The reason why the words give no size; out of memory.
@@ -78,8 +78,8 @@ pub fn survey_files<C: Certifier, F: Files, W: Watcher + Drop>(
 }
 
 /// The statements of the `speaker` about each entry of each file of `paths`, one after another. The failure is that of
-/// the first file that can't be read; the others are surveyed all the same. The `watcher` sees how far the survey has
-/// come.
+/// the first file that can't be read; the others are surveyed all the same. The `watcher` receives reports of how far
+/// the survey has come.
 pub fn survey_paths<S: Speaker, F: Files, W: Watcher + Drop>(
     alloc: Global,
     speaker: &S,
