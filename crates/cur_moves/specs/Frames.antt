@@ -28,8 +28,9 @@ abbrev pub IsThere : ℕ → Option Place → Screen → Type 0
 IsThere cols None s = Unit {0}
 IsThere cols (Some p) s = IsHere cols p s.row s.col s.pending
 
--- a state that is ready except for its margins, which are these, with these cells on the screen; the brush is the plain
--- one, and the sets and the cursor's mode agree with the belief
+-- A state that is ready (`IsReady`), except that its margins are those of the frame. It has the frame's cells, and its
+-- cursor is at the frame's place, if that is known. The brush is the plain one, and the active set and the cursor's
+-- visibility agree with the belief.
 pub record Framed (t : Table) (f : Frame) (b : Belief) (s : State) : Type 0 where
   pub sized : IsOfSize t.rows t.cols s
   pub rest : s.rest ≡ []
@@ -44,26 +45,28 @@ pub record Framed (t : Table) (f : Frame) (b : Belief) (s : State) : Type 0 wher
   pub set : IsSo b.graphic (is_graphic s.screen.charset)
   pub seen : IsSeen b.mode s.screen.visible
 
--- a row's line leads from the one frame to the other
+-- each state of the frame `f` is a start of the row, and the row's line leads from it to a state of the frame `h`
 pub record Reframes (t : Table) (row : Row) (f h : Frame) (b : Belief) : Type 0 where
   pub starts : (s : State) → Framed t f b s → Starts t.rows t.cols row s.screen
   pub ends : (s u : State) → Framed t f b s → IsOfSize t.rows t.cols u → u.rest ≡ []
       → Ended t row s.screen u.screen → Framed t h b u
 
--- a step from one frame to the other, which sends at most limit bytes
+-- A step from a terminal of the frame `f` to one of the frame `h`. It sends only bytes that paint, at most `limit` of
+-- them.
 abbrev pub Moves : {W T E : Type 0} → (W → W → List ℕ → Type 0) → (W → ℕ) → W → W → Result T E → Table → ℕ
     → Frame → Frame → Belief → Type 0
 Moves went failures before after answer t limit f h b =
     Steps went failures before after answer (IsPaint t) limit (IsLost t) (Framed t f b) (Framed t h b)
 
--- these margins, with the cursor in the first column of this line
+-- these margins and cells, with the cursor in the first column of this line
 abbrev pub framed : ℕ → ℕ → (ℕ → ℕ → Ink) → ℕ → Frame
 framed top bottom g row = record { top = top; bottom = bottom; cells = g; place = Some (record { row = row; col = 0 }) }
 
--- a scroll's margins, with the cursor at the edge from which the region scrolls
+-- a scroll's margins and these cells, with the cursor in the first column of the edge: the line in which it makes the
+-- region scroll
 abbrev pub at_edge : Scroll → (ℕ → ℕ → Ink) → Frame
 at_edge x g = framed x.top x.bottom g (edge x)
 
--- the whole screen, with the cursor in this line
+-- the whole screen as margins and these cells, with the cursor in the first column of this line
 abbrev pub whole : Table → (ℕ → ℕ → Ink) → ℕ → Frame
 whole t g row = framed 0 (t.rows - 1) g row
