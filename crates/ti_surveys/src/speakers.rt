@@ -34,7 +34,8 @@ pub trait Speaker {
     /// Whether hints about the fields of a source text are wanted beside its statements.
     fn hints(&self) -> bool;
 
-    /// Its statement about the entry that was `found`, whose place in a source must be one of the source's entries.
+    /// Its statement about the entry that was `found`. If that is the entry of a source, its place must be one of those
+    /// of the source's entries.
     fn say(&self, alloc: Global, found: &FileEntry<'_>) -> Result<Said, AllocError>
         requires { IfSome found.now.stands.now (λ there. there.place < length there.raws.now) }
         ensures { IfOk result (λ said. says self.now found.now.path.now (place_if found.now.stands.now)
