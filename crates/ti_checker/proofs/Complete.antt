@@ -46,7 +46,7 @@ one_end e w s cells place rendition sets seen =
     ∙ (ap (λ (b : ℕ). built s y.grid y.row y.col y.pending y.rendition y.charset y.top b x.visible) place.bottom
     ∙ ap (λ (v : Bool). built s y.grid y.row y.col y.pending y.rendition y.charset y.top y.bottom v) seen)))))))
 
--- so one is wanted if the other is
+-- the end of an effect is wanted if it equals the one that is asked for
 wanted_by : (rows cols : ℕ) (looks : Looks) (row : Row) (e f : Effect) (s : Screen) → Starts rows cols row s → applied e s ≡ applied (asked looks row f) s → Wants looks row s (applied e s)
 wanted_by rows cols looks row e f s starts same = subst (λ (t : Screen). Wants looks row s t) (sym same) (end_wanted rows cols looks row f s starts)
 

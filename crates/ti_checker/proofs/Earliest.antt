@@ -1,4 +1,4 @@
--- The rows before the one that is refused stand, and their lines are written.
+-- The rows before a refused one stand, and their lines are written.
 use Rattle.std.proofs.Common.{◌≡◌, ◌⊎◌, inl, inr, ◌<◌, ◌≤◌, ◌+◌, ℕ, true, false, List, [], ◌∷◌, ◌++◌, length, None, Some, refl, sym, ap, subst, ◌∙◌, arith}
 use Rattle.std.proofs.Math.Nat.{eq-or-lt_of_le}
 use Rattle.std.proofs.lemmas.Bool.{false≢true}
@@ -69,7 +69,7 @@ lines_end entry rows cols row lines line a is e = record {
     all other range checked (inl k) = record { line = line; among = among_behind lines (line ∷ []) line (inl refl); of_row = e ∙ sym k }
     all other range checked (inr p) = let h = a.all other range checked p in record { line = h.line; among = among_front lines (line ∷ []) h.line h.among; of_row = h.of_row }
 
--- the text of those before, and with one more
+-- the text of the lines before, with one more line
 added_is : (entry : Content) (rows cols : ℕ) (lines : List RowLine) (string : List ℕ) (row : Row) (old new : List ℕ) (a : AddsLine rows cols string row old new) → old ≡ front_with entry rows cols lines
     → new ≡ front_with entry rows cols (lines ++ a.line ∷ [])
 added_is entry rows cols lines string row old new a e =
@@ -120,7 +120,7 @@ drafted_as entry rows cols P Q text over back d = record {
   };
 }
 
--- before a capability's first row
+-- the rows drafted before a capability's first row
 pub before_first : (entry : Content) (rows cols : ℕ) (first : Row) (text : List ℕ) → IsFirst rows cols first → IsDrafted entry rows cols (λ row. order row < order first) text → IsDrafted entry rows cols (IsBefore rows cols first) text
 before_first entry rows cols first text is d = drafted_as entry rows cols (λ row. order row < order first) (IsBefore rows cols first) text (λ row range lt. inl lt) back d
   where
@@ -128,7 +128,7 @@ before_first entry rows cols first text is d = drafted_as entry rows cols (λ ro
     back row range checked (inl lt) = lt
     back row range checked (inr same) = let zero = is.rank_zero in let lt = same.1 in absurd (omega (arith, zero, lt))
 
--- before the next one
+-- the rows drafted before the next row
 pub before_next : (entry : Content) (rows cols : ℕ) (row other : Row) (text : List ℕ) → IsInRange rows cols row → Follows rows cols row other → IsDrafted entry rows cols (IsUpTo rows cols row) text
     → IsDrafted entry rows cols (IsBefore rows cols other) text
 before_next entry rows cols row other text range f d = drafted_as entry rows cols (IsUpTo rows cols row) (IsBefore rows cols other) text over back d
@@ -148,7 +148,7 @@ before_next entry rows cols row other text range f d = drafted_as entry rows col
 
 -- ---- a capability whose rows are all done
 
--- after its last row
+-- the rows drafted after a capability's last row
 pub after_last : (entry : Content) (rows cols n : ℕ) (row : Row) (text : List ℕ) → IsSize rows cols → IsInRange rows cols row → order row ≡ n → next rows cols row ≡ None → IsDrafted entry rows cols (IsUpTo rows cols row) text
     → IsDrafted entry rows cols (λ one. order one < n + 1) text
 after_last entry rows cols n row text size range same last d = drafted_as entry rows cols (IsUpTo rows cols row) (λ one. order one < n + 1) text over back d

@@ -120,7 +120,7 @@ bound_by margins.OnTop rows least greatest a d s two size region on has lo hi sp
 
 -- ---- the place of a wanted end
 
--- from a probe the effect ends where the one that is asked for does
+-- from a probe two effects leave the same place of the cursor, the same pending wrap and the same margins
 record EndsThere (e w : Effect) (p : Probe) : Type 0 where
   row : moved e.row p.row ≡ moved w.row p.row
   col : moved e.col p.col ≡ moved w.col p.col

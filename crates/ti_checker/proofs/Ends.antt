@@ -9,7 +9,7 @@ use Rattle.ti_rows.proofs.StartFacts.{never}
 use Rattle.ti_checker.specs.Breakage.{has_choice, is_free, wanted_end, with_defaults, without_defaults}
 use Rattle.ti_checker.specs.Trials.{IsEnd, Only, WithDefaults, WithoutDefaults}
 
--- rows whose rendition no look decides
+-- the rows whose rendition doesn't depend on looks
 abbrev pub is_fixed : Row → Bool
 is_fixed (Sgr a) = false
 is_fixed Smso = false

@@ -31,7 +31,7 @@ use Rattle.ti_checker.proofs.OneChange.{IsAtMargin, IsOneChange, one_change}
 use Rattle.ti_checker.proofs.OneGrid.{Agree, Corners, IsOne, SameCells, same_grid, none_cells, screen_cells, tail_cells, head_cells, rest_cells, next_cells, up_cells, down_cells}
 use Rattle.ti_checker.proofs.ProbeStarts.{probe_starts}
 
--- ---- what a probe that shows nothing says of the cells
+-- ---- the cells, if a probe shows nothing wrong
 
 abbrev AgreesAt : ℕ → ℕ → Looks → Row → Effect → Probe → Type 0
 AgreesAt rows cols taught row e p = Agree rows cols e.erasure e.scroll (asked taught row e).erasure (asked taught row e).scroll p.top p.bottom p.row p.col
@@ -50,7 +50,7 @@ one : (rows cols : ℕ) (row : Row) (e : Effect) → IsOneChange rows (start_of 
 one rows cols row e (inl h) = inl h
 one rows cols row e (inr h) = inr h.0
 
--- from all places nothing scrolls
+-- a row whose starts have any place isn't at a margin, so it doesn't scroll
 no_margin : (rows cols : ℕ) → 2 ≤ rows → IsAtMargin rows (start_of rows cols Smcup) → ⊥
 no_margin rows cols two (inl h) = true≢false (sym h ∙ lt-leb rows 1 (omega (arith, two)))
 no_margin rows cols two (inr h) = true≢false (sym h ∙ ne_eqb (rows - 1) 0 (λ e. omega (arith, two, e)))

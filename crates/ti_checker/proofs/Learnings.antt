@@ -1,4 +1,4 @@
--- How attributes look by the lines before a row is what the rows of its string before it teach.
+-- Attributes look by the lines before a row as the rows of its string before it teach.
 use Rattle.std.proofs.Common.{◌≡◌, ℕ, Bool, true, false, not, if◌then◌else◌, List, [], ◌∷◌, Some, inl, inr, refl, sym, ap, subst, ◌∙◌, arith}
 use Rattle.std.proofs.lemmas.Bool.{true≢false, and_parts, cases_Bool}
 use Rattle.std.proofs.lemmas.Option.{same_Some}
@@ -29,7 +29,7 @@ use Rattle.ti_checker.specs.Taught.{IsAskedOf, IsTaught, AtFirst, After}
 use Rattle.ti_checker.proofs.Doubts.{same_effect}
 use Rattle.ti_checker.proofs.Walks.{same_string}
 
--- each line comes after those behind it in the list
+-- each line comes after those that follow it in the list, so the latest is first
 abbrev pub Falls : ℕ → ℕ → List RowLine → Type 0
 Falls rows cols [] = Unit {0}
 Falls rows cols (line ∷ lines) = ((other : RowLine) → IsAmong lines other → Precedes rows cols other.row line.row) × Falls rows cols lines
@@ -59,7 +59,7 @@ single_off entry row is checked has =
     let none : not (has_string entry (Sgr no_attributes)) ≡ true = ap (λ (g : Group). meets entry g) (sym is) ∙ met in
     true≢false (sym none ∙ ap not has)
 
--- then no other row says how attributes look
+-- if the entry has `sgr`, no other checked row teaches how attributes look
 learned_same : (entry : Content) (row : Row) → HasSgr entry → is_checked entry row ≡ true → (IsSgr row → ⊥) → (e : Effect) (l : Looks) → learned row e l ≡ l
 learned_same entry (Sgr a) has checked never e l = absurd (never refl)
 learned_same entry Smul has checked never e l = absurd (single_off entry Smul refl checked has)
@@ -106,13 +106,13 @@ untaught entry rows cols (line ∷ lines) has each never =
     (learned_same entry line.row has (each line (inl refl)).sent.checked (never line (inl refl)) line.effect (looks_of lines))
     ∙ untaught entry rows cols lines has (λ l a. each l (inr a)) (λ l a. never l (inr a))
 
--- ---- the row before
+-- ---- the row before a row
 
 never_first : (rows cols : ℕ) (one row : Row) → IsFirst rows cols row → order one ≡ order row → Precedes rows cols one row → ⊥
 never_first rows cols one row first same (inl lt) = omega (arith, same, lt)
 never_first rows cols one row first same (inr p) = let zero = first.rank_zero in let lt = p.1 in omega (arith, zero, lt)
 
--- nothing stands between a row and the next one
+-- no row is between a row and the one that follows it
 never_between : (rows cols : ℕ) (one between row : Row) → Follows rows cols one row → Precedes rows cols one between → Precedes rows cols between row → ⊥
 never_between rows cols one between row f (inl lt) (inl less) = let same = f.same_order in omega (arith, same, lt, less)
 never_between rows cols one between row f (inl lt) (inr p) = let same = f.same_order in let e = p.0 in omega (arith, same, lt, e)
@@ -126,7 +126,7 @@ before_next rows cols other one row f (inr p) = let next = f.rank_next in let lt
 just_before : (rows cols : ℕ) (one row : Row) → Follows rows cols one row → Precedes rows cols one row
 just_before rows cols one row f = let next = f.rank_next in inr (sym f.same_order, omega (arith, next))
 
--- its line is the latest one
+-- the latest line before a row is that of the row that it follows
 head_is : (entry : Content) (rows cols : ℕ) (one row : Row) (head : RowLine) (tail : List RowLine) → Follows rows cols one row → AreBefore entry rows cols row (head ∷ tail) → HasLine (head ∷ tail) one → head.row ≡ one
 head_is entry rows cols one row head tail f b h = by_part h.among
   where
@@ -183,7 +183,7 @@ taught_is entry rows cols string row looks (After line _ before _ range f earlie
 smso_shows : (row : Row) (e : Effect) (l m : Looks) → row ≡ Smso → (learned row e l).standout ≡ (learned row e m).standout
 smso_shows row e l m h = rw h refl
 
--- a line that is asked for by what its string teaches is so by the lines before it
+-- a line that is asked for with the looks that its string's rows teach is asked for with those of the lines before it
 pub asked_before : (entry : Content) (rows cols : ℕ) (line : RowLine) (lines : List RowLine) → IsLineOf entry rows cols line → RowStands entry rows cols line.row → AreBefore entry rows cols line.row lines → IsAskedFor lines line
 asked_before entry rows cols line lines is stands b = asked ∙ asked_by (learned line.row line.effect r.looks) (looks_of (line ∷ lines)) line.row line.effect sets standout
   where

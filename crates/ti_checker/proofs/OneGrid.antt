@@ -16,14 +16,14 @@ use Rattle.vt_effects.proofs.Cells.{drawn_agrees}
 use Rattle.ti_rows.proofs.StartFacts.{never}
 use Rattle.ti_checker.specs.Cells.{is_erased, is_blank_after}
 
--- ---- what two changes of the cells have in common
+-- ---- two changes of the cells that agree
 
--- they make the same places blank if all cells were alike, with the cursor and the margins here
+-- both make the same places blank if all cells were alike, with the cursor and the margins here
 abbrev pub Agree : ℕ → ℕ → Erasure → Scroll → Erasure → Scroll → ℕ → ℕ → ℕ → ℕ → Type 0
 Agree rows cols x z y w top bottom row col = (i j : ℕ) → i < rows → j < cols
     → is_blank_after z top bottom (λ k. is_erased x row col k j) i ≡ is_blank_after w top bottom (λ k. is_erased y row col k j) i
 
--- they make the same of all cells
+-- both leave the same cells, whatever the cells were
 pub record SameCells (cols : ℕ) (x : Erasure) (z : Scroll) (y : Erasure) (w : Scroll) : Type 0 where
   pub scroll : z ≡ w
   pub chosen : (row col i j : ℕ) → j < cols → is_erased x row col i j ≡ is_erased y row col i j
@@ -45,7 +45,7 @@ same_grid cols x y z w top bottom row col b g wide same =
     ∙ (drawn_agrees _ _ g cols wide (λ i j old lt. ap (λ (c : Bool). if c then b else old) (same.chosen row col i j lt))
     ∙ sym (erased_as y row col b g)))
 
--- ---- a change that is one: nothing scrolls, or nothing is erased
+-- ---- a single change: nothing scrolls, or nothing is erased
 
 abbrev pub IsOne : Erasure → Scroll → Type 0
 IsOne x z = (z ≡ scrolls.Still) ⊎ (x ≡ erasures.Nothing)
@@ -57,7 +57,7 @@ forms P still up down x scrolls.Up (inr h) = subst (λ (y : Erasure). P y scroll
 forms P still up down x scrolls.Down (inl h) = never (sym (ap is_still h))
 forms P still up down x scrolls.Down (inr h) = subst (λ (y : Erasure). P y scrolls.Down) (sym h) down
 
--- ---- where a region scrolled
+-- ---- places in a region that scrolled
 
 within : (top bottom i : ℕ) → top ≤ i → i ≤ bottom → (nat_le top i && nat_le i bottom) ≡ true
 within top bottom i h k = ap (λ (b : Bool). b && nat_le i bottom) (le-leb top i h) ∙ le-leb i bottom k
@@ -131,7 +131,7 @@ none_cells rows cols top bottom row col r c t b x z one =
     (λ a. never (sym (up_last top bottom (λ k. false) (omega (arith, t))) ∙ a bottom col b c))
     (λ a. never (sym (down_first top bottom (λ k. false) (omega (arith, t))) ∙ a top col (omega (arith, t, b)) c)) x z one
 
--- ---- cells are to be erased: seen from the first place, the last line and the last column
+-- ---- cells that must be erased, seen from the first place, the last line and the last column
 
 abbrev pub AgreeHome : ℕ → ℕ → Erasure → Scroll → Erasure → Type 0
 AgreeHome rows cols x z y = Agree rows cols x z y scrolls.Still 0 (rows - 1) 0 0
@@ -152,7 +152,7 @@ pub record Corners (rows cols : ℕ) (x : Erasure) (z : Scroll) (y : Erasure) : 
 abbrev Erases : ℕ → ℕ → Erasure → Erasure → Scroll → Type 0
 Erases rows cols y x z = Corners rows cols x z y → SameCells cols x z y scrolls.Still
 
--- at the first place nothing is blank after the region went up, and below it nothing after it went down
+-- the first place isn't blank after the region moved up, and the place below it isn't after the region moved down
 not_up : (rows : ℕ) → 2 ≤ rows → is_blank_after scrolls.Up 0 (rows - 1) (λ k. false) 0 ≡ false
 not_up rows two = up_at 0 (rows - 1) 0 (λ k. false) (omega arith) (omega (arith, two))
 
@@ -250,7 +250,7 @@ next_cells rows cols m one = forms (Erases rows cols (erasures.Next m)) (next_st
     (λ c. never (sym (some_next m one) ∙ (sym (c.home 0 0 (first rows c.tall) (first cols c.wide)) ∙ not_up rows c.tall)))
     (λ c. never (sym (is_down rows) ∙ (c.right 0 0 (first rows c.tall) (first cols c.wide) ∙ far_and cols (nat_lt 0 (cols - 1 + m)) c.wide)))
 
--- ---- the region is to go up: seen from its last line, the second one, in the first column and in the last
+-- ---- a region that must move up, seen from its last line, the second one, in the first column and in the last
 
 pub record Rises (rows cols : ℕ) (x : Erasure) (z : Scroll) : Type 0 where
   pub tall : 2 ≤ rows
@@ -274,7 +274,7 @@ up_cells rows cols = forms (GoesUp rows cols) (up_still rows cols)
     (λ c. record { scroll = refl; chosen = λ row col i j lt. refl })
     (λ c. never (c.left 0 0 (first rows c.tall) (first cols c.wide)))
 
--- ---- or down: seen from its first line
+-- ---- a region that must move down, seen from its first line
 
 pub record Sinks (rows cols : ℕ) (x : Erasure) (z : Scroll) : Type 0 where
   pub tall : 2 ≤ rows

@@ -30,7 +30,7 @@ use Rattle.ti_checker.proofs.Elsewhere.{agree_with_itself}
 use Rattle.ti_checker.proofs.Teaching.{sets, same_sets}
 use Rattle.ti_checker.proofs.Wanted.{set_mark}
 
--- ---- two renderings that do the same where nothing is on and where all is on
+-- ---- two renderings that do the same if nothing is on and if all is on
 
 pub by_both : (a b : Switch) (c : Bool) → switched a false ≡ switched b false → switched a true ≡ switched b true → switched a c ≡ switched b c
 by_both a b true h k = k
@@ -62,7 +62,7 @@ from_parts r s h x y =
     ∙ (ap (λ (c : Option Color). marked (marks_of s) c r.background) x
     ∙ ap (λ (c : Option Color). marked (marks_of s) s.foreground c) y)
 
--- ---- what is known of the renderings where no probe shows anything
+-- ---- the facts known of the renderings if no probe shows anything wrong
 
 -- two renderings do the same from a probe
 record RendersSo (q r : Rendering) (p : Probe) : Type 0 where
@@ -70,14 +70,14 @@ record RendersSo (q r : Rendering) (p : Probe) : Type 0 where
   foreground : inked q.foreground p.foreground ≡ inked r.foreground p.foreground
   background : inked q.background p.background ≡ inked r.background p.background
 
--- a probe with nothing on, and one with all on
+-- the probe with nothing on, and the probe with all on
 abbrev unmarked : ℕ → ℕ → Row → Probe
 unmarked rows cols row = probe_by (choices_of 0) (start_of rows cols row) rows
 
 abbrev all_on : ℕ → ℕ → Row → Probe
 all_on rows cols row = probe_by (choices_of 8) (start_of rows cols row) rows
 
--- two renderings that do the same from both do so from everywhere
+-- two renderings that do the same from both probes do so from every rendition
 everywhere : (rows cols : ℕ) (row : Row) (q r : Rendering) (s : Rendition) → RendersSo q r (unmarked rows cols row) → RendersSo q r (all_on rows cols row) → rendered q s ≡ rendered r s
 everywhere rows cols row q r s h k = from_parts (rendered q s) (rendered r s) (marks_by_both q r (marks_of s) h.marks k.marks) (ink_by_both q.foreground r.foreground Red s.foreground h.foreground k.foreground)
     (ink_by_both q.background r.background Blue s.background h.background k.background)
@@ -100,7 +100,7 @@ fixed_rendered rows cols taught row e s fixed ends =
 
 -- ---- standout, which may look like anything that it turns on
 
--- the marks that the effect shows from a start without any
+-- the marks after the effect, from a start without marks
 abbrev alone : Effect → Marks
 alone e = marks_after e.rendition no_marks
 
@@ -118,7 +118,7 @@ standout_rendered rows cols taught e s ends =
 
 -- ---- sets of attributes
 
--- from a probe the effect leads to just what the set shows, with both colors kept or both default
+-- from a probe the effect leads to exactly the marks of the set, with both colors kept or both default
 record ShowsSome (m : Marks) (e : Effect) (p : Probe) : Type 0 where
   defaults : Bool
   so : RendersSo e.rendition (just m (ink_of defaults)) p
@@ -142,7 +142,7 @@ pub record IsRendered (taught : Looks) (a : Attributes) (e : Effect) : Type 0 wh
   pub defaults : Bool
   pub same : (s : Rendition) → rendered e.rendition s ≡ rendered (just (shown looks a) (ink_of defaults)) s
 
--- by looks by which the set is shown as from both probes
+-- a set is rendered if some looks show it by the marks to which the effect leads from both probes
 rendered_by : (rows cols : ℕ) (taught looks : Looks) (a : Attributes) (e : Effect) (m : Marks) → ShowsSome m e (unmarked rows cols (Sgr a)) → ShowsSome m e (all_on rows cols (Sgr a)) → AgreeBefore (Sgr a) taught looks
     → m ≡ shown looks a → IsRendered taught a e
 rendered_by rows cols taught looks a e m none all agree is =
@@ -157,24 +157,24 @@ rendered_by rows cols taught looks a e m none all agree is =
           (ink_by_both e.rendition.background (ink_of b) Blue s.background (none.so.background ∙ (no_ink none.defaults ∙ sym (no_ink b))) all.so.background);
     }
 
--- as was taught
+-- a set that is shown by the looks that were taught is rendered
 several_rendered : (rows cols : ℕ) (taught : Looks) (a : Attributes) (e : Effect) → ShowsSome (shown taught a) e (unmarked rows cols (Sgr a)) → ShowsSome (shown taught a) e (all_on rows cols (Sgr a)) → IsRendered taught a e
 several_rendered rows cols taught a e none all = rendered_by rows cols taught taught a e (shown taught a) none all (agree_with_itself (Sgr a) taught) refl
 
--- or a single one, as it is shown from a start without marks
+-- ---- a set of one attribute, shown as from a start without marks
 
 on_set : (b : Bool) → b ≡ is_on (switch_of b)
 on_set true = refl
 on_set false = refl
 
--- what a set of one attribute shows, where it was learned from these marks
+-- the looks with that of a set of one attribute learned from these marks
 abbrev taught_by : Marks → Attributes → Effect → Looks → Looks
 taught_by v a e l = learned (Sgr a) (record e { rendition = just v inks.Kept }) l
 
 abbrev of : Bool → Bool → Bool → Bool → Bool → Bool → Bool → Attributes
 of s u r k d b i = record { standout = s; underline = u; reverse = r; blink = k; dim = d; bold = b; invisible = i }
 
--- a set of one attribute, and each set is one or several
+-- whether exactly one attribute is in the set; each set is such a one or one of several
 is_lone : Bool → Bool → Bool → Bool → Bool → Bool → Bool → Bool
 is_lone true false false false false false false = true
 is_lone false true false false false false false = true
@@ -227,7 +227,7 @@ alone_rendered rows cols taught a e single none all =
     rendered_by rows cols taught (taught_by (alone e) a e taught) a e (shown (looks_of (alone e)) a) none all (λ b lt. sym (earlier_kept taught a b (record e { rendition = just (alone e) inks.Kept }) lt))
     (alone_by a.standout a.underline a.reverse a.blink a.dim a.bold a.invisible (alone e) e taught single)
 
--- by the looks by which the probes were judged
+-- the looks by which the probes were judged
 told : (taught : Looks) (a : Attributes) (e : Effect) (b : Bool) → is_several (Sgr a) ≡ b → looks_for taught (Sgr a) e ≡ (if b then taught else looks_of (alone e))
 told taught a e b h = ap (λ (z : Bool). if z then taught else looks_of (alone e)) h
 

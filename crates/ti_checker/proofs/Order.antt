@@ -26,7 +26,7 @@ rises rows cols (x ∷ xs) p = (p.0, rises rows cols xs p.1)
 pub same_lines : (rows cols : ℕ) (xs ys : List RowLine) → InOrder rows cols xs → InOrder rows cols ys → IsWithin xs ys → IsWithin ys xs → xs ≡ ys
 same_lines rows cols xs ys p q over back = same_rising (ByRow rows cols) (λ x y. never_back rows cols x.row y.row) xs ys (rises rows cols xs p) (rises rows cols ys q) over back
 
--- the first of the other is none of them
+-- if the first line of this list comes later in the other list, the first line of the other list isn't in this one
 past_first : (rows cols : ℕ) (x y : RowLine) (xs ys : List RowLine) → IsBefore rows cols x xs → IsBefore rows cols y ys → IsAmong ys x → IsWithin (x ∷ xs) (y ∷ ys) → IsWithin (x ∷ xs) ys
 past_first rows cols x y xs ys before above there over z a = by_part a (over z a)
   where

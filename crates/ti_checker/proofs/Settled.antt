@@ -67,7 +67,7 @@ counted_more entry ts more b cs c row k = record {
   settled = λ keeps. kept_among b cs c k.change (k.settled keeps);
 }
 
--- a row before the next place is before this one, or stands here
+-- a row before the next rank is before this row, or is this row
 step_before : (rows cols : ℕ) (row other : Row) → IsInRange rows cols row → IsInRange rows cols other → IsBefore rows cols (order row) (rank rows cols row + 1) other
     → IsBefore rows cols (order row) (rank rows cols row) other ⊎ (row ≡ other)
 step_before rows cols row other r o (inl lt) = inl (inl lt)
@@ -113,7 +113,7 @@ seen_more entry rows cols row tokens change old new before after range of_row re
           (now_counted entry rows cols row tokens change s.tokens before of_row other (λ p. s.counted other r checked p) (step_before rows cols row other range r b));
     }
 
--- nothing changes but the place
+-- the facts seen hold at another place, if no row is added
 seen_at : (entry : Content) (rows cols : ℕ) (reach : Reach) (changes : List Sets) (n k m l : ℕ) → (s : IsSeen entry rows cols reach changes n k)
     → ((row : Row) → IsInRange rows cols row → is_checked entry row ≡ true → IsBefore rows cols m l row → IsBefore rows cols n k row) → IsSeen entry rows cols reach changes m l
 seen_at entry rows cols reach changes n k m l s f = record {

@@ -51,7 +51,7 @@ absorbed true s = refl
 absorbed false true = refl
 absorbed false false = refl
 
--- a mark that is shown is shown again where the looks are those that are seen
+-- a mark that is shown is shown by the looks that are seen, too
 shown_mark : (a s x y m : Bool) → m ≡ ((a && x) || (s && y)) → ((a && x) || (s && y)) ≡ ((a && m) || (s && m))
 shown_mark true s x y m h = sym h ∙ sym (absorbed m s)
 shown_mark false true x y m h = sym h
@@ -76,13 +76,13 @@ just_added l m r x y h = same_marks _ _ _ _ _ _ _ _ _ _ _ _ x y
     (ap (λ (z : Marks). z.underline || r.underline) h ∙ or_kept m.underline r.underline) (ap (λ (z : Marks). z.blink || r.blink) h ∙ or_kept m.blink r.blink)
     (ap (λ (z : Marks). z.negative || r.negative) h ∙ or_kept m.negative r.negative) (ap (λ (z : Marks). z.concealed || r.concealed) h ∙ or_kept m.concealed r.concealed)
 
--- ---- a row of one end
+-- ---- a row with one wanted end
 
 calm_end : (b p : Bool) → p ≡ false → p ≡ (if b then false else p)
 calm_end true p h = h
 calm_end false p h = refl
 
--- the marks that the effect shows from a start without any, and the looks that are each seen so
+-- the marks after the effect from a start without marks, and the looks by which attributes show these marks
 abbrev alone : Effect → Marks
 alone e = marks_after e.rendition no_marks
 
@@ -139,7 +139,7 @@ one_end rows cols l Smcup e p one st by h = h.others
 one_end rows cols l Rmcup e p one st by h = h.others
 one_end rows cols l Bel e p one st by h = h
 
--- its looks are those that are seen
+-- the looks for a row with one wanted end are those that are seen
 one_seen : (taught : Looks) (row : Row) (e : Effect) → has_choice row ≡ false → looks_for taught row e ≡ seen_alone e
 one_seen taught (Sgr a) e one = never one
 one_seen taught _ e one = refl
@@ -150,7 +150,7 @@ pub one_end_missed : (rows cols : ℕ) (taught : Looks) (row : Row) (e : Effect)
 one_end_missed rows cols taught row e p one st apart l agree by h =
     apart (subst (λ (m : Looks). EndAlike e (wanted_end m row e) (screen_of rows cols p)) (sym (one_seen taught row e one)) (one_end rows cols l row e p one st by h))
 
--- ---- a row of two ends
+-- ---- a row with two wanted ends
 
 abbrev pub TwoEnds : ℕ → ℕ → Looks → Row → Effect → Probe → Type 0
 TwoEnds rows cols m row e p = EndAlike e (asked m row (with_defaults e)) (screen_of rows cols p) ⊎ EndAlike e (asked m row (without_defaults e)) (screen_of rows cols p)
@@ -168,11 +168,11 @@ two_inks rows cols l a e p by (inr h) =
     let s : Screen = screen_of rows cols p in
     inl (h ∙ ap (λ (r : Rendition). record s { rendition = r; charset = (applied e s).charset }) (shown_alone l a (alone e) None None by s.rendition))
 
--- just these marks, whatever was on before
+-- exactly these marks, whatever was on before
 just_these : (m : Marks) (x y : Option Color) (r : Rendition) → marked m x y ≡ record (rendered (just m inks.Kept) r) { foreground = x; background = y }
 just_these m x y r = same_marks _ _ _ _ _ _ _ _ _ _ _ _ x y (set_mark m.bold r.bold) (set_mark m.faint r.faint) (set_mark m.underline r.underline) (set_mark m.blink r.blink) (set_mark m.negative r.negative) (set_mark m.concealed r.concealed)
 
--- where the set is shown as was taught
+-- the ends of a set that is shown as was taught
 taught_inks : (rows cols : ℕ) (l taught : Looks) (a : Attributes) (e : Effect) (p : Probe) → shown taught a ≡ shown l a → Wants l (Sgr a) (screen_of rows cols p) (applied e (screen_of rows cols p)) → TwoEnds rows cols taught (Sgr a) e p
 taught_inks rows cols l taught a e p same (inl h) =
     let s : Screen = screen_of rows cols p in

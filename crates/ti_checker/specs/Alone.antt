@@ -24,7 +24,8 @@ marks_of r = record {
   concealed = r.concealed;
 }
 
--- sets whose attributes are each shown as alone: all sets but those of one attribute
+-- whether the row is one of `sgr` whose set isn't exactly one attribute: such a set shows each attribute as it is shown
+-- alone
 abbrev pub is_several : Row → Bool
 is_several (Sgr a) = not (is_single (number_of a) || number_of a == 64)
 is_several _ = false

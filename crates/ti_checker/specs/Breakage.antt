@@ -90,7 +90,7 @@ is_free _ = false
 abbrev pub wanted_end : Looks → Row → Effect → Effect
 wanted_end l row e = if is_free row then record e { margins = None; visible = switches.Kept } else asked l row e
 
--- the effect, changed so that the one that is asked for leads to the one or the other of two wanted ends
+-- the effect, changed so that `asked` leads to the first or to the second of two wanted ends
 abbrev pub with_defaults : Effect → Effect
 with_defaults e =
     record e {

@@ -204,8 +204,8 @@ fn without_defaults(effect: &Effect) -> Effect
     }
 }
 
-/// Whether the attributes of the row's set are each shown as alone. A single attribute is not: its own row says how it
-/// looks.
+/// Whether `row` is one of `sgr` whose set isn't exactly one attribute. Such a set shows each of its attributes as it
+/// is shown alone; a single attribute looks as its own row shows it.
 fn is_several(row: Row) -> bool
     ensures { result ≡ is_several row }
 {

@@ -41,7 +41,7 @@ fn has_final(behind: &[u8]) -> bool
     }
 }
 
-/// Whether a token is a sequence that nothing cut off.
+/// Whether `bytes`, which are a token, are a whole sequence: they begin with ESC and have a final byte.
 fn is_whole_sequence(bytes: &[u8]) -> bool
     ensures { result ≡ spec.is_whole_sequence bytes.now }
 {
