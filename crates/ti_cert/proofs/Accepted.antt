@@ -39,7 +39,7 @@ pub agrees_at : (entry : Content) (t : tables.CheckedTable) (rows cols : ℕ) �
 agrees_at entry t rows cols agrees r c =
     subst (λ (n : ℕ). EntryAgrees rows n entry (λ row. row_string t.known.strings row)) c (subst (λ (n : ℕ). EntryAgrees n t.known.strings.cols entry (λ row. row_string t.known.strings row)) r agrees)
 
--- from a lost state
+-- a verified table's resynchronization leads from each lost state to a blank screen at rest
 pub resyncs : (t : tables.CheckedTable) → IsVerified t → Resyncs (tables.table_of t)
 resyncs t v s lost = v.holds.resyncs (has (tables.table_of t) Cnorm) s lost
 

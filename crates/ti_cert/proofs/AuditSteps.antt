@@ -143,7 +143,7 @@ second_pairs p q text bytes at is e = subst (λ (x : Progress). AnswersLine p te
   cols = refl;
 }))
 
--- without pairs the second line is judged as those behind it
+-- without pairs the second line is judged as the lines after it
 pub second_later : (p : Progress) (text : List ℕ) (answer : Result Progress CertFaultKind) → p.awaited ≡ lines_awaited.Acsc → ((bytes : List ℕ) → IsAcscText text bytes → ⊥) → AnswersLater (record p { awaited = lines_awaited.Rows }) text answer → AnswersLine p text answer
 second_later p text answer at never h = at_second p answer text at (λ st none. onto answer (h None [] (reawaited p lines_awaited.Rows [] st) none))
   where
@@ -154,7 +154,7 @@ second_later p text answer at never h = at_second p answer text at (λ st none. 
 pub second_refused : (p : Progress) (text : List ℕ) (kind : CertFaultKind) → p.awaited ≡ lines_awaited.Acsc → ((bytes : List ℕ) → IsAcscText text bytes → ⊥) → OrNoMemory kind (AnswersLater (record p { awaited = lines_awaited.Rows }) text) → OrNoMemory kind (AnswersLine p text)
 second_refused p text kind at never h = or_by kind (AnswersLater (record p { awaited = lines_awaited.Rows }) text) (AnswersLine p text) (λ r a. second_later p text r at never a) h
 
--- the lines behind them
+-- the lines after the first two
 
 pub later_line : (p : Progress) (text : List ℕ) (answer : Result Progress CertFaultKind) → p.awaited ≡ lines_awaited.Rows → AnswersLater p text answer → AnswersLine p text answer
 later_line p text answer at h = λ said tells. by_awaited p.awaited at said tells
@@ -284,7 +284,7 @@ last_closes p settled has_pairs same none concluded = λ pairs lines st pa. reco
 pub sized : (P : ℕ → ℕ → Type 0) (a b c d : ℕ) → a ≡ c → b ≡ d → P a b → P c d
 sized P a b c d e f h = subst (λ (n : ℕ). P n d) e (subst (λ (n : ℕ). P a n) f h)
 
--- the lines of a capability are the first so many
+-- the lines of a capability are its first ones, as many as it has strings
 first_lines : (k : Known) (lines : List RowLine) (row : Row) → Lists k lines → HasFirstLines k.strings.rows k.strings.cols lines row (length (group_at k.strings (order row)))
 first_lines k lines row l = record { there = there; below = below }
   where
@@ -326,7 +326,7 @@ pub row_cut : (p : Progress) (line : RowLine) (kind : CertFaultKind) → fault_i
 row_cut p line kind none (inl f) = inl (λ pairs lines st pa. Cut (in_place p lines line.row st none) f.1 (ap (λ (x : CertFaultKind). refusal x) f.0))
 row_cut p line kind none (inr e) = inr e
 
--- the looks that the table has are those of the lines
+-- the looks with a line's are those of the lines with that line
 looks_more : (k : Known) (lines : List RowLine) (line : RowLine) → Lists k lines → looks_with k line.row line.effect ≡ looks_of (line ∷ lines)
 looks_more k lines line l =
     ap (λ (b : Bool). if b then k.looks else learned line.row line.effect k.looks) (l.groups (rival line.row))
@@ -348,7 +348,7 @@ row_misshows p line tokens kind none splits m = λ pairs lines st pa. by_why pai
         Unasked (in_place p lines line.row st none) (record { tokens = tokens; splits = splits; recorded = recorded_as p lines line tokens (Some line.effect) st recorded })
         (λ h. never (h ∙ ap (λ (l : Looks). asked l line.row line.effect) (sym (looks_more p.known lines line st.lists)))) kind misfit refl
 
--- the lines with one more
+-- the strings with one more are those of the lines with one more
 lists_more : (k : Known) (lines : List RowLine) (line : RowLine) (new : Known) → Lists k lines → Adds k.strings new.strings line.row line.bytes → new.looks ≡ looks_with k line.row line.effect → Lists new (line ∷ lines)
 lists_more k lines line new l a looks = record {
   found = λ row bytes h. by_only row bytes (a.only row bytes h);

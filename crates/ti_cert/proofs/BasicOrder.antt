@@ -1,4 +1,4 @@
--- The rows of a basic certificate stand in order, and none of them is missing.
+-- The rows of a basic certificate are in order, and none of them is missing.
 use Rattle.std.proofs.Common.{◌≡◌, ◌⊎◌, ◌<◌, ◌≤◌, ◌+◌, ◌*◌, ◌==◌, ℕ, zero, suc, Bool, true, false, if◌then◌else◌, List, [], ◌∷◌, ◌++◌, map, Option, Some, None, inl, inr, refl, sym, ap, subst, ◌∙◌, arith}
 use Rattle.std.specs.List.{flat_map, range_with_len}
 use Rattle.std.proofs.Math.Nat.{mul-le-mul_right}
@@ -122,7 +122,7 @@ one_rises : (rows cols : ℕ) (there : Bool) (row : Row) → Rises rows cols (on
 one_rises rows cols true row = (λ other a. absurd a, tt)
 one_rises rows cols false row = tt
 
--- the place of a row of the list among the names
+-- each row of the list, by its kind
 pub data Kind (rows cols : ℕ) (home el : Bool) (row : Row) : Type 0 where
   IsClear : row ≡ Clear → Kind rows cols home el row
   IsCup : (r c : ℕ) → row ≡ Cup r c → r < rows → c < cols → Kind rows cols home el row

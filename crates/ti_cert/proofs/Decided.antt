@@ -27,7 +27,7 @@ use Rattle.ti_conforms.proofs.Holds.{Leads, leads_joined, leads_nothing, led}
 use Rattle.ti_cert.specs.Clashes.{SwitchesRight, GoesTogether}
 use Rattle.ti_cert.proofs.Together.{SetsAre}
 
--- the tokens do to the sets what their record says
+-- the tokens lead from each charset as the change of their record does
 pub record_sets : (rows cols : ℕ) (row : Row) (tokens : List (List ℕ)) (e : Effect) → record_of rows cols (start_of rows cols row) tokens ≡ Some e → (c : Charset) → charset_over tokens c ≡ designated e.charset c
 record_sets rows cols row tokens e recorded c =
     let s : Screen = record (reset_screen rows cols) { charset = c } in
@@ -36,7 +36,7 @@ record_sets rows cols row tokens e recorded c =
 
 -- ---- the facts known
 
--- the bytes are whole tokens, and their record is the one that the table asks for
+-- the bytes are whole tokens, and their record is the one that is asked for with the table's looks
 pub record IsAsked (t : Table) (row : Row) (bytes : List ℕ) : Type 0 where
   pub tokens : List (List ℕ)
   pub whole : Splits bytes tokens []

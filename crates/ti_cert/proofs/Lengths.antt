@@ -27,7 +27,7 @@ at_most (y ∷ ys) (suc k) x h = let further : length x ≤ greatest ys = at_mos
 pub within : (s : Strings) (row : Row) (bytes : List ℕ) → row_string s row ≡ Some bytes → length bytes ≤ longest_line s row
 within s row bytes h = at_most (group_at s (order row)) (rank s.rows s.cols row) bytes (allowed (allows s.rows s.cols row) (slice_get (group_at s (order row)) (rank s.rows s.cols row)) bytes h)
 
--- a line that has a limit of its own
+-- a line is no longer than itself, as for lines that have a limit of their own
 itself : (o : Option (List ℕ)) (bytes : List ℕ) → o ≡ Some bytes → length bytes ≤ length (or_nothing o)
 itself o bytes h = let e : length (or_nothing o) ≡ length bytes = ap (λ (p : Option (List ℕ)). length (or_nothing p)) h in omega arith
 

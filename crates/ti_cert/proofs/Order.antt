@@ -37,7 +37,7 @@ which_first rows cols a b ra rb = by_order (cases_order (order a) (order b))
     by_order (inr (inl h)) = inr (inl (inl h))
     by_order (inr (inr h)) = inr (inr (inl h))
 
--- equal, or before, where it is the same capability and no later
+-- two rows of one capability are equal, or the one with the lower rank precedes
 pub from_rank : (rows cols : ℕ) (a b : Row) → IsInRange rows cols a → IsInRange rows cols b → order a ≡ order b → rank rows cols a ≤ rank rows cols b → (b ≡ a) ⊎ Precedes rows cols a b
 from_rank rows cols a b ra rb o h = by_lt (cases_lt (rank rows cols a) (rank rows cols b))
   where
@@ -45,14 +45,14 @@ from_rank rows cols a b ra rb o h = by_lt (cases_lt (rank rows cols a) (rank row
     by_lt (inl k) = inr (inr (o, k))
     by_lt (inr k) = inl (one_of_rank rows cols b a rb ra (sym o) (omega (arith, h, k)))
 
--- has to be there before a place, for what stands there already
+-- a line about the row must come before the capability at a place, and isn't among the lines
 pub record Lacks (rows cols : ℕ) (lines : List RowLine) (n : ℕ) (row : Row) : Type 0 where
   pub range : IsInRange rows cols row
   pub absent : HasLine lines row → ⊥
   pub before : order row < n
   pub due : IsRequiredLine row ⊎ HasCap lines row
 
--- a due line stands behind the last one
+-- a required line, or one of a capability that has lines, comes after the last line if it isn't there
 pub lacks_behind : (rows cols : ℕ) (lines : List RowLine) (last row : Row) → IsLastRow rows cols lines last → IsInRange rows cols row → (HasLine lines row → ⊥) → IsRequiredLine row ⊎ HasCap lines row → Precedes rows cols last row
 lacks_behind rows cols lines last row l range absent due = by_place (which_first rows cols row last range l.range)
   where
@@ -69,7 +69,7 @@ not_before : (rows cols : ℕ) (a b : Row) → order b < order a → Precedes ro
 not_before rows cols a b h (inl k) = omega (arith, h, k)
 not_before rows cols a b h (inr k) = omega (arith, h, k.0)
 
--- no line is about a capability behind that of the last
+-- no line is about a capability after that of the last line
 pub none_beyond : (rows cols : ℕ) (lines : List RowLine) (last row : Row) → IsLastRow rows cols lines last → order last < order row → HasCap lines row → ⊥
 none_beyond rows cols lines last row l h c = by_upper (l.upper c.line c.among)
   where
@@ -182,7 +182,7 @@ required_none from to h row r f t = by_clear (is_between from 4 to) refl h
     by_clear true b e = not_first 4 (omega arith) e
     by_clear false b e = by_cup (is_between from 14 to) refl b e
 
--- what is missing is the first line that a place lacks
+-- the row's line is the first one that must come before the capability at a place and isn't there
 pub record IsFirstLack (rows cols : ℕ) (lines : List RowLine) (n : ℕ) (row : Row) : Type 0 where
   pub lacks : Lacks rows cols lines n row
   pub first : (other : Row) → Lacks rows cols lines n other → (other ≡ row) ⊎ Precedes rows cols row other
@@ -201,7 +201,8 @@ by_required rows cols lines from n row q none others = record {
         by_lt (inl k) = inr (inl k)
         by_lt (inr k) = let z = q.rank_zero in from_rank rows cols row other q.range l.range (omega (arith, h, k)) (omega (arith, z))
 
--- behind a last line whose capability is whole, or is that of the place, a lacking line is a required one of a later capability
+-- after a last line whose capability is whole, or is that of the place, a lacking line is a required one of a later
+-- capability
 later_required : (rows cols : ℕ) (lines : List RowLine) (last : Row) (n : ℕ) → IsSize rows cols → IsLastRow rows cols lines last → (order last < n → next rows cols last ≡ None)
     → (other : Row) → Lacks rows cols lines n other → IsRequiredLine other × (order last + 1 ≤ order other)
 later_required rows cols lines last n size l whole other k = by_place (lacks_behind rows cols lines last other l k.range k.absent k.due)
@@ -282,7 +283,7 @@ missing_none rows cols lines (Some last) n size l h row k = by_next (next_within
     by_next None e same = behind (λ m. next_is rows cols last l.range None e) same
     by_next (Some follower) e same = by_lt follower (nat_lt (order last) n) refl same
 
--- before the last line of the text
+-- a line that is missing before the last line of the text is missing before the place after all capabilities
 lacks_at_end : (rows cols : ℕ) (lines : List RowLine) (row : Row) → IsLacking rows cols lines None row → Lacks rows cols lines capabilities row
 lacks_at_end rows cols lines row k = record { range = k.range; absent = k.absent; before = orders_small row; due = due k.due }
   where

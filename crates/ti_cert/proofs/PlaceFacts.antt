@@ -22,7 +22,7 @@ use Rattle.ti_cert.proofs.Order.{IsFirstLack, missing_some, missing_none, first_
 abbrev pub refusal : CertFaultKind → Result Said CertFaultKind
 refusal kind = Err kind
 
--- these lines have the first so many lists of the row's capability
+-- these lines have the first `c` parameter lists of the row's capability
 pub record HasFirstLines (rows cols : ℕ) (lines : List RowLine) (row : Row) (c : ℕ) : Type 0 where
   pub there : (other : Row) → IsInRange rows cols other → order other ≡ order row → rank rows cols other < c → HasLine lines other
   pub below : (other : Row) → HasLine lines other → order other ≡ order row → rank rows cols other < c
@@ -30,7 +30,7 @@ pub record HasFirstLines (rows cols : ℕ) (lines : List RowLine) (row : Row) (c
 cap_of_line : (lines : List RowLine) (row other : Row) → HasLine lines row → order row ≡ order other → HasCap lines other
 cap_of_line lines row other h o = record { line = h.line; among = h.among; of_cap = ap order h.of_row ∙ o }
 
--- no line of the last comes behind the row
+-- each line so far precedes a row that isn't late
 behind_last : (rows cols : ℕ) (lines : List RowLine) (last : Option Row) (row : Row) (c : ℕ) → IsUpTo rows cols lines last → HasFirstLines rows cols lines row c → is_late last row ≡ false → c ≤ rank rows cols row → IsBehind rows cols lines row
 behind_last rows cols lines None row c none has late le = λ line among. absurd (none line among)
 behind_last rows cols lines (Some last) row c up has late le = λ line among. by_upper line (up.upper line among)
@@ -56,13 +56,13 @@ behind_last rows cols lines (Some last) row c up has late le = λ line among. by
         joined (inr h) (inl k) = let h0 = h.0 in inl (omega (arith, h0, k))
         joined (inr h) (inr k) = let h1 = h.1 in let k1 = k.1 in inr (h.0 ∙ k.0, omega (arith, h1, k1))
 
--- a late line
+-- the test of a late line is right
 is_late_line : (rows cols : ℕ) (lines : List RowLine) (last : Option Row) (row : Row) → IsUpTo rows cols lines last → is_late last row ≡ true → IsLate rows cols lines row
 is_late_line rows cols lines None row none h = absurd (true≢false (sym h))
 is_late_line rows cols lines (Some last) row up h =
     record { line = up.there.line; among = up.there.among; late = inr (subst (λ (r : Row). Precedes rows cols row r) (sym up.there.of_row) (inl (ltb-true (order row) (order last) h))) }
 
--- if nothing else is missing, the missing lists are of the row's own capability
+-- if no other capability lacks a line, the missing lists are those of the row's own capability before it
 own_lacking : (rows cols : ℕ) (lines : List RowLine) (last : Option Row) (row : Row) → IsSize rows cols → IsUpTo rows cols lines last → missing rows cols last (order row) ≡ None
     → (other : Row) → IsLacking rows cols lines (Some row) other → (order other ≡ order row) × (rank rows cols other < rank rows cols row)
 own_lacking rows cols lines last row size up none other k = by_before k.before k.due
@@ -73,7 +73,7 @@ own_lacking rows cols lines last row size up none other k = by_before k.before k
     by_before (inl h) (inr (inl d)) = absurd (missing_none rows cols lines last (order row) size up none other (record { range = k.range; absent = k.absent; before = h; due = inr d }))
     by_before (inl h) (inr (inr o)) = absurd (omega (arith, h, o))
 
--- what is missing before the row's capability
+-- the row that is found missing before the row's capability is the first missing one
 missing_first : (rows cols : ℕ) (lines : List RowLine) (last : Option Row) (row m : Row) → IsSize rows cols → IsUpTo rows cols lines last → missing rows cols last (order row) ≡ Some m → IsFirstLacking rows cols lines (Some row) m
 missing_first rows cols lines last row m size up h = record {
   lacking = record { range = q.lacks.range; absent = q.lacks.absent; before = inl q.lacks.before; due = onto q.lacks.due };

@@ -30,7 +30,7 @@ use Rattle.ti_cert.proofs.Ranges.{less}
 use Rattle.ti_cert.proofs.Singles.{looks_more}
 use Rattle.ti_cert.proofs.GroupFacts.{there_some, none_at_first}
 
--- what the table asks depends on the looks in the rows of `sgr` and `smso` alone
+-- the effect that is asked for depends on the looks only for rows of `sgr` and for `smso`
 pub asked_by : (l m : Looks) (r : Row) (f : Effect) → ((a : Attributes) → r ≡ Sgr a → shown l a ≡ shown m a) → (r ≡ Smso → l.standout ≡ m.standout) → asked l r f ≡ asked m r f
 asked_by l m Clear f s t = refl
 asked_by l m (Cup row col) f s t = refl

@@ -23,7 +23,7 @@ use Rattle.ti_cert.specs.declared.faults.CertFaultKind.TheVariants.{BadLine, NoM
 use Rattle.ti_cert.proofs.AuditSteps.{sized, stands_at}
 use Rattle.ti_cert.proofs.Texts.{few_bytes}
 
--- an answer about what is known, as one about what the lines say
+-- an answer about the progress of reading, as one about the meaning of the lines
 record Reads (q : Progress) (rows cols : ℕ) (Is : Result Said (LineFault CertFaultKind) → Type 0) : Type 0 where
   pairs : Option (List ℕ)
   lines : List RowLine
@@ -58,7 +58,7 @@ at_end number p rows cols said (Ok q) r c tells h = by_said said (h said tells)
     by_said (Listing pairs lines) st = let wrong = st.judges in cc
 at_end number p rows cols said (Err e) r c tells h = (h.0, h.1 said tells)
 
--- one line, and what is related of those after it
+-- the answer to a line and to the lines after it
 one_related : (budget number : ℕ) (p : Progress) (rows cols : ℕ) (said : Said) (line : List ℕ) (answer : Result Progress (LineFault CertFaultKind)) (LaterKnown : Progress → Type 0) (LaterSaid : Said → Result Said (LineFault CertFaultKind) → Type 0)
     → p.size.rows ≡ rows → p.size.cols ≡ cols → TellsNow p said
     → ((u : Progress) (s : Said) → u.size.rows ≡ rows → u.size.cols ≡ cols → TellsNow u s → LaterKnown u → Relates rows cols answer (LaterSaid s))
@@ -99,7 +99,7 @@ pub record ReadWhole (q : Progress) (rows cols : ℕ) : Type 0 where
   pub cols_are : q.size.cols ≡ cols
   pub few : total q.known.strings < limit
 
--- after a yes everything was read, of some text
+-- after an answer without fault a whole text was read
 pub whole_read : {R : Type 0} (p q : Progress) (rows cols : ℕ) (left : R → List ℕ → Type 0) (failures : R → ℕ) (reader after : R) → Starts rows cols p
     → Reports progress_rules limit p q left failures reader after (read) → ReadWhole q rows cols
 whole_read {R} p q rows cols left failures reader after s r = by_outcome r.outcome
@@ -248,7 +248,7 @@ same_answer e f a p q = cc
 abbrev AtLineRead : Result (Unit {0}) (LineFault CertFaultKind) → List ℕ → Type 0
 AtLineRead answer given = IfErr answer (IsLineRead given)
 
--- what was taken from a reader, and where it failed
+-- the bytes taken from a reader, and the line in which it failed
 takes : {R : Type 0} (p q : Progress) (rows cols : ℕ) (left : R → List ℕ → Type 0) (failures : R → ℕ) (reader after : R) (answer : Result (Unit {0}) (LineFault CertFaultKind)) → Starts rows cols p
     → Reports progress_rules limit p q left failures reader after answer → Takes left failures reader after (AtLineRead answer)
 takes {R} p q rows cols left failures reader after answer s r = record { given = r.given; gave = r.gave; few = r.few; reading = by_answer answer r.outcome r.last }

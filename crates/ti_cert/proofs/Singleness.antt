@@ -184,7 +184,7 @@ one_row rows cols lines line after a b p q = from_range a b (case_of rows cols l
     from_range = either (λ x. (IsInRange rows cols line.row → ⊥) × (x ≡ Err BadLine)) (IsInRange rows cols line.row) (FromOrder rows cols lines line after)
         (equal_to (IsInRange rows cols line.row → ⊥) (Err BadLine)) (λ x never range. never.0 range) from_order
 
--- Tables that have just the same strings: what is wrong with the one is wrong with the other.
+-- Tables with the same strings have the same clashes.
 
 record IsAlike (t u : Table) : Type 0 where
   rows_are : t.rows ≡ u.rows
@@ -193,7 +193,7 @@ record IsAlike (t u : Table) : Type 0 where
 alike_back : (t u : Table) → IsAlike t u → IsAlike u t
 alike_back t u a = record { rows_are = sym a.rows_are; line_is = λ row. sym (a.line_is row) }
 
--- of two relations between rows and bytes of which each holds where the other does
+-- two optional texts are equal if each has a text that the other has
 each_way : (o p : Option (List ℕ)) → ((b : List ℕ) → o ≡ Some b → p ≡ Some b) → ((b : List ℕ) → p ≡ Some b → o ≡ Some b) → o ≡ p
 each_way None None f g = refl
 each_way None (Some b) f g = g b refl
@@ -258,7 +258,7 @@ stays_alike pairs t u a s = record {
 opens_alike : (t u : Table) → IsAlike t u → BeginsOpen t → BeginsOpen u
 opens_alike t u a never rest e = never rest (resync_alike t u a ∙ e)
 
--- there is one fault of all lines together, or none
+-- the clashes of two such tables are one fault
 one_clash : (pairs : Bool) (t u : Table) → IsAlike t u → (a b : Clash) → IsClash pairs t a → IsClash pairs u b → kind_of a ≡ kind_of b
 one_clash pairs t u l (clashes.Smacs c) (clashes.Smacs d) m n = refl
 one_clash pairs t u l (clashes.Smacs c) (clashes.Rmacs d) m n = refl

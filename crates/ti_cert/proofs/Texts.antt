@@ -27,7 +27,7 @@ use Rattle.ti_cert.specs.declared.faults.CertFaultKind.{CertFaultKind}
 abbrev Answer : Type 0
 Answer = Result Said (LineFault CertFaultKind)
 
--- what a line says that passes
+-- the meaning of a line without fault
 
 never_errs : (s : Said) (kind : CertFaultKind) → (a : Result Said CertFaultKind) → a ≡ Ok s → a ≡ Err kind → ⊥
 never_errs s kind a e f = cc
@@ -75,7 +75,7 @@ later_passes rows cols pairs lines text u (IsRow off line is p) =
 later_passes rows cols pairs lines text u (IsMisplaced off never bytes is e) = absurd (never_errs u _ (Ok u) refl e)
 later_passes rows cols pairs lines text u (IsNone off never none e) = absurd (never_errs u _ (Ok u) refl e)
 
--- what is left of a text that is accepted
+-- the rest of a text that is accepted
 record IsRest (rows cols budget : ℕ) (before : List RowLine) (texts : List (List ℕ)) (last : List ℕ) (pairs own : Option (List ℕ)) (final : List RowLine) : Type 0 where
   lines : List RowLine
   texts_are : row_lines lines ≡ texts
@@ -137,7 +137,7 @@ nothing_after rows cols budget number own before (line ∷ texts) last pairs fin
 pub turned : (line : RowLine) (lines before : List RowLine) → reverse (line ∷ lines) ++ before ≡ reverse lines ++ (line ∷ before)
 turned line lines before = ap (λ (x : List RowLine). x ++ before) (reverse_onto lines line []) ∙ append_assoc (reverse lines) (line ∷ []) before
 
--- one more line, and what is left after it
+-- one more line, and the rest after it
 rest_with : (rows cols budget number : ℕ) (own : Option (List ℕ)) (before : List RowLine) (text : List ℕ) (texts : List (List ℕ)) (last : List ℕ) (pairs : Option (List ℕ)) (final : List RowLine)
     → (h : HasPassed rows cols budget number (Listing own before) text (λ u. JudgedLines (rules_of rows cols) (budget - (length text + 1)) (number + 1) u texts last (Ok (Ended pairs final))))
     → ((line : RowLine) → JudgedLines (rules_of rows cols) (budget - (length text + 1)) (number + 1) (Listing own (line ∷ before)) texts last (Ok (Ended pairs final))

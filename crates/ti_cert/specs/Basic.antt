@@ -59,9 +59,9 @@ is_basic home el El = el
 is_basic home el Sgr0 = true
 is_basic home el _ = false
 
--- An entry is basic at a size: it is fit and has no alternate characters, no other capability of it is checked, and for
--- each parameter list in range a string has no fault, reads no static variable that it didn't set before, and sends
--- just these bytes.
+-- An entry is basic at a size: it is fit and has no alternate characters; of its capabilities only `clear`, `cup`,
+-- `home`, `el` and `sgr0` are checked; and for each parameter list in range a string has no fault, reads no static
+-- variable that it didn't set before, and sends exactly the row's basic bytes.
 pub record IsBasic (entry : Content) (rows cols : ℕ) : Type 0 where
   pub fit : IsFit entry
   pub no_pairs : string_at entry acsc ≡ None
@@ -88,7 +88,7 @@ basic_text rows cols home el = ended (line_texts
 abbrev pub basic_text_of : Content → ℕ → ℕ → List ℕ
 basic_text_of entry rows cols = basic_text rows cols (has_string entry Home) (has_string entry El)
 
--- a basic text is accepted, with just its lines, the latest first
+-- a basic text is accepted, with exactly its lines, the latest first
 abbrev pub BasicAccepted : Type 0
 BasicAccepted =
     (rows cols : ℕ) (home el : Bool) → IsSize rows cols → IsAnswer rows cols (basic_text rows cols home el)

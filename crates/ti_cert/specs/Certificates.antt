@@ -113,7 +113,7 @@ pub data JudgesLast (rows cols : ℕ) (pairs : Option (List ℕ)) (lines : List 
   Closes : IsComplete rows cols lines None → OfLines rows cols lines (λ t. GoesTogether (is_some pairs) t)
       → answer ≡ Ok (Ended pairs lines) → JudgesLast rows cols pairs lines answer
 
--- a line after that of alternate characters, or in its place
+-- a line after that of alternate characters, or the second line if it isn't that one
 pub data JudgesLater (rows cols : ℕ) (pairs : Option (List ℕ)) (lines : List RowLine) (text : List ℕ)
     (answer : Result Said CertFaultKind) : Type 0 where
   IsLast : is_end text ≡ true → JudgesLast rows cols pairs lines answer → JudgesLater rows cols pairs lines text answer

@@ -51,7 +51,7 @@ pub record IsLacking (rows cols : ℕ) (lines : List RowLine) (next : Option Row
   pub before : IsBefore rows cols next row
   pub due : IsRequiredLine row ⊎ (HasCap lines row ⊎ IsOfCap next row)
 
--- the first such row
+-- the first row whose line is missing before the next line
 pub record IsFirstLacking (rows cols : ℕ) (lines : List RowLine) (next : Option Row) (row : Row) : Type 0 where
   pub lacking : IsLacking rows cols lines next row
   pub first : (other : Row) → IsLacking rows cols lines next other → (other ≡ row) ⊎ Precedes rows cols row other

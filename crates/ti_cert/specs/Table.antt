@@ -53,7 +53,7 @@ head_of (b ∷ bytes) = Some b
 abbrev pub first_of_resync : Strings → Option ℕ
 first_of_resync s = head_of (texts_of (λ row. row_string s row) (resync_rows s.rows))
 
--- the change of the charsets by the row's string, nothing if there is no string
+-- the change of the charsets by the row's string, `None` if there is no string
 pub data Changes (s : Strings) (row : Row) : Option Sets → Type 0 where
   NoString : row_string s row ≡ None → Changes s row None
   OfString : (bytes : List ℕ) → row_string s row ≡ Some bytes → (tokens : List (List ℕ)) → Splits bytes tokens []

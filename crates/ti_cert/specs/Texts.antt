@@ -81,7 +81,7 @@ OneFault =
     (rows cols : ℕ) (text : List ℕ) (one other : CertFault) → IsRefused rows cols text ⊥ one
     → IsRefused rows cols text ⊥ other → (one ≡ other) ⊎ ((one.kind ≡ NoMemory) ⊎ (other.kind ≡ NoMemory))
 
--- a line after those before it: in its place, and its bytes have its effect, which is the one that is asked for
+-- the line is in its place after those before it, and its bytes have its effect, which is the one that is asked for
 pub record StandsNext (rows cols : ℕ) (before : List RowLine) (line : RowLine) : Type 0 where
   pub place : IsInPlace rows cols before line.row
   pub has : HasEffect rows cols line line.effect

@@ -73,7 +73,7 @@ struct Progress {
     room: Bytes,
 }
 
-/// Whether this is the first line of a certificate for this size.
+/// Whether `text` is the first line of a certificate for `size`.
 fn is_size_line(text: &[u8], size: Size) -> bool
     ensures yes { result ≡ true → IsSizeText text.now size.rows size.cols }
     ensures no { result ≡ false → IsSizeText text.now size.rows size.cols → ⊥ }
