@@ -21,7 +21,7 @@ pub record SendsRight (rows cols : ℕ) (looks : Looks) (string : List ℕ) (row
   pub sends : Sends string row bytes
   pub right : IsRight rows cols looks row bytes
 
--- the rows of the string before this one are right
+-- the rows of the string before this one are right with these looks
 abbrev pub StandBefore : ℕ → ℕ → Looks → List ℕ → Row → Type 0
 StandBefore rows cols looks string row = (other : Row) → IsInRange rows cols other → order other ≡ order row
     → rank rows cols other < rank rows cols row → SendsRight rows cols looks string other

@@ -31,7 +31,7 @@ is_whole_sequence (first ∷ behind) = (first == 27) && has_final behind
 abbrev pub is_unknown_rendition : Option ℕ → Bool
 is_unknown_rendition n = is_none (change_of (unwrap_or n 0))
 
--- insertion (ECMA-48 7.2.10, IRM); autowrap and the cursor's visibility (VT220, DECAWM and DECTCEM)
+-- the known modes: insertion (ECMA-48 7.2.10, IRM); autowrap and the cursor's visibility (VT220, DECAWM and DECTCEM)
 abbrev pub is_mode : ModeKind → ℕ → Bool
 is_mode Standard n = n == 4
 is_mode Private n = (n == 7) || (n == 25)

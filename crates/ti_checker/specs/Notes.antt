@@ -58,7 +58,7 @@ RowsNotes entry (row ∷ rows) notes =
 abbrev pub EntryNotes : Content → List CheckNote → Type 0
 EntryNotes entry notes = RowsNotes entry firsts notes
 
--- ---- why there are none
+-- ---- strings that send no whole tokens
 
 -- the string can't be expanded for the row, reads a static variable first, or sends no whole tokens
 abbrev pub SendsNoTokens : List ℕ → Row → Cause → Type 0
@@ -69,7 +69,8 @@ SendsNoTokens string row Stuck = SendsSome string row (λ bytes. (at : ℕ) × I
 SendsNoTokens string row NoMemory = Unit {0}
 SendsNoTokens string row _ = ⊥
 
--- the checked capability at this place in their order sends no tokens for its first parameter list
+-- the refusal names the checked capability at this place in the order of names, whose string sends no whole tokens for
+-- its first parameter list
 pub record IsUnsentAt (entry : Content) (place : ℕ) (refusal : No) : Type 0 where
   pub row : Row
   pub is_first : first_in_order place ≡ Some row
@@ -80,7 +81,7 @@ pub record IsUnsentAt (entry : Content) (place : ℕ) (refusal : No) : Type 0 wh
   pub there : string_of entry row ≡ Some string
   pub unsent : SendsNoTokens string row refusal.cause
 
--- the first such capability: all before it have their notes
+-- the refusal names the first such capability: all before it have their notes
 pub record IsFirstUnsent (entry : Content) (refusal : No) : Type 0 where
   pub place : ℕ
   pub unsent : IsUnsentAt entry place refusal
@@ -89,7 +90,7 @@ pub record IsFirstUnsent (entry : Content) (refusal : No) : Type 0 where
 
 -- ---- the lines
 
--- `note`, the capability and the bytes in hexadecimal
+-- the word `note`, the capability, and the bytes in hexadecimal
 abbrev pub note_line : CheckNote → List ℕ
 note_line note = codes "note " ++ (name_at note.cap ++ 32 ∷ (hex_text note.bytes ++ 10 ∷ []))
 

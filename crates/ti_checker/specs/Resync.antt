@@ -25,8 +25,8 @@ pub record IsPart (entry : Content) (row : Row) (bytes : List ℕ) : Type 0 wher
 abbrev pub AreInRange : ℕ → ℕ → List Row → Type 0
 AreInRange height width rows = (i : ℕ) (d : Row) → i < length rows → IsInRange height width (slice_index_or rows i d)
 
--- The bytes that the entry sends for these rows, one after another: the lines of each table with exactly what the entry
--- sends.
+-- The bytes that the entry sends for these rows, one after another: the lines of these rows in each table that agrees
+-- with the entry.
 abbrev pub SendsAll : Content → ℕ → ℕ → List Row → List ℕ → Type 0
 SendsAll entry height width rows text =
     (t : Table) → EntryAgrees height width entry t.line_of → text ≡ texts_of t.line_of rows

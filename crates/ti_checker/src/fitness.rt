@@ -9,7 +9,7 @@ use crate::causes::{Cause, No};
 use ti_caps::Entry;
 use ti_conforms::{Unfit, first_unfit};
 
-/// The refusal of an entry that is unfit in this way.
+/// The refusal of an entry that is unfit for the reason `why`.
 fn unfit_no(why: Unfit) -> No
     ensures cap { result.cap ≡ cap_of_unfit why }
     ensures params { result.params.items ≡ [] }

@@ -23,7 +23,7 @@ pub struct CheckNote {
     pub bytes: Bytes,
 }
 
-/// Adds a note to the others if the token is ignored.
+/// Adds to `notes` a note about `cap` if `token` is ignored.
 fn push_ignored(
     alloc: Global,
     cap: Cap,
@@ -39,7 +39,7 @@ fn push_ignored(
     Ok(())
 }
 
-/// Adds a note for each ignored token.
+/// Adds to `notes` a note about `cap` for each of the `tokens` that is ignored.
 fn push_all_ignored(
     alloc: Global,
     cap: Cap,
@@ -63,7 +63,7 @@ fn tokens_sent(alloc: Global, string: &[u8], row: Row) -> Result<Vec<Token>, Cau
     tokens_of(alloc, &bytes)
 }
 
-/// Adds the notes on a string for a row.
+/// Adds to `notes` the notes on `string` for `row`. The error is the string's fault.
 fn push_string_notes(
     alloc: Global,
     string: &[u8],
@@ -80,7 +80,8 @@ fn push_string_notes(
     }
 }
 
-/// Adds the notes on the checked capability at a place in the order of their names.
+/// Adds to `notes` the notes on the capability at `place` in the order of names. The error names the capability: its
+/// string sends no whole tokens, or memory ran out.
 fn push_notes_at(
     alloc: Global,
     entry: &Entry,
