@@ -84,7 +84,8 @@ fn is_size_line(text: &[u8], size: Size) -> bool
     }
 }
 
-/// The fault of a line that isn't about a capability: a line of alternate characters is out of order.
+/// The fault of `text`, a line that isn't about a capability: `OutOfOrder` for a line of alternate characters, else
+/// `BadLine`; or out of memory.
 fn misplaced(alloc: Global, text: &[u8]) -> CertFaultKind
     ensures { spec.IsMisplacedBy text.now result }
 {

@@ -75,7 +75,7 @@ fn first_of_resync(strings: &Strings) -> Option<u8>
     first_byte(strings, &resync_rows(strings.size()))
 }
 
-/// Checks that the lines that every certificate needs are there.
+/// Checks that the lines that a resynchronization needs are there.
 fn check_needed(strings: &Strings) -> Result<(), CertFaultKind>
     ensures fails { IfErr result (LacksNeeded strings.now) }
     ensures clear { OnOk result (is_some (row_string strings.now rows.Clear) ≡ true) }

@@ -87,7 +87,8 @@ impl Known {
         })
     }
 
-    /// The looks, with those added that a line of this effect teaches.
+    /// The looks, with those added that a line of `row` with this `effect` teaches. If the row's rival capability has
+    /// lines, nothing is added.
     fn looks_with(&self, row: Row, effect: &Effect) -> Looks
         ensures { result ≡ spec.looks_with self.now row effect.now }
     {
@@ -98,7 +99,8 @@ impl Known {
         }
     }
 
-    /// The effect of a line, which must be both the one that the line states and the one that is asked for.
+    /// Checks that `found`, the effect of a line's bytes or `None`, is the one that the line has `stated` and the one
+    /// that is asked for. Returns it, and the looks with those that the line teaches.
     pub fn judge_effect(
         &self,
         row: Row,
@@ -126,7 +128,8 @@ impl Known {
         }
     }
 
-    /// Adds a line that was judged.
+    /// Adds a line about `row` that was judged, with its `bytes` and its `effect`. `looks` must have the looks after
+    /// it.
     pub fn add(
         &mut self,
         scanner: &mut Scanner,

@@ -83,7 +83,7 @@ impl Place {
         Place { last: Some(row) }
     }
 
-    /// Whether a line of this capability comes too late.
+    /// Whether a line of the row's capability comes too late.
     fn is_late(&self, row: Row) -> bool
         ensures { result ≡ spec.is_late self.now.last row }
     {
@@ -130,7 +130,8 @@ impl Place {
         }
     }
 
-    /// The fault of a line of this row in this place, after the lines so far.
+    /// Checks that a line of `row` may come in this place, after the lines so far, which have `strings`. The error is
+    /// the line's fault.
     pub fn check(&self, row: Row, strings: &Strings) -> Result<(), CertFaultKind>
         ensures passes { OnOk result (spec.place_fault strings.now.rows strings.now.cols self.now.last
             (length (group_at strings.now (order row))) row ≡ None) }
