@@ -61,7 +61,8 @@ abbrev pub or_other : Option (List ℕ) → Option (List ℕ) → Option (List �
 or_other None other = other
 or_other (Some string) other = Some string
 
--- the string that fits the entry's other strings, or else that of the standards
+-- the string that fits the entry's other strings, or else that of the standards; always the latter with the second
+-- choice for `smacs` or `rmacs`
 abbrev pub candidate : Content → Choice → Row → Option (List ℕ)
 candidate entry choice row =
     if takes_second choice row then general entry row else or_other (matching entry row) (general entry row)

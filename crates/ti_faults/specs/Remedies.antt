@@ -21,12 +21,12 @@ partner_of Smacs = cap_of Rmacs
 partner_of Rmacs = cap_of Smacs
 partner_of row = cap_of row
 
--- a fault that says nothing against the row's string: it is of another capability, and not of the partner
+-- the fault doesn't speak against the row's string: it is about another capability, and not about the partner
 abbrev pub may_stay : Row → No → Bool
 may_stay row fault = not (fault.cap == cap_of row) && not (fault.cap == partner_of row)
 
--- The mended entry has the string, the capability is checked there, and none of the faults that are left there says
--- anything against it.
+-- The mended entry has the string, the capability is checked there, and none of the faults that are left there speaks
+-- against it.
 pub record IsAccepted (m : Mended) (row : Row) (string : List ℕ) : Type 0 where
   pub checked : is_checked m.entry row ≡ true
   pub may_stay : list_all (may_stay row) m.left.items ≡ true

@@ -108,7 +108,8 @@ pub data IsStandard (cap : ℕ) (found : Option (List ℕ)) : Type 0 where
 
 -- ---- the string that fits the entry's other strings better, if there is one
 
--- the entry changes between ASCII and the line drawing characters by SO and SI
+-- the entry changes between ASCII and the line drawing characters by SO and SI: its `smacs` has an SO, or its `rmacs`
+-- an SI
 abbrev pub has_byte : ℕ → Option (List ℕ) → Bool
 has_byte byte None = false
 has_byte byte (Some bytes) = list_any (λ b. b == byte) bytes

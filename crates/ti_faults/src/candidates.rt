@@ -18,7 +18,7 @@ pub struct Choice {
 }
 
 impl Choice {
-    /// The choice of this number below 4.
+    /// The choice with this number, 0 to 3.
     pub(crate) fn of(number: u8) -> Choice
         ensures { result ≡ spec.choice_of number }
     {

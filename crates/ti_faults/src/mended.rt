@@ -30,7 +30,7 @@ pub struct Mended {
     pub choice: Choice,
 }
 
-/// Whether one of the faults is of this capability.
+/// Whether one of the `faults` is about `cap`.
 pub fn names(faults: &[No], cap: Cap) -> bool
     ensures { result ≡ spec.names faults.now cap }
 {
@@ -101,7 +101,7 @@ fn mend_all(own: &Entry, choice: Choice, nos: &[No]) -> Result<Entry, AllocError
     Ok(entry)
 }
 
-/// The entry mended by the choice of this number.
+/// The entry mended by the choice with this number, and the faults that it shows then.
 fn mended_by(
     alloc: Global,
     entry: &Entry,
@@ -122,8 +122,8 @@ fn mended_by(
 }
 
 impl Mended {
-    /// The entry with the capabilities of all its faults `nos` mended at once: by the first of four choices for `smacs`
-    /// and `rmacs` after which neither of them is at fault, or else by the first.
+    /// The entry with the capabilities of all the faults `nos` mended at once: by the first of four choices for `smacs`
+    /// and `rmacs` after which neither of them is at fault, or else by the first choice.
     ///
     /// # Errors
     /// Out of memory.

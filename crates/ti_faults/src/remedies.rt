@@ -17,7 +17,7 @@ use ti_conforms::is_checked;
 use ti_rows::Row;
 
 /// The string that ECMA-48, the VT100 or the VT220 has for a checked capability. None of them has a second screen, so
-/// that there is no string for `smcup` and `rmcup`.
+/// there is no string for `smcup` and `rmcup`.
 pub fn standard_string(cap: Cap) -> Option<&'static [u8]>
     ensures { standards.IsStandard cap (option_copied result) }
 {
@@ -38,14 +38,14 @@ fn partner(row: Row) -> Cap
     }
 }
 
-/// Whether a fault says nothing against the row's string.
+/// Whether the fault `no` doesn't speak against the string of `row`.
 fn may_stay(no: &No, row: Row) -> bool
     ensures { result ≡ spec.may_stay row no.now }
 {
     no.cap != row.cap() && no.cap != partner(row)
 }
 
-/// Whether none of the faults says anything against the row's string.
+/// Whether none of the faults `left` speaks against the string of `row`.
 fn all_may_stay(left: &[No], row: Row) -> bool
     ensures { result ≡ list_all (spec.may_stay row) left.now }
 {
@@ -63,7 +63,8 @@ fn has_string(entry: &Entry, row: Row, string: &[u8]) -> bool
     }
 }
 
-/// Whether the string is that of the mended entry, and nothing that is left at fault there speaks against it.
+/// Whether the mended entry has the string for `row`, which is checked there, and no fault that is left there speaks
+/// against it.
 fn is_accepted(mended: &Mended, row: Row, string: &[u8]) -> bool
     ensures yes { result ≡ true → spec.IsAccepted mended.now row string.now }
     ensures no { result ≡ false → spec.IsRejected mended.now row string.now }

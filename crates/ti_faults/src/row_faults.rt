@@ -39,7 +39,8 @@ fn string_fault(
     }
 }
 
-/// The first faulty row of the capability at this place in the order of names, if it is checked.
+/// The refusal about the first faulty row of the capability at `place` in the order of names, if it is checked and has
+/// such a row.
 fn cap_fault(
     alloc: Global,
     entry: &Entry,
@@ -60,7 +61,7 @@ fn cap_fault(
     }
 }
 
-/// Adds the fault of the capability at this place, if it has one.
+/// Adds to `nos` the fault of the capability at `place`, if it has one.
 #[tactic(auto, using(crate::proofs::Caps::stands_added, crate::proofs::Caps::fault_added))]
 fn push_cap_fault(
     alloc: Global,
@@ -79,7 +80,7 @@ fn push_cap_fault(
     }
 }
 
-/// Adds `no` to `nos`, unless its cause is that memory ran out.
+/// Adds `no` to `nos`. Fails if its cause is that memory ran out, or if memory runs out here.
 fn push_claim(no: No, nos: &mut Vec<No>) -> Result<(), AllocError>
     ensures claims { OnOk result (no.cause ≢ Cause.NoMemory) }
     ensures added { OnOk result (nos.new.items ≡ nos.old.items ++ no ∷ []) }

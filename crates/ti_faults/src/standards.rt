@@ -82,7 +82,8 @@ fn has_byte(string: Option<&[u8]>, byte: u8) -> bool
     }
 }
 
-/// Whether the entry changes between ASCII and the line drawing characters by SO and SI.
+/// Whether the entry changes between ASCII and the line drawing characters by SO and SI: its `smacs` has an SO, or its
+/// `rmacs` an SI.
 fn shifts(entry: &Entry) -> bool
     ensures { result ≡ spec.shifts entry.now }
 {
@@ -112,7 +113,7 @@ fn begins(string: Option<&[u8]>, text: &[u8]) -> bool
     }
 }
 
-/// Whether the colors of the entry are those of a palette of more than 8.
+/// Whether the colors of the entry are those of a palette: more than 8, and at most 256.
 fn has_many_colors(entry: &Entry) -> bool
     ensures { result ≡ spec.many_colors entry.now }
 {
@@ -120,7 +121,7 @@ fn has_many_colors(entry: &Entry) -> bool
     8 < colors && colors <= 256
 }
 
-/// The first string if the entry changes sets by SO and SI, the other one if it does so by `rmacs` alone.
+/// `shifted` if the entry changes sets by SO and SI; else `designated` if it has an `rmacs`; else none.
 fn by_sets(
     entry: &Entry,
     shifted: &'static [u8],
@@ -183,7 +184,8 @@ pub(crate) fn matching(entry: &Entry, row: Row) -> Option<&'static [u8]>
     }
 }
 
-/// The standard's string for a row's capability of an entry.
+/// The standard's string for a row's capability of an entry: none for `setaf` and `setab` if the entry has more than
+/// 256 colors.
 pub(crate) fn general(entry: &Entry, row: Row) -> Option<&'static [u8]>
     ensures value { option_copied result ≡ spec.general entry.now row }
     ensures fits { IfSome result (λ string. IsTrue (string_fits string.now)) }
