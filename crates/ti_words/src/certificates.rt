@@ -83,7 +83,7 @@ fn front(line: &[u8]) -> &[u8] {
     &line[..line.len().min(SHOWN)]
 }
 
-/// The words after the shown part of `line`.
+/// The words after the shown part of `line`: two dots if the line is longer.
 fn cut_words(line: &[u8]) -> &'static str {
     if line.len() > SHOWN { " .." } else { "" }
 }

@@ -53,8 +53,8 @@ impl Remarks {
         self.lines.as_slice()
     }
 
-    /// Adds a line, as far as there is memory: `subject` in quotes, and the `words` about it. A line that could be
-    /// taken for a suggestion is left out.
+    /// Adds a line: `subject` in quotes, and the `words` about it. The line is left out if memory runs out, or if it
+    /// could be taken for a suggestion.
     pub fn add(&mut self, subject: &[u8], words: &[u8])
         ensures { MayAdd (quoted (shown subject.now) (shown words.now)) self.old self.new }
     {
@@ -63,8 +63,8 @@ impl Remarks {
         }
     }
 
-    /// Adds a line of these `words`, if there are any, as far as there is memory. A line that could be taken for a
-    /// suggestion is left out.
+    /// Adds a line of these `words`, if there are any. The line is left out if memory runs out, or if it could be taken
+    /// for a suggestion.
     pub fn add_words(&mut self, words: &[u8])
         ensures { MayAdd (shown words.now) self.old self.new }
     {
@@ -76,7 +76,7 @@ impl Remarks {
         }
     }
 
-    /// Adds `line`, as far as there is memory, unless it could be taken for a suggestion.
+    /// Adds `line`. It is left out if memory runs out, or if it could be taken for a suggestion.
     fn push(&mut self, line: Vec<u8>)
         requires { AllByRecursion IsPrintable line.items }
         ensures { MayAdd line.items self.old self.new }
