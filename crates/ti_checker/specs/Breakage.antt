@@ -65,7 +65,7 @@ pub record IsShown (rows cols : ℕ) (taught : Looks) (row : Row) (e : Effect) (
   pub unwanted : NotWanted rows cols taught row e p
 
 -- if the probe shows that the effect of the bytes isn't wanted, with the looks that the rows before taught, the run of
--- the bytes from it isn't wanted either (`Breaks`)
+-- the bytes from it has an end that isn't wanted (`Breaks`)
 abbrev pub ShownBreaks : Type 0
 ShownBreaks = (rows cols : ℕ) (string : List ℕ) (taught : Looks) (row : Row) (bytes : List ℕ)
     → (tokens : List (List ℕ)) (e : Effect) (p : Probe) → IsTaught rows cols string row taught → Splits bytes tokens []

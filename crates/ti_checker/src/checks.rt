@@ -19,9 +19,9 @@ use vt_term::Size;
 /// proved that `ti_cert::verify` accepts it as it is.
 ///
 /// # Errors
-/// The first refusal: of the entry as a whole, then of a row, in the order of a certificate's lines, then of all
-/// strings together. Every cause but `NotTame`, `NotShown` and `NoMemory` states a fault of the entry; `TooLong` states
-/// that its certificate would pass the limit.
+/// The first refusal: about the entry as a whole, then about a row, in the order of a certificate's lines, then about
+/// all strings together. Every cause but `NotTame`, `NotShown` and `NoMemory` states a fault of the entry; `TooLong`
+/// states that its certificate would pass the limit.
 #[tactic(auto, using(crate::proofs::Together::entry_no, crate::proofs::Together::part_no))]
 pub fn check(alloc: Global, entry: &Entry, size: Size) -> Result<Vec<u8>, No>
     ensures conforms { IfOk result (λ text. Conforms entry.now size.rows size.cols) }

@@ -52,9 +52,9 @@ pub fn one_list_of_notes()
         → others ≡ notes }
 {}
 
-/// If a refusal of an entry is true, the entry doesn't conform, unless the cause is one that claims no fault:
-/// `NotTame`, `NotShown` or `NoMemory`. `TooLong` says nothing about the effects of the entry's strings, only that the
-/// entry has no certificate.
+/// If a refusal of an entry is true, the entry doesn't conform, unless its cause is `NotTame`, `NotShown` or
+/// `NoMemory`, which claim no fault, or `TooLong`, which says only that the entry has no certificate, and nothing about
+/// the effects of its strings.
 pub fn no_excludes_yes()
     ensures conforms { (entry : Content) (rows cols : ℕ) (refusal : No) → IsNo entry rows cols refusal
         → refusal.cause ≢ TooLong → Conforms entry rows cols → ClaimsNothing refusal.cause }

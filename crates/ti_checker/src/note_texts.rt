@@ -8,7 +8,7 @@ use std::alloc::{AllocError, Global};
 use ti_caps::name;
 use ti_lines::push_hex;
 
-/// A line `note CAP HEX` for each note, in their order: the capability's name, and the sequence in lower case
+/// A line `note CAP HEX` for each of the `notes`, in their order: the capability's name, and the sequence in lower case
 /// hexadecimal. Each ends with LF. Fails if memory runs out.
 pub fn note_lines(alloc: Global, notes: &[CheckNote]) -> Result<Vec<u8>, AllocError>
     ensures { IfOk result (λ lines. lines.items ≡ spec.notes_text notes.now) }
