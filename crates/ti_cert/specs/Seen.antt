@@ -83,7 +83,7 @@ abbrev pub Leads : Charsets → Option Sets → Bool → Type 0
 Leads s None graphic = Unit {0}
 Leads s (Some change) graphic = (c : Charset) → closing.has s c ≡ true → is_graphic (designated change c) ≡ graphic
 
--- there is a change, and from this one of the charsets it activates the other set
+-- the charset is one of these, there is a change, and from this charset it activates the other set
 abbrev pub Misleads : Charsets → Option Sets → Bool → Charset → Type 0
 Misleads s None graphic c = ⊥
 Misleads s (Some change) graphic c = (closing.has s c ≡ true) × (is_graphic (designated change c) ≡ not graphic)

@@ -99,8 +99,8 @@ impl Known {
         }
     }
 
-    /// Checks that `found`, the effect of a line's bytes or `None`, is the one that the line has `stated` and the one
-    /// that is asked for. Returns it, and the looks with those that the line teaches.
+    /// Checks that `found`, the effect of a line's bytes or `None`, equals `stated`, the effect in the line, and is the
+    /// one that is asked for. Returns it, and the looks with those that the line teaches.
     pub fn judge_effect(
         &self,
         row: Row,
