@@ -3,7 +3,7 @@ use Rattle.ti_checker.specs.declared.causes.No.{No}
 use Rattle.ti_faults.specs.AllFaults.{AreHidden}
 use Rattle.ti_faults.proofs.all_faults.faults.Goals as goal
 
--- what the entry shows, and what that hides
+-- the faults that the entry shows, and those that these hide
 pub returns : goal.returns
 returns c = record {
   shown = c.in_ok-nos.nos.items;

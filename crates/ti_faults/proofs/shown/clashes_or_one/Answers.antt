@@ -4,7 +4,7 @@ use Rattle.ti_checker.specs.declared.causes.No.{No}
 use Rattle.ti_faults.specs.Shown.{or_one, Together, Alone}
 use Rattle.ti_faults.proofs.shown.clashes_or_one.Goals as goal
 
--- each clash, or the no alone
+-- each clash, or the refusal alone
 pub returns-in-Ok : goal.returns-in-Ok
 returns-in-Ok c = IfOk-weaker c.or_one.result _ _ (λ found is. Together c.in-Ok.nos.items refl c.in-Ok.ensures.all is) c.or_one.ensures
 

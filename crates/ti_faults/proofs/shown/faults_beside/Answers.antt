@@ -9,7 +9,7 @@ none_left : (nos : List No) (n : ℕ) → n ≡ length nos → true ≡ (n == 0)
 none_left [] n e h = refl
 none_left (first ∷ rest) n e h = absurd (grind (arith, nat_tests))
 
--- neither the whole nor a row is at fault
+-- neither the entry as a whole nor a row is at fault
 pub returns-then-is_empty : goal.returns-then-is_empty
 returns-then-is_empty c =
     let a = c.in_ok-push_row_faults.ensures in

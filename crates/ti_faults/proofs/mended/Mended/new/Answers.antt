@@ -3,7 +3,7 @@ use Rattle.std.proofs.lemmas.Result.{IfOk-weaker}
 use Rattle.ti_faults.specs.Mended.{Switching, First}
 use Rattle.ti_faults.proofs.mended.Mended.new.Goals as goal
 
--- neither of them is at fault, and each choice before failed
+-- neither `smacs` nor `rmacs` is at fault, and each choice before failed
 pub returns-then-switches_sets : goal.returns-then-switches_sets
 returns-then-switches_sets c = Switching c.loop-number.number c.in_ok-mended.ensures (sym c.switches_sets.ensures ∙ c.if-switches_sets.true) c.loop-number.invariant
 
@@ -15,6 +15,6 @@ loop-number-preserved c = below_more _ _ c.loop-number.invariant (record {
   fails = sym c.switches_sets.ensures ∙ c.if-switches_sets.false;
 })
 
--- all failed
+-- all choices failed
 pub returns : goal.returns
 returns c = IfOk-weaker c.mended_by-2.result _ _ (λ m h. First h (λ number lt. c.loop-number.invariant number (omega (arith, lt)))) c.mended_by-2.ensures
