@@ -2,7 +2,7 @@ use Rattle.ti_surveys.specs.Told.{told_of}
 use Rattle.ti_surveys.proofs.Answering.{as_no}
 use Rattle.ti_surveys.proofs.lines.answer_line.Goals as goal
 
--- the no is the certifier's
+-- the refusal is the certifier's
 pub returns-in-Err : goal.returns-in-Err
 returns-in-Err g c =
     as_no told_of (g.C.Certifier.certifies c.args.asked.now.certifier.now c.args.entry.now c.args.asked.now.size.rows c.args.asked.now.size.cols)

@@ -8,7 +8,7 @@ pub loop-no-init : goal.loop-no-init
 unfolding HasParts
 loop-no-init c = c.new-places.ensures.items
 
--- the line of the next fault follows those so far
+-- the line of the next fault's place follows those so far
 pub loop-no-preserved : goal.loop-no-preserved
 loop-no-preserved c =
     let here : c.loop-no.no-index < length c.args.nos.now = omega arith in
