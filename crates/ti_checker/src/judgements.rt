@@ -38,7 +38,7 @@ fn misfit(row: Row, taught: Looks, effect: &Effect, size: Size) -> Cause
     }
 }
 
-/// The fault of bytes that are no whole control functions.
+/// The fault of bytes that aren't whole control functions.
 fn cause_of(fault: TokenFault) -> Cause
     ensures { result ≡ spec.cause_of fault.kind }
 {
@@ -60,7 +60,7 @@ pub(crate) fn tokens_of(alloc: Global, bytes: &[u8]) -> Result<Vec<Token>, Cause
     }
 }
 
-/// The fault of a text that is no whole control functions.
+/// The fault of a text that isn't whole control functions.
 fn not_whole(fault: TextFault) -> Cause
     ensures { (bytes : List ℕ) → HasFault bytes fault → spec.IsNotWhole bytes result }
 {
