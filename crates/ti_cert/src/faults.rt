@@ -17,7 +17,7 @@ pub enum CertFaultKind {
     Missing(Cap, Params),
     /// The line had to come earlier, or is there already.
     OutOfOrder,
-    /// The bytes are no whole control functions.
+    /// The bytes aren't whole control functions.
     NotWhole,
     /// The bytes have no one effect record for all the states they start from.
     NotTame,
