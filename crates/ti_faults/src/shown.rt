@@ -23,8 +23,8 @@ fn or_one(nos: Vec<No>, refusal: No) -> Result<Vec<No>, AllocError>
     Ok(nos)
 }
 
-/// The clashes of all strings of `entry`, or `refusal`, which is its refusal by `check`, if there are none. Neither the
-/// entry as a whole nor one of its rows must be at fault.
+/// The clashes of all strings of `entry`. If there are none, or if the strings can't be judged together, `refusal`
+/// alone, which is the entry's refusal by `check`.
 fn clashes_or_one(
     alloc: Global,
     entry: &Entry,
