@@ -1,4 +1,4 @@
-/* What this library doesn't have, and answers so: soft labels, lines that are set apart, mice. */
+/* Functions that this library only refuses: soft labels, lines set apart by ripoffline, mice. */
 #include "private.h"
 
 int ripoffline(int line, int (*start)(WINDOW *, int)) {
@@ -7,7 +7,7 @@ int ripoffline(int line, int (*start)(WINDOW *, int)) {
     return ERR;
 }
 
-/* A session has the size of its terminal, and no other. */
+/* Does nothing: a session always has the size of its terminal. */
 void filter(void) {
 }
 

@@ -16,7 +16,7 @@ int wattrset(WINDOW *window, int attrs) {
     return set(window, (chtype)attrs);
 }
 
-/* A pair takes the place of the one before. */
+/* Turns `attrs` on; a color pair in it replaces the window's pair. */
 static int turn_on(WINDOW *window, chtype attrs) {
     if (!window) return ERR;
     return set(window, attrs & A_COLOR ? (window->attrs & ~A_COLOR) | attrs : window->attrs | attrs);
@@ -71,7 +71,7 @@ attr_t getattrs(const WINDOW *window) {
     return window ? window->attrs : A_NORMAL;
 }
 
-/* A background without a character is of spaces. */
+/* The background that `ch` asks for: spaces if it has no character. */
 static chtype background_of(chtype ch) {
     return (ch & (TCU_SHOWN | A_COLOR)) | (TCU_BYTE(ch) ? TCU_BYTE(ch) : ' ');
 }

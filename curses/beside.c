@@ -1,6 +1,6 @@
-/* Bytes that go to the terminal beside those of the session: strings of its entry for keys and for flash. They are
- * sent when nothing waits in the session. A certificate says of the string whether T does nothing with it; where it has
- * none, the next refresh repairs what the terminal shows. */
+/* Bytes that go to the terminal beside those of the session: strings of its entry for keys and for flash. They are sent
+ * when nothing waits in the session. A certificate shows that T ignores such a string; without one, the next refresh
+ * repairs what the terminal shows. */
 #define _POSIX_C_SOURCE 200809L
 #include "private.h"
 
@@ -8,7 +8,7 @@
 
 #include "calls.h"
 
-/* The length of a delay at the beginning of a text, as in $<5.5>, with or without marks; 0 where there is none. */
+/* The length of a delay at the beginning of `text`, such as $<5.5> or $<5*>; 0 if there is none. */
 static size_t delay_len(const char *text, int *milliseconds) {
     size_t at = 2;
     *milliseconds = 0;
@@ -21,7 +21,8 @@ static size_t delay_len(const char *text, int *milliseconds) {
     return text[at] == '>' ? at + 1 : 0;
 }
 
-/* Copies a string without its delays. Gives its length, and writes nothing where it doesn't fit. */
+/* Copies `text` without its delays to `room` and returns the length. If it doesn't fit, it writes nothing and returns
+ * 0. */
 size_t beside_plain(const char *text, char *room, size_t room_len) {
     size_t count = 0, len;
     int unused;
@@ -34,7 +35,7 @@ size_t beside_plain(const char *text, char *room, size_t room_len) {
     return count;
 }
 
-/* Sends the pieces between the delays, and waits in these where that is wanted. */
+/* Sends the pieces between the delays, and waits for each delay if `is_waiting`. */
 static int send_pieces(const char *text, bool is_waiting) {
     char piece[256];
     size_t count = 0;

@@ -1,11 +1,11 @@
-/* The calls of the proved session, by numbers, but for those that write text (run.c). */
+/* The calls of the proved session, with windows by number; run.c has those that write text. */
 #include "session.h"
 
 #define CALL(call) (session_begins() ? session_done(call) : ERR)
 
 /* -- windows -- */
 
-/* A window that was made has the attributes of a new one. */
+/* Ends a call that makes a window, whose attributes are those of a new one. */
 static int made(int number, int code) {
     if (code == TICURSES_OK) run_made(number);
     return code;
@@ -74,8 +74,8 @@ int session_erase(int window) {
     return CALL(ticurses_erase(&tcu_session, (size_t)window));
 }
 
-/* A cell of a line or a border. One that is 0 is the default one for the session too; attributes without a byte are
- * those of the usual letter. */
+/* A cell of a line or a border. A cell of 0 is the session's default too; attributes without a byte apply to the letter
+ * `usual`. */
 static ticurses_cell drawn(chtype cell, char usual) {
     chtype letter = (chtype)(unsigned char)usual | A_ALTCHARSET;
     return session_cell_of(cell == 0 || TCU_BYTE(cell) ? cell : cell | letter);

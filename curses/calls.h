@@ -1,41 +1,41 @@
-/* The proved session: a function for each call that this library makes of it. session.c, run.c and calls.c alone know how
- * they get there. Each answers OK, or ERR where the call was refused; what a refused call changes is in
- * docs/LIBRARY.md. */
+/* The proved session: a function for each call that this library makes of it. Only session.c, run.c and calls.c know
+ * how a call reaches the session. Each function returns OK, or ERR if the call was refused; docs/LIBRARY.md says what
+ * a refused call changes. */
 #ifndef TICURSES_CURSES_CALLS_H
 #define TICURSES_CURSES_CALLS_H
 
 #include "private.h"
 
-/* Whether one of them is being made, which a handler of the program has interrupted: all of them are ERR then. */
+/* Whether a handler of the program has interrupted one of these calls: all of them return ERR then. */
 bool session_is_busy(void);
 
-/* Opens the session for the entry and a size. Where it can't, the reason is written to the room. */
+/* Opens the session for the entry and the size. If it can't, it writes why to `reason`, at most `room_len` bytes. */
 int session_open(int lines, int columns, char *reason, size_t room_len);
-/* Opens one of another size in its place. The one before stays for session_former_cell until it is forgotten. */
+/* Opens a session of another size in place of this one, which session_former_cell can read until
+ * session_forget_former. */
 int session_reopen(int lines, int columns);
 int session_former_cell(int window, int y, int x, chtype *cell);
 void session_forget_former(void);
 void session_close(void);
-/* Writes what waits to a descriptor. Where a write fails, or a signal ends the program meanwhile, the session is
- * lost. */
+/* Writes the session's output to `fd`. The session is lost if a write fails or a signal is to end the program. */
 int session_send(int fd);
-/* The same, and then bytes that aren't the session's. */
+/* Writes the session's output to `fd`, and then `count` bytes that aren't the session's. */
 int session_send_beside(int fd, const char *bytes, size_t count);
-/* What the terminal shows isn't known: the next refresh repairs it. */
+/* Records that the terminal may show anything: the next refresh repairs it. */
 void session_lost(void);
 
 int session_cell(int window, int y, int x, chtype *cell);
 
-/* Text waits, with the cursor and the attributes that it is written with, and goes to the session when another call is
- * made (run.c). */
+/* These keep text, the cursor and the attributes of the text, and pass them to the session when another call is made
+ * (run.c). */
 int session_cursor(int window, int *y, int *x);
 int session_move(int window, int y, int x);
 int session_addch(int window, chtype cell);
 int session_addstr(int window, const char *text, size_t len);
-/* attributes and pair at once */
+/* sets attributes and pair together */
 int session_attrset(int window, chtype attrs);
-/* Write printable characters that end before the cursor's line does, and give their place; false where they are others,
- * and nothing is written. */
+/* These write characters and store the place of the first in `y` and `x`. They return false and write nothing unless
+ * all characters are printable and end before the last column of the cursor's line. */
 bool session_put(int window, chtype cell, int *y, int *x);
 bool session_write(int window, const char *text, size_t len, int *y, int *x);
 
@@ -54,7 +54,7 @@ int session_deleteln(int window);
 int session_clrtoeol(int window);
 int session_clrtobot(int window);
 int session_erase(int window);
-/* in these a cell without a byte is the default one */
+/* in these three calls a cell without a byte is the default one */
 int session_hline(int window, chtype cell, int count);
 int session_vline(int window, chtype cell, int count);
 int session_border(int window, const chtype cells[8]);
@@ -77,8 +77,8 @@ int session_curs_set(int visibility);
 int session_beep(void);
 int session_endwin(void);
 
-/* The bytes of a string of terminfo, without its delays, if T does nothing with them in any state of a session: a
- * certificate of an entry in which this is the string of the bell says so. Gives how many there are, 0 where not. */
+/* Copies the string `text` of terminfo without its delays to `room` if T ignores it in every state of a session, which
+ * it does if an entry with this bell has a certificate. Returns the number of bytes, or 0 if T doesn't ignore them. */
 size_t session_ignored(const char *text, char *room, size_t room_len);
 
 #endif

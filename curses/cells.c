@@ -1,10 +1,11 @@
-/* Cells as they are: written without the window's attributes and background, by way of a pad of one line. The cursor
+/* Writing cells as they are: without the window's attributes and background, by way of a pad of one line. The cursor
  * stays. */
 #include "private.h"
 
 #include "calls.h"
 
-/* What can't stand in a cell is a space where it is nothing, and else a question mark. */
+/* A cell that the session takes. A zero byte becomes a space, and any other byte that no cell may have becomes a
+ * question mark. */
 static chtype drawable(chtype cell) {
     unsigned byte = TCU_BYTE(cell);
     chtype known = cell & TCU_SHOWN;
@@ -12,16 +13,16 @@ static chtype drawable(chtype cell) {
     return known | (byte == 0 ? ' ' : byte < 32 || byte > 126 ? '?' : byte);
 }
 
-/* Puts cells in a place of a window of the session. */
+/* Copies cells to a place of the session's window `number`. */
 int tcu_put_row(int number, int line, int column, const chtype *cells, int count) {
     if (count < 1) return OK;
     if (session_move(TCU_SCRATCH, 0, 0) != OK) return ERR;
-    /* the last one may be the pad's last, past which the cursor can't go */
+    /* fails if the last cell is the pad's last, past which the cursor can't go, but the cell is written */
     for (int at = 0; at < count; at++) session_addch(TCU_SCRATCH, drawable(cells[at]));
     return session_copywin(TCU_SCRATCH, number, 0, 0, line, column, line, column + count - 1, false);
 }
 
-/* The same of the program's window; cells past its line's end are left out. */
+/* Copies cells to a place of the program's window and touches it; leaves out cells past the line's end. */
 int tcu_put_cells(WINDOW *window, int line, int column, const chtype *cells, int count) {
     if (count > window->columns - column) count = window->columns - column;
     tcu_touch(window, line, column, column + count - 1);
@@ -39,7 +40,8 @@ int waddchstr(WINDOW *window, const chtype *cells) {
     return waddchnstr(window, cells, -1);
 }
 
-/* Gives cells of the cursor's line other attributes and another pair. */
+/* Gives `count` cells from the cursor on other attributes and another pair; all cells up to the line's end if `count`
+ * is negative. */
 int wchgat(WINDOW *window, int count, attr_t attrs, short pair, const void *options) {
     chtype cells[TCU_PAD_MAX];
     int y, x;

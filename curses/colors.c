@@ -1,4 +1,4 @@
-/* Colors: eight of them, and 64 pairs, of which the first one has the terminal's own. */
+/* Colors: eight of them, and 64 pairs. Pair 0 has the terminal's own colors. */
 #include "private.h"
 
 #include "calls.h"
@@ -8,7 +8,7 @@ enum { SHADES = 8 };
 static short pairs[TCU_PAIRS][2];
 static bool has_pair[TCU_PAIRS];
 
-/* Whether the program has said what the pair is. */
+/* Whether the program has set the pair. */
 bool tcu_has_pair(int pair) {
     return has_pair[pair];
 }
@@ -31,7 +31,7 @@ static void note_pair_0(void) {
 int start_color(void) {
     if (!tcu.is_open) return ERR;
     if (tcu.has_colors) return OK;
-    /* programs count pairs also on terminals without colors */
+    /* programs count pairs on terminals without colors too */
     if (!has_colors()) return ERR;
     tcu.has_colors = true;
     COLORS = SHADES;
@@ -72,7 +72,7 @@ int init_color(short color, short red, short green, short blue) {
     return ERR;
 }
 
-/* What the eight are called says how much they have of each. */
+/* The red, green and blue of a color: each is 0 or 680, as the color's name says. */
 int color_content(short color, short *red, short *green, short *blue) {
     enum { FULL = 680 };
     if (!tcu.has_colors || color < 0 || color >= SHADES) return ERR;
@@ -86,7 +86,8 @@ int use_default_colors(void) {
     return assume_default_colors(-1, -1);
 }
 
-/* Pair 0 can't have other colors than the terminal's own. A program may call this before start_color too. */
+/* Takes -1 and -1 only: pair 0 has the terminal's own colors and can't have others. A program may call this before
+ * start_color too. */
 int assume_default_colors(int foreground, int background) {
     if (!has_colors() || foreground != -1 || background != -1) return ERR;
     tcu.has_default_colors = true;

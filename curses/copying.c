@@ -21,7 +21,7 @@ static int smaller(int one, int other) {
     return one < other ? one : other;
 }
 
-/* Copies what the two have in common on the screen. */
+/* Copies the part of the screen that both windows cover. */
 static int copy_common(const WINDOW *source, WINDOW *target, bool is_overlay) {
     int top, left, bottom, right;
     if (!source || !tcu_is_own(target)) return ERR;

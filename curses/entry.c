@@ -1,5 +1,5 @@
-/* The terminal's entry of terminfo: found where ncurses seeks it, and its capabilities by their names, which the
- * session's library reads. */
+/* The terminal's terminfo entry, which is sought where ncurses seeks it, and its capabilities by name. The session's
+ * library reads them. */
 #define _POSIX_C_SOURCE 200809L
 #include "private.h"
 
@@ -12,11 +12,11 @@
 static char held[TICURSES_ENTRY_MAX], long_name[256];
 static size_t held_len;
 
-/* The strings that were asked for, one behind the other, each with a zero byte. */
+/* The strings that were asked for, one after the other, each with a zero byte. */
 static char texts[TICURSES_ENTRY_MAX];
 static size_t texts_len;
 
-/* The strings beside those of keys; null where the entry has none. */
+/* The strings that aren't keys; null if the entry has none. */
 static struct {
     const char *name, *text;
 } strings[] = {
@@ -27,7 +27,7 @@ static struct {
     {"sgr0", NULL},  {"smacs", NULL}, {"smir", NULL}, {"smkx", NULL},  {"smso", NULL},  {"smul", NULL},
 };
 
-/* The names end before the numbers: the last one of them is for people. */
+/* Keeps the last name of the entry, which is for people. */
 static void find_long_name(void) {
     const char *names = held + 12, *from = names;
     size_t len = strnlen(names, ticurses_short_at((const unsigned char *)held, 2));

@@ -5,7 +5,7 @@
 
 #include "calls.h"
 
-/* A line that is being read: where it began in the window, and what it has so far. */
+/* A line that is being read: where it begins in the window, and its characters so far. */
 struct line {
     WINDOW *window;
     int y, x;
@@ -14,7 +14,7 @@ struct line {
     bool is_shown;
 };
 
-/* Takes the last character off, and shows the line without it. */
+/* Removes the last character, and shows the line without it. */
 static void wipe(struct line *line) {
     WINDOW *window = line->window;
     int end_y = getcury(window), end_x = getcurx(window), y, x;
@@ -30,7 +30,7 @@ static void wipe(struct line *line) {
     wrefresh(window);
 }
 
-/* Shows the character that was added; one for which the window has no place is wiped again. */
+/* Shows the character that was added, and removes it again if the window has no place for it. */
 static void show(struct line *line, int key) {
     WINDOW *window = line->window;
     int before = getcury(window), after;
@@ -62,7 +62,7 @@ static bool is_wiping(int key) {
     return key == KEY_LEFT || key == KEY_BACKSPACE || (erasechar() != 0 && key == (unsigned char)erasechar());
 }
 
-/* Reads keys up to the line's end. Gives the last one. */
+/* Reads keys up to the line's end and returns the last one. */
 static int read_keys(struct line *line) {
     int key;
     while ((key = wgetch(line->window)) != ERR && key != KEY_RESIZE && !is_end(key)) {
@@ -77,7 +77,7 @@ static int read_keys(struct line *line) {
     return key;
 }
 
-/* The cursor goes to the beginning of the next line, where there is one. */
+/* Moves the cursor to the beginning of the next line, if there is one. */
 static void go_on(WINDOW *window, bool is_shown) {
     if (is_shown && window->scrolls && getcury(window) == window->region_bottom) waddch(window, '\n');
     else wmove(window, getcury(window) < window->lines - 1 ? getcury(window) + 1 : getcury(window), 0);

@@ -1,4 +1,4 @@
-/* The beginning and the end: initscr, newterm, endwin and what comes after it. */
+/* The beginning and the end: initscr, newterm, endwin, and how a refresh resumes after it. */
 #define _POSIX_C_SOURCE 200809L
 #include "private.h"
 
@@ -16,7 +16,7 @@ WINDOW *stdscr, *curscr, *newscr;
 int LINES, COLS, COLORS, COLOR_PAIRS, TABSIZE = 8, ESCDELAY = 1000;
 chtype acs_map[128];
 
-/* Says why there is no terminal. */
+/* Why there is no terminal. */
 static char fault[512];
 
 static bool found(const char *type) {
@@ -31,7 +31,7 @@ static bool found(const char *type) {
     return false;
 }
 
-/* Makes the windows that are there from the beginning. */
+/* Makes the windows that exist from the beginning; false if that fails. */
 static bool has_windows(void) {
     if (session_newwin(TCU_NEWSCR, 0, 0, 0, 0) != OK || session_newpad(TCU_SCRATCH, 1, TCU_PAD_MAX) != OK) return false;
     stdscr = tcu_made(0, LINES, COLS, NULL);
@@ -106,11 +106,11 @@ void delscreen(SCREEN *screen) {
     tcu.is_open = tcu.is_ended = false;
 }
 
-/* Leaves the terminal as other programs want it. */
+/* Leaves the terminal as other programs need it. */
 int tcu_suspend(void) {
     int code = OK;
     if (session_is_busy()) {
-        /* a handler of the program ends it */
+        /* a handler of the program called endwin during another call */
         signals_leave_terminal();
         tcu.is_ended = true;
         return OK;
@@ -123,7 +123,7 @@ int tcu_suspend(void) {
     return code;
 }
 
-/* Goes on after endwin: the terminal may have another size, and may show anything. */
+/* Resumes after endwin: the terminal may have another size, and may show anything. */
 void tcu_resume(void) {
     uint16_t lines, columns;
     bool wants_keys = stdscr && stdscr->has_keypad;

@@ -1,4 +1,4 @@
-/* Keys: what is typed, one byte or one function key at a time. */
+/* Reading keys: one byte or one function key at a time. */
 #define _POSIX_C_SOURCE 200809L
 #include "private.h"
 
@@ -11,7 +11,8 @@
 
 enum { QUEUED = 1024, LONGEST = 64 };
 
-/* What was given back, the last one first, and the bytes that were read as the beginning of a key and are none. */
+/* A stack of keys that the next reads return: those that were pushed back, and bytes that were read as the beginning of
+ * a key and turned out to be none. */
 static int given[QUEUED];
 static size_t given_count;
 static bool is_keypad_on;
@@ -39,7 +40,7 @@ int has_key(int key) {
     return FALSE;
 }
 
-/* Sends the string that has the keypad send keys, or the one that ends it. */
+/* Sends the string that turns the keypad on or off. */
 int tcu_keypad(bool is_on) {
     const char *text = entry_string(is_on ? "smkx" : "rmkx");
     if (is_on == is_keypad_on) return OK;
@@ -79,19 +80,19 @@ int flushinp(void) {
     return OK;
 }
 
-/* A byte of the terminal. ERR where none comes in time, KEY_RESIZE where the size has changed. */
+/* Reads a byte of the terminal. Returns ERR if none comes in time, KEY_RESIZE if the size has changed. */
 static int next_byte(int milliseconds) {
     unsigned char byte;
     ssize_t count;
     do {
         if (signals_wait(tcu.input, milliseconds) <= 0) return signals_has_size_changed() ? KEY_RESIZE : ERR;
         count = read(tcu.input, &byte, 1);
-        /* another program was given the byte, or a signal came first */
+        /* another program got the byte, or a signal came first */
     } while (count < 0 && (errno == EINTR || errno == EAGAIN));
     return count == 1 ? byte : ERR;
 }
 
-/* The key that these bytes are, 0 where they are none; and whether longer ones begin so. */
+/* The key that has these bytes, 0 if none has. Sets `is_beginning` if those of a longer key begin so. */
 static int key_of(const char *bytes, size_t count, bool *is_beginning) {
     int found = 0;
     *is_beginning = false;
@@ -103,12 +104,12 @@ static int key_of(const char *bytes, size_t count, bool *is_beginning) {
     return found;
 }
 
-/* How long the rest of a key is waited for. */
+/* How many milliseconds to wait for the rest of a key. */
 static int patience(const WINDOW *window) {
     return window->waits_in_keys ? -1 : ESCDELAY;
 }
 
-/* Reads on from a byte that may begin a key. What is no key is given byte by byte. */
+/* Reads the rest of a key that may begin with the byte `first`. Bytes that are no key are returned one by one. */
 static int read_key(const WINDOW *window, int first) {
     char bytes[LONGEST];
     size_t count = 0;
@@ -134,7 +135,7 @@ static bool is_eight_bits(void) {
     return !is_meta_off && modes_keep_meta();
 }
 
-/* A key, as it comes. */
+/* Reads one key, without waiting for a line. */
 static int read_one(const WINDOW *window) {
     int key;
     if (given_count > 0) return given[--given_count];
@@ -145,7 +146,7 @@ static int read_one(const WINDOW *window) {
     return key < 256 && !is_eight_bits() ? key & 127 : key;
 }
 
-/* In the mode that reads lines, a whole one is read and shown, and given key by key. */
+/* Reads in the mode that reads lines: shows a whole line, and returns it key by key. */
 static int read_line(WINDOW *window) {
     char line[512];
     int code = wgetnstr(window, line, (int)sizeof line - 1);
@@ -170,7 +171,7 @@ int wgetch(WINDOW *window) {
         tcu_resize();
         return key;
     }
-    /* shown as it was typed */
+    /* the echo is of the key as it was typed */
     if (tcu_modes.echoes && key >= 0 && key < 256) wechochar(window, (chtype)key);
     return key == '\r' && tcu_modes.reads_newlines ? '\n' : key;
 }

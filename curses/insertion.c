@@ -10,7 +10,7 @@ static bool is_drawn(unsigned byte) {
     return byte >= 32 && byte < 127;
 }
 
-/* Inserts a character as it is drawn: the last of what stands for it first. */
+/* Inserts a character in the form in which it is drawn, such as ^X: the last letter first. */
 static int insert(WINDOW *window, chtype ch, int x) {
     const char *text = unctrl(ch);
     chtype marks = ch & ~A_CHARTEXT;
@@ -41,7 +41,7 @@ int winsnstr(WINDOW *window, const char *text, int count) {
     int y, x, code = OK;
     if (!tcu_is_own(window) || !text || session_cursor(window->number, &y, &x) != OK) return ERR;
     len = count <= 0 ? strlen(text) : strnlen(text, (size_t)count);
-    /* what would be shifted out at once isn't written */
+    /* characters past the line's end would be shifted out again */
     if (len > (size_t)(window->columns - x)) len = (size_t)(window->columns - x);
     while (len > 0 && code == OK) code = insert(window, (unsigned char)text[--len], x);
     tcu_touch(window, y, x, window->columns - 1);

@@ -1,4 +1,4 @@
-/* The keys: the capability of each and its code, and the names of the codes. */
+/* The capability and the code of each key, and the names of the codes. */
 #include "private.h"
 
 const struct tcu_key tcu_keys[] = {
@@ -35,7 +35,7 @@ const struct tcu_key tcu_keys[] = {
 };
 const size_t tcu_key_count = sizeof tcu_keys / sizeof *tcu_keys;
 
-/* The names of the codes, but for the keys that have numbers. */
+/* The names of the codes of all keys but the numbered function keys. */
 static const struct tcu_key names[] = {
     {"KEY_BREAK", KEY_BREAK}, {"KEY_RESET", KEY_RESET}, {"KEY_SRESET", KEY_SRESET}, {"KEY_RESIZE", KEY_RESIZE},
     {"KEY_BACKSPACE", KEY_BACKSPACE}, {"KEY_CATAB", KEY_CATAB}, {"KEY_CLEAR", KEY_CLEAR}, {"KEY_CTAB", KEY_CTAB},

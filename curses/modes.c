@@ -1,4 +1,4 @@
-/* The modes of the terminal: those of the program and those of the shell, and the calls that change them. */
+/* The terminal's modes of the program and of the shell, and the calls that change them. */
 #define _POSIX_C_SOURCE 200809L
 #include "private.h"
 
@@ -12,7 +12,7 @@ struct tcu_modes tcu_modes;
 static struct termios program_modes, shell_modes, saved_modes;
 static bool are_known, are_saved;
 
-/* Sets modes once the terminal has what was written; a signal doesn't end the wait. */
+/* Sets modes once the terminal has received all output; a signal doesn't end the wait. */
 static int set(const struct termios *like) {
     int result;
     if (!are_known) return ERR;
@@ -34,8 +34,8 @@ static void read_lines(void) {
     program_modes.c_cc[VTIME] = shell_modes.c_cc[VTIME];
 }
 
-/* Takes the modes that the terminal has now as the shell's. The program's pass on what is written as it is, give keys
- * as they are pressed, as the standard has it from the beginning, and show none by themselves. */
+/* Records the terminal's present modes as the shell's. In the program's modes the terminal passes output on unaltered,
+ * returns keys as they are pressed, as the standard has it at the beginning, and doesn't echo. */
 void modes_begin(void) {
     memset(&tcu_modes, 0, sizeof tcu_modes);
     tcu_modes.echoes = tcu_modes.reads_newlines = true;
@@ -62,7 +62,7 @@ int modes_shell(void) {
     return set(&shell_modes);
 }
 
-/* Whether all eight bits of what is typed count, as the shell had it. */
+/* Whether all eight bits of a typed byte count, as in the shell's modes. */
 bool modes_keep_meta(void) {
     return !are_known || !(shell_modes.c_iflag & ISTRIP);
 }
@@ -124,7 +124,7 @@ int noecho(void) {
     return OK;
 }
 
-/* Newlines are translated by getch itself; a newline that is drawn is a call of the session. */
+/* Has getch translate newlines; on output a newline is a call of the session. */
 int nl(void) {
     if (!tcu.is_open) return ERR;
     tcu_modes.reads_newlines = true;
@@ -184,7 +184,7 @@ int resetty(void) {
     return tcu.is_open && are_saved ? set(&saved_modes) : ERR;
 }
 
-/* A terminal that has no such key has 0. */
+/* A control character of the terminal, 0 if it has none. */
 static char key_of(size_t place) {
     return !are_known || shell_modes.c_cc[place] == _POSIX_VDISABLE ? 0 : (char)shell_modes.c_cc[place];
 }

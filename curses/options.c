@@ -1,4 +1,4 @@
-/* Options of windows that are kept here alone. */
+/* Options of windows that the session doesn't know. */
 #include "private.h"
 
 int clearok(WINDOW *window, bool is_on) {
@@ -13,7 +13,7 @@ int leaveok(WINDOW *window, bool is_on) {
     return OK;
 }
 
-/* The painter of the session chooses by itself how lines and characters are moved. */
+/* Only keeps the option: the session's painter chooses by itself how it moves lines and characters. */
 int idlok(WINDOW *window, bool is_on) {
     if (!tcu_is_own(window)) return ERR;
     window->shifts_lines = is_on;

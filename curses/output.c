@@ -12,15 +12,15 @@ int wmove(WINDOW *window, int y, int x) {
     return OK;
 }
 
-/* What was written: from a place on, so many bytes, of which some may move the cursor far. */
+/* A text that was written: where it begins and its `count` of bytes. Some may move the cursor far if `has_moves`. */
 struct written {
     int y, x;
     size_t count;
     bool has_moves;
 };
 
-/* Touches it, by where the cursor is now. The window may have scrolled where that is the last line that scrolls. Of a
- * refused text the cell at the cursor is written. */
+/* Touches the text's cells, up to the cursor. The window may have scrolled if the cursor is in the last line of the
+ * scrolling region. A text that was refused may have written the cell at the cursor. */
 static void touch_written(WINDOW *window, struct written text, int code) {
     int last = window->columns - 1, from = text.has_moves ? 0 : text.x, y, x;
     if (text.count == 0 || session_cursor(window->number, &y, &x) != OK) return;
@@ -37,7 +37,7 @@ static void touch_written(WINDOW *window, struct written text, int code) {
         tcu_touch_lines(window, window->region_top, window->region_bottom);
 }
 
-/* One character as it is drawn: a byte above 126 as unctrl has it. */
+/* Writes one character in the form in which it is drawn: a byte above 127 as unctrl shows it. */
 static int add(WINDOW *window, chtype ch) {
     const char *text;
     int code = OK;
@@ -46,7 +46,7 @@ static int add(WINDOW *window, chtype ch) {
     return code;
 }
 
-/* A tab is spaces up to a column that TABSIZE divides, which the session knows for 8. */
+/* Writes spaces up to the next column that TABSIZE divides; the session itself knows tabs of 8 columns. */
 static int add_tab(WINDOW *window, chtype marks) {
     int code = OK, y, x, start, columns;
     if (TABSIZE == 8) return session_addch(window->number, '\t' | marks);
@@ -59,7 +59,7 @@ static int add_tab(WINDOW *window, chtype marks) {
     return code;
 }
 
-/* A character that may leave the cursor's line. */
+/* Writes a character that may leave the cursor's line. */
 static int add_and_go(WINDOW *window, chtype ch) {
     struct written text = {0, 0, 1, false};
     int code;
@@ -68,7 +68,7 @@ static int add_and_go(WINDOW *window, chtype ch) {
     code = byte == '\t' ? add_tab(window, ch & ~A_CHARTEXT) : add(window, ch);
     if (byte == '\r' || byte == '\b') return code;
     text.has_moves = byte == '\n';
-    /* others than letters may have gone past the line's end */
+    /* a tab and a character that is drawn as several may have passed the line's end */
     if (byte < 32 || byte > 126) text.count = (size_t)TABSIZE + 4;
     touch_written(window, text, code);
     return tcu_changed(window, code);
@@ -87,7 +87,7 @@ int wechochar(WINDOW *window, chtype ch) {
     return waddch(window, ch) == OK ? wrefresh(window) : ERR;
 }
 
-/* How many bytes the session takes at once: up to one that it can't draw. */
+/* The number of bytes that the session takes at once: those before the first that it can't draw. */
 static size_t plain_len(const char *text, size_t len) {
     size_t count = 0;
     while (count < len && (unsigned char)text[count] < 128 && (text[count] != '\t' || TABSIZE == 8)) count++;

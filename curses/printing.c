@@ -1,4 +1,4 @@
-/* printf and scanf of windows. */
+/* printf and scanf for windows. */
 #include "private.h"
 
 #include <stdlib.h>
@@ -62,7 +62,7 @@ int mvwprintw(WINDOW *window, int y, int x, const char *format, ...) {
     return code;
 }
 
-/* The line that is read has at most 255 characters. */
+/* Reads a line of at most 255 characters. */
 int vw_scanw(WINDOW *window, const char *format, va_list rest) {
     char line[256];
     if (!format || wgetnstr(window, line, (int)sizeof line - 1) != OK) return ERR;

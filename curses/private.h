@@ -1,5 +1,5 @@
-/* What the files of this folder share. No name of it is exported: the library's objects are linked into one, in which
- * all but the names of <curses.h> become local. */
+/* Declarations that the files of this folder share. The library exports none of their names: its objects are linked
+ * into one, in which all names but those of <curses.h> become local. */
 #ifndef TICURSES_CURSES_PRIVATE_H
 #define TICURSES_CURSES_PRIVATE_H
 
@@ -9,17 +9,17 @@
 
 /* The numbers of windows in the proved session: 0 is stdscr, and these two are the library's own. */
 enum {
-    TCU_NEWSCR = 63,  /* as large as the screen: what is to be shown next */
+    TCU_NEWSCR = 63,  /* as large as the screen: what the next doupdate shows */
     TCU_SCRATCH = 62, /* a pad of one line, from which cells are copied as they are */
-    TCU_WINDOWS = 62  /* so many are the program's, with stdscr */
+    TCU_WINDOWS = 62  /* the number of windows that a program can have, with stdscr */
 };
-/* a pad has at most so many lines and columns, and cells have so many pairs */
+/* the most lines or columns of a pad, and the number of color pairs */
 enum { TCU_PAD_MAX = 1000, TCU_PAIRS = 64 };
 /* the attributes that cells have */
 #define TCU_SHOWN (A_STANDOUT | A_UNDERLINE | A_REVERSE | A_BLINK | A_DIM | A_BOLD | A_INVIS | A_ALTCHARSET)
 #define TCU_BYTE(ch) ((unsigned)((ch) & A_CHARTEXT))
 
-/* The touched columns of a line; none where `first` is above `last`. */
+/* The touched columns of a line; none if `first` is above `last`. */
 struct tcu_line {
     int first, last;
 };
@@ -33,7 +33,7 @@ struct ticurses_window {
     struct tcu_line *touched;
     chtype attrs, background;
     int region_top, region_bottom;
-    int delay;             /* so many milliseconds a key is waited for; below 0 without end */
+    int delay;             /* milliseconds to wait for a key; without end if negative */
     bool is_pad;           /* of the program: it has no place on the screen */
     bool is_below_pad;     /* of the session: a pad, or a part of one */
     bool is_moved;         /* the cursor was moved since the last refresh */
@@ -43,24 +43,24 @@ struct ticurses_window {
     bool is_shown;
 };
 
-/* All of the one screen. */
+/* The state of the one screen. */
 struct ticurses_screen {
     bool is_open;          /* there is a session */
-    bool is_ended;         /* endwin was the last word, and a refresh goes on */
+    bool is_ended;         /* endwin was the last call; a refresh resumes the session */
     bool is_current;       /* the terminal shows what the last refresh was to show */
     int input, output;     /* descriptors */
     FILE *stream;          /* the output as the program has it */
     char type[128];        /* the terminal's name */
     WINDOW *windows[TCU_WINDOWS];
     WINDOW newscr, curscr;
-    bool is_cursor_left;   /* leaveok of what was copied last */
+    bool is_cursor_left;   /* leaveok of the window that was copied last */
     int visibility;        /* of the cursor */
     bool has_colors;       /* start_color was done */
     bool has_default_colors;
 };
 extern struct ticurses_screen tcu;
 
-/* Whether it is a window that the program may draw in. */
+/* Whether `window` is one that the program may draw in. */
 static inline bool tcu_is_own(const WINDOW *window) {
     return window && tcu.is_open && window != &tcu.newscr && window != &tcu.curscr;
 }
@@ -76,14 +76,14 @@ void tcu_touch(WINDOW *window, int line, int first, int last);
 void tcu_touch_lines(WINDOW *window, int top, int bottom);
 void tcu_pass_on(WINDOW *window);
 
-/* Touches a place of the window. */
+/* Touches one place, which must be in the window. */
 static inline void tcu_touch_place(WINDOW *window, int line, int column) {
     struct tcu_line *at = &window->touched[line];
     if (column < at->first) at->first = column;
     if (column > at->last) at->last = column;
 }
 
-/* After a change: what the window's options want. Gives the code. */
+/* Does after a change what the window's options ask for. Returns `code`. */
 static inline int tcu_changed(WINDOW *window, int code) {
     if (window->syncs || window->shows_changes) tcu_pass_on(window);
     return code;
@@ -99,11 +99,11 @@ bool tcu_has_pair(int pair);
 /* entry.c */
 bool entry_find(const char *type);
 const void *entry_bytes(size_t *len);
-/* A string, or null where the entry has none of this name: for keys, and for all others that this library asks for. The
- * first one reads it, and it stays until another entry is found. */
+/* A string of the entry, or null if it has none of this name. entry_learn is for keys: it reads the string, which stays
+ * until entry_find is called again. entry_string is for all other names that this library asks for. */
 const char *entry_learn(const char *name);
 const char *entry_string(const char *name);
-/* A number, -1 where the entry has none of this name. */
+/* A number of the entry, -1 if it has none of this name. */
 int entry_number(const char *name);
 const char *entry_long_name(void);
 

@@ -1,4 +1,4 @@
-/* What windows hold, from the cursor on. */
+/* Reading the content of windows from the cursor on. */
 #include "private.h"
 
 #include "calls.h"
@@ -10,7 +10,7 @@ chtype winch(WINDOW *window) {
     return session_cell(window->number, y, x, &cell) == OK ? cell : (chtype)ERR;
 }
 
-/* How many cells there are from the cursor to the line's end, at most so many; where below 0, all of them. */
+/* The number of cells from the cursor to the line's end, at most `count` unless that is negative. */
 static int cells_left(WINDOW *window, int count, int *y, int *x) {
     int left;
     if (!window || !tcu.is_open || session_cursor(window->number, y, x) != OK) return ERR;

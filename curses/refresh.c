@@ -1,5 +1,5 @@
-/* Refreshing. newscr is a window of the session, as large as the screen: wnoutrefresh copies to it what is touched, and
- * doupdate has the session make the terminal show it. */
+/* Refreshing. newscr is a window of the session, as large as the screen: wnoutrefresh copies touched cells to it, and
+ * doupdate has the session bring the terminal to it. */
 #include "private.h"
 
 #include "calls.h"
@@ -8,7 +8,7 @@ static int smaller(int one, int other) {
     return one < other ? one : other;
 }
 
-/* The last of the lines from this one on that are touched in the same columns. */
+/* The last of the lines from `line` on, before `end`, that are touched in the same columns as `line`. */
 static int last_alike(const WINDOW *window, int line, int end) {
     const struct tcu_line *first = &window->touched[line];
     while (line + 1 < end && window->touched[line + 1].first == first->first &&
@@ -17,7 +17,7 @@ static int last_alike(const WINDOW *window, int line, int end) {
     return line;
 }
 
-/* Copies the touched columns of these lines; what isn't on the screen is left out. */
+/* Copies the touched columns of these lines, which must all be touched alike; leaves out cells beyond the screen. */
 static int copy_lines(const WINDOW *window, int top, int bottom) {
     int left = window->touched[top].first;
     int right = smaller(window->touched[top].last, COLS - 1 - window->x);
@@ -36,7 +36,7 @@ static int copy_touched(WINDOW *window) {
     return code == OK ? untouchwin(window) : code;
 }
 
-/* Where the cursor is to be, if it is to be anywhere. */
+/* Places newscr's cursor unless the window leaves it. */
 static void place_cursor(const WINDOW *window, int y, int x) {
     if (!window->leaves) session_move(TCU_NEWSCR, smaller(y, LINES - 1), smaller(x, COLS - 1));
     if (window->leaves == tcu.is_cursor_left) return;
@@ -44,7 +44,7 @@ static void place_cursor(const WINDOW *window, int y, int x) {
     session_leaveok(TCU_NEWSCR, window->leaves);
 }
 
-/* Has the next doupdate clear the terminal first where a window wants that. */
+/* Has the next doupdate clear the terminal first if the window asks for it. */
 static void pass_on_clearing(WINDOW *window) {
     if (window->clears) session_clearok(TCU_NEWSCR, true);
     window->clears = false;
@@ -94,14 +94,14 @@ int tcu_leave_cursor(void) {
     return code;
 }
 
-/* The session knows where the cursor is. */
+/* Ignores the old place, since the session knows where the cursor is. */
 int mvcur(int y, int x, int new_y, int new_x) {
     (void)y;
     (void)x;
     return tcu.is_open && session_move(TCU_NEWSCR, new_y, new_x) == OK ? doupdate() : ERR;
 }
 
-/* The terminal is cleared and drawn anew, all of it. */
+/* Has the next refresh clear the terminal and draw all of it anew, not only these lines. */
 int wredrawln(WINDOW *window, int first, int count) {
     if (!window || !tcu.is_open || first < 0 || count < 0 || first >= window->lines) return ERR;
     if (window != curscr && window != newscr) touchline(window, first, count);
@@ -115,7 +115,7 @@ int redrawwin(WINDOW *window) {
 
 /* -- pads -- */
 
-/* The part of a pad as it is copied: its first line and column, and where these and the last ones are on the screen. */
+/* The part of a pad to copy: its first line and column, and the screen's lines and columns that it covers. */
 struct part {
     int pad_y, pad_x, y, x, last_y, last_x;
 };
@@ -125,7 +125,7 @@ static bool is_part(const WINDOW *pad, struct part *part) {
     for (int at = 0; at < 4; at++)
         if (*first[at] < 0) *first[at] = 0;
     if (part->pad_y >= pad->lines || part->pad_x >= pad->columns || part->y >= LINES || part->x >= COLS) return false;
-    /* what the pad doesn't have isn't shown */
+    /* the part ends where the pad ends */
     part->last_y = smaller(part->last_y, part->y + pad->lines - 1 - part->pad_y);
     part->last_x = smaller(part->last_x, part->x + pad->columns - 1 - part->pad_x);
     return part->last_y < LINES && part->last_x < COLS && part->y <= part->last_y && part->x <= part->last_x;
@@ -165,7 +165,7 @@ int prefresh(WINDOW *pad, int pad_y, int pad_x, int y, int x, int last_y, int la
     return pnoutrefresh(pad, pad_y, pad_x, y, x, last_y, last_x) == OK ? doupdate() : ERR;
 }
 
-/* Shows the part that was shown last. */
+/* Writes a character, and shows the part of the pad that was shown last. */
 int pechochar(WINDOW *pad, chtype ch) {
     const int *at;
     if (!tcu_is_own(pad)) return ERR;

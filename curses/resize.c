@@ -1,5 +1,5 @@
-/* Another size of the terminal: a session of that size takes the place of the one before. Windows are made anew in it
- * and get back what they held, as far as it fits, and the next refresh draws all of it. */
+/* A new size of the terminal: a session of that size replaces the one before. Windows are made anew in it and get their
+ * old cells back as far as these fit, and the next refresh draws the whole screen. */
 #include "private.h"
 
 #include <stdlib.h>
@@ -11,7 +11,8 @@ static int smaller(int one, int other) {
     return one < other ? one : other;
 }
 
-/* What a window is to be: those that were as large as the screen go on being so, and none is larger. */
+/* The new size of a window: one that was as large as the screen stays so, and none is larger than the screen or its
+ * parent. A pad keeps its size. */
 struct size {
     int lines, columns;
 };
@@ -29,7 +30,7 @@ static struct size size_of(const WINDOW *window, struct size before, struct size
     return size;
 }
 
-/* Makes it in the new session. A part of which nothing is left is made of its parent's last place. */
+/* Makes the window in the new session. A part that would lie outside its parent is made of the parent's last place. */
 static int made_again(WINDOW *window, struct size size) {
     const WINDOW *parent = window->parent;
     bool is_on_screen = window->y + size.lines <= LINES && window->x + size.columns <= COLS;
@@ -40,7 +41,7 @@ static int made_again(WINDOW *window, struct size size) {
     return session_newwin(window->number, size.lines, size.columns, window->y, window->x);
 }
 
-/* Gives a window those cells that it had in the session before. */
+/* Copies to a window the cells that it had in the session before. */
 static void fill(int number, struct size size) {
     chtype cells[TCU_PAD_MAX];
     for (int line = 0; line < size.lines; line++) {
@@ -58,7 +59,7 @@ static bool has_room(WINDOW *window, struct size size) {
     return true;
 }
 
-/* Where a part lies in a parent that became smaller. */
+/* Moves a part into its parent, which may have become smaller. */
 static void hold_in_parent(WINDOW *window) {
     WINDOW *parent = window->parent;
     if (!parent) return;
@@ -88,7 +89,7 @@ static int rebuild(WINDOW *window, int y, int x, struct size before, struct size
     return OK;
 }
 
-/* How many windows are above it. */
+/* The number of windows above `window`. */
 static int depth_of(const WINDOW *window) {
     int depth = 0;
     for (; window->parent; window = window->parent) depth++;
@@ -112,7 +113,7 @@ static int rebuild_all(const int cursors[TCU_WINDOWS][2], struct size before, st
     return code;
 }
 
-/* The library's own windows, and what the session knows beside windows. */
+/* Makes the library's own windows, and gives the new session the cursor's visibility and the pairs. */
 static int begin_anew(struct size now) {
     int code = OK;
     if (session_newwin(TCU_NEWSCR, 0, 0, 0, 0) != OK || session_newpad(TCU_SCRATCH, 1, TCU_PAD_MAX) != OK) code = ERR;
@@ -158,7 +159,7 @@ bool is_term_resized(int lines, int columns) {
     return tcu.is_open && (lines != LINES || columns != COLS);
 }
 
-/* The size that the terminal has now. One that no session fits leaves all as it is. */
+/* Takes the size that the terminal has now. A size that no session can have changes nothing. */
 int tcu_resize(void) {
     uint16_t lines, columns;
     if (ticurses_size(tcu.output, &lines, &columns) != TICURSES_OK) return ERR;

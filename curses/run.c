@@ -1,25 +1,25 @@
-/* Text that waits. Printable characters that are written one after the other in a line go to the session together, and
- * the cursor's place and the attributes that they have go there with them, once another call is made. None of this can
- * be refused: the place is in the window, the text ends before the line's last column, and its pair is one. */
+/* Text that waits. Printable characters that are written one after the other in a line go to the session together, with
+ * their place and attributes, when another call is made. The session can't refuse any of this: the place is in the
+ * window, the text ends before the line's last column, and the pair exists. */
 #include <string.h>
 
 #include "session.h"
 
 enum { NONE = -1 };
 
-/* The window of which the cursor is known, and what is to become of it. */
+/* The window whose cursor is known, with the text, move and attributes that wait. */
 static struct {
     int window;
-    int y, x;        /* its cursor, behind the text */
+    int y, x;        /* its cursor, after the text */
     int last_x;      /* its last column */
-    bool is_moved;   /* the session has the cursor elsewhere than before the text */
-    chtype wanted;   /* the attributes and the pair that the window has for the program */
+    bool is_moved;   /* the session's cursor isn't yet where the text begins */
+    chtype wanted;   /* the attributes and the pair that the program gave the window */
     chtype marks;    /* those of the text */
     int count;
     char text[TCU_PAD_MAX];
 } run = {NONE, 0, 0, 0, false, 0, 0, 0, {0}};
 
-/* What each window has in the session; a size of no lines hasn't been asked for. */
+/* The size, attributes and pair of each window in the session; the size isn't known if `lines` is 0. */
 static struct {
     int lines, columns;
     chtype marks;
@@ -39,7 +39,7 @@ void run_copied(int window, int source) {
     known[window] = known[source];
 }
 
-/* Has the session's window write with these attributes and this pair. */
+/* Gives the session's window these attributes and this pair. */
 static void set_marks(chtype marks) {
     chtype *now = &known[run.window].marks;
     if ((marks ^ *now) & A_COLOR) ticurses_color_set(&tcu_session, (size_t)run.window, PAIR_NUMBER(marks));
@@ -47,7 +47,8 @@ static void set_marks(chtype marks) {
     *now = marks;
 }
 
-/* Whether a cell of the text can be written without that: the window's own attributes and its pair join a cell's. */
+/* Whether a cell of the text can be written without set_marks, since the session adds the window's attributes and pair
+ * to the cell's. */
 static bool is_joined(void) {
     chtype now = known[run.window].marks;
     return !(now & TCU_SHOWN & ~run.marks) && (run.marks & A_COLOR || !(now & A_COLOR));
@@ -75,7 +76,7 @@ void run_end(void) {
     run.window = NONE;
 }
 
-/* Finds out where the window's cursor is; whether there is the window. */
+/* Makes the window the one whose cursor is known; false if there is no such window. */
 static bool is_found(int window) {
     uint16_t one, other;
     run_end();
@@ -94,18 +95,19 @@ static bool is_found(int window) {
     return true;
 }
 
-/* Whether the window is the one of which that is known, now. */
+/* Makes the window the one whose cursor is known, unless it is; false if there is no such window. */
 static inline bool is_current(int window) {
     return run.window == window || is_found(window);
 }
 
-/* The marks of a character with some of its own: they join the window's, but for the pair. */
+/* The marks of a character that has some of its own: its attributes are added to the window's, and its pair replaces
+ * the window's. */
 static chtype joined(chtype marks) {
     chtype pair = marks & A_COLOR ? marks & A_COLOR : run.wanted & A_COLOR;
     return ((run.wanted | marks) & TCU_SHOWN) | pair;
 }
 
-/* From here on the text has these. */
+/* Begins a text with these marks. */
 static void turn_to(chtype marks) {
     if (run.count > 0) run_flush();
     run.marks = marks;

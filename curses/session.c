@@ -54,7 +54,7 @@ int session_open(int lines, int columns, char *reason, size_t room_len) {
     if (code != TICURSES_OK) {
         snprintf(reason, room_len, "%s%s%.*s", ticurses_text(code), told ? ": " : "", (int)told, why);
     } else {
-        /* what an earlier program left on the terminal isn't known */
+        /* an earlier program may have left anything on the terminal */
         ticurses_lost(&tcu_session);
         run_begin();
     }
@@ -90,7 +90,7 @@ void session_close(void) {
 
 /* -- sending -- */
 
-/* Writes bytes; -1 where it fails, or where a signal is to end the program. */
+/* Writes `count` bytes and returns 0; -1 if that fails, or if a signal that ends the program comes before the last. */
 static int put(int fd, const char *bytes, size_t count) {
     while (count > 0) {
         ssize_t now = write(fd, bytes, count);
@@ -166,7 +166,7 @@ static int digit_of(char letter) {
     return letter >= '0' && letter <= '9' ? letter - '0' : letter >= 'a' && letter <= 'f' ? letter - 'a' + 10 : -1;
 }
 
-/* The bytes that a line of a certificate has in hexadecimal; -1 where there are more than the room has. */
+/* Reads the hexadecimal bytes of a certificate's line to `room` and returns their number; -1 if they don't fit. */
 static long bytes_of(const char *line, const char *end, char *room, size_t room_len) {
     size_t count = 0;
     for (; end - line >= 2 && digit_of(line[0]) >= 0 && digit_of(line[1]) >= 0; line += 2) {

@@ -9,15 +9,16 @@
 #include "calls.h"
 
 extern ticurses tcu_session;
-/* A call is being made, or bytes are being written. */
+/* Whether a call is being made, or bytes are being written. */
 extern volatile sig_atomic_t tcu_is_busy;
 
-/* Whether a call may be made now: not where a handler of the program has come in between. No text waits then. */
+/* Begins a call and passes waiting text to the session. False, and nothing is done, if a handler of the program has
+ * interrupted another call. */
 bool session_begins(void);
-/* The end of a call, at which a signal may end the program: OK where the session has done it, and else ERR. */
+/* Ends a call, at which a signal may end the program. Returns OK if `code` says that it was done, else ERR. */
 int session_done(int code);
 
-/* A cell as the session has it. */
+/* A cell in the form of the session. */
 static inline ticurses_cell session_cell_of(chtype cell) {
     return ticurses_cell_of((uint8_t)TCU_BYTE(cell), (uint8_t)(cell >> 16), (uint8_t)PAIR_NUMBER(cell));
 }
@@ -25,12 +26,12 @@ static inline ticurses_cell session_cell_of(chtype cell) {
 /* run.c */
 /* Has the session write the text that waits. */
 void run_flush(void);
-/* The same, and gives the window its own attributes back. Nothing is known of its cursor any more. */
+/* Has the session write the text that waits, gives the window its own attributes back and forgets its cursor. */
 void run_end(void);
-/* A window was made: a new one, or a copy of another one. */
+/* Record that a window was made: a new one, or a copy of `source`. */
 void run_made(int window);
 void run_copied(int window, int source);
-/* A session was opened, all of whose windows are new. */
+/* Records that a session was opened, all of whose windows are new. */
 void run_begin(void);
 
 #endif

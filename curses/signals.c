@@ -1,8 +1,8 @@
 /* Signals: those that end the program restore the terminal first, ^Z stops it and draws anew, a change of size is a
- * key. Each only where the program does nothing else about it.
+ * key. A signal that the program handles or ignores itself is left alone.
  *
- * A handler makes no call of the session. While one is being made, or bytes are being written, it notes the signal,
- * and the call ends with what is wanted; else an ending signal writes what was made ready for it. */
+ * A handler makes no call of the session. While a call is being made, or bytes are being written, it only notes the
+ * signal, and the end of the call acts on it; at other times a signal that ends the program writes `farewell`. */
 #define _POSIX_C_SOURCE 200809L
 #include "private.h"
 
@@ -22,13 +22,13 @@ static const int ending_signals[ENDING] = {SIGHUP, SIGINT, SIGQUIT, SIGTERM};
 
 static volatile sig_atomic_t depth, ending, is_stop_wanted, has_size_changed;
 static bool has_begun, heeds_stop;
-/* what leaves the terminal as other programs want it, for a handler */
+/* the strings by which a handler leaves the terminal as other programs need it */
 static char farewell[512];
 static size_t farewell_len;
 static struct termios shell;
 static bool has_shell;
 
-/* Leaves the terminal as other programs want it, by calls that are safe in a handler. */
+/* Leaves the terminal as other programs need it, by calls that are safe in a handler. */
 void signals_leave_terminal(void) {
     size_t sent = 0;
     if (tcu.is_ended) return;
@@ -73,7 +73,7 @@ static void on_size(int number) {
     has_size_changed = 1;
 }
 
-/* Has a signal handled where nothing is done about it yet; whether it is. */
+/* Has `handler` handle a signal that still has its default action. Returns whether it does. */
 static bool handled(int number, void (*handler)(int), int flags) {
     struct sigaction now;
     if (sigaction(number, NULL, &now) != 0 || now.sa_flags & SA_SIGINFO || now.sa_handler != SIG_DFL) return false;
@@ -103,11 +103,11 @@ void signals_begin(void) {
     has_begun = true;
     for (size_t at = 0; at < ENDING; at++) handled(ending_signals[at], on_ending, SA_RESTART);
     heeds_stop = handled(SIGTSTP, on_stop, SA_RESTART);
-    /* a program that waits by itself sees that the size has changed */
+    /* without SA_RESTART, so that a wait of the program's own ends when the size changes */
     handled(SIGWINCH, on_size, 0);
 }
 
-/* The modes to which an ending signal sets the terminal back are those that the shell has now. */
+/* Takes the terminal's present modes as those that a signal restores when it ends the program. */
 void signals_forget(void) {
     has_shell = tcgetattr(tcu.input, &shell) == 0;
 }
@@ -120,15 +120,15 @@ bool signals_is_ending(void) {
     return ending != 0;
 }
 
-/* The last one out ends the program where a signal came meanwhile. */
+/* Undoes one signals_enter. The last one ends the program if a signal has asked for it meanwhile. */
 void signals_leave(void) {
     int number;
-    /* from here on a handler acts by itself; what was noted before is seen here */
+    /* from here on a handler acts by itself, and a signal noted before is seen below */
     depth = depth - 1;
     number = ending;
     if (number == 0 || depth > 0) return;
     if (tcu.is_open && !tcu.is_ended) {
-        /* no handler writes meanwhile, and what is cut off here doesn't go on */
+        /* no handler writes during this, and another signal doesn't cut it off */
         depth = 1;
         ending = 0;
         if (tcu_suspend() != OK) signals_leave_terminal();
@@ -147,7 +147,7 @@ bool signals_take_size_change(void) {
     return has_changed;
 }
 
-/* Stops the program, where that is wanted, with the terminal as the shell wants it. */
+/* Stops the program if ^Z was pressed, with the terminal as the shell needs it, and draws anew when it continues. */
 void signals_heed(void) {
     struct sigaction before, usual;
     sigset_t only;
@@ -163,7 +163,7 @@ void signals_heed(void) {
     sigemptyset(&only);
     sigaddset(&only, SIGTSTP);
     sigprocmask(SIG_UNBLOCK, &only, NULL);
-    /* it goes on */
+    /* the program continues here */
     sigaction(SIGTSTP, &before, NULL);
     if (was_ended) return;
     signals_forget();
@@ -171,7 +171,7 @@ void signals_heed(void) {
     doupdate();
 }
 
-/* What is left until then; whether anything is. */
+/* Sets `left` to the time until `end`. Returns whether any is left. */
 static bool is_left(const struct timespec *end, struct timespec *left) {
     struct timespec now;
     clock_gettime(CLOCK_MONOTONIC, &now);
@@ -186,9 +186,9 @@ static bool is_left(const struct timespec *end, struct timespec *left) {
     return false;
 }
 
-/* Waits for bytes of a descriptor, at most so many milliseconds, below 0 without end; below 0 no descriptor, and the
- * time alone counts. Gives 1 where there are some, 0 where the time is over or the size has changed, -1 where the
- * descriptor is none. Signals that are noted come only while the system waits, so that none is missed. */
+/* Waits until `fd` has bytes, at most `milliseconds`, or without end if that is negative. With a negative `fd` it waits
+ * for the time alone. Returns 1 if there are bytes, 0 if the time is over or the size has changed, -1 if `fd` is no
+ * descriptor. The signals that handlers note are blocked except in pselect, so that the wait misses none. */
 int signals_wait(int fd, int milliseconds) {
     struct timespec end, left;
     sigset_t noted, before;
@@ -223,7 +223,7 @@ int signals_wait(int fd, int milliseconds) {
             error = errno;
         }
         sigprocmask(SIG_SETMASK, &before, NULL);
-        /* here a signal ends the program */
+        /* ends the program if a signal has asked for it */
         signals_leave();
         if (fd >= 0 && has_size_changed) return 0;
     } while (found < 0 && error == EINTR && is_time_left);

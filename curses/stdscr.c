@@ -1,4 +1,4 @@
-/* The calls on stdscr, and those that move the cursor first: each is made of the call on a window. */
+/* The calls on stdscr, and those that move the cursor first: each uses the call on a window. */
 #include "private.h"
 
 int move(int y, int x) {

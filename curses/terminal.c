@@ -1,4 +1,4 @@
-/* The terminal itself: its bell, its cursor, its name, what it can do. */
+/* The terminal itself: its bell, its cursor, its name and its abilities. */
 #include "private.h"
 
 #include "calls.h"
@@ -7,7 +7,8 @@
 #define TCU_VERSION "of a checkout"
 #endif
 
-/* While it isn't known what the terminal shows, the session rings no bell; the string is sent beside it then. */
+/* Rings the bell. A session that doesn't know what the terminal shows rings none; the bell's string is sent beside it
+ * then. */
 int beep(void) {
     if (!tcu.is_open) return ERR;
     tcu_resume();
@@ -21,7 +22,7 @@ int flash(void) {
     return entry_string("flash") ? beside_send(entry_string("flash"), true) : beep();
 }
 
-/* Once there was a refresh, the terminal shows it at once. */
+/* Sets the cursor's visibility, which the terminal shows at once if it shows the last refresh. */
 int curs_set(int visibility) {
     int before = tcu.visibility;
     if (!tcu.is_open || visibility < 0 || visibility > 2 || session_curs_set(visibility) != OK) return ERR;
@@ -50,7 +51,7 @@ char *longname(void) {
     return room;
 }
 
-/* What the session may show: by sgr, or by a string of the attribute's own. */
+/* The attributes for which the entry has a string of their own, and A_COLOR if the terminal has colors. */
 chtype termattrs(void) {
     static const struct {
         const char *name;
@@ -99,7 +100,7 @@ int set_tabsize(int columns) {
     return OK;
 }
 
-/* Nothing is looked at: a refresh is always whole. */
+/* Does nothing: typed keys never cut a refresh short. */
 int typeahead(int fd) {
     (void)fd;
     return OK;

@@ -1,5 +1,5 @@
-/* Touched lines: of each line, the columns that were drawn since the last refresh of the window. A part of a window has
- * its own, though it has its parent's characters. */
+/* Touched lines: for each line, the columns that were drawn since the window's last refresh. A part of a window has
+ * touched lines of its own, though its characters are its parent's. */
 #include "private.h"
 
 static const struct tcu_line untouched = {TCU_PAD_MAX, -1};
@@ -21,7 +21,7 @@ void tcu_touch_lines(WINDOW *window, int top, int bottom) {
     for (int line = top; line <= bottom; line++) tcu_touch(window, line, 0, window->columns - 1);
 }
 
-/* A change is touched in the windows above, and shown, where the window's options want that. */
+/* Touches a change in the windows above, and shows it, as the window's options ask. */
 void tcu_pass_on(WINDOW *window) {
     if (window->syncs) wsyncup(window);
     if (window->shows_changes && !window->is_pad) wrefresh(window);
@@ -60,7 +60,7 @@ bool is_wintouched(WINDOW *window) {
     return false;
 }
 
-/* Touches in each window above it what is touched in this one. */
+/* Touches in each window above `window` the places that are touched in `window`. */
 void wsyncup(WINDOW *window) {
     if (!tcu_is_own(window)) return;
     for (WINDOW *at = window; at->parent; at = at->parent) {
@@ -72,7 +72,7 @@ void wsyncup(WINDOW *window) {
     }
 }
 
-/* Touches in it what is touched in the windows above it. */
+/* Touches in `window` the places that are touched in the windows above it. */
 void wsyncdown(WINDOW *window) {
     WINDOW *parent = tcu_is_own(window) ? window->parent : NULL;
     if (!parent) return;

@@ -1,4 +1,4 @@
-/* How a character is drawn that is none: as ^X, ~X or M-X. */
+/* The form in which a character is drawn: as it is, or as ^X, ~X or M-X if it isn't printable. */
 #include "private.h"
 
 const char *unctrl(chtype ch) {

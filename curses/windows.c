@@ -1,5 +1,5 @@
-/* Windows and pads, and parts of them. A window that isn't all on the screen is a pad of the session: where it is shown
- * is known here alone. */
+/* Windows and pads, and parts of them. A window that isn't wholly on the screen is a pad of the session, which doesn't
+ * know its place. */
 #include "private.h"
 
 #include <stdlib.h>
@@ -7,7 +7,7 @@
 
 #include "calls.h"
 
-/* a window that isn't on the screen is at most so far from it */
+/* the last line or column at which a window can begin */
 enum { FARTHEST = 10000 };
 
 static int free_number(void) {
@@ -16,7 +16,8 @@ static int free_number(void) {
     return number;
 }
 
-/* What the library keeps of a window that the session has made. All of it is touched. */
+/* The library's record of a window that the session has made; all of it is touched. Without memory it deletes the
+ * session's window and returns null. */
 WINDOW *tcu_made(int number, int lines, int columns, WINDOW *parent) {
     WINDOW *window = calloc(1, sizeof *window);
     struct tcu_line *touched = window ? calloc((size_t)lines, sizeof *touched) : NULL;
@@ -49,13 +50,13 @@ static bool is_on_screen(int lines, int columns, int y, int x) {
     return y >= 0 && x >= 0 && lines <= LINES - y && columns <= COLS - x;
 }
 
-/* Has the session make a window of this place and size, or a pad where the screen is too small. */
+/* Has the session make a window of this place and size, or a pad if the screen is too small. Sets `is_pad`. */
 static int make(int number, int lines, int columns, int y, int x, bool *is_pad) {
     *is_pad = !is_on_screen(lines, columns, y, x);
     return *is_pad ? session_newpad(number, lines, columns) : session_newwin(number, lines, columns, y, x);
 }
 
-/* Has the session make a part of a window, or of a pad. */
+/* Has the session make a part of the window or pad `parent`. */
 int tcu_make_part(int number, const WINDOW *parent, int lines, int columns, int y, int x) {
     return parent->is_below_pad ? session_subpad(number, parent->number, lines, columns, y, x)
                                 : session_derwin(number, parent->number, lines, columns, y, x);
@@ -148,7 +149,7 @@ int delwin(WINDOW *window) {
     return OK;
 }
 
-/* Gives a window of the session that was made anew what it had. */
+/* Gives a window that the session has made anew its attributes, background, options and cursor. */
 void tcu_restored(WINDOW *window, int cursor_y, int cursor_x) {
     if (window->attrs) session_attrset(window->number, window->attrs);
     if (window->background != ' ') session_bkgdset(window->number, window->background);
@@ -158,17 +159,17 @@ void tcu_restored(WINDOW *window, int cursor_y, int cursor_x) {
     session_move(window->number, cursor_y, cursor_x);
 }
 
-/* The parts of a window stay where they are. */
+/* Moves a window, but not its parts. */
 int mvwin(WINDOW *window, int y, int x) {
     if (!tcu_is_own(window) || window->is_pad || !is_on_screen(window->lines, window->columns, y, x)) return ERR;
-    /* the session's place matters for scrolling alone */
+    /* the session uses the place only for scrolling */
     if (!window->parent && !window->is_below_pad) session_mvwin(window->number, y, x);
     window->y = y;
     window->x = x;
     return touchwin(window);
 }
 
-/* The part is made anew, which can't be done while it has parts itself. */
+/* Moves a part within its parent by making it anew; it must have no parts itself. */
 int mvderwin(WINDOW *window, int y, int x) {
     WINDOW *parent = tcu_is_own(window) ? window->parent : NULL;
     int cursor_y, cursor_x;
@@ -191,7 +192,7 @@ static int smaller(int one, int other) {
     return one < other ? one : other;
 }
 
-/* Has the session make the window once more, of another size, under a number that is free. */
+/* Has the session make the window once more, of another size, under the free `number`. Sets `is_pad`. */
 static int made_anew(const WINDOW *window, int number, int lines, int columns, bool *is_pad) {
     const WINDOW *parent = window->parent;
     *is_pad = window->is_below_pad;
@@ -200,7 +201,7 @@ static int made_anew(const WINDOW *window, int number, int lines, int columns, b
     return make(number, lines, columns, window->y, window->x, is_pad);
 }
 
-/* What the old window holds, on its background. */
+/* Copies the old window's cells, on its background, to the window `number`. */
 static void copy_cells(const WINDOW *window, int number, int lines, int columns) {
     if (window->parent) return;
     session_bkgdset(number, window->background);

@@ -43,7 +43,6 @@ NOT_REWRITTEN = {
     "crates/ti_surveys": 54,
     "crates/ti_verdicts": 27,
     "crates/ti_words": 25,
-    "curses": 20,
     # made from the program's --help
     "man/ticurses.1": 8,
 }

@@ -1,11 +1,11 @@
-/* The names of X/Open Curses Issue 7 over ticurses: single-width characters, one terminal, and a refresh that is
+/* The functions of X/Open Curses Issue 7 over ticurses: single-width characters, one terminal, and a refresh that is
  * proved.
  *
  *     cc game.c $(pkg-config --cflags --libs ticurses-curses)
  *
- * docs/CURSES.md has a table of all functions of the standard: which are here, which differ, and which are not there.
- * Drawing goes through the proved calls of libticurses; keys, modes of the terminal and all other output to it are
- * outside the theorem. The header is C99 and C++11. */
+ * docs/CURSES.md has a table of all functions of the standard: which are here, which differ, and which are missing.
+ * Drawing goes through the proved calls of libticurses; keys, the terminal's modes and all other output are outside the
+ * theorem. The header is C99 and C++11. */
 #ifndef TICURSES_CURSES_H
 #define TICURSES_CURSES_H
 
@@ -47,7 +47,7 @@ typedef struct ticurses_screen SCREEN;
 #define OK 0
 #define ERR (-1)
 
-/* Attributes. Terminals that protect characters are not known here, so that A_PROTECT is no attribute. */
+/* Attributes. A_PROTECT is 0, since no terminal with protected characters is known here. */
 #define A_NORMAL 0u
 #define A_CHARTEXT 0x000000ffu
 #define A_COLOR 0x0000ff00u
@@ -135,7 +135,7 @@ extern chtype acs_map[128];
 #define ACS_SBSB ACS_VLINE
 #define ACS_SSSS ACS_PLUS
 
-/* The terminal. initscr says why there is none and ends the program; newterm gives a null pointer. */
+/* The terminal. If there is none, initscr says why and ends the program, and newterm returns a null pointer. */
 WINDOW *initscr(void);
 SCREEN *newterm(const char *type, FILE *output, FILE *input);
 SCREEN *set_term(SCREEN *screen);
@@ -241,7 +241,7 @@ int wdeleteln(WINDOW *window);
 int insdelln(int count);
 int winsdelln(WINDOW *window, int count);
 
-/* Clearing, lines and scrolling. A character 0 is the usual one. */
+/* Clearing, lines and scrolling. A character of 0 means the default one. */
 int erase(void);
 int werase(WINDOW *window);
 int clear(void);
@@ -269,7 +269,7 @@ int wscrl(WINDOW *window, int count);
 int setscrreg(int top, int bottom);
 int wsetscrreg(WINDOW *window, int top, int bottom);
 
-/* Attributes, background and colors. A null pointer is passed for options. */
+/* Attributes, background and colors. Each pointer to options must be null. */
 int attron(int attrs);
 int wattron(WINDOW *window, int attrs);
 int attroff(int attrs);
@@ -313,7 +313,7 @@ int overwrite(const WINDOW *source, WINDOW *target);
 int copywin(const WINDOW *source, WINDOW *target, int source_y, int source_x, int y, int x, int last_y, int last_x,
             int is_overlay);
 
-/* Refreshing, and what is touched. */
+/* Refreshing, and touched lines. */
 int refresh(void);
 int wrefresh(WINDOW *window);
 int wnoutrefresh(WINDOW *window);
@@ -415,7 +415,7 @@ int mvwscanw(WINDOW *window, int y, int x, const char *format, ...) TICURSES_CUR
 int vwscanw(WINDOW *window, const char *format, va_list rest) TICURSES_CURSES_SCANF(2, 0);
 int vw_scanw(WINDOW *window, const char *format, va_list rest) TICURSES_CURSES_SCANF(2, 0);
 
-/* Soft labels, which this library doesn't have: each call answers ERR, or a null pointer. */
+/* Soft labels, which this library doesn't have: each call returns ERR or a null pointer. */
 int slk_init(int format);
 int slk_set(int label, const char *text, int justification);
 int slk_refresh(void);
@@ -432,7 +432,7 @@ int slk_attr_off(attr_t attrs, void *options);
 int slk_attr_set(attr_t attrs, short pair, void *options);
 int slk_color(short pair);
 
-/* Mice, which this library doesn't have: no event is ever asked for, and none comes. */
+/* Mice, which this library doesn't have: it asks for no event, and none comes. */
 typedef uint32_t mmask_t;
 typedef struct MEVENT {
     short id;
@@ -477,7 +477,7 @@ bool has_mouse(void);
 #define REPORT_MOUSE_POSITION 0x10000000u
 #define ALL_MOUSE_EVENTS 0x01ffffffu
 
-/* Past the standard: what ncurses has too, and programs use. */
+/* Beyond the standard: functions of ncurses that programs use. */
 int use_default_colors(void);
 int assume_default_colors(int foreground, int background);
 int has_key(int key);

@@ -12,7 +12,7 @@
 #define TICURSES_NOT_THERE(text)
 #endif
 
-/* none of these is in the library, so that without the attribute the linker names them */
+/* none of these is in the library: without the attribute the linker reports each use */
 int ticurses_has_no_wide_characters(void) TICURSES_NOT_THERE("ticurses-curses has no wide characters");
 int ticurses_has_no_window_files(void) TICURSES_NOT_THERE("ticurses-curses doesn't save windows to files");
 int ticurses_has_no_terminfo_calls(void)
@@ -112,7 +112,7 @@ int ticurses_has_no_terminfo_calls(void)
 #define vid_puts(...) ticurses_has_no_wide_characters()
 #define wunctrl(...) ticurses_has_no_wide_characters()
 
-/* a name that programs have for functions of their own, where they ask for no wide characters */
+/* declared only for programs that ask for wide characters, since others have functions of this name */
 #if defined(_XOPEN_SOURCE_EXTENDED) || defined(NCURSES_WIDECHAR)
 #define key_name(...) ticurses_has_no_wide_characters()
 #endif
