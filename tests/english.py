@@ -34,7 +34,6 @@ SKIPPED = {"out", "proofs", "must-fail", "__pycache__"}
 
 LIMIT = 20
 NOT_REWRITTEN = {
-    "bindings/python": 12,
     "crates/ti_cert": 44,
     "crates/ti_checker": 45,
     "crates/ti_faults": 17,

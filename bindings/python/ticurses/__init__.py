@@ -7,9 +7,9 @@
         session.send()
         session.read()
 
-Calls are lines in the language of scripts (man 5 ticurses-script). What a refresh sends waits in the session until it
-is taken (`output`) and written, or both at once (`send`); `read` waits for keys. What isn't done raises an `Error`, whose `code` is a `Code`.
-However the block is left, by its end, an exception, an interrupt or SIGTERM, the terminal is as it was before.
+Calls are lines in the language of scripts (man 5 ticurses-script). The session keeps its output until `output` takes it
+or `send` writes it; `read` waits for keys. A call that isn't done raises an `Error`, whose `code` is a `Code`. However
+the block ends, by an exception, an interrupt or SIGTERM too, the terminal is then as it was before.
 
 The library is $TICURSES_LIBRARY, or the one that was installed with this package, or the one that the system finds."""
 
@@ -43,7 +43,7 @@ Text = Union[str, bytes, bytearray, memoryview]
 
 
 class Cell(NamedTuple):
-    """What stands in a place of a window."""
+    """The content of a place of a window."""
 
     byte: str
     attrs: Attrs
@@ -64,7 +64,7 @@ class Attrs(enum.IntFlag):
 
 
 def _bytes(text: Text) -> bytes:
-    """What is no ASCII becomes bytes that are refused."""
+    """A text as bytes; the session refuses those of characters that aren't ASCII."""
     if isinstance(text, str):
         try:
             return text.encode("utf-8", "surrogateescape")
@@ -76,12 +76,12 @@ def _bytes(text: Text) -> bytes:
 
 
 def _window(number: int) -> int:
-    """A window's number that ctypes passes as it is; what doesn't fit is no window's."""
+    """A window's number that ctypes passes unchanged; 64, which is no window's, if it doesn't fit."""
     return number if 0 <= number < 64 else 64
 
 
 def _numbers(rows: int, cols: int) -> list[int]:
-    """Sizes that ctypes passes as they are; what doesn't fit is no size."""
+    """Sizes that ctypes passes unchanged; 0, which is no size, for each that doesn't fit."""
     return [it if 0 <= it < 65536 else 0 for it in (rows, cols)]
 
 
@@ -91,7 +91,7 @@ def _is_done(code: int, reason: str = "") -> None:
 
 
 def _asked(call: Callable[..., int], room: int, entry: Text, rows: int, cols: int, name: Text) -> tuple[int, bytes]:
-    """The bytes that a call writes to a room, which is made larger where it has to be."""
+    """The code of a call, and the bytes that it writes to a buffer of `room` bytes, or of more if it needs more."""
     entry, name, needed = _bytes(entry), _bytes(name), SIZE(0)
     rows, cols = _numbers(rows, cols)
     code, space = int(Code.NO_ROOM), ctypes.create_string_buffer(0)
@@ -105,7 +105,7 @@ def _asked(call: Callable[..., int], room: int, entry: Text, rows: int, cols: in
 
 
 def check(entry: Text, rows: int, cols: int, name: Text = b"") -> bytes:
-    """The certificate of an entry: a compiled one, or with a name that of a source text. Where it has none, the error
+    """The certificate of a compiled entry or, with a `name`, of that entry of a source text. If it has none, the error
     says which string is wrong."""
     code, text = _asked(RAW.ticurses_raw_check, 1 << 16, entry, rows, cols, name)
     _is_done(code, reason(entry, rows, cols, name) if code == Code.NO_CERTIFICATE else "")
@@ -113,7 +113,7 @@ def check(entry: Text, rows: int, cols: int, name: Text = b"") -> bytes:
 
 
 def reason(entry: Text, rows: int, cols: int, name: Text = b"") -> str:
-    """Why an entry has no certificate, as in `no op: WrongEffect`; "" where it has one."""
+    """Why an entry has no certificate, as in `no op: WrongEffect`; "" if it has one."""
     code, text = _asked(RAW.ticurses_raw_reason, 256, entry, rows, cols, name)
     _is_done(code)
     return text.decode("ascii")
@@ -127,15 +127,16 @@ def verify(entry: Text, rows: int, cols: int, certificate: Text, name: Text = b"
 
 
 def _leave(number: int, _: Any) -> NoReturn:
-    """A signal that would end the program without a word leaves its blocks; once, so that they are left in peace."""
+    """Handles a signal that would end the program: leaves its blocks by `SystemExit`. A second such signal is ignored,
+    so that the blocks end undisturbed."""
     signal.signal(number, signal.SIG_IGN)
     sys.exit(128 + number)
 
 
 @contextlib.contextmanager
 def _woken_by_signals() -> Iterator[int | None]:
-    """A descriptor that has bytes once a signal has come; none in other threads than the main one, which alone gets
-    them. Python runs handlers between its own steps, so that a signal just before a system's call doesn't end it."""
+    """A descriptor that has bytes once a signal has come; None in threads other than the main one, since only that one
+    gets signals. Python runs handlers between its own steps, so a signal just before a system call doesn't end it."""
     if threading.current_thread() is not threading.main_thread():
         yield None
         return
@@ -152,15 +153,15 @@ def _woken_by_signals() -> Iterator[int | None]:
 
 
 class Session:
-    """A session on a terminal. One call at a time is made on it.
+    """A session on a terminal, which makes one call at a time.
 
-    In a `with` statement it is closed at the end. Before that it sends `endwin`, where it has sent anything, and sets
-    the terminal back, where it has set it."""
+    The end of a `with` statement closes it. Before that it sends `endwin` if it has sent anything, and restores the
+    terminal's modes if it has set them."""
 
     def __init__(self, entry: Text, rows: int, cols: int, name: Text = b"", certificate: Text = b"") -> None:
         self._handle = Handle()
         self._input, self._output, self._is_owner = 0, 1, False
-        # where bytes went, and whether `endwin` was the last call
+        # the descriptor that bytes went to, and whether `endwin` was the last call
         self._shown_on: int | None = None
         self._is_over = False
         self._before: list[Any] | None = None
@@ -169,17 +170,17 @@ class Session:
 
     @classmethod
     def on_terminal(cls, term: str | None = None, input: int = 0, output: int = 1) -> Session:
-        """A session on the terminal at these descriptors, by its name or $TERM, for a `with` statement: at its
-        beginning the terminal is set raw, and from then on SIGTERM and SIGHUP leave the block, where the program does
-        nothing else about them. It raises `FileNotFoundError` without an entry, `termios.error` where the input is no
+        """A session on the terminal at these descriptors, whose name is `term` or $TERM, for a `with` statement. At its
+        beginning the statement sets the terminal raw, and from then on SIGTERM and SIGHUP leave the block unless the
+        program handles them. It raises `FileNotFoundError` without an entry, `termios.error` if the input is no
         terminal, and `Error`."""
         session = cls(find_entry(term), *terminal_size(output))
         session._input, session._output, session._is_owner = input, output, True
         return session
 
     def open(self, entry: Text, rows: int, cols: int, name: Text = b"", certificate: Text = b"") -> None:
-        """Opens it anew, as after a change of size. Without a certificate the entry is checked. Where it raises an
-        error, the session that was open stays open."""
+        """Opens the session anew, as after a change of size. Without a `certificate` it checks the entry. If it raises
+        an error, the session that was open stays open."""
         entry, name, certificate = _bytes(entry), _bytes(name), _bytes(certificate)
         words = (entry, len(entry), name, len(name), *_numbers(rows, cols), certificate, len(certificate))
         opened = Handle()
@@ -189,8 +190,8 @@ class Session:
         RAW.ticurses_raw_close(before)
 
     def call(self, *lines: Text) -> None:
-        """Makes calls, one a line, up to the first that isn't done; the error says which it is. If a line is no call, none
-        is made."""
+        """Makes the calls of `lines`, one a line, up to the first that isn't done; the error says which it is. If a
+        line is no call, it makes none."""
         text = b"\n".join(map(_bytes, lines))
         self._is_over = False
         code = RAW.ticurses_raw_call(self._handle, text, len(text))
@@ -206,7 +207,7 @@ class Session:
         return Error(code, "", number.value, line.decode("utf-8", "backslashreplace"))
 
     def addstr(self, window: int, text: Text) -> None:
-        """Writes a text at the cursor of a window: bytes, or a string of ASCII. Others are refused."""
+        """Writes a text at the cursor of a window: bytes, or a string of ASCII. Other characters are refused."""
         held = _bytes(text)
         _is_done(RAW.ticurses_raw_addstr(self._handle, _window(window), held, len(held)))
 
@@ -224,7 +225,7 @@ class Session:
         return one.value, other.value
 
     def cell(self, window: int, row: int, col: int) -> Cell:
-        """What stands in a place of a window or a pad."""
+        """The content of a place of a window or a pad."""
         cell = _Cell()
         if not (0 <= row < 65536 and 0 <= col < 65536):
             raise Error(Code.OUT_OF_WINDOW)
@@ -233,22 +234,22 @@ class Session:
 
     @property
     def waiting(self) -> int:
-        """How many bytes wait to be written."""
+        """The number of bytes that wait to be written."""
         return int(RAW.ticurses_raw_waiting(self._handle))
 
     def output(self, most: int = 65536) -> bytes:
-        """Takes the first of the bytes that wait, at most so many."""
+        """Takes the first of the bytes that wait, at most `most`."""
         room = ctypes.create_string_buffer(max(most, 1))
         taken = RAW.ticurses_raw_output(self._handle, room, max(most, 0))
         return room.raw[:taken]
 
     def lost(self) -> None:
-        """Bytes that were taken did not all get to the terminal: the next refresh begins anew."""
+        """Records that taken bytes didn't all reach the terminal: the next refresh draws the whole screen."""
         _is_done(RAW.ticurses_raw_lost(self._handle))
 
     def send(self, fd: int | None = None) -> None:
-        """Writes all that waits to a descriptor, also one that doesn't block; without one to the terminal's. What an
-        error or an interrupt cut off, the next refresh repairs."""
+        """Writes all waiting bytes to `fd`, which may be non-blocking, or to the terminal's descriptor without one. The
+        next refresh repairs output that an error or an interrupt cut off."""
         fd = self._output if fd is None else fd
         try:
             while piece := self.output():
@@ -266,9 +267,9 @@ class Session:
             raise
 
     def read(self, most: int = 64) -> bytes:
-        """Waits for keys and gives their bytes, at most so many; none where the terminal is gone. A signal whose handler
-        raises an exception ends the wait, also one that comes just before it, which `os.read` would miss."""
-        # one that is closed is an error; its number would be that of the next descriptor
+        """Waits for keys and returns their bytes, at most `most`; none if the terminal is gone. A signal whose handler
+        raises an exception ends the wait, even one that comes just before it, which `os.read` would miss."""
+        # a closed input must be an error: the pipe below would get its number
         os.fstat(self._input)
         waiting = select.poll()
         waiting.register(self._input, select.POLLIN)
@@ -284,7 +285,7 @@ class Session:
                 try:
                     return os.read(self._input, most)
                 except BlockingIOError:
-                    # another program was given the keys
+                    # another program got the keys
                     continue
                 except OSError as error:
                     if error.errno != errno.EIO:
@@ -292,19 +293,19 @@ class Session:
                     return b""
 
     def set_raw(self, fd: int | None = None) -> None:
-        """Sets the terminal raw, as the function of this name does, until the end of the `with` statement."""
+        """Sets the terminal raw, as the function `set_raw` does, until the end of the `with` statement."""
         self._input = self._input if fd is None else fd
         self._before = set_raw(self._input)
 
     def set_cooked(self) -> None:
-        """Sets the terminal back where `set_raw` has set it."""
+        """Restores the terminal's modes if `set_raw` has set them."""
         before, self._before = self._before, None
         if before is not None:
             set_cooked(before, self._input)
 
     def end(self) -> None:
-        """Sends `endwin` to where `send` has sent before, if it has, and it wasn't sent yet; after it the terminal is as
-        other programs want it."""
+        """Sends `endwin` to the descriptor of the last `send`, if there was one and `endwin` hasn't followed. The
+        terminal is then as other programs need it."""
         fd = self._shown_on
         if fd is not None and not (self._is_over and not self.waiting):
             if not self._is_over:
@@ -313,7 +314,7 @@ class Session:
         self._shown_on = None
 
     def close(self) -> None:
-        """Frees the session; `endwin` comes before. Closed twice it stays closed."""
+        """Frees the session without sending `endwin`, which `end` does. A closed session may be closed again."""
         RAW.ticurses_raw_close(self._handle)
 
     def __enter__(self) -> Session:
@@ -327,7 +328,7 @@ class Session:
         return self
 
     def _heed(self) -> None:
-        """Has signals leave the block; only the main thread can say so."""
+        """Has signals leave the block, which only the main thread can ask for."""
         if threading.current_thread() is threading.main_thread():
             for number in (signal.SIGTERM, signal.SIGHUP):
                 if signal.getsignal(number) == signal.SIG_DFL:
@@ -337,14 +338,14 @@ class Session:
         try:
             self.end()
         except (OSError, Error):
-            # the error that leaves the block says more
+            # the error that ended the block says more
             if kind is None:
                 raise
         finally:
             self._restore(kind is not None)
 
     def _restore(self, is_leaving: bool) -> None:
-        """Sets back all that isn't the session's own, whatever else fails."""
+        """Restores the terminal's modes and the signals' handlers and closes the session, whatever fails."""
         try:
             self.set_cooked()
         except termios.error:

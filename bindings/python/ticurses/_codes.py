@@ -1,4 +1,4 @@
-"""What a call answers, and the error of one that isn't done."""
+"""The codes that calls return, and the error of a call that isn't done."""
 
 from __future__ import annotations
 
@@ -6,7 +6,7 @@ import enum
 
 
 class Code(enum.IntEnum):
-    """What a call answers."""
+    """The code that a call returns."""
 
     OK = 0
     NO_WINDOW = 1
@@ -73,11 +73,11 @@ TEXTS: dict[Code, str] = {
 
 
 class Error(Exception):
-    """A call that wasn't done: its `code`, and the `reason` where there is more to say. Of a text of calls, `line` is the
-    number of the line that was refused or is no call, from 1, and `text` is what stands on it."""
+    """A call that wasn't done: its `code`, and a `reason` if there is more to say. In a text of calls, `line` is the
+    number, from 1, of the line that was refused or is no call, and `text` is that line."""
 
     def __init__(self, code: int, reason: str = "", line: int | None = None, text: str = "") -> None:
-        # by its arguments an error is copied and pickled
+        # copies and pickles are made from these arguments
         super().__init__(code, reason, line, text)
         self.code, self.reason, self.line, self.text = Code(code), reason, line, text
 

@@ -1,3 +1,3 @@
-"""Where the library is installed, as ./install writes it here; nothing in a checkout."""
+"""The path of the installed library, which ./install writes here; empty in a checkout."""
 
 LIBRARY: str = ""

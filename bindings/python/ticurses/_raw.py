@@ -1,4 +1,4 @@
-"""The library of ticurses, by ctypes: its calls with their types."""
+"""The calls of libticurses with their types, by ctypes."""
 
 from __future__ import annotations
 
@@ -8,7 +8,7 @@ from typing import Any
 
 from ._installed import LIBRARY
 
-# the number is the first of the version's; a library of another one has other calls
+# the number is the major version, and a library of another has other calls
 NAME = "libticurses.so.1"
 
 
@@ -42,12 +42,12 @@ _CALLS: dict[str, tuple[Any, list[Any]]] = {
 
 
 def is_trusting() -> bool:
-    """Whether variables may say what is read: not where the program has rights that its user lacks."""
+    """Whether variables of the environment may name files: not if the program has rights that its user lacks."""
     return os.geteuid() == os.getuid() and os.getegid() == os.getgid()
 
 
 def path() -> str:
-    """Where the library is: as a variable says, where ./install put it, or where the system looks."""
+    """The library's file: as $TICURSES_LIBRARY says, where ./install put it, or where the system looks."""
     own = os.environ.get("TICURSES_LIBRARY") if is_trusting() else None
     if own:
         return own
@@ -57,7 +57,7 @@ def path() -> str:
 def _loaded() -> Any:
     at = path()
     try:
-        # it keeps the interpreter's lock, so that no two threads are in one session
+        # PyDLL keeps the interpreter's lock, so that no two threads are in one session
         library = ctypes.PyDLL(at)
         for call, (result, arguments) in _CALLS.items():
             function = getattr(library, f"ticurses_raw_{call}")

@@ -1,4 +1,4 @@
-"""What a program needs of its terminal: its entry and its size, and that it passes on bytes as they are."""
+"""The terminal of a program: its entry, its size, and its modes, which must pass bytes on unaltered."""
 
 from __future__ import annotations
 
@@ -13,7 +13,7 @@ from typing import Any, Iterator
 from ._codes import Code, Error
 from ._raw import is_trusting
 
-# a compiled entry is at most so long
+# the most bytes of a compiled entry
 ENTRY_MAX = 32768
 
 
@@ -28,7 +28,7 @@ def _is_entry(held: bytes) -> bool:
 
 
 def _read(path: str) -> bytes:
-    """What a file holds, at most a byte more than an entry has; nothing where it can't be read."""
+    """The bytes of a file, at most one more than an entry can have; none if it can't be read or is no regular file."""
     try:
         with open(os.open(path, os.O_RDONLY | os.O_NONBLOCK | os.O_NOCTTY), "rb") as file:
             return file.read(ENTRY_MAX + 1) if stat.S_ISREG(os.fstat(file.fileno()).st_mode) else b""
@@ -45,8 +45,9 @@ def _folders() -> Iterator[str]:
 
 
 def find_entry(term: str | None = None) -> bytes:
-    """The compiled entry of a terminal, by name or by $TERM, sought where ncurses seeks. A file that can't be read or is
-    no entry doesn't end the search. Where the program has rights that its user lacks, the variables don't count."""
+    """The compiled entry of the terminal `term` or $TERM, sought where ncurses seeks. A file that can't be read or is
+    no entry doesn't end the search. If the program has rights that its user lacks, $TERMINFO, $HOME and $TERMINFO_DIRS
+    don't count."""
     term = os.environ.get("TERM", "") if term is None else term
     for folder in _folders() if term and "/" not in term else []:
         for sub in (term[0], f"{ord(term[0]):02x}"):
@@ -57,7 +58,7 @@ def find_entry(term: str | None = None) -> bytes:
 
 
 def _set(fd: int, like: list[Any]) -> None:
-    """Sets the terminal once it has what was written; signals don't end the wait."""
+    """Sets the terminal's modes once it has received all output; signals don't end the wait."""
     while True:
         try:
             termios.tcsetattr(fd, termios.TCSADRAIN, like)
@@ -69,8 +70,8 @@ def _set(fd: int, like: list[Any]) -> None:
 
 def set_raw(fd: int = 0) -> list[Any]:
     """Has the terminal pass on bytes unaltered, which a refresh needs (it may move down by a newline), and keys as they
-    are pressed, without showing them. Keys that send signals go on doing so. Gives what `set_cooked` sets back. Where
-    there is no terminal it raises `termios.error`."""
+    are pressed, without an echo. Keys that send signals still do. Returns the modes before, for `set_cooked`. Raises
+    `termios.error` if `fd` is no terminal."""
     before, raw = termios.tcgetattr(fd), termios.tcgetattr(fd)
     raw[3] &= ~(termios.ICANON | termios.ECHO)
     raw[0] &= ~(termios.ICRNL | termios.IXON)
@@ -81,13 +82,13 @@ def set_raw(fd: int = 0) -> list[Any]:
 
 
 def set_cooked(before: list[Any], fd: int = 0) -> None:
-    """Sets the terminal back to what it was like."""
+    """Restores the terminal's modes `before`."""
     _set(fd, before)
 
 
 def terminal_size(fd: int = 1) -> tuple[int, int]:
-    """The rows and columns of the terminal at a descriptor, 24 and 80 where it doesn't say. A size that no session has
-    raises an `Error`, `Code.BAD_SIZE`: on such a terminal what a session draws would be wrong."""
+    """The rows and columns of the terminal at `fd`; 24 and 80 if it doesn't say. A size that no session can have raises
+    an `Error` with `Code.BAD_SIZE`, since a session of another size would draw wrongly on such a terminal."""
     try:
         rows, cols = struct.unpack("HHHH", fcntl.ioctl(fd, termios.TIOCGWINSZ, bytes(8)))[:2]
     except OSError:

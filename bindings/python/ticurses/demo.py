@@ -1,4 +1,4 @@
-"""Shows what `ticurses.curses` does: a window in the middle, the keys that are pressed, and the size of the terminal.
+"""A demonstration of `ticurses.curses`: a window in the middle, the keys that are pressed, and the terminal's size.
 
     python3 -m ticurses.demo
 
@@ -57,7 +57,7 @@ def draw(screen: curses.window, keys: list[str], look: int) -> None:
 
 
 def show(screen: curses.window) -> None:
-    """Draws anew after each key, up to q."""
+    """Draws anew after each key, until q is pressed."""
     look = curses.A_NORMAL
     keys: list[str] = []
     if curses.has_colors():

@@ -8,9 +8,9 @@
 
     curses.wrapper(main)
 
-Characters are those of ASCII; docs/CURSES.md says what else differs. `ticurses.curses.ascii` and `textpad` are the
-standard library's. `stand_in()` has `import curses` find this package, and `python3 -m ticurses.curses PROGRAM` runs a
-program so.
+All characters are ASCII; docs/CURSES.md says what else differs. `ticurses.curses.ascii` and `textpad` are the standard
+library's. `stand_in()` has `import curses` find this package, and `python3 -m ticurses.curses PROGRAM` runs a program
+with it.
 
 The library is $TICURSES_CURSES_LIBRARY, or the one beside that of `ticurses`, or the one that the system finds."""
 

@@ -24,7 +24,7 @@ def main() -> int:
     if is_module:
         runpy.run_module(sys.argv[0], run_name="__main__", alter_sys=True)
     else:
-        # as the interpreter has it: modules beside the program are found first
+        # as in the interpreter, modules beside the program are found first
         sys.path.insert(0, os.path.dirname(os.path.abspath(sys.argv[0])))
         runpy.run_path(sys.argv[0], run_name="__main__")
     return 0

@@ -30,7 +30,7 @@ def c_byte(value: Any) -> int:
 
 
 def attributes(value: Any) -> int:
-    """Attributes, as the library takes them; more than a long has is an error, and further bits mean nothing."""
+    """Attributes in the library's form. A number that doesn't fit in a long is an error; unknown bits are ignored."""
     number = operator.index(value)
     if not -_LONG <= number < _LONG:
         raise OverflowError("Python int too large to convert to C long")
@@ -73,7 +73,7 @@ def text(value: Any, encoding: str) -> bytes:
 
 
 def place_of(name: str, given: Sequence[Any]) -> tuple[int, int] | None:
-    """The row and the column that may be left out."""
+    """The row and the column, or None if both are left out."""
     if not given:
         return None
     if len(given) != 2:
@@ -82,8 +82,8 @@ def place_of(name: str, given: Sequence[Any]) -> tuple[int, int] | None:
 
 
 def split(name: str, given: Sequence[Any], own: int) -> tuple[tuple[int, int] | None, Sequence[Any], int | None]:
-    """The arguments of a call that has `own` arguments: before them may be a row and a column, and behind them
-    attributes."""
+    """The place, the arguments and the attributes in `given`. The call has `own` arguments; a row and a column may come
+    before them, and attributes after them."""
     count = len(given)
     if not own <= count <= own + 3:
         raise TypeError(f"{name} requires {own} to {own + 3} arguments")
@@ -94,7 +94,7 @@ def split(name: str, given: Sequence[Any], own: int) -> tuple[tuple[int, int] | 
 
 
 def counted(name: str, given: Sequence[Any]) -> tuple[tuple[int, int] | None, int | None]:
-    """The row and the column, and behind them a count; each may be left out."""
+    """The place and the count in `given`: a row and a column, then a count; either may be left out."""
     if len(given) > 3:
         raise TypeError(f"{name} requires 0 to 3 arguments")
     place = (c_int(given[0]), c_int(given[1])) if len(given) >= 2 else None

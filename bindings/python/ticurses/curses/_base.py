@@ -1,4 +1,4 @@
-"""The base of a window's methods: its address in the library, and methods of one form."""
+"""The base of a window: its address in the library, and functions that make its simpler methods."""
 
 from __future__ import annotations
 
@@ -15,7 +15,7 @@ Method = TypeVar("Method", bound=Callable[..., Any])
 
 
 class Base:
-    """A window or a pad of the library."""
+    """The base class of windows and pads."""
 
     __slots__ = ("at", "_encoding", "_parent", "__weakref__")
 
@@ -42,25 +42,25 @@ class Base:
         raise TypeError(f"cannot pickle '{type(self).__name__}' object: it is a part of this process's screen")
 
     def is_usable(self) -> bool:
-        """Whether this process may make calls on it."""
+        """Whether this process may make calls on the window."""
         try:
             return bool(self.at)
         except error:
             return False
 
     def leave(self) -> None:
-        """Has no call made on it any more, in a process that was forked."""
+        """Ends all calls on the window, in a process that was forked."""
         if self.is_usable():
             del self.at
 
     def show(self) -> None:
-        """Refreshes it, if it is no pad."""
+        """Refreshes the window, unless it is a pad."""
         if not LIBRARY.is_pad(self.at):
             LIBRARY.wrefresh(self.at)
 
     @property
     def encoding(self) -> str:
-        """How texts are made bytes. The library has characters of ASCII alone."""
+        """The encoding of texts. The library has only characters of ASCII."""
         return self._encoding
 
     @encoding.setter
@@ -75,8 +75,8 @@ class Base:
 
 
 def placed(method: Method) -> Method:
-    """Marks a method whose first arguments may be left out, which no signature can say; the first line of its
-    documentation does."""
+    """Marks a method whose first arguments may be left out. No signature can say so; the first line of the method's doc
+    string does."""
     method.__signature__ = inspect.Signature()  # type: ignore[attr-defined]
     return method
 
@@ -89,7 +89,7 @@ def _named(method: Method, name: str, doc: str) -> Method:
 
 
 def plain(name: str, call: str, doc: str) -> Callable[[Any], None]:
-    """A method without arguments, that makes this call."""
+    """A method without arguments that makes the call `call`."""
     function = getattr(LIBRARY, call)
 
     def method(self: Base) -> None:
@@ -109,7 +109,7 @@ def option(name: str, call: str, doc: str) -> Callable[[Any, Any], None]:
 
 
 def numbered(name: str, call: str, words: str, doc: str) -> Callable[..., None]:
-    """A method that takes these numbers."""
+    """A method that takes the numbers that `words` names."""
     function, count = getattr(LIBRARY, call), len(words.split(", "))
 
     def method(self: Base, *given: Any) -> None:
@@ -121,7 +121,7 @@ def numbered(name: str, call: str, words: str, doc: str) -> Callable[..., None]:
 
 
 def asked(name: str, row: str, column: str, doc: str) -> Callable[[Any], "tuple[int, int]"]:
-    """A method that answers a row and a column."""
+    """A method that returns a row and a column."""
     first, second = getattr(LIBRARY, row), getattr(LIBRARY, column)
 
     def method(self: Base) -> tuple[int, int]:

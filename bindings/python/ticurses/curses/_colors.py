@@ -1,4 +1,4 @@
-"""Colors and pairs of them."""
+"""Colors and color pairs."""
 
 from __future__ import annotations
 
@@ -42,7 +42,7 @@ def _pair(value: Any) -> int:
 
 
 def start_color() -> None:
-    """Begins with colors; COLORS and COLOR_PAIRS say how many there are."""
+    """Enables colors, and sets COLORS and COLOR_PAIRS to how many there are."""
     SCREEN.begun()
     check(LIBRARY.start_color(), "start_color")
     SCREEN.has_colors = True
@@ -73,7 +73,7 @@ def color_pair(pair_number: int) -> int:
 
 
 def pair_number(attr: int) -> int:
-    """The pair of attributes."""
+    """The color pair of attributes."""
     _begun()
     return (operator.index(attr) & A_COLOR) >> 8
 
@@ -81,7 +81,7 @@ def pair_number(attr: int) -> int:
 def init_pair(pair_number: int, fg: int, bg: int) -> None:
     """Gives a pair its two colors."""
     _begun()
-    # -1, the terminal's own, is refused by the library where it has no such pairs
+    # the library refuses -1, the terminal's own color, unless use_default_colors has allowed it
     check(LIBRARY.init_pair(_pair(pair_number), _color(fg, -1), _color(bg, -1)), "init_pair")
 
 
@@ -95,7 +95,7 @@ def pair_content(pair_number: int) -> tuple[int, int]:
 
 
 def init_color(color_number: int, r: int, g: int, b: int) -> None:
-    """Colors can't be changed: an error where the arguments aren't."""
+    """Raises an error, since colors can't be changed."""
     _begun()
     color = _color(color_number)
     shares = [_within(it, 0, 1000, "Color component", "1000") for it in (r, g, b)]
@@ -103,7 +103,7 @@ def init_color(color_number: int, r: int, g: int, b: int) -> None:
 
 
 def color_content(color_number: int) -> tuple[int, int, int]:
-    """How much red, green and blue a color has, of 1000."""
+    """The red, green and blue of a color, each of 1000."""
     _begun()
     color, red, green, blue = _color(color_number), SHORT(0), SHORT(0), SHORT(0)
     check(LIBRARY.color_content(color, red, green, blue), "color_content")
@@ -111,12 +111,12 @@ def color_content(color_number: int) -> tuple[int, int, int]:
 
 
 def use_default_colors() -> None:
-    """Has -1 be the terminal's own color; an error where pairs can't have it."""
+    """Makes -1 the terminal's own color; an error if pairs can't have it."""
     _begun()
     check(LIBRARY.use_default_colors(), "use_default_colors")
 
 
 def assume_default_colors(fg: int, bg: int, /) -> None:
-    """Has the first pair be of these colors: -1 and -1 alone, and an error where pairs can't have these either."""
+    """Gives pair 0 these colors, which must both be -1; an error if they aren't, or if pairs can't have -1."""
     _begun()
     check(LIBRARY.assume_default_colors(_color(fg, -1), _color(bg, -1)), "assume_default_colors")

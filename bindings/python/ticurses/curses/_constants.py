@@ -17,7 +17,7 @@ A_DIM = 0x00100000
 A_BOLD = 0x00200000
 A_INVIS = 0x00400000
 A_ALTCHARSET = 0x00800000
-# programs may ask for attributes that the terminal of the proofs doesn't have; they mean nothing
+# attributes that programs may ask for and the terminal of the proofs doesn't have; they do nothing
 A_PROTECT = A_ITALIC = A_HORIZONTAL = A_VERTICAL = A_LEFT = A_RIGHT = A_TOP = A_LOW = 0
 
 COLOR_BLACK = 0
@@ -146,5 +146,5 @@ KEY_MOUSE = 0o631
 KEY_RESIZE = 0o632
 KEY_MAX = 0o777
 
-# the function keys have names in Python, and a macro in C
+# the function keys: names in Python, a macro in C
 FUNCTION_KEYS = {f"KEY_F{number}": KEY_F0 + number for number in range(1, 64)}

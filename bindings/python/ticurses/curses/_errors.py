@@ -10,11 +10,11 @@ ERR = -1
 class error(Exception):
     """A call of curses that wasn't done; its text says which one."""
 
-    # the name by which programs know it, and by which it is pickled
+    # the module's name that programs see and that pickles use
     __module__ = __package__
 
 
 def check(answer: int, name: str) -> None:
-    """Raises the error of a call that answered ERR."""
+    """Raises an error if the call `name` returned ERR."""
     if answer == ERR:
         raise error(f"{name}() returned ERR")

@@ -1,4 +1,4 @@
-"""Keys: read one by one or as a line, given back, named."""
+"""Keys: reading them one by one or as a line, pushing them back, and their names."""
 
 from __future__ import annotations
 
@@ -22,19 +22,19 @@ __all__ = [
     "unget_wch", "ungetch", "ungetmouse",
 ]
 
-# the descriptor that is read, C's standard input
+# the descriptor of C's standard input, from which keys are read
 INPUT = 0
 LINE_MAX = 511
 GIVEN_MAX = 1024
 _ENDS = (10, 13, KEY_DOWN, KEY_UP, KEY_ENTER)
 
-# keys that were given back, and the rest of a line where keys come line by line; the next one is first. The library
-# would show them once more
+# keys that were pushed back, and the rest of a line while keys come line by line; the next one is first. They aren't
+# pushed back to the library, which would echo them once more
 _given: list[int] = []
 
 
 def read(shown: Showing) -> int:
-    """A key for this window, which is refreshed before; ERR where none comes in the window's time."""
+    """Refreshes the window and reads a key; ERR if none comes within the window's timeout."""
     if not MODES.is_cbreak and not _given:
         held = read_text(shown, LINE_MAX)
         if held is None:
@@ -57,7 +57,7 @@ def _read_key(shown: Showing) -> int:
 
 
 def _awaited(shown: Showing, delay: int) -> int:
-    """The library is asked for what is there, and the wait is outside of it."""
+    """Reads a key within `delay` milliseconds. The library only returns keys that are there; the wait is outside it."""
     at, before = shown.at, LIBRARY.wgetdelay(shown.at)
     end = None if delay < 0 else time.monotonic() + delay / 1000
     has_come = False
@@ -69,10 +69,10 @@ def _awaited(shown: Showing, delay: int) -> int:
             if left is not None and left <= 0:
                 return ERR
             with held_signals() as mask:
-                # here the library does all that a signal has asked for meanwhile
+                # this call also acts on signals that have come meanwhile
                 key = LIBRARY.wgetch(at)
                 if key == ERR and has_come:
-                    # there was something to read, and nothing was read: the terminal is gone
+                    # the descriptor was ready, but there was nothing to read: the terminal is gone
                     return ERR
                 if key == ERR:
                     has_come = ready(INPUT, left, mask)
@@ -83,7 +83,7 @@ def _awaited(shown: Showing, delay: int) -> int:
 
 
 class _Line:
-    """A line that is being read: where it began in the window, and what it has so far."""
+    """A line that is being read: where it begins in the window, and its characters so far."""
 
     def __init__(self, shown: Showing, most: int, echoes: bool) -> None:
         self.shown, self.most, self.echoes = shown, most, echoes
@@ -106,7 +106,7 @@ class _Line:
         self.shown.show()
 
     def wipe(self) -> None:
-        """Takes the last character off."""
+        """Removes the last character."""
         if not self.held:
             return
         del self.held[-1]
@@ -122,7 +122,7 @@ class _Line:
         self.shown.show()
 
     def end(self) -> None:
-        """Puts the cursor at the beginning of the next line, where there is one."""
+        """Moves the cursor to the beginning of the next line, if there is one."""
         row, last = self.shown.getyx()[0], self.shown.getmaxyx()[0] - 1
         if row < last or LIBRARY.waddch(self.shown.at, 10) == ERR:
             LIBRARY.wmove(self.shown.at, min(row + 1, last), 0)
@@ -130,7 +130,7 @@ class _Line:
 
 
 def read_text(shown: Showing, most: int) -> bytes | None:
-    """A line of at most `most` bytes, with its editing keys; None where no key comes in time, or another size does."""
+    """Reads a line of at most `most` bytes, with its editing keys; None if no key comes in time or the size changes."""
     line = _Line(shown, most, MODES.echoes)
     was = MODES.is_cbreak, MODES.is_raw, MODES.half_delay, MODES.reads_newlines
     erasing, killing = (it[0] for it in (erasechar(), killchar()))
@@ -158,7 +158,7 @@ def read_text(shown: Showing, most: int) -> bytes | None:
 
 
 def _restore(echoes: bool, is_cbreak: bool, is_raw: bool, half_delay: int, reads_newlines: bool) -> None:
-    """Sets the modes that were before a line was read."""
+    """Restores the modes from before a line was read."""
     if SCREEN.is_inherited:
         return
     _modes.echo(echoes)
@@ -172,7 +172,7 @@ def _restore(echoes: bool, is_cbreak: bool, is_raw: bool, half_delay: int, reads
 
 
 def ungetch(ch: Any) -> None:
-    """Gives a key back, so that it is the next that is read."""
+    """Pushes a key back, so that it is read next."""
     SCREEN.begun()
     key = cell(ch, "ascii")
     if len(_given) >= GIVEN_MAX:
@@ -181,7 +181,7 @@ def ungetch(ch: Any) -> None:
 
 
 def unget_wch(ch: Any) -> None:
-    """Gives a character of ASCII back, so that it is the next that is read."""
+    """Pushes a character of ASCII back, so that it is read next."""
     SCREEN.begun()
     if isinstance(ch, str):
         if len(ch) != 1:
@@ -197,7 +197,7 @@ def unget_wch(ch: Any) -> None:
 
 
 def flushinp() -> None:
-    """Throws away all keys that were typed or given back."""
+    """Discards all keys that were typed or pushed back."""
     SCREEN.begun()
     del _given[:]
     check(LIBRARY.flushinp(), "flushinp")
@@ -219,19 +219,19 @@ def has_key(ch: int) -> bool:
 
 
 def unctrl(ch: Any) -> bytes:
-    """How a character is shown that is none, as ^X."""
+    """The form in which a character is drawn, such as ^X if it isn't printable."""
     SCREEN.begun()
     return bytes(LIBRARY.unctrl(cell(ch, "ascii")))
 
 
 def erasechar() -> bytes:
-    """The key that takes a character off a line."""
+    """The key that erases a character of a line."""
     SCREEN.begun()
     return bytes(LIBRARY.erasechar())
 
 
 def killchar() -> bytes:
-    """The key that takes all off a line."""
+    """The key that erases a whole line."""
     SCREEN.begun()
     return bytes(LIBRARY.killchar())
 
@@ -240,24 +240,24 @@ def killchar() -> bytes:
 
 
 def mousemask(newmask: int) -> tuple[int, int]:
-    """Which events of the mouse come, and which came before: none."""
+    """The events of the mouse that are reported now and were before: none."""
     SCREEN.begun()
     return LIBRARY.mousemask(c_int(newmask) & 0xFFFFFFFF, None), 0
 
 
 def mouseinterval(interval: int) -> None:
-    """Without effect."""
+    """Does nothing."""
     SCREEN.begun()
     check(LIBRARY.mouseinterval(c_int(interval)), "mouseinterval")
 
 
 def getmouse() -> tuple[int, int, int, int, int]:
-    """There is no event of a mouse."""
+    """Raises an error, since there is no event of a mouse."""
     SCREEN.begun()
     raise error("getmouse() returned ERR")
 
 
 def ungetmouse(id: int, x: int, y: int, z: int, bstate: int) -> None:
-    """There is no event of a mouse."""
+    """Raises an error, since there is no event of a mouse."""
     SCREEN.begun()
     raise error("ungetmouse() returned ERR")

@@ -1,4 +1,4 @@
-"""The library of <ticurses/curses.h>, by ctypes: its functions and variables with their types."""
+"""The functions and variables of <ticurses/curses.h> with their types, by ctypes."""
 
 from __future__ import annotations
 
@@ -8,7 +8,7 @@ from typing import Any
 
 from .. import _raw
 
-# the number is the first of the version's, as that of the library below it
+# the number is the major version, as for the library below it
 NAME = _raw.NAME.replace("libticurses", "libticurses_curses")
 # how a library of this kind begins to say what it is
 KIND = b"ticurses-curses "
@@ -207,7 +207,7 @@ _CALLS = {**_TERMINAL, **_MODES, **_KEYS, **_COLORS, **_WINDOWS, **_WRITING, **_
 
 
 def _path() -> str:
-    """Where the library is: as a variable says, beside that of ticurses, or where the system looks."""
+    """The library's file: as $TICURSES_CURSES_LIBRARY says, beside that of ticurses, or where the system looks."""
     own = os.environ.get("TICURSES_CURSES_LIBRARY") if _raw.is_trusting() else None
     if own:
         return own
@@ -218,7 +218,7 @@ def _path() -> str:
 def _loaded() -> Any:
     path = _path()
     try:
-        # it keeps the interpreter's lock, so that no two threads are in the library
+        # PyDLL keeps the interpreter's lock, so that no two threads are in the library
         library = ctypes.PyDLL(path)
         for call, (result, arguments) in _CALLS.items():
             function = getattr(library, call)
@@ -248,5 +248,5 @@ def set_number(name: str, value: int) -> None:
 
 
 def pointer(name: str) -> int | None:
-    """The address in a variable of the library; None where it is null."""
+    """The address in a variable of the library; None if it is null."""
     return WINDOW.in_dll(LIBRARY, name).value

@@ -1,4 +1,4 @@
-"""Methods for attributes, backgrounds and changes of what is written."""
+"""Methods for attributes and backgrounds."""
 
 from __future__ import annotations
 
@@ -33,12 +33,12 @@ class Looks(Base):
 
     def bkgd(self, ch: Any, attr: int = 0, /) -> None:
         """bkgd(ch, [attr=A_NORMAL])
-        Gives it a background, also where it was written to before."""
+        Gives the window a background, and its old cells too."""
         check(LIBRARY.wbkgd(self.at, cell(ch, self._encoding) | attributes(attr)), "bkgd")
 
     def bkgdset(self, ch: Any, attr: int = 0, /) -> None:
         """bkgdset(ch, [attr=A_NORMAL])
-        Gives it a background for what is written or cleared from now on."""
+        Gives the window a background for cells that are written or cleared from now on."""
         LIBRARY.wbkgdset(self.at, cell(ch, self._encoding) | attributes(attr))
 
     def getbkgd(self) -> int:

@@ -1,4 +1,4 @@
-"""Modes of the terminal's line, and what is done with keys."""
+"""Modes of the terminal's line and of reading keys."""
 
 from __future__ import annotations
 
@@ -17,7 +17,7 @@ __all__ = [
 
 
 class Modes:
-    """Modes that the library doesn't answer: how keys come, whether they are shown, and how long one is waited for."""
+    """Modes that the library can't be asked for: how keys come, whether they are echoed, and how long a read waits."""
 
     def __init__(self) -> None:
         self.is_cbreak = self.echoes = self.reads_newlines = True
@@ -58,7 +58,7 @@ def noraw() -> None:
 
 
 def echo(flag: Any = True) -> None:
-    """Has keys shown as they are read; with False, not."""
+    """Echoes keys as they are read; with False, doesn't."""
     SCREEN.begun()
     is_on = bool(flag)
     check(LIBRARY.echo() if is_on else LIBRARY.noecho(), "echo" if is_on else "noecho")
@@ -66,7 +66,7 @@ def echo(flag: Any = True) -> None:
 
 
 def noecho() -> None:
-    """Has keys not shown."""
+    """Doesn't echo keys."""
     echo(False)
 
 
@@ -84,7 +84,7 @@ def nonl() -> None:
 
 
 def halfdelay(tenths: int) -> None:
-    """As cbreak, and a key is waited for at most `tenths` tenths of a second, 1 to 255."""
+    """Does what cbreak does, and has a read wait at most `tenths` tenths of a second, 1 to 255."""
     SCREEN.begun()
     wanted = c_byte(tenths)
     check(LIBRARY.halfdelay(wanted), "halfdelay")
@@ -92,43 +92,43 @@ def halfdelay(tenths: int) -> None:
 
 
 def intrflush(flag: Any) -> None:
-    """Whether keys that interrupt throw away what waits."""
+    """Sets whether keys that interrupt discard waiting keys."""
     SCREEN.begun()
     check(LIBRARY.intrflush(None, bool(flag)), "intrflush")
 
 
 def meta(yes: Any) -> None:
-    """Whether keys have eight bits."""
+    """Sets whether keys have eight bits."""
     SCREEN.begun()
     assert SCREEN.stdscr is not None
     check(LIBRARY.meta(SCREEN.stdscr.at, bool(yes)), "meta")
 
 
 def qiflush(flag: Any = True) -> None:
-    """Whether interrupts throw away what waits."""
+    """Sets whether interrupts discard waiting keys."""
     SCREEN.begun()
     (LIBRARY.qiflush if flag else LIBRARY.noqiflush)()
 
 
 def noqiflush() -> None:
-    """Has interrupts throw away nothing."""
+    """Has interrupts discard nothing."""
     qiflush(False)
 
 
 def typeahead(fd: int) -> None:
-    """Without effect: a refresh is always whole."""
+    """Does nothing: typed keys never cut a refresh short."""
     SCREEN.begun()
     check(LIBRARY.typeahead(c_int(fd)), "typeahead")
 
 
 def def_prog_mode() -> None:
-    """Takes the modes that the terminal has as the program's."""
+    """Saves the terminal's modes as the program's."""
     SCREEN.begun()
     check(LIBRARY.def_prog_mode(), "def_prog_mode")
 
 
 def def_shell_mode() -> None:
-    """Takes the modes that the terminal has as the shell's."""
+    """Saves the terminal's modes as the shell's."""
     SCREEN.begun()
     check(LIBRARY.def_shell_mode(), "def_shell_mode")
 
@@ -146,24 +146,24 @@ def reset_shell_mode() -> None:
 
 
 def savetty() -> None:
-    """Keeps the modes that the terminal has."""
+    """Saves the terminal's modes."""
     SCREEN.begun()
     check(LIBRARY.savetty(), "savetty")
 
 
 def resetty() -> None:
-    """Gives the terminal the modes that savetty kept."""
+    """Gives the terminal the modes that savetty saved."""
     SCREEN.begun()
     check(LIBRARY.resetty(), "resetty")
 
 
 def get_escdelay() -> int:
-    """How many milliseconds the rest of a function key is waited for."""
+    """How many milliseconds a read waits for the rest of a function key."""
     return number("ESCDELAY")
 
 
 def set_escdelay(ms: int) -> None:
-    """Sets how many milliseconds the rest of a function key is waited for."""
+    """Sets how many milliseconds a read waits for the rest of a function key."""
     wanted = c_int(ms)
     if wanted <= 0:
         raise ValueError("ms must be > 0")

@@ -1,4 +1,4 @@
-"""Methods that read: keys, lines, and what a window holds."""
+"""Methods that read keys, lines, and the content of a window."""
 
 from __future__ import annotations
 
@@ -12,7 +12,7 @@ from ._errors import ERR, error
 from ._library import LIBRARY
 from ._showing import Showing
 
-# the most bytes of a line, or of what a window holds
+# the most bytes that getstr and instr read
 TEXT_MAX = 1023
 _ASCII = 128
 _BYTES = 256
@@ -26,13 +26,13 @@ class Reading(Showing):
     @placed
     def getch(self, *given: Any) -> int:
         """getch([y, x])
-        A key; -1 where none comes in the window's time."""
+        A key; -1 if none comes within the window's timeout."""
         return self._key("getch", given)
 
     @placed
     def getkey(self, *given: Any) -> str:
         """getkey([y, x])
-        A key's character, or its name; an error where none comes in the window's time."""
+        A key's character, or its name; an error if none comes within the window's timeout."""
         key = self._key("getkey", given)
         if key == ERR:
             raise error("no input")
@@ -41,7 +41,7 @@ class Reading(Showing):
     @placed
     def get_wch(self, *given: Any) -> int | str:
         """get_wch([y, x])
-        A character of ASCII, or the number of a function key; an error where none comes, or another character."""
+        A character of ASCII, or the number of a function key; an error if none comes, or another character does."""
         key = self._key("get_wch", given)
         if key == ERR:
             raise error("no input")
@@ -58,7 +58,7 @@ class Reading(Showing):
     @placed
     def getstr(self, *given: Any) -> bytes:
         """getstr([y, x], [n=1023])
-        A line that is typed, of at most n bytes."""
+        A typed line of at most n bytes."""
         place, count = counted("getstr", given)
         if place is not None and LIBRARY.wmove(self.at, *place) == ERR:
             return b""
@@ -74,7 +74,7 @@ class Reading(Showing):
     @placed
     def instr(self, *given: Any) -> bytes:
         """instr([y, x], [n=1023])
-        What the line holds from the cursor, or from a place on, at most n bytes."""
+        The characters of a line from the cursor, or from a place on, at most n bytes."""
         place, count = counted("instr", given)
         most = TEXT_MAX if count is None else min(count, TEXT_MAX)
         room = ctypes.create_string_buffer(TEXT_MAX + 1)
@@ -86,5 +86,5 @@ class Reading(Showing):
 
     def putwin(self, file: BinaryIO, /) -> None:
         """putwin(file)
-        Writes it to a file, from which getwin makes it again."""
+        Writes the window to a file, from which getwin makes it again."""
         _saved.put(self, file)

@@ -1,4 +1,4 @@
-"""Windows in files, in a form of this module's own: a line of numbers, and a line of cells for each of the window's."""
+"""Windows in files, in a format of this module: a line of numbers, and then a line of cells for each line."""
 
 from __future__ import annotations
 
@@ -12,7 +12,7 @@ if TYPE_CHECKING:
     from ._base import Base
 
 _KIND = b"ticurses window 1"
-# windows are at most so large
+# the most lines or columns of a window
 _MOST = 1000
 
 
@@ -32,7 +32,7 @@ def put(window: Base, file: BinaryIO) -> None:
 
 
 def got(file: BinaryIO) -> tuple[int, list[list[int]], list[int]]:
-    """Makes the window that a file holds. Gives its address, its cells, and its cursor, background and attributes."""
+    """Makes the window that a file holds. Returns its address, its cells, and its cursor, background and attributes."""
     try:
         kind, _, rest = file.readline(200).partition(_KIND)
         numbers = [int(it) for it in rest.split()]
@@ -51,7 +51,7 @@ def got(file: BinaryIO) -> tuple[int, list[list[int]], list[int]]:
 
 
 def fill(at: int, cells: list[list[int]], row: int, column: int, background: int, attrs: int) -> None:
-    """Gives a window what it held."""
+    """Gives the window at `at` the cells, cursor, background and attributes of a file."""
     LIBRARY.wbkgdset(at, background)
     for line, held in enumerate(cells):
         room = (CHTYPE * (len(held) + 1))(*held)

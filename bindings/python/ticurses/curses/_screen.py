@@ -1,4 +1,4 @@
-"""The one screen: its beginning and end, its size, and the process that it belongs to."""
+"""The one screen: its beginning and end, its size, and the process that owns it."""
 
 from __future__ import annotations
 
@@ -33,27 +33,27 @@ _HANDLED = (signal.SIGHUP, signal.SIGINT, signal.SIGQUIT, signal.SIGTERM, signal
 
 
 class Screen:
-    """The state of the screen that the library doesn't answer."""
+    """The state of the screen that the library can't be asked for."""
 
     def __init__(self) -> None:
         self.stdscr: window | None = None
         self.is_inherited = False
         # set by start_color
         self.has_colors = False
-        # setsyx(-1, -1) was the last word about the cursor
+        # whether setsyx(-1, -1) was the last call about the cursor
         self.is_cursor_left = False
         self.windows: weakref.WeakSet[Base] = weakref.WeakSet()
 
     def begun(self) -> None:
-        """Raises an error where a call needs initscr first, or another process than this."""
+        """Raises an error before initscr, and in a process other than the one that called it."""
         if self.is_inherited:
             raise error("the screen belongs to the process that called initscr()")
         if self.stdscr is None:
             raise error("must call initscr() first")
 
     def leave(self) -> None:
-        """In a process that was forked: the one that called initscr knows what is shown, so that here no call is made
-        any more, and no signal sets the terminal back."""
+        """Ends, in a forked process, all calls on the screen, and has no signal restore the terminal: only the process
+        that called initscr knows what is shown."""
         if self.stdscr is None:
             return
         self.is_inherited = True
@@ -70,7 +70,7 @@ os.register_at_fork(after_in_child=SCREEN.leave)
 
 
 def published(**values: Any) -> None:
-    """Gives names of the module these values."""
+    """Sets variables of the module."""
     vars(sys.modules[__package__]).update(values)
 
 
@@ -96,7 +96,7 @@ def why_none() -> str:
 
 
 def initscr() -> window:
-    """The screen as a window. It raises an error where the terminal's entry has no certificate, and says why."""
+    """Begins the screen and returns it as a window. If the terminal's entry has no certificate, the error says why."""
     from ._window import window
 
     if SCREEN.is_inherited:
@@ -115,8 +115,8 @@ def initscr() -> window:
 
 
 def wrapper(func: Callable[..., Any], /, *args: Any, **kwds: Any) -> Any:
-    """Calls a function with the screen and these arguments. Keys are read one by one without being shown, and function
-    keys are one key. However the function ends, the terminal is then as it was before."""
+    """Calls `func` with the screen and these arguments. Keys are read one by one without an echo, and a function key is
+    one key. However `func` ends, the terminal is then as it was before."""
     from . import _colors, _modes
 
     screen = initscr()
@@ -136,13 +136,13 @@ def wrapper(func: Callable[..., Any], /, *args: Any, **kwds: Any) -> Any:
 
 
 def endwin() -> None:
-    """Leaves the terminal as other programs want it; the next refresh goes on."""
+    """Leaves the terminal as other programs need it; the next refresh resumes."""
     SCREEN.begun()
     check(LIBRARY.endwin(), "endwin")
 
 
 def isendwin() -> bool:
-    """Whether endwin was the last word."""
+    """Whether endwin was called and no refresh since."""
     SCREEN.begun()
     return bool(LIBRARY.isendwin())
 
@@ -165,21 +165,21 @@ def is_term_resized(nlines: int, ncols: int) -> bool:
 
 
 def resize_term(nlines: int, ncols: int) -> None:
-    """Gives the screen this size, which has to be that of the terminal."""
+    """Gives the screen this size, which must be that of the terminal."""
     SCREEN.begun()
     check(LIBRARY.resize_term(c_int(nlines), c_int(ncols)), "resize_term")
     size_published()
 
 
 def resizeterm(nlines: int, ncols: int) -> None:
-    """As resize_term, and KEY_RESIZE is the next key."""
+    """Does what resize_term does, and makes KEY_RESIZE the next key."""
     SCREEN.begun()
     check(LIBRARY.resizeterm(c_int(nlines), c_int(ncols)), "resizeterm")
     size_published()
 
 
 def getsyx() -> tuple[int, int]:
-    """Where the cursor is to be; -1, -1 where it may stay anywhere."""
+    """The place of the cursor after the next refresh; -1, -1 if it may stay anywhere."""
     SCREEN.begun()
     if SCREEN.is_cursor_left:
         return -1, -1
@@ -188,22 +188,22 @@ def getsyx() -> tuple[int, int]:
 
 
 def setsyx(y: int, x: int) -> None:
-    """Puts the cursor there, which is seen at once. After -1, -1 getsyx answers these."""
+    """Moves the cursor to a place, which the terminal shows at once. After -1, -1 getsyx returns these."""
     SCREEN.begun()
     row, column = c_int(y), c_int(x)
     SCREEN.is_cursor_left = row == column == -1
     if not SCREEN.is_cursor_left:
-        # a place that isn't on the screen is passed over
+        # a place that isn't on the screen is ignored
         LIBRARY.mvcur(0, 0, row, column)
 
 
 def filter() -> None:
-    """Without effect: the screen is as large as the terminal."""
+    """Does nothing: the screen is as large as the terminal."""
     LIBRARY.filter()
 
 
 def use_env(flag: bool) -> None:
-    """Without effect: the size is the terminal's."""
+    """Does nothing: the size is the terminal's."""
     LIBRARY.use_env(BOOL(bool(flag)))
 
 
@@ -214,13 +214,13 @@ def beep() -> None:
 
 
 def flash() -> None:
-    """Has the screen flash, or rings the bell."""
+    """Flashes the screen, or rings the bell."""
     SCREEN.begun()
     check(LIBRARY.flash(), "flash")
 
 
 def curs_set(visibility: int) -> int:
-    """Hides the cursor (0) or shows it (1, 2); answers what it was."""
+    """Hides the cursor (0) or shows it (1, 2). Returns the visibility before."""
     SCREEN.begun()
     before = LIBRARY.curs_set(c_int(visibility))
     check(before, "curs_set")
@@ -237,7 +237,7 @@ def napms(ms: int) -> int:
             return 0
         with held_signals() as mask:
             ready(-1, left, mask)
-        # where ^Z was pressed, the library stops the program here
+        # if ^Z was pressed, the library stops the program here
         LIBRARY.napms(1)
 
 
@@ -259,7 +259,7 @@ def longname() -> bytes:
 
 
 def termattrs() -> int:
-    """The attributes that the terminal may show."""
+    """The attributes that the terminal can show."""
     SCREEN.begun()
     return int(LIBRARY.termattrs())
 
@@ -271,12 +271,12 @@ def baudrate() -> int:
 
 
 def has_ic() -> bool:
-    """Whether the terminal inserts and deletes characters."""
+    """Whether the terminal can insert and delete characters."""
     SCREEN.begun()
     return bool(LIBRARY.has_ic())
 
 
 def has_il() -> bool:
-    """Whether the terminal inserts and deletes lines."""
+    """Whether the terminal can insert and delete lines."""
     SCREEN.begun()
     return bool(LIBRARY.has_il())

@@ -1,4 +1,4 @@
-"""Methods about places and sizes, refreshing, what is touched, and options."""
+"""Methods about places and sizes, refreshing, touched lines, and options."""
 
 from __future__ import annotations
 
@@ -9,7 +9,7 @@ from ._base import Base, asked, numbered, option, placed, plain
 from ._errors import ERR, check, error
 from ._library import LIBRARY
 
-# a pad's place, and that of the part of the screen on which it is shown
+# the place in a pad, and the part of the screen on which it is shown
 _PART = 6
 
 
@@ -21,13 +21,13 @@ class Showing(Base):
     @placed
     def refresh(self, *part: Any) -> None:
         """refresh([pminrow, pmincol, sminrow, smincol, smaxrow, smaxcol])
-        Makes the terminal show it; a pad needs the six arguments."""
+        Makes the terminal show the window; a pad needs the six arguments."""
         self._refresh("refresh", part)
 
     @placed
     def noutrefresh(self, *part: Any) -> None:
         """noutrefresh([pminrow, pmincol, sminrow, smincol, smaxrow, smaxcol])
-        Prepares what the next doupdate shows; a pad needs the six arguments."""
+        Has the next doupdate show the window; a pad needs the six arguments."""
         self._refresh("noutrefresh", part)
 
     def _refresh(self, name: str, part: tuple[Any, ...]) -> None:
@@ -44,7 +44,7 @@ class Showing(Base):
     @placed
     def touchline(self, *given: Any) -> None:
         """touchline(start, count, [changed=True])
-        Has these lines be as changed, or not."""
+        Marks lines as changed, or as unchanged."""
         if not 2 <= len(given) <= 3:
             raise TypeError("touchline requires 2 to 3 arguments")
         changed = bool(given[2]) if len(given) == 3 else True
@@ -60,30 +60,30 @@ class Showing(Base):
 
     def is_wintouched(self) -> bool:
         """is_wintouched()
-        Whether it was changed since the last refresh."""
+        Whether the window was changed since the last refresh."""
         return bool(LIBRARY.is_wintouched(self.at))
 
     def enclose(self, y: int, x: int, /) -> bool:
         """enclose(y, x)
-        Whether this place of the screen is in it."""
+        Whether this place of the screen is in the window."""
         return bool(LIBRARY.wenclose(self.at, c_int(y), c_int(x)))
 
     @placed
     def subwin(self, *given: Any) -> Any:
         """subwin([nlines=0, ncols=0,] begin_y, begin_x)
-        A part of it, at this place of the screen; of a pad, at this place of the pad."""
+        A part of the window at this place of the screen; of a pad, at this place of the pad."""
         return self._part("subpad" if LIBRARY.is_pad(self.at) else "subwin", given)
 
     @placed
     def derwin(self, *given: Any) -> Any:
         """derwin([nlines=0, ncols=0,] begin_y, begin_x)
-        A part of it, at this place of it."""
+        A part of the window at this place of the window."""
         return self._part("derwin", given)
 
     @placed
     def subpad(self, *given: Any) -> Any:
         """subpad([nlines=0, ncols=0,] begin_y, begin_x)
-        As subwin."""
+        Does what subwin does."""
         return self._part("subpad" if LIBRARY.is_pad(self.at) else "subwin", given)
 
     def _part(self, call: str, given: tuple[Any, ...]) -> Any:
@@ -94,27 +94,27 @@ class Showing(Base):
 
     def redrawln(self, beg: int, num: int, /) -> None:
         """redrawln(beg, num)
-        Has these lines drawn anew."""
+        Has the next refresh draw these lines anew."""
         check(LIBRARY.wredrawln(self.at, c_int(beg), c_int(num)), "redrawln")
 
     def timeout(self, delay: int, /) -> None:
         """timeout(delay)
-        How many milliseconds a key is waited for; below 0 without end."""
+        Sets how many milliseconds a read waits for a key; without end if negative."""
         LIBRARY.wtimeout(self.at, max(c_int(delay), ERR))
 
     def syncup(self) -> None:
         """syncup()
-        Touches in the windows above what is touched in it."""
+        Touches in the windows above the places that are touched in this one."""
         LIBRARY.wsyncup(self.at)
 
     def syncdown(self) -> None:
         """syncdown()
-        Touches in it what is touched in the windows above."""
+        Touches in this window the places that are touched in the windows above."""
         LIBRARY.wsyncdown(self.at)
 
     def cursyncup(self) -> None:
         """cursyncup()
-        Puts the cursors of the windows above where its own is."""
+        Moves the cursors of the windows above to the place of this window's."""
         LIBRARY.wcursyncup(self.at)
 
     def idcok(self, flag: Any) -> None:
@@ -124,13 +124,13 @@ class Showing(Base):
 
     def immedok(self, flag: Any) -> None:
         """immedok(flag)
-        Whether each change is shown at once."""
+        Sets whether each change is shown at once."""
         LIBRARY.immedok(self.at, bool(flag))
 
     getyx = asked("getyx", "getcury", "getcurx", "Where the cursor is.")
     getbegyx = asked("getbegyx", "getbegy", "getbegx", "Where it is on the screen.")
     getmaxyx = asked("getmaxyx", "getmaxy", "getmaxx", "How many lines and columns it has.")
-    getparyx = asked("getparyx", "getpary", "getparx", "Where it is in the window above; -1, -1 where there is none.")
+    getparyx = asked("getparyx", "getpary", "getparx", "Where it is in the window above; -1, -1 if there is none.")
     clearok = option("clearok", "clearok", "Has the next refresh clear the terminal.")
     idlok = option("idlok", "idlok", "Kept; a refresh chooses by itself what it sends.")
     keypad = option("keypad", "keypad", "Whether function keys are one key.")
@@ -139,9 +139,9 @@ class Showing(Base):
     notimeout = option("notimeout", "notimeout", "Whether the rest of a function key is waited for without end.")
     scrollok = option("scrollok", "scrollok", "Whether a text that goes past the last line scrolls it.")
     syncok = option("syncok", "syncok", "Whether each change is one of the windows above too.")
-    redrawwin = plain("redrawwin", "redrawwin", "Has it drawn anew.")
-    touchwin = plain("touchwin", "touchwin", "Has all lines be as changed.")
-    untouchwin = plain("untouchwin", "untouchwin", "Has no line be as changed.")
-    mvwin = numbered("mvwin", "mvwin", "new_y, new_x", "Puts it there on the screen.")
+    redrawwin = plain("redrawwin", "redrawwin", "Has the next refresh draw it anew.")
+    touchwin = plain("touchwin", "touchwin", "Marks all lines as changed.")
+    untouchwin = plain("untouchwin", "untouchwin", "Marks all lines as unchanged.")
+    mvwin = numbered("mvwin", "mvwin", "new_y, new_x", "Moves it to a place of the screen.")
     mvderwin = numbered("mvderwin", "mvderwin", "y, x", "Has it show another part of the window above.")
     resize = numbered("resize", "wresize", "nlines, ncols", "Gives it another size.")

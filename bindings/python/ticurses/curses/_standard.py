@@ -1,4 +1,4 @@
-"""The standard library's modules over this package, unchanged, and programs that import `curses`."""
+"""The standard library's modules over this package, unchanged, and a stand-in for `curses`."""
 
 from __future__ import annotations
 
@@ -13,14 +13,14 @@ from typing import Iterator
 
 __all__ = ["stand_in"]
 
-# by which names they import the package, and which of its modules there are
+# the names by which programs import the package, and those of its modules that exist
 _NAMES = ("curses", "_curses")
 _MODULES = ("ascii", "textpad")
 
 
 @contextlib.contextmanager
 def _standing_in() -> Iterator[None]:
-    """Has imports of `curses` find this package, meanwhile."""
+    """Has imports of `curses` find this package until the block ends."""
     before = {name: sys.modules.get(name) for name in (*_NAMES, "curses.ascii")}
     package = sys.modules[__package__]
     sys.modules.update({name: package for name in _NAMES})
@@ -36,8 +36,8 @@ def _standing_in() -> Iterator[None]:
 
 
 def taken(name: str) -> ModuleType:
-    """The standard library's module of this name, as it is."""
-    # not what a program has of this name
+    """The standard library's module of this name, unchanged."""
+    # a program's own module of this name doesn't count
     spec = PathFinder.find_spec(f"curses.{name}", [f"{os.path.dirname(os.__file__)}/curses"])
     if spec is None or spec.origin is None:
         raise ImportError(f"this Python has no curses.{name}", name=f"{__package__}.{name}")
@@ -51,7 +51,7 @@ def taken(name: str) -> ModuleType:
 
 def stand_in() -> None:
     """Has `import curses` find this package from now on, and `curses.ascii` and `curses.textpad` the standard library's
-    modules over it. Modules that have imported `curses` before keep what they have."""
+    modules over it. Modules that have imported `curses` before keep the one that they have."""
     package = sys.modules[__package__]
     sys.modules.update({name: package for name in _NAMES})
     for name in _MODULES:

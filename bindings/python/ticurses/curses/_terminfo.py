@@ -14,7 +14,7 @@ from ._errors import error
 
 __all__ = ["setupterm", "tigetflag", "tigetnum", "tigetstr"]
 
-# a string of an entry is shorter
+# more bytes than a string of an entry can have
 _ROOM = 32768
 
 _entry: list[bytes] = []
@@ -44,14 +44,14 @@ def _asked(kind: str, capname: str, *room: Any) -> int:
 
 
 def tigetflag(capname: str, /) -> int:
-    """Whether the terminal has a flag: 1 or 0; -1 where no flag has the name."""
+    """Whether the terminal has a flag: 1 or 0; -1 if no flag has the name."""
     is_on = ctypes.c_bool(False)
     code = _asked("flag", capname, ctypes.byref(is_on))
     return -1 if code == ticurses.Code.BAD_NAME else int(is_on.value)
 
 
 def tigetnum(capname: str, /) -> int:
-    """A number of the terminal; -1 where it has none, -2 where no number has the name."""
+    """A number of the terminal; -1 if it has none, -2 if no number has the name."""
     number = ctypes.c_uint32(0)
     code = _asked("number", capname, ctypes.byref(number))
     if code == ticurses.Code.BAD_NAME:
@@ -60,7 +60,7 @@ def tigetnum(capname: str, /) -> int:
 
 
 def tigetstr(capname: str, /) -> bytes | None:
-    """A string of the terminal; None where it has none, or where no string has the name."""
+    """A string of the terminal; None if it has none, or if no string has the name."""
     room, needed = ctypes.create_string_buffer(_ROOM), ctypes.c_size_t(0)
     code = _asked("string", capname, room, ctypes.c_size_t(_ROOM), ctypes.byref(needed))
     return room.raw[: needed.value] if code == ticurses.Code.OK else None

@@ -1,5 +1,5 @@
-"""Waiting for keys and for time: without the interpreter's lock, so that other threads run, and so that no signal is
-missed, also one that the library handles by itself."""
+"""Waiting for keys and for time without the interpreter's lock, so that other threads run. A wait misses no signal, not
+even one that the library handles by itself."""
 
 from __future__ import annotations
 
@@ -11,7 +11,7 @@ import signal
 import threading
 from typing import Any, Iterator
 
-# other threads are given signals that this one waits for, so that it looks at what the library has noted now and then
+# seconds between looks at the signals that the library has noted, since other threads may get those of this one
 LOOKING = 0.25
 POLLIN = 1
 # the bytes of a set of signals
@@ -33,18 +33,18 @@ _ppoll.argtypes = [ctypes.POINTER(_Poll), ctypes.c_ulong, ctypes.POINTER(_Time),
 
 @contextlib.contextmanager
 def held_signals() -> Iterator[bytes]:
-    """Holds all signals back; gives the set of those that were held back before, with which `ready` lets them come."""
+    """Blocks all signals. Yields the mask from before, with which `ready` lets them come."""
     before = signal.pthread_sigmask(signal.SIG_BLOCK, signal.valid_signals())
     try:
         yield sum(1 << (number - 1) for number in before).to_bytes(MASK_LEN, "little")
     finally:
-        # here those that came are handled, and a handler may raise an exception
+        # signals that came are handled here, and a handler may raise an exception
         signal.pthread_sigmask(signal.SIG_SETMASK, before)
 
 
 def ready(fd: int, seconds: float | None, mask: bytes) -> bool:
-    """Waits until the descriptor has something to read, the seconds have passed, or a signal has come. It answers
-    whether there is something. Below 0 there is no descriptor; None is no end of time."""
+    """Waits until `fd` has something to read, `seconds` have passed, or a signal has come that `mask` doesn't block.
+    Returns whether there is something to read. A negative `fd` is no descriptor; None is no end of time."""
     if threading.active_count() > 1:
         seconds = LOOKING if seconds is None else min(seconds, LOOKING)
     asked, time = _Poll(fd, POLLIN, 0), None

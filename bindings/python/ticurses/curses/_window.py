@@ -26,7 +26,7 @@ class window(Writing, Looks, Reading):
 @placed
 def newwin(*given: Any) -> window:
     """newwin(nlines, ncols, [begin_y=0, begin_x=0])
-    A window of this size at a place of the screen; 0 lines or columns are all up to the screen's end."""
+    A window of this size at a place of the screen; 0 lines or columns mean all up to the screen's end."""
     if len(given) not in (2, 4):
         raise TypeError("newwin requires 2 or 4 arguments")
     lines, columns, row, column = map(c_int, given if len(given) == 4 else (*given, 0, 0))

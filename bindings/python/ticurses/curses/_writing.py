@@ -10,7 +10,7 @@ from ._errors import check
 from ._library import LIBRARY
 
 _SIDES = 8
-# the calls that programs make most
+# the calls that programs make most often
 _ADDCH, _ADDCH_AT = LIBRARY.waddch, LIBRARY.mvwaddch
 
 
@@ -79,7 +79,7 @@ class Writing(Base):
         self._write("insnstr", place, attr, text(what, self._encoding), c_int(count))
 
     def _write(self, name: str, place: tuple[int, int] | None, attr: int | None, *what: Any) -> None:
-        """Makes a call that writes a text, with attributes for it alone."""
+        """Makes a call that writes a text, with attributes for that text alone."""
         before = None if attr is None else LIBRARY.getattrs(self.at)
         if attr is not None:
             LIBRARY.wattrset(self.at, attr)
