@@ -1,10 +1,10 @@
 """The library of <ticurses/curses.h>: docs/CURSES.md beside the header, and programs that are compiled for ncurses and
-for this library and run in tmux with the same keys and a clock that stands still. After each key the text, the
-attributes, the colors and the cursor of both are compared.
+for this library and run in tmux with the same keys and a stopped clock. After each key the script compares the text,
+the attributes, the colors and the cursor of both.
 
     python3 -B tests/curses.py [PREFIX] [NAME..]
 
-takes the library from where ./install put it; with names, only these programs are run, and what differs is printed.
+takes the library from where ./install put it. With names it runs only these programs, and prints the differences.
 NCURSES_TESTS names a folder with the sources of ncurses' test programs, which are no part of this repository."""
 
 import os
@@ -25,12 +25,12 @@ import curses_library
 PAGE = f"{TOP}/docs/CURSES.md"
 HERE = f"{TOP}/tests/curses"
 ROWS, COLS = 24, 80
-# a screen that hasn't changed for so long is compared; no program draws longer by itself than the second
+# seconds after which an unchanged screen is compared, and the longest time that a program draws by itself
 QUIET, LONGEST = 0.3, 5
 MACROS = {"getyx", "getbegyx", "getmaxyx", "getparyx", "COLOR_PAIR", "PAIR_NUMBER"}
 
-# The programs, their words and their keys: of tmux, or texts behind =; @N waits for N milliseconds, ~ says that what is
-# seen isn't compared, as it depends on the moment. {tests} is the folder of their sources.
+# The programs, their arguments and their keys: names of tmux, or texts after =. @N waits for N milliseconds; after a
+# key with ~ the screen isn't compared, as it depends on the moment. {tests} is the folder of their sources.
 PROGRAMS = {
     "background": ([], "Space Space q"),
     "blue": ([], "=a =b q"),
@@ -66,9 +66,9 @@ PROGRAMS = {
     "worm": ([], "~@800 q"),
     "xmas": ([], "~@4000 q"),
 }
-# what differs, and is explained on the page
+# programs that differ, as the page explains
 EXPLAINED = {"background", "newdemo", "testaddch"}
-# files that programs are linked with, by what their sources include
+# files that a program is linked with if its source includes their headers
 PARTS = ("popup_msg", "dump_window")
 
 
@@ -80,7 +80,7 @@ def fail(text):
 
 
 def rows_of_page():
-    """The names of the page's table, each with what it says of them."""
+    """The names in the page's table, each with the word of its row: same, differs, not there, or answers ERR."""
     form = r"^\| (`\w+`(?:, `\w+`)*) \| (same|differs: |not there: |not there)(.*) \|$"
     rows = re.findall(form, held_in(PAGE).decode(), re.M)
     found = {}
@@ -108,7 +108,7 @@ def judge_page():
 
 
 def judge_headers(work):
-    """Both compilers take the headers in each of these standards; what isn't there is said by the compiler."""
+    """Both compilers take the headers in each of these standards, and report each function that is missing."""
     at = f"-I{curses_library.INCLUDE}"
     for name in ("curses", "ncurses", "unctrl"):
         with open(f"{work}/{name}.c", "w", encoding="ascii") as file:
@@ -131,7 +131,7 @@ def judge_headers(work):
 
 
 def judge_library(prefix):
-    """Both forms export what the header declares, and no other name."""
+    """Both forms of the library export the names that the header declares, and no others."""
     declared = set().union(*curses_library.declared())
     for words in (["-D"], ["-g"]):
         form = "libticurses_curses.so" if words == ["-D"] else "libticurses_curses.a"
@@ -147,7 +147,8 @@ def judge_library(prefix):
 
 
 class Compiled:
-    """Programs for ncurses, and for this library by the words of its .pc file or, without pkg-config, the same."""
+    """Programs that are compiled for ncurses, and for this library with the flags of its .pc file, or with the same
+    ones without pkg-config."""
 
     def __init__(self, work, prefix):
         self.work = work
@@ -163,7 +164,7 @@ class Compiled:
         subprocess.run(["cc", "-shared", "-fPIC", "-o", f"{work}/still.so", f"{HERE}/still.c"], check=True)
 
     def make(self, name, sources, *words):
-        """Compiles a program for both; gives what a compiler says where it refuses."""
+        """Compiles a program for both. Returns the compiler's message if one refuses it."""
         for library, own in self.words.items():
             line = ["cc", "-w", "-O1", *words, *sources, "-o", f"{self.work}/{library}/{name}", *own, "-lm"]
             ran = subprocess.run(line, stdin=subprocess.DEVNULL, capture_output=True, text=True)
@@ -173,9 +174,9 @@ class Compiled:
 
 
 def cells_of(text):
-    """The cells that tmux writes with sequences for their looks: each a character, its attributes and its two colors.
-    White on black is as the terminal's own colors: ncurses has the first pair so once colors are on, and here it is the
-    terminal's own (docs/CURSES.md)."""
+    """The cells of a text that tmux writes with sequences for looks: each a character, its attributes and two colors.
+    White on black counts as the terminal's own colors: once colors are on, pair 0 is white on black in ncurses, and the
+    terminal's own colors here (docs/CURSES.md)."""
     rows, marks, ink = [], frozenset(), ["39", "49"]
     for line in text.split("\n")[:ROWS]:
         row = []
@@ -219,14 +220,14 @@ class Pane:
 
     def seen(self):
         cursor = self.run("display", "-p", "#{cursor_y} #{cursor_x} #{cursor_flag}").strip()
-        # where one is that isn't seen doesn't count
+        # the place of a hidden cursor doesn't count
         cursor = "hidden" if cursor.endswith(" 0") else cursor
         text = self.run("capture-pane", "-p", "-e", "-N")
         # the name and version of the library
         return re.sub(r"\b(ticurses-curses|ncurses)( \d[\d.]*\d)?", "curses", text), cursor
 
     def quiet(self):
-        """The screen once it doesn't change any more."""
+        """The screen once it no longer changes."""
         end, last, since = time.monotonic() + LONGEST, self.seen(), time.monotonic()
         while time.monotonic() < min(end, since + QUIET):
             time.sleep(0.05)
@@ -251,14 +252,14 @@ class Pane:
         found = [("", "") if keys[0].startswith("~") else self.quiet()]
         for key in keys:
             self.press(key.removeprefix("~"))
-            # an animation is looked at when it has ended
+            # an animation is compared when it has ended
             found.append(("", "") if key.startswith("~") else self.quiet())
         self.run("kill-server")
         return found
 
 
 def compared(made, tests, name):
-    """Runs both; gives how many shots there are and those that differ."""
+    """Runs a program over both libraries. Returns the number of shots, and those that differ."""
     words, keys = PROGRAMS[name]
     words, keys = [it.replace("{tests}", tests) for it in words], keys.split()
     with ThreadPoolExecutor(2) as pool:
@@ -308,7 +309,7 @@ def show(bad):
 
 
 def judge_answers(made):
-    """One program of many calls writes what each answers, and what is then seen; for both libraries the same."""
+    """One program of many calls writes the answer of each, and shows screens; both libraries give the same ones."""
     refused = made.make("answers", [f"{HERE}/answers.c"], "-std=c99")
     if refused:
         fail(f"answers.c doesn't compile: {refused}")
@@ -329,20 +330,20 @@ def judge_answers(made):
     print(f"curses: {len(told[0])} calls answer what they answer in ncurses, and {len(shots[0])} screens are the same")
 
 
-# stops and goes on; between, and at the end, says how the terminal is set
+# stops the program and continues it; prints the terminal's modes in between and at the end
 STOPPED = """set -m; "$0"; echo stopped $?; modes; read key; fg >/dev/null; echo again $?; modes"""
 ENDED = """trap : INT; "$0"; echo over $?; modes"""
 MODES = r"""modes() { stty -a | tr ' ;' '\n\n' | grep -xe '-*icanon' -e '-*echo' -e '-*opost' | tr '\n' ' '; echo; }; """
 
 
 def judge_signals(made):
-    """The game of examples/curses: keys that end and stop it leave the terminal as it was, and it draws anew."""
+    """The game of examples/curses: keys that end or stop it leave the terminal as it was, and it draws anew after."""
     if made.make("snake", [f"{TOP}/examples/curses/snake.c"], "-std=c99"):
         fail("the game of examples/curses doesn't compile")
     game, modes = f"{made.work}/ticurses/snake", "opost icanon echo"
 
     def shown(name, script, *keys):
-        # a shell has to know its own number
+        # the shell must know its own process id
         words = ["env", "-u", "LD_PRELOAD", "sh", "-c", MODES + script, game]
         shots = [re.sub(r"\x1b\[[\d;]*m", "", text) for text, _ in Pane(made.work, name, words).shots(keys)]
         return [re.sub(" +\n", "\n", it) for it in shots]
@@ -358,8 +359,8 @@ def judge_signals(made):
 
 
 def judge_random(work, prefix):
-    """Random calls on a terminal that isn't there, with the sanitizers and under valgrind. Texts that wait for other
-    calls answer and leave what they do where each is sent at once."""
+    """Random calls on a terminal that doesn't exist, with the sanitizers and under valgrind. Calls that write text
+    answer alike, and leave the same windows, whether the text waits or is sent at once."""
     made, seeds = f"{work}/random", range(4)
     sources = [f"{curses_library.SOURCES}/{it}" for it in curses_library.sources()]
     words = ["cc", "-std=c99", "-O1", "-w", f"-I{curses_library.INCLUDE}", f"{HERE}/random.c"]

@@ -1,6 +1,6 @@
 #!/bin/sh
-# Programs written for curses: the page's table and the header; one program of calls and programs of ncurses' own test
-# directory, compiled for ncurses and for this library, and run in tmux with the same keys.
+# Programs written for curses: compares the page's table with the header, and runs one program of calls and programs of
+# ncurses' own test directory in tmux, compiled for ncurses and for this library, with the same keys.
 set -eu
 cd -- "$(dirname -- "$0")"
 for tool in cc python3; do

@@ -1,5 +1,5 @@
-"""The Python module over the library for C: what it sends, answers and raises, beside the program and the header; the
-monitor of examples/python, which sends what that of examples/c sends; `ticurses.curses` (python_curses.py)."""
+"""The Python module over the library for C: its output, answers and errors beside the program and the header; the
+monitor of examples/python, which sends the bytes of that in examples/c; `ticurses.curses` (python_curses.py)."""
 
 import os
 import re
@@ -32,7 +32,7 @@ def hold(holds, what, *seen):
 
 
 def raises(made, code, call, *words):
-    """The call raises the error of this code; gives its text."""
+    """The call raises the error of this code. Returns its text."""
     try:
         call(*words)
     except made.Error as error:
@@ -83,7 +83,7 @@ def check_calls(made):
     raises(made, made.Code.BAD_CELL, session.addstr, 0, "\u00e9")
     raises(made, made.Code.FULL, session.addstr, 2**64, "a")
     raises(made, made.Code.FULL, session.cursor, -1)
-    # what was open stays open where nothing is opened
+    # an open session stays open if no new one opens
     raises(made, made.Code.BAD_SIZE, session.open, source, 6, 70000)
     hold(session.window_size(0) == (6, 24), "the session that was open is another", session.window_size(0))
     session.open(source, 7, 30, name="xc")
@@ -114,7 +114,7 @@ def check_certificates(made, work):
 
 
 def check_scripts(made, work):
-    """The examples' scripts: what is sent is what `play` sends."""
+    """The examples' scripts: the module sends the bytes that `play` sends."""
     for name, (entry, rows, cols) in STORED.items():
         certificate = ticurses(["check", f"terminals.ti:{entry}", str(rows), str(cols)])
         write(f"{work}/certificate", certificate)
@@ -133,7 +133,7 @@ def check_scripts(made, work):
 
 
 def check_monitor(prefix, folder, work):
-    """The monitor in Python shows and sends what the one in C does."""
+    """The monitor in Python shows and sends the same as the one in C."""
     environment = {"TERMINFO": terminfo(work, "xc"), "TERM": "xc", "PYTHONPATH": folder, "PYTHONDONTWRITEBYTECODE": "1"}
     words = [sys.executable, f"{TOP}/examples/python/monitor.py"]
     monitor = compiled(prefix, f"{TOP}/examples/c/monitor.c", f"{work}/monitor", "-std=c99")

@@ -1,5 +1,5 @@
 """The Python package's `ticurses.curses`: its numbers beside the header; the interpreter's own tests of `curses`;
-programs that other people wrote for `curses`, beside ncurses; and what python_screen.py has.
+programs that other people wrote for `curses`, beside ncurses; and the tests of python_screen.py.
 
     python3 -B tests/python_curses.py FOLDER [PREFIX]
 
@@ -14,7 +14,7 @@ import subprocess
 import sys
 import time
 
-# the other script of this folder, and not the module of this name
+# tests/curses.py, and not the standard module
 import curses as panes
 import python_screen
 from linked import Terminal, missing, rooms
@@ -22,21 +22,21 @@ from trying import TOP, held_in, write
 
 HEADER = f"{TOP}/include/ticurses/curses.h"
 STANDARD = os.path.dirname(os.__file__)
-# of the interpreter's own tests: what doesn't pass, and is explained on the page
+# tests of the interpreter that fail, as the page explains
 EXPLAINED = {"test_terminfo"}
-# until 3.9 the tests want errors of other types for colors and pairs that there aren't
+# until 3.9 the tests expect errors of other types for colors and pairs that don't exist
 if sys.version_info < (3, 10):
     EXPLAINED |= {"test_color_content", "test_init_pair", "test_pair_content"}
 LEAST = 50
 
-# runs a program that draws by lot, each time with the same numbers
+# runs a program that uses random numbers, each time with the same ones
 SEEDED = """import random, runpy, sys
 random.seed(7)
 sys.argv = sys.argv[1:]
 runpy.run_path(sys.argv[0], run_name="__main__")
 """
 DEMOS = "{debian}/usr/share/doc/python3.11/examples/demo"
-# programs by their paths, their words and keys (as in tests/curses.py); {debian} is the folder of Debian's files
+# programs by their paths, with arguments and keys (as in tests/curses.py); {debian} is the folder of Debian's files
 PROGRAMS = {
     "textpad": (
         f"{STANDARD}/curses/textpad.py", [],
@@ -53,7 +53,7 @@ def hold(holds, what, *seen):
 
 
 class Package:
-    """The package as programs run it: the words of an interpreter, and its environment."""
+    """The package as programs run it: an interpreter's command and its environment."""
 
     def __init__(self, folder, prefix):
         self.variables = {"PYTHONPATH": folder, "PYTHONDONTWRITEBYTECODE": "1"}
@@ -61,18 +61,18 @@ class Package:
             self.variables["TICURSES_LIBRARY"] = f"{prefix}/lib/libticurses.so.1"
 
     def words(self, *own):
-        """The words that run a program over the package."""
+        """The command that runs a program over the package."""
         return [sys.executable, "-m", "ticurses.curses", *own]
 
     def environment(self):
         return [f"{name}={value}" for name, value in self.variables.items()]
 
     def pane(self, work, name, words):
-        """It in tmux; the clock goes on."""
+        """A command with the package in tmux, with a running clock."""
         return panes.Pane(work, name, ["env", "-u", "LD_PRELOAD", *self.environment(), *words])
 
     def beside(self, folder):
-        """The package where modules of another folder are found too."""
+        """The package with a further folder of modules."""
         other = Package(self.variables["PYTHONPATH"] + f":{folder}", "")
         other.variables = {**self.variables, "PYTHONPATH": other.variables["PYTHONPATH"]}
         return other
@@ -92,10 +92,10 @@ class Package:
 
 
 def check_numbers(package):
-    """Each number of the header that the package has is the header's."""
+    """Each number of the package that the header has too is the header's."""
     header = held_in(HEADER).decode()
     found = re.findall(r"^#define ((?:A|COLOR|KEY)_\w+) (0x[0-9a-f]+|0[0-7]+|\d+)u?$", header, re.M)
-    # C writes numbers to the base of eight with a zero before them
+    # C writes octal numbers with a leading zero
     wanted = {name: int(text, 8 if re.fullmatch("0[0-7]+", text) else 0) for name, text in found}
     wanted.pop("KEY_CODE_YES")
     wanted.update({f"KEY_F{number}": wanted["KEY_F0"] + number for number in range(1, 64)})
@@ -150,7 +150,7 @@ def shots(package, work, name, words, keys):
 
 
 def check_programs(package, work):
-    """Other people's programs show the same on all of their screens."""
+    """Other people's programs show the same screens over both modules."""
     debian, count, tried = os.environ.get("PYTHON_PROGRAMS", ""), 0, []
     package = package.beside(f"{debian}/usr/lib/python3/dist-packages")
     write(f"{work}/seeded.py", SEEDED.encode())
@@ -178,7 +178,7 @@ def main():
 
 
 def check(package, work):
-    # here is a module of the name `curses`, and `python3 -m` looks for modules where it is begun
+    # this folder has a module named `curses`, and `python3 -m` looks for modules in the present folder
     os.chdir(work)
     check_numbers(package)
     if missing("python", "tmux", "cc"):

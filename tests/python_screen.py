@@ -1,5 +1,5 @@
 """The Python package's `ticurses.curses` on a terminal: answers and errors beside the standard module; keys,
-signals, threads and processes; what ends the demo."""
+signals, threads and processes; the ends of the demo."""
 
 import os
 import re
@@ -12,7 +12,7 @@ from linked import PATIENCE, fed
 from trying import TOP, held_in, write
 
 CALLS = f"{TOP}/tests/python_calls.txt"
-# a program says what it sees in a file, since the terminal is the screen
+# a program reports to a file, since the terminal is the screen
 BEGINNING = """
 import copy, os, pickle, signal, sys, threading, time
 log = open(sys.argv[1], "a", buffering=1)
@@ -48,7 +48,7 @@ with open(sys.argv[2]) as file:
             say(line.strip(), answer(line))
 """
 
-# a key that is waited for: signals whose handlers raise and don't, other threads, other sizes, times
+# waits for a key: with signals whose handlers raise or don't, other threads, new sizes, timeouts
 KEYS = """
 def later(call, *words):
     thread = threading.Timer(0.3, call, words)
@@ -124,7 +124,7 @@ pickled error('x')
 over
 """
 
-# a process that was forked makes no call, and no signal that ends it touches the terminal
+# a forked process can make no call, and no signal that ends it touches the terminal
 FORKED = """
 def text(call, *words):
     try:
@@ -154,7 +154,7 @@ curses.wrapper(main)
 """
 
 
-# a shell has the demo stop and go on, and says how the terminal is set
+# a shell stops the demo and continues it, and prints the terminal's modes
 STOPPED = """set -m
 modes() { stty -a | tr ' ;' '\\n\\n' | grep -xe '-*icanon' -e '-*echo' -e '-*opost' | sort -r | tr '\\n' ' '; echo; }
 sh "$0"; echo stopped $?; modes; read key; fg >/dev/null; echo over $?; modes
@@ -167,7 +167,7 @@ def hold(holds, what, *seen):
 
 
 class Run:
-    """A program on a terminal, which says in a file what it sees."""
+    """A program on a terminal that reports to a file."""
 
     def __init__(self, package, work, name, program, module="ticurses.curses"):
         self.log = f"{work}/{name}.log"
@@ -180,7 +180,7 @@ class Run:
         return held_in(self.log).decode()
 
     def waits_for(self, text):
-        """Reads what it sends until it has said this."""
+        """Reads the program's output until it has reported `text`."""
         end = time.monotonic() + PATIENCE
         while text not in self.told():
             self.terminal.read(0.05)
@@ -191,7 +191,7 @@ class Run:
 
 
 def check_answers(package, work):
-    """Calls answer, or are refused, as those of the standard module."""
+    """Calls answer, or are refused, like those of the standard module."""
     told = []
     for name, module in (("answers", "ticurses.curses"), ("standard", "curses")):
         run = Run(package, work, name, ANSWERS, module)
@@ -204,7 +204,7 @@ def check_answers(package, work):
 
 
 def check_keys(package, work):
-    """Keys as they come, and what comes meanwhile."""
+    """Keys as they come, and signals, sizes and threads during a wait."""
     run = Run(package, work, "keys", KEYS)
     run.waits_for("ready 1")
     time.sleep(0.8)
@@ -224,7 +224,7 @@ def check_keys(package, work):
 
 
 def check_forked(package, work):
-    """Only the process that has begun makes calls."""
+    """Only the process that has called initscr can make calls."""
     run = Run(package, work, "forked", FORKED)
     run.waits_for("ready 1")
     while run.terminal.read(0.2):
@@ -253,7 +253,7 @@ def modes(terminal):
 
 
 def demo(package):
-    """The demo, once it shows its window, and the terminal's modes before it."""
+    """The demo once it shows its window, and the terminal's modes before."""
     terminal = package.terminal([sys.executable, "-c", "import time; time.sleep(1)"], TERM="xterm")
     before = modes(terminal)
     terminal.program.kill()
@@ -271,7 +271,7 @@ def waits_for(terminal, text):
 
 
 def check_demo(package):
-    """It shows keys and sizes; however it ends, the terminal is as it was before."""
+    """The demo shows keys and sizes; however it ends, the terminal is then as it was before."""
     terminal, before = demo(package)
     terminal.press(b"a\x1bOA")
     waits_for(terminal, "a up")
@@ -291,7 +291,7 @@ def check_demo(package):
 
 
 def check_stopped(package, work):
-    """^Z stops the demo with the terminal as the shell wants it; it goes on and draws anew."""
+    """^Z stops the demo with the terminal as the shell needs it; when it continues, it draws anew."""
     write(f"{work}/demo.sh", f"exec '{sys.executable}' -m ticurses.demo\n".encode())
     pane = package.pane(work, "stopped", ["sh", "-c", STOPPED, f"{work}/demo.sh"])
     shots = [re.sub(r"\x1b\[[\d;]*m", "", text) for text, _ in pane.shots(["C-z", "Enter", "x", "q"])]
@@ -303,7 +303,7 @@ def check_stopped(package, work):
 
 
 def over(terminal, before, status, end):
-    """It has ended with this status, and the terminal is as before."""
+    """The demo has ended with this status, and the terminal is as before."""
     limit = time.monotonic() + PATIENCE
     while terminal.program.poll() is None:
         terminal.read(0.05)

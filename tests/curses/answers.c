@@ -1,5 +1,5 @@
-/* answers LOG: makes calls of curses, and writes what each answers to a file. Compiled for two libraries it compares
- * them. It doesn't ask where the standard leaves the answer open. */
+/* answers LOG: makes calls of curses, and writes the answer of each to a file, by which two libraries are compared. It
+ * makes no call whose answer the standard leaves open. */
 #include <curses.h>
 
 #include <stdlib.h>
@@ -8,7 +8,7 @@
 static FILE *told;
 
 #define SAY(call) fprintf(told, "%d %s = %ld\n", __LINE__, #call, (long)(call))
-/* for ERR as against all else */
+/* writes whether a call answers ERR */
 #define IS_DONE(call) fprintf(told, "%d %s %s\n", __LINE__, #call, (call) == ERR ? "refused" : "done")
 
 static void place(const char *name, WINDOW *w) {
@@ -20,7 +20,7 @@ static void place(const char *name, WINDOW *w) {
     fprintf(told, "%s: cursor %d %d, at %d %d, size %d %d, in %d %d\n", name, y, x, top, left, rows, cols, in_y, in_x);
 }
 
-/* The characters of a window, and which of its lines are touched. */
+/* Writes the characters of a window, and which of its lines are touched. */
 static void cells(const char *name, WINDOW *w) {
     char text[200];
     int y, x;
@@ -33,7 +33,7 @@ static void cells(const char *name, WINDOW *w) {
     wmove(w, y, x);
 }
 
-/* An attribute by its name, since libraries have other bits for it. */
+/* Writes the attributes by name, since libraries differ in their bits. */
 static void look(const char *name, chtype ch) {
     static const struct {
         chtype bit;

@@ -1,6 +1,6 @@
-/* random SEED COUNT [once]: makes so many calls of curses with arguments of all kinds, on a terminal that isn't there,
- * for the sanitizers and valgrind, and prints a number for what texts answered and what all windows hold at the end.
- * With `once` each text reaches the session before the next one, and the number has to be the same. */
+/* random SEED COUNT [once]: makes COUNT calls of curses with arguments of all kinds, on a terminal that doesn't exist,
+ * for the sanitizers and valgrind. It prints a number made of the answers of texts and the content of all windows at
+ * the end. With `once` each text reaches the session before the next one, and the number must be the same. */
 #include <curses.h>
 
 #include <stdlib.h>
@@ -21,7 +21,7 @@ static int below(int count) {
     return (int)(state >> 8 & 0x7fffff) % count;
 }
 
-/* Mostly a place in a window, now and then one that is in none. */
+/* Mostly a line or column of a window, sometimes one of none. */
 static int number(void) {
     static const int odd[] = {-1, -2147483647 - 1, 2147483647, 1000, 999, 0};
     return below(8) ? below(30) : odd[below(6)];
@@ -87,7 +87,7 @@ static void write_something(WINDOW *w) {
     }
 }
 
-/* Texts one after the other in one window, with other calls between that concern the cursor and the attributes. */
+/* Writes texts one after the other to one window, with calls in between about the cursor and the attributes. */
 static void write_on(WINDOW *w) {
     for (int left = below(60); left > 0; left--) {
         int code;
@@ -102,7 +102,7 @@ static void write_on(WINDOW *w) {
         default: code = waddch(w, (chtype)(32 + below(95)));
         }
         see((unsigned long)code);
-        /* a call of the session that changes nothing that is seen here */
+        /* a call of the session that changes nothing that this program reads */
         if (is_at_once) init_pair(63, 7, 0);
     }
 }
@@ -166,7 +166,7 @@ static void see_window(WINDOW *w) {
     }
 }
 
-/* The cursor of each window is in it. */
+/* Whether each window's cursor is in the window. */
 static bool is_well(void) {
     for (int at = 0; at < WINDOWS; at++) {
         WINDOW *w = windows[at];

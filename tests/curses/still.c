@@ -1,5 +1,5 @@
-/* Preloaded into both programs of a pair: a clock that stands still, and one number for each process, so that what they
- * take from these is the same. */
+/* Preloaded into both programs of a pair: a stopped clock and one number for each process, so that both programs read
+ * the same values. */
 #include <sys/time.h>
 #include <sys/types.h>
 #include <time.h>
