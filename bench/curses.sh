@@ -1,15 +1,15 @@
 #!/bin/sh
 # The processor time of a refresh, and how many bytes it sends, for a C program (curses_scenes.c) over three libraries:
 # ncurses, the library of ticurses for programs that were written for curses ("curses.h"), and the sessions of ticurses.
-# Each draws with equal calls and one entry into a file, by turns, and the best of five counts. A refresh is counted with the
-# calls that draw what it shows. The line `open` is opening a session, with the check of the entry in it. `chars` and
-# `lines` write each cell by a call of its own, which with sessions is a function of numbers and a line of text. The entry
-# is without `rep`, which ticurses doesn't use. Where ticurses leaves other characters on the screen than ncurses, a line
-# says so; colors of blanks and the cursor of a pad are not compared.
+# Each makes the same calls with one entry, into a file, in turn, and the best of five runs counts. The time of a
+# refresh includes the calls that draw. The line `open` is opening a session, with the check of the entry. `chars` and
+# `lines` write each cell by a call of its own, which in a session is a function of numbers for `chars` and a line of
+# text for `lines`. The entry has no `rep`, which ticurses doesn't use. If ticurses and ncurses leave different
+# characters on the screen, a line says so; colors of blanks and the cursor of a pad aren't compared.
 # curses.sh [ROWSxCOLS..]: 24x80 50x132 200x500 if none is given. ENTRY is the terminal, xterm-256color if it isn't set.
-# S-Lang, termbox and libtickit (Debian: libslang2-dev libtermbox-dev libtickit-dev), where they are installed, draw the same
-# scenes, each in a line below: what such a library lacks (windows, scrolling), its program does, and that counts too.
-# With INSTRUCTIONS=1 it counts the instructions of a refresh by callgrind in place of the time.
+# S-Lang, termbox and libtickit (Debian: libslang2-dev libtermbox-dev libtickit-dev), if they are installed, draw the
+# same scenes, each with a line below. If such a library lacks windows or scrolling, its program does that work, which
+# counts too. With INSTRUCTIONS=1 the script counts the instructions of a refresh by callgrind, not its time.
 set -eu
 cd -- "$(dirname -- "$0")"
 work=$(mktemp -d)
@@ -66,7 +66,7 @@ timed() {
     done
 }
 
-# instructions ROWS COLS SCENE: the same with instructions, times 1,000 as the times are
+# instructions ROWS COLS SCENE: a line for each library, with 1,000 times the instructions of a refresh, and its bytes
 instructions() {
     for one in ncurses curses session $peers; do
         counted=$(draws "$one" "$@" valgrind --tool=callgrind --callgrind-out-file=/dev/null \

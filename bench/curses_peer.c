@@ -1,8 +1,8 @@
 /* Plays a script of curses calls with the system's ncurses, as `ticurses play` does: curses_peer TERM ROWS COLS SCRIPT.
-   The bytes go to standard output, without padding. Only the calls that scripts.awk makes are known. Colors are used
-   from the first call about them on; as in ticurses, the default pair has the terminal's own colors, and `attrset`
+   The bytes go to standard output, without padding. The program knows only the calls that scripts.awk writes. It starts
+   colors at the first call about them; as in ticurses, the default pair has the terminal's own colors, and `attrset`
    keeps the pair. */
-/* else `box` would read its last cell twice */
+/* as a macro, `box` would read its last cell twice */
 #define NCURSES_NOMACROS
 #include <curses.h>
 #include <stdio.h>
@@ -209,7 +209,7 @@ struct call {
     void (*play)(char *rest);
 };
 
-/* in order of the names */
+/* in the order of their names */
 static const struct call calls[] = {
     {"addch", play_addch}, {"addstr", play_addstr}, {"attrset", play_attrset}, {"box", play_box}, {"clrtoeol", play_clrtoeol},
     {"color_set", play_color_set}, {"delch", play_delch}, {"doupdate", play_doupdate}, {"erase", play_erase}, {"idlok", play_idlok},
@@ -253,7 +253,7 @@ int main(int argc, char **argv)
     setenv("NCURSES_NO_PADDING", "1", 1);
     if (newterm(argv[1], stdout, input) == NULL)
         return 3;
-    /* no newline is translated, and no input stops a refresh */
+    /* translates no newline, and lets no input stop a refresh */
     nonl();
     typeahead(-1);
     windows[0] = stdscr;

@@ -1,8 +1,8 @@
 /* curses_scenes ENTRY ROWS COLS SCENE OUTPUT: draws a scene some hundred times on a terminal of this
- * size, into a file, and prints the processor time and the bytes of a refresh, with the calls before
- * it: `NANOSECONDS BYTES REFRESHES`. Built with PEER, a file with the functions that the scenes call, it
- * draws with that file's library, and ENTRY is a terminal's name. Built with -DCURSES it draws by the
- * calls of curses.h, with ncurses or with the library of ticurses for such programs, and ENTRY is a
+ * size, into a file, and prints the processor time and the bytes of a refresh and the calls before it,
+ * and the number of refreshes: `NANOSECONDS BYTES REFRESHES`. Built with PEER, a file with the functions
+ * that the scenes call, it draws with that file's library. Built with -DCURSES it draws by the calls of
+ * curses.h, with ncurses or with the library of ticurses for such programs. In both cases ENTRY is a
  * terminal's name. Otherwise it draws with the sessions of ticurses, and ENTRY is a compiled file. The
  * scene `open` opens a session instead, which for ticurses includes the check of the entry. */
 #define _XOPEN_SOURCE 700
@@ -45,7 +45,7 @@ static void begin(void) {
 static void finish(void) {
     endwin();
 #ifdef TICURSES_CURSES
-    /* there is one terminal at a time */
+    /* the library has one terminal at a time */
     delscreen(set_term(NULL));
 #endif
 }
@@ -67,7 +67,7 @@ static void go(int w, int y, int x) {
 static void put(int w, int byte) {
     waddch(windows[w], (chtype)byte);
 }
-/* the same, where a session has a line of text for it and a function */
+/* equal to put here; a session has a line of text for one and a function for the other */
 static void put_by_function(int w, int byte) {
     put(w, byte);
 }
@@ -129,7 +129,7 @@ static char entry_bytes[32768];
 static size_t entry_len;
 static int out;
 
-/* Writes what a refresh sends. */
+/* Writes the bytes of a refresh. */
 static void drain(void) {
     static char piece[65536];
     size_t count;
@@ -217,7 +217,7 @@ static void prepare(const char *entry, const char *output) {
 #endif
 
 #ifndef PEER
-/* A library with windows keeps what is drawn in them. */
+/* Does nothing: a library with windows keeps their content itself. */
 static void keep_page(void) {}
 #endif
 
@@ -230,7 +230,7 @@ static int number(int below) {
     return (int)(state % (uint32_t)below);
 }
 
-/* Words, from a place of the pool that is another one each time. */
+/* Words to draw, each time from another place of the pool. */
 static char pool[8192 + 512];
 
 static void fill_pool(void) {
@@ -245,7 +245,8 @@ static const char *words(int len) {
     return pool + number((int)sizeof pool - len);
 }
 
-/* All but the last cell of the last row, which some terminals can't have without scrolling. */
+/* The number of cells to draw in a row: not the last one of the last row, which some terminals can't show without
+ * scrolling. */
 static int width(int row) {
     return cols - (row == rows - 1);
 }
@@ -288,7 +289,7 @@ static void lines(int step) {
 }
 
 static void one_cell(int step) {
-    /* the column is drawn first */
+    /* the column's random number comes first */
     int col = number(cols - 1);
     int row = number(rows);
     go(0, row, col);
@@ -313,7 +314,7 @@ static void logged(int step) {
     (void)step;
     scroll_up(0);
     go(0, rows - 1, 0);
-    /* the length is drawn before the place of the words */
+    /* the length's random number comes before that of the words */
     int len = cols - 1 - number(cols / 2);
     const char *bytes = words(cols - 1);
     text(0, bytes, len);
@@ -385,7 +386,7 @@ static const struct scene {
     const char *name;
     void (*set)(void);
     void (*step)(int);
-    /* how often, on a screen of 24 by 80 */
+    /* how often a scene is drawn, on a screen of 24 by 80 */
     int count;
     int by_size;
 } scenes[] = {

@@ -1,7 +1,7 @@
 /* Windows, pads and logs for libraries that have one screen of cells and nothing above it: the program keeps
- * the characters of each, and draws a window by writing its rows over what is on the screen. Included by the
- * peer's file, which defines paint_text, paint_border, paint_cursor and paint_done. Window 0 is the library's
- * screen itself, without a copy here, until a scene calls keep_page, because it draws the page again or moves it.
+ * the characters of each, and draws a window by writing its rows over the screen. The peer's file includes
+ * this one, and defines paint_text, paint_border, paint_cursor and paint_done. Window 0 is the library's
+ * screen itself, without a copy here, until a scene that draws the page again or moves it calls keep_page.
  * A border is a letter of the line drawing set, with a bit that no other character has. */
 enum { BORDER = 0x80 };
 

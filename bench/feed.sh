@@ -1,13 +1,14 @@
 #!/bin/sh
-# How fast `ticurses feed` is beside libvterm (Debian: libvterm-dev), libtsm (libtsm-dev), GNOME's libvte (libvte-2.91-dev)
-# and the crates vt100 and alacritty_terminal (librust-vt100-dev, librust-alacritty-terminal-dev, cargo): 16 MiB of each kind
-# of stream that stream.awk writes, at 24 by 80 and at 200 by 500, in megabytes a second of processor time over the whole run
-# of each program, the best of five, in turn. A ratio is the peer's time to that of ticurses. All read the file and print the
-# screen, and libvterm's must be the same. At 200 by 500 libvterm and libtsm, which move every cell to scroll, get one of the
-# 16 MiB. libvte wants a display (xvfb-run -a sh bench/feed.sh); what GTK takes to start is not counted. At 24 by 80 a second
-# line has the instructions for each byte of 64 KiB and their ratios, by valgrind's callgrind, which doesn't depend on the
+# The speed of `ticurses feed` beside libvterm (Debian: libvterm-dev), libtsm (libtsm-dev), GNOME's libvte
+# (libvte-2.91-dev) and the crates vt100 and alacritty_terminal (librust-vt100-dev, librust-alacritty-terminal-dev,
+# cargo). Each gets 16 MiB of each kind of stream that stream.awk writes, at 24 by 80 and at 200 by 500. The figures are
+# megabytes a second of processor time over the whole run of each program, the best of five, in turn. A ratio is the
+# peer's time to that of ticurses. All read the file and print the screen, and libvterm's screen must be that of
+# ticurses. At 200 by 500 libvterm and libtsm, which move every cell to scroll, get one of the 16 MiB. libvte needs a
+# display (xvfb-run -a sh bench/feed.sh); the time that GTK takes to start doesn't count. At 24 by 80 a second line has
+# the instructions for each byte of 64 KiB and their ratios, by valgrind's callgrind, which doesn't depend on the
 # machine's load; libvte isn't among them.
-# feed.sh KIND..: those kinds alone. A peer that can't be built is left out, with a line.
+# feed.sh KIND..: only these kinds. The script says which peers it can't build, and leaves them out.
 set -eu
 cd -- "$(dirname -- "$0")"
 here=$PWD
@@ -16,7 +17,7 @@ trap 'rm -rf "$work"' EXIT
 trap 'exit 130' HUP INT TERM
 [ $# -gt 0 ] || set -- text mixed scrolling painting sequences colours
 . ./instructions.sh
-# the programs that there are, each in $work
+# the programs that could be built, each in $work
 peers=ticurses
 
 # left_out NAME
@@ -82,7 +83,7 @@ seconds() {
     { LC_ALL=C bash -c 'TIMEFORMAT="%U %S"; time "$@" >/dev/null 2>&1' bash "$@"; } 2>&1 | awk '{ print $1 + $2 }'
 }
 
-# share PEER ROWS: the stream that it gets
+# share PEER ROWS: the file that the peer gets
 share() {
     case $1-$2 in
     libvterm-200 | libtsm-200) echo part ;;
@@ -90,7 +91,7 @@ share() {
     esac
 }
 
-# timed ROWS COLS: lines of a peer, the mebibytes that it got, and its seconds
+# timed ROWS COLS: a line for each peer, with the mebibytes that it got, its seconds, and those of its start
 timed() {
     for peer in $peers; do
         file=$(share "$peer" "$1")
@@ -102,7 +103,7 @@ timed() {
     done
 }
 
-# counted ROWS COLS: lines of a peer and its instructions for each byte
+# counted ROWS COLS: a line for each peer, with its instructions for each byte
 counted() {
     for peer in $peers; do
         [ "$peer" != libvte ] || continue

@@ -1,8 +1,8 @@
 #!/bin/sh
-# How many expansions a second `expand` does, and ncurses' tparm and unibilium (Debian: libunibilium-dev) beside it in the
-# same run; and how the time grows with a string's length. Each is the least processor time of five runs. A ratio is the
-# peer's time to that of ticurses. Behind them are the instructions of one expansion, by valgrind's callgrind, which doesn't
-# depend on the machine's load. Wants bash; a peer that can't be built is left out, with a line.
+# The number of expansions a second by `expand`, and by ncurses' tparm and unibilium (Debian: libunibilium-dev) in the
+# same run; and how the time grows with a string's length. Each figure is of the least processor time of five runs. A
+# ratio is the peer's time to that of ticurses. The instructions of one expansion follow, by valgrind's callgrind, which
+# doesn't depend on the machine's load. The script needs bash; it says which peers it can't build, and leaves them out.
 set -eu
 cd -- "$(dirname -- "$0")/.."
 
@@ -89,12 +89,12 @@ grows() {
     done
 }
 
-# nested DEPTH: conditionals that deep round a letter
+# nested DEPTH: a letter within that many nested conditionals
 nested() {
     awk "BEGIN { for (i = 0; i < $1; i++) printf \"%%?%%p1%%t\"; printf \"x\"; for (i = 0; i < $1; i++) printf \"%%;\" }"
 }
 
-# others DEPTH: conditionals that deep, each in the `%e` of the one before
+# others DEPTH: that many conditionals, each in the `%e` of the one before
 others() {
     awk "BEGIN { for (i = 0; i < $1; i++) printf \"%%?%%p2%%te%%e\"; printf \"x\"; for (i = 0; i < $1; i++) printf \"%%;\" }"
 }

@@ -1,4 +1,4 @@
-/* tparm of ncurses as often as bench_parm expands: parm_peer COUNT STRING PARAM.. */
+/* Expands a string by tparm of ncurses as often as bench_parm: parm_peer COUNT STRING PARAM.. */
 #include <curses.h>
 #include <stdio.h>
 #include <stdlib.h>

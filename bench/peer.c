@@ -1,5 +1,5 @@
-/* libvterm beside ticurses: feeds a file to a terminal of ROWS by COLS and prints what it shows, in the
-   form of `ticurses feed`. With a fourth word it prints nothing but how many microseconds the feeding took.
+/* libvterm beside ticurses: feeds a file to a terminal of ROWS by COLS and prints its screen in the form
+   of `ticurses feed`. With a fourth argument it prints only how many microseconds the feeding took.
    cc -O2 peer.c -lvterm */
 #include <stdio.h>
 #include <stdlib.h>
@@ -128,7 +128,7 @@ int main(int argc, char **argv)
     vterm_screen_set_callbacks(screen, &callbacks, NULL);
     vterm_screen_reset(screen, 1);
     clock_gettime(CLOCK_MONOTONIC, &from);
-    /* in pieces, as its text function puts four times the piece on the stack */
+    /* in pieces, as libvterm's text function puts four times the piece on the stack */
     for (size_t at = 0; at < length; at += 4096)
         vterm_input_write(vt, bytes + at, length - at < 4096 ? length - at : 4096);
     clock_gettime(CLOCK_MONOTONIC, &to);

@@ -1,4 +1,4 @@
-/* The input of a peer's library: the terminal's name and size in the environment, and a file for what it sends. */
+/* Sets up a peer's library: the terminal's name and size in the environment, and a file for its output. */
 static int out;
 
 static long position(void) {

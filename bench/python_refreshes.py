@@ -1,12 +1,12 @@
 """Refreshes of a full screen from Python: the standard module `curses` beside `ticurses.curses`, on a terminal that
-takes all that is sent at once.
+takes all output at once.
 
     python3 -B bench/python_refreshes.py [ROWSxCOLS..]
 
-Each run is a process of its own: each cell of the screen is written with a letter that is drawn by lot, and the screen
-is refreshed, 1,000 times with a line a call (`lines`), or 100 times with a cell a call (`cells`). A line of figures is the
-processor time of the fastest of five runs, in milliseconds, and the bytes that were sent. The package has to be where
-Python finds it (PYTHONPATH), and its library where the package does (TICURSES_LIBRARY)."""
+Each run is a process of its own. It writes a random letter to each cell of the screen and refreshes it, 1,000 times
+with a call for each line (`lines`), or 100 times with a call for each cell (`cells`). A line of figures has the
+processor time of the fastest of five runs, in milliseconds, and the number of bytes sent. Python must find the package
+(PYTHONPATH), and the package its library (TICURSES_LIBRARY)."""
 
 import fcntl
 import importlib
@@ -27,7 +27,7 @@ LETTERS = "abcdefghijklmnopqrstuvwxyz0123456789"
 
 
 def write(screen, kind, lines):
-    """Writes a screen: a line a call, or a cell a call."""
+    """Writes a screen, with a call for each line or for each cell."""
     for row, text in enumerate(lines):
         if kind == "lines":
             screen.addstr(row, 0, text)
@@ -55,7 +55,7 @@ def draw(name, kind, log):
 
 
 def drained(fd, counted):
-    """Takes all that is sent, and counts it."""
+    """Reads all output, and counts its bytes."""
     try:
         while piece := os.read(fd, 1 << 16):
             counted[0] += len(piece)

@@ -1,11 +1,11 @@
 # A script of curses calls for a screen of rows by cols, the same in each run.
-# awk -v kind=KIND -v rows=24 -v cols=80 -f scripts.awk, where KIND is a scene of refresh.sh, of which the calls behind the
-# line `# from here` are measured, or
+# awk -v kind=KIND -v rows=24 -v cols=80 -f scripts.awk, where KIND is a scene of refresh.sh, which measures the calls
+# after the line `# from here`, or
 #   calls      100,000 calls in nine windows: short texts, moves, cells deleted, 2,000 refreshes
 #   texts      42,000 calls: texts of 20 to 30 characters all over the screen, 2,000 refreshes
 # or, each with 2,000 refreshes after the screen was filled,
 #   cells      one cell somewhere
-#   typing     one character behind the last one
+#   typing     one character after the last one
 #   log        a line at the bottom, after a scroll by one line
 function next_number(below) {
     state = (state * 16807) % 2147483647
@@ -29,8 +29,8 @@ function fill(w, height, width, margin, row) {
     for (row = margin; row < height - margin; row++)
         text_at(w, row, margin, words(width - 2 * margin - (w == 0 && row == rows - 1)))
 }
-# a screen of text that the terminal shows, with the cursor at the place; without the last cell of the last row, which ncurses
-# cannot write in a terminal like `vt`
+# a screen of text that the terminal shows, with the cursor at the place, without the last cell of the last row, which
+# ncurses can't write on a terminal like `vt`
 function shown_text(row, col) {
     fill(0, rows, cols, 0)
     move(0, row, col)

@@ -1,5 +1,5 @@
-/* S-Lang's screens (Debian: libslang2-dev) for curses_scenes.c, which defines rows and cols before. It finds by itself that
- * a log has scrolled. Its colors are objects with numbers: a pair, and 64 more for the same in bold. */
+/* S-Lang's screens (Debian: libslang2-dev) for curses_scenes.c, which defines rows and cols before. S-Lang finds by
+ * itself that a log has scrolled. Its colors are objects with numbers: a pair's number, and 64 more if it is bold. */
 #include <slang.h>
 
 #include "desk.h"

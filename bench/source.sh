@@ -7,7 +7,8 @@
 # The text is made of the system's own entries (infocmp -1), copied under other names, and after each copy
 # come four short entries that use it, as in the source that ncurses is shipped with: 2,800 entries have
 # 1.2 MB. The printed entry is the last one that uses another. ncurses does the same work by `tic -I -1 -e NAME`, which
-# prints that entry with its `use=`, and with `-r`, which resolves them; beside it, what it takes to compile the whole text.
+# prints that entry with its `use=`, and with `-r`, which resolves them. The table also has the time that it takes to
+# compile the whole text.
 # Each time is the least of RUNS runs (5), in milliseconds of wall clock.
 set -eu
 cd -- "$(dirname -- "$0")/.."

@@ -1,5 +1,5 @@
-/* Runs a program, its output discarded or written to FILE, and prints the microseconds of processor time that it took, its
-   peak of memory in KiB, and its exit status: spent [-o FILE] PROGRAM WORD.. */
+/* Runs a program, with its output discarded or written to FILE, and prints its processor time in microseconds, its peak
+   memory in KiB, and its exit status: spent [-o FILE] PROGRAM WORD.. */
 #include <fcntl.h>
 #include <stdio.h>
 #include <string.h>

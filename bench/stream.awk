@@ -1,11 +1,11 @@
 # A stream for a terminal of rows by cols, the same in each run; the last of its bytes are spaces.
 # awk -v kind=KIND -v rows=24 -v cols=80 -v bytes=1048576 -f stream.awk, where KIND is
-#   mixed      text, moves, colours, erasures and scrolling
+#   mixed      text, moves, colors, erasures and scrolling
 #   text       lines of plain text
 #   scrolling  short lines of a log, most of the time on the last row
 #   painting   a move and some cells, all over the screen
 #   sequences  control sequences with many parameters, long and private ones, and hardly any text
-#   colours    cells each in another colour
+#   colours    cells each in another color
 function next_number(below) {
     state = (state * 16807) % 2147483647
     return state % below

@@ -1,5 +1,5 @@
-/* termbox (Debian: libtermbox-dev) for curses_scenes.c, which defines rows and cols before. The program writes into its
- * cells, which takes less time than a call for each. */
+/* termbox (Debian: libtermbox-dev) for curses_scenes.c, which defines rows and cols before. The program writes to
+ * termbox's cells directly, which takes less time than a call for each. */
 #include <sys/ioctl.h>
 #include <termbox.h>
 
@@ -11,7 +11,7 @@ static struct {
 } pairs[64];
 static uint16_t fore_now, back_now, bold_now;
 
-/* termbox asks its terminal, here a file, for nothing but the size. */
+/* termbox asks its terminal, here a file, only for the size. */
 int ioctl(int fd, unsigned long request, ...) {
     va_list rest;
     struct winsize *size;

@@ -1,6 +1,6 @@
-/* libtickit (Debian: libtickit-dev) for curses_scenes.c, which defines rows and cols before. The library has windows, and
- * asks the program for what they show: so the program keeps characters and pens of each window, and says which rectangles
- * have changed. It doesn't know what the terminal shows, and sends all of them. */
+/* libtickit (Debian: libtickit-dev) for curses_scenes.c, which defines rows and cols before. The library has windows,
+ * and asks the program for their content, so the program keeps the characters and pens of each window, and reports the
+ * rectangles that have changed. The library doesn't know what the terminal shows, and sends all of these. */
 #include <tickit.h>
 
 #include "peer_output.h"
@@ -13,13 +13,13 @@ static struct desk {
     TickitWindow *window;
 } desks[8];
 static TickitTerm *term;
-/* by pair, and IN_BOLD more for the same in bold */
+/* a pen for each pair, and at IN_BOLD more the bold one */
 static TickitPen *pens[2 * IN_BOLD];
 static int pair_now, bold_now, shown_last;
-/* the pad that window 0 shows, and from where; none if it is 0 */
+/* the pad that window 0 shows, none if 0, and the place in it */
 static int pad, pad_row, pad_col;
 
-/* Draws cells of one pen, from one that is no border, or one border; returns how many. */
+/* Draws one border cell, or a run of other cells with one pen. Returns how many cells it has drawn. */
 static int draw_run(TickitRenderBuffer *buffer, int row, int col, const unsigned char *cells, const unsigned char *styles,
                     int most) {
     static const long lines[128] = {
@@ -93,10 +93,10 @@ static void make_pad(int w, int l, int c) {
     take(w, l, c, NULL);
 }
 
-/* what a window keeps is kept for each */
+/* does nothing: the program keeps the content of every window */
 static void keep_page(void) {}
 
-/* Where the window was, and where it is now, is for the program to say. */
+/* Moves a window, and reports both its old and its new rectangle, as libtickit demands. */
 static void move_window(int w, int y, int x) {
     TickitRect before = tickit_window_get_geometry(desks[w].window);
     TickitRect after = {.top = y, .left = x, .lines = desks[w].height, .cols = desks[w].width};
@@ -172,7 +172,7 @@ static void scroll_up(int w) {
     tickit_window_scroll(desk->window, 1, 0);
 }
 
-/* which windows cover which is the library's to know */
+/* does nothing else: the library knows which windows cover which */
 static void copy(int w) {
     shown_last = w;
 }

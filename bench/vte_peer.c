@@ -1,5 +1,5 @@
 /* GNOME's terminal widget (libvte) beside ticurses: feeds a file to it, without history, and prints the text of its screen.
-   The widget is never shown, but GTK wants a display: xvfb-run has one.   vte_peer ROWS COLS FILE
+   The widget is never shown, but GTK needs a display: xvfb-run has one.   vte_peer ROWS COLS FILE
    cc -O2 vte_peer.c $(pkg-config --cflags --libs vte-2.91) */
 #include <stdio.h>
 #include <stdlib.h>
@@ -11,7 +11,7 @@ static void answered(VteTerminal *terminal, char *text, guint len, gpointer is_d
     *(int *)is_done = 1;
 }
 
-/* Waits until all that was fed has been processed: then the terminal has answered a query that comes last. */
+/* Waits until the terminal has processed all its input, which it shows by its answer to a query at the end. */
 static void settle(VteTerminal *terminal) {
     int is_done = 0;
     gulong handler = g_signal_connect(terminal, "commit", G_CALLBACK(answered), &is_done);
@@ -24,7 +24,7 @@ static void settle(VteTerminal *terminal) {
 static void print_screen(VteTerminal *terminal, long rows, long cols) {
     long col, last;
 
-    /* rows are counted from the first that there ever was: the cursor on the last row says which it is */
+    /* the widget counts rows from the first that ever was; the cursor, on the last row, says the number of that one */
     vte_terminal_feed(terminal, "\033[r\033[?6l\033[999;1H", -1);
     settle(terminal);
     vte_terminal_get_cursor_position(terminal, &col, &last);
