@@ -163,8 +163,9 @@ Made by `tools/database.py` from {version} (Debian's ncurses-base and ncurses-te
 {counts_table(verdicts)}
 The last line of `survey`: `{total}`
 
-A no names the first fault along the certificate's lines; an entry may have more. Most noes are of terminals that T isn't:
-their attributes take a cell on the screen (`xmc`), they print on paper (`hc`, `os`), or have control functions of their own.
+A no names the first fault along the certificate's lines; an entry may have more. Most noes are for terminals of other
+kinds than T: attributes take a cell on the screen (`xmc`), the terminal prints on paper (`hc`, `os`), or it has control
+functions of its own.
 
 ## Well-known terminals
 
