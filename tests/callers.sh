@@ -1,6 +1,6 @@
 #!/bin/sh
-# The callers in the crates' READMEs compile: all of them as modules of one program, with the crates that they use; and the one in C
-# against include/.
+# The callers in the crates' READMEs compile: all of them as modules of one program, with the crates that they use, and
+# the one in C against include/.
 set -eu
 cd -- "$(dirname -- "$0")/.."
 . tests/probing

@@ -1,7 +1,8 @@
 #!/bin/sh
-# Whole runs of `command`, with files and writers in memory: statuses, outputs that are closed, full or slow, files without end
-# (command_tests.txt), and the worked examples that are runs of a command (command/). They are tests of the program's own crate, run
-# without proof: the parser of the line is read there, and to prove the tests too would take as long as the program.
+# Whole runs of `command`, with files and writers in memory: statuses, outputs that are closed, full or slow, files
+# without end (command_tests.txt), and the worked examples that are runs of a command (command/). They are tests of the
+# program's own crate, run without proof: a proof there reads the command line's parser, and proving the tests too would
+# take as long as proving the program.
 set -eu
 cd -- "$(dirname -- "$0")/.."
 . tests/probing

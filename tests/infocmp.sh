@@ -1,6 +1,6 @@
 #!/bin/sh
-# `ticurses infocmp` beside ncurses, on the system's own descriptions: ncurses' tic makes the same file of what is printed of an
-# entry of a source text as of the text itself.
+# `ticurses infocmp` beside ncurses, on the system's own descriptions: ncurses' tic makes one and the same file from the
+# printed entry and from the source text.
 set -eu
 cd -- "$(dirname -- "$0")/.."
 . tests/probing
@@ -12,7 +12,7 @@ trap 'rm -rf "$work"' EXIT
 trap 'exit 130' HUP INT TERM
 mkdir "$work/cases" "$work/theirs" "$work/ours" "$work/texts"
 
-# of many descriptions every so many-th
+# a share of the descriptions, evenly spread, if there are many
 most=120
 for folder in $(infocmp -D 2>/dev/null); do
     [ -d "$folder" ] || continue
@@ -47,7 +47,7 @@ if ! python3 -B tests/trying.py "$work/cases" "$@" >"$work/log" 2>"$work/said"; 
     echo "infocmp: an entry could not be printed" >&2
     exit 1
 fi
-# what was printed stands under the name of its case
+# the file of a case has the printed entry
 awk -v folder="$work/ours/" '/^== / { file = folder $2; next } file != "" { print > file }' "$work/log"
 
 same=0

@@ -1,7 +1,7 @@
 #!/bin/sh
 # Tests of the libraries' public calls (libraries/): worked examples, texts, screens and refusals, worked out by hand.
-# The calls are proved. As tests of a crate the examples would be proved too, which takes many minutes and shows no
-# more; so they run without proof.
+# They run without proof: the calls are proved in their crates, and proving the examples too would take many minutes and
+# show no more.
 set -eu
 cd -- "$(dirname -- "$0")/.."
 . tests/probing

@@ -1,8 +1,8 @@
 #!/bin/sh
-# Each request for memory is refused in turn. The program of memory/ makes the calls one after another, and prints `refused: CALL` where a
-# call answered that it ran out of memory (and checks that nothing else has changed). Always the same request is refused, and before the
-# calls the program makes as many requests as its word has letters, so that one build serves every run; each call named in memory.txt must have
-# met a refusal.
+# Each request for memory is refused in turn. The program of memory/ makes the calls one after another. If a call
+# answers that it ran out of memory, the program prints `refused: CALL` and checks that nothing else has changed. The
+# number of the refused request never changes; instead, the program first makes as many requests as its argument has
+# letters, so that one build serves every run. Each call named in memory.txt must meet a refusal.
 set -eu
 cd -- "$(dirname -- "$0")/.."
 . tests/probing
@@ -12,7 +12,8 @@ trap 'rm -rf "$work"' EXIT
 # some shells leave out that where a signal ends them
 trap 'exit 130' HUP INT TERM
 
-# the request that is refused: more than the calls ask for together, since one before the calls and one after them have to be met too
+# the number of the refused request: more than the calls make together, so that requests before and after them are
+# refused too
 REFUSED=740
 
 mkdir "$work/cases"
@@ -28,7 +29,8 @@ fill "$work/probe" tests/memory
 attempt "$work/probe" --steps 1 --cases "$work/cases" --fail-alloc "$REFUSED"
 must_run "$work/probe" "memory: the calls can't be tried"
 
-# with more and more requests before the calls: none of the calls met the refusal, then one after them did, then they, then one before them
+# with more and more requests before the calls, the refusal meets first none of the calls' requests, then one after
+# them, then theirs, then one before them
 sed -n 's/^case=\([0-9]*\) run=ended status=\([0-9]*\) .*/\1 \2/p' "$work/probe.log" | sort -n | cut -d ' ' -f 2 >"$work/statuses"
 if [ "$(wc -l <"$work/statuses")" -ne "$REFUSED" ] || grep -qvx '[023]' "$work/statuses"; then
     cat "$work/probe.log" >&2

@@ -1,6 +1,6 @@
 #!/bin/sh
-# The calls that are to take no memory take none: a program that makes all of them asks for memory as often as the same program
-# without them. A contract can't say this, since a body that requests memory and drops it meets it too.
+# The calls that must take no memory take none: a program that makes all of them asks for memory as often as the program
+# without them. A contract can't say this, since a body that requests memory and drops it would meet the contract too.
 set -eu
 cd -- "$(dirname -- "$0")/.."
 . tests/probing

@@ -1,6 +1,6 @@
 #!/bin/sh
-# The streams of screens.txt, fed to the terminal, leave the screens that the file has. Where libvterm and a C
-# compiler are there, the screens that are said to be libvterm's are compared with what it shows.
+# The streams of screens.txt, fed to the terminal, leave the screens that the file has. If libvterm and a C compiler are
+# installed, the screens that the file has from libvterm are compared with libvterm's.
 set -eu
 cd -- "$(dirname -- "$0")/.."
 work=$(mktemp -d)

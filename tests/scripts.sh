@@ -1,5 +1,5 @@
 #!/bin/sh
-# Scripts of curses calls through the program: `show` shows of each what the definitions say, and the output of
+# Scripts of curses calls through the program: `show` prints the screen that the definitions give, and the output of
 # `play`, fed to the terminal by `feed`, leaves that screen too. A closed or full output is reported after the run.
 set -eu
 cd -- "$(dirname -- "$0")"

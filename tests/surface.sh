@@ -1,7 +1,7 @@
 #!/bin/sh
 # The published surface of the libraries (surface/): each public call by its name and with its arguments, from the crate that
-# offers it, and its answer. Where one has another name or other arguments, the program doesn't compile. (`command` is called by
-# command.sh, since a program's crate can't be used by another.)
+# offers it, and its answer. If a call had another name or other arguments, the program wouldn't compile. (command.sh
+# calls `command`, since no other crate can use a program's crate.)
 set -eu
 cd -- "$(dirname -- "$0")/.."
 . tests/probing
