@@ -31,7 +31,7 @@ static void note_pair_0(void) {
 int start_color(void) {
     if (!tcu.is_open) return ERR;
     if (tcu.has_colors) return OK;
-    /* programs count pairs on terminals without colors too */
+    /* COLOR_PAIRS stays 0 without colors, since programs count pairs there too */
     if (!has_colors()) return ERR;
     tcu.has_colors = true;
     COLORS = SHADES;

@@ -1,8 +1,8 @@
 /* ticurses for C: certificates of terminfo entries, and curses sessions with a proved refresh.
  *
  * A session draws on one terminal. It is opened for the terminal's entry and size, takes calls of
- * curses as functions of numbers or as lines of text, and what a refresh sends waits in it until the
- * program takes it and writes it to the terminal:
+ * curses as functions of numbers or as lines of text, and keeps the bytes of a refresh until the
+ * program takes them and writes them to the terminal:
  *
  *     ticurses session = {0};
  *     code = ticurses_open(&session, entry, entry_len, NULL, 0, 24, 80, NULL, 0);
@@ -16,16 +16,16 @@
  * ticurses_terminal.h finds the entry and the size, and does the writing. Link with -lticurses. The headers are C99 and
  * C++11.
  *
- * Bytes are handed over as a pointer and a length. Where the length is 0, the pointer may be null. A session is a
- * `ticurses` that must begin as {0} (in C++ {}). A program passes its address, and must not read, copy or write its
- * fields. Sessions are independent of each other, and any number may be open. On one session one call is made at a
- * time. The library takes memory by malloc, realloc and free; it opens no file, writes none, and keeps nothing outside
- * of sessions.
+ * Bytes are passed as a pointer and a length. If the length is 0, the pointer may be null. A session is a `ticurses`
+ * that must begin as {0} (in C++ {}). A program passes its address, and must not read, copy or write its fields.
+ * Sessions are independent of each other, and any number may be open. Only one call at a time may be made on a session.
+ * The library takes memory by malloc, realloc and free; it opens no file, writes none, and keeps nothing outside of
+ * sessions.
  *
- * A call answers one of the codes below: 0 (TICURSES_OK) where it was done. Null pointers, sessions that aren't open,
- * short buffers and lines that are no call are answers. These have undefined behavior: a pointer that isn't null and
- * doesn't lead to as many bytes as its length says; two pointers of one call to the same bytes; a session that didn't
- * begin as {0} or whose words the program wrote; two calls on one session at the same time. */
+ * A call returns one of the codes below: 0 (TICURSES_OK) if it was done. Null pointers, sessions that aren't open,
+ * short buffers and lines that are no call have codes of their own. These have undefined behavior: a pointer that isn't
+ * null and doesn't lead to as many bytes as its length says; two pointers of one call to the same bytes; a session that
+ * didn't begin as {0} or whose fields the program wrote; two calls on one session at the same time. */
 #ifndef TICURSES_H
 #define TICURSES_H
 
@@ -49,7 +49,7 @@
 #ifdef __cplusplus
 extern "C" {
 #ifdef __GNUC__
-/* what is C too has the casts of C */
+/* code that is C and C++ has the casts of C */
 #pragma GCC diagnostic push
 #pragma GCC diagnostic ignored "-Wold-style-cast"
 #endif
@@ -92,7 +92,7 @@ enum ticurses_code {
     TICURSES_BAD_NAME = 28          /* no capability of the kind has the name */
 };
 
-/* The most bytes that the lines of one call have. */
+/* The most bytes that the lines of one call can have. */
 enum { TICURSES_TEXT_MAX = 1048576 };
 
 typedef struct ticurses { void *at; size_t state; } ticurses;
@@ -127,7 +127,7 @@ enum ticurses_kind {
     TICURSES_CURS_SET = 45, TICURSES_INIT_PAIR = 46, TICURSES_BEEP = 47, TICURSES_ENDWIN = 48
 };
 
-/* The cells of a border. Where byte, attributes and pair are all 0, it is the default cell of that side or corner. */
+/* The cells of a border. A cell of zeros means the default one of its side or corner. */
 typedef struct ticurses_frame {
     ticurses_cell left, right, top, bottom, top_left, top_right, bottom_left, bottom_right;
 } ticurses_frame;
@@ -176,11 +176,10 @@ void ticurses_raw_close(ticurses *session);
 static inline const uint8_t *ticurses_bytes(const void *at) { return at ? (const uint8_t *)at : (const uint8_t *)""; }
 static inline int ticurses_is_bad(const void *at, size_t len) { return (!at && len) || len > PTRDIFF_MAX; }
 
-/* Writes the certificate of an entry for a size. With a name, `entry` is a terminfo source text, of
- * which the entry of this name is meant; without one it is a compiled entry. *needed becomes the
- * certificate's length, also where that is more than the room has (TICURSES_NO_ROOM), and 0 where there
- * is no certificate: TICURSES_BAD_SIZE, TICURSES_BAD_ENTRY, TICURSES_NO_CERTIFICATE,
- * TICURSES_NO_MEMORY. */
+/* Writes the certificate of an entry for a size to `room`. Without a `name`, `entry` is a compiled entry; with
+ * one it is a terminfo source text, and the certificate is of its entry with this name. *needed becomes the
+ * certificate's length, even if `room` is shorter (TICURSES_NO_ROOM), and 0 if there is no certificate:
+ * TICURSES_BAD_SIZE, TICURSES_BAD_ENTRY, TICURSES_NO_CERTIFICATE, TICURSES_NO_MEMORY. */
 static inline int ticurses_check(const void *entry, size_t entry_len, const void *name, size_t name_len, uint16_t rows,
                                  uint16_t cols, void *room, size_t room_len, size_t *needed) {
     uint8_t none;
@@ -191,10 +190,10 @@ static inline int ticurses_check(const void *entry, size_t entry_len, const void
                               room ? (uint8_t *)room : &none, room_len, needed);
 }
 
-/* Writes why an entry has no certificate: the first string that is wrong, in the words of `ticurses
- * check`, as in "no op: WrongEffect". They are *needed bytes, without a newline or a zero byte at the
- * end; a room of 256 has been enough for all entries that were tried. *needed is 0 where the entry has
- * a certificate, and only there. */
+/* Writes to `room` why an entry has no certificate: the first string that is wrong, in the words of
+ * `ticurses check`, such as "no op: WrongEffect". *needed becomes their length, without a newline or a zero
+ * byte at the end; it is 0 exactly if the entry has a certificate. A room of 256 bytes has been enough for all
+ * entries that were tried. */
 static inline int ticurses_reason(const void *entry, size_t entry_len, const void *name, size_t name_len, uint16_t rows,
                                   uint16_t cols, void *room, size_t room_len, size_t *needed) {
     uint8_t none;
@@ -205,8 +204,8 @@ static inline int ticurses_reason(const void *entry, size_t entry_len, const voi
                                room ? (uint8_t *)room : &none, room_len, needed);
 }
 
-/* TICURSES_OK if the certificate is one of this entry and size: its strings are just those that the
- * entry sends, and each of them does what programs rely on. */
+/* Returns TICURSES_OK if the certificate is one of this entry and size: its strings are exactly those that
+ * the entry sends, and each of them does what programs rely on. */
 static inline int ticurses_verify(const void *entry, size_t entry_len, const void *name, size_t name_len, uint16_t rows,
                                   uint16_t cols, const void *certificate, size_t certificate_len) {
     if (ticurses_is_bad(entry, entry_len) || ticurses_is_bad(name, name_len) ||
@@ -216,10 +215,10 @@ static inline int ticurses_verify(const void *entry, size_t entry_len, const voi
                                ticurses_bytes(certificate), certificate_len);
 }
 
-/* Writes the string of an entry's capability, as terminfo names it ("kcuu1"), to the room: its bytes as the entry has
- * them, with parameters and delays. *needed is its length, also where that is more than the room has
- * (TICURSES_NO_ROOM), and 0 where there is none: TICURSES_NO_CAP where the entry has no such string, TICURSES_BAD_NAME
- * where no string capability has the name, TICURSES_BAD_ENTRY, TICURSES_NO_MEMORY (for a source text alone). */
+/* Writes an entry's string of the capability that terminfo names `cap` ("kcuu1") to `room`: its bytes unchanged, with
+ * parameters and delays. *needed becomes its length, even if `room` is shorter (TICURSES_NO_ROOM), and 0 if there is no
+ * string: TICURSES_NO_CAP if the entry has none, TICURSES_BAD_NAME if no string capability has the name,
+ * TICURSES_BAD_ENTRY, TICURSES_NO_MEMORY (only for a source text). */
 static inline int ticurses_string(const void *entry, size_t entry_len, const void *name, size_t name_len,
                                   const char *cap, void *room, size_t room_len, size_t *needed) {
     uint8_t none;
@@ -230,8 +229,8 @@ static inline int ticurses_string(const void *entry, size_t entry_len, const voi
                                strlen(cap), room ? (uint8_t *)room : &none, room_len, needed);
 }
 
-/* The number of an entry's capability ("colors"). Where the answer isn't TICURSES_OK, which is as above but for the
- * room, *number stays as it is. */
+/* Gets an entry's number of a capability ("colors"). The codes are those of ticurses_string except TICURSES_NO_ROOM; if
+ * the code isn't TICURSES_OK, *number stays unchanged. */
 static inline int ticurses_number(const void *entry, size_t entry_len, const void *name, size_t name_len,
                                   const char *cap, uint32_t *number) {
     if (ticurses_is_bad(entry, entry_len) || ticurses_is_bad(name, name_len) || !cap || !number) return TICURSES_NULL;
@@ -239,7 +238,8 @@ static inline int ticurses_number(const void *entry, size_t entry_len, const voi
                                strlen(cap), number);
 }
 
-/* Whether an entry has a flag ("am"): *is_on becomes 0 or 1. It is never TICURSES_NO_CAP; else as for numbers. */
+/* Sets *is_on to whether an entry has a flag ("am"): 0 or 1. The codes are those of ticurses_number except
+ * TICURSES_NO_CAP. */
 static inline int ticurses_flag(const void *entry, size_t entry_len, const void *name, size_t name_len,
                                 const char *cap, int *is_on) {
     bool found = false;
@@ -251,12 +251,11 @@ static inline int ticurses_flag(const void *entry, size_t entry_len, const void 
     return code;
 }
 
-/* Opens a session. One that was open is closed if the new one opens, and stays open otherwise, so that
- * its `endwin` can still be sent. With no certificate (a length of 0) it checks the entry itself, which
- * takes some milliseconds more. The terminal is taken to be as after a reset, and the first refresh
- * clears it; where an earlier session may have left it in another state, ticurses_lost comes before the
- * first refresh. A session keeps its size: where the terminal's changes, open it anew, call
- * ticurses_lost, and draw again. */
+/* Opens a session. An open session is closed if the new one opens, and stays open otherwise, so that its
+ * `endwin` can still be sent. Without a certificate (a length of 0) it checks the entry itself, which takes
+ * some milliseconds more. The terminal must be in its reset state, and the first refresh clears it; if an
+ * earlier session may have left another state, call ticurses_lost before the first refresh. A session keeps
+ * its size: after a change of the terminal's size, open it anew, call ticurses_lost, and draw again. */
 static inline int ticurses_open(ticurses *session, const void *entry, size_t entry_len, const void *name,
                                 size_t name_len, uint16_t rows, uint16_t cols, const void *certificate,
                                 size_t certificate_len) {
@@ -268,27 +267,27 @@ static inline int ticurses_open(ticurses *session, const void *entry, size_t ent
 }
 
 /* Makes calls, one a line, in the language of scripts (man 5 ticurses-script), up to the first that
- * isn't done, and gives the code of that one. If any line is no call (TICURSES_BAD_LINE), none is made.
+ * isn't done, and returns the code of that one. If any line is no call (TICURSES_BAD_LINE), none is made.
  * ticurses_failed says which line it was. A text of one call takes no memory for reading it. */
 static inline int ticurses_call(ticurses *session, const char *text, size_t len) {
     return !session || ticurses_is_bad(text, len) ? TICURSES_NULL
                                                   : ticurses_raw_call(session, ticurses_bytes(text), len);
 }
 
-/* The line, from 1, of the last text of calls at which ticurses_call or ticurses_callf stopped: the call
- * that was refused, or the first line that is no call. It is 0 where all lines were done, where the lines
- * were too long, and where there was no memory for reading them. Other calls leave it as it is. */
+/* Sets *line to the line, from 1, at which the last ticurses_call or ticurses_callf stopped: the call that
+ * was refused, or the first line that is no call. It is 0 if all lines were done, if the lines were too
+ * long, or if there was no memory for reading them. Other calls don't change it. */
 static inline int ticurses_failed(ticurses *session, size_t *line) {
     return !session || !line ? TICURSES_NULL : ticurses_raw_failed(session, line);
 }
 
-/* Answers this code for lines that could not be made; no line has failed. */
+/* Returns `code` for lines that could not be made; no line has failed. */
 static inline int ticurses_unmade(ticurses *session, int code) {
     int none = ticurses_call(session, NULL, 0);
     return none == TICURSES_OK ? code : none;
 }
 
-/* Writes a number in as many digits as it needs, but at least `least`, and gives how many there are. */
+/* Writes a number in as many digits as it needs, but at least `least`, and returns how many there are. */
 static inline size_t ticurses_digits(char *at, unsigned number, unsigned base, size_t least) {
     size_t count = 1, place;
     unsigned above;
@@ -300,7 +299,7 @@ static inline size_t ticurses_digits(char *at, unsigned number, unsigned base, s
 
 /* Writes `format` with the arguments `rest` to `line`, as printf would but without a zero byte after it, and returns
  * the length. It is several times as fast as printf, for the usual formats only: it returns -1 for any directive but
- * %d, %u, %x, %02x, %c and %s, and where the text may not fit into `room` bytes. */
+ * %d, %u, %x, %02x, %c and %s, and if the text may not fit into `room` bytes. */
 static inline int ticurses_format(char *line, size_t room, const char *format, va_list rest) {
     const char *text;
     size_t len = 0;
@@ -346,8 +345,8 @@ static inline int ticurses_format(char *line, size_t room, const char *format, v
 }
 
 /* Makes the calls of the lines that printf would write for `format`. A %s whose text has a newline makes two lines of
- * it, so pass text from elsewhere to ticurses_addstr. TICURSES_BAD_LINE where printf can't write the lines, such as for
- * a wide character that has no bytes. */
+ * it, so pass text from elsewhere to ticurses_addstr. TICURSES_BAD_LINE if printf can't write the lines, such as for a
+ * wide character that has no bytes. */
 static inline int ticurses_callf(ticurses *session, const char *format, ...) TICURSES_PRINTF(2, 3);
 static inline int ticurses_callf(ticurses *session, const char *format, ...) {
     char line[512], *text;

@@ -18,7 +18,7 @@ static inline int ticurses_make(ticurses *session, const ticurses_request *reque
     return !session || !request ? TICURSES_NULL : ticurses_raw_make(session, request);
 }
 
-/* The cell with these parts, as in ticurses_cell_of('x', TICURSES_BOLD, 0). */
+/* The cell with these parts, such as ticurses_cell_of('x', TICURSES_BOLD, 0). */
 static inline ticurses_cell ticurses_cell_of(uint8_t byte, uint8_t attrs, uint8_t pair) {
     ticurses_cell cell;
     cell.byte = byte, cell.attrs = attrs, cell.pair = pair;
@@ -34,13 +34,13 @@ static inline ticurses_request ticurses_request_of(uint32_t kind, size_t window,
     return request;
 }
 
-/* Makes a call that has a window and no more. */
+/* Makes a call whose only argument is a window. */
 static inline int ticurses_make_plain(ticurses *session, uint32_t kind, size_t window) {
     ticurses_request request = ticurses_request_of(kind, window, 0);
     return ticurses_make(session, &request);
 }
 
-/* Makes a call that has two numbers besides; of one that has one number, the second is 0. */
+/* Makes a call with a window and two numbers, or one number and 0. */
 static inline int ticurses_make_numbers(ticurses *session, uint32_t kind, size_t window, int first, int second) {
     ticurses_request request = ticurses_request_of(kind, window, 0);
     request.first = first, request.second = second;
@@ -54,54 +54,54 @@ static inline int ticurses_make_window(ticurses *session, ticurses_request reque
     return ticurses_make(session, &request);
 }
 
-/* Makes a call that has two windows. */
+/* Makes a call with two windows. */
 static inline int ticurses_make_pair(ticurses *session, uint32_t kind, size_t window, size_t other) {
     ticurses_request request = ticurses_request_of(kind, window, other);
     return ticurses_make(session, &request);
 }
 
-/* Makes a call that has an option, which is 0 or 1. */
+/* Makes a call with an option, which must be 0 or 1. */
 static inline int ticurses_make_flag(ticurses *session, uint32_t kind, size_t window, int is_on) {
     ticurses_request request = ticurses_request_of(kind, window, 0);
     request.flag = is_on;
     return ticurses_make(session, &request);
 }
 
-/* Makes a call that has attributes. */
+/* Makes a call with attributes. */
 static inline int ticurses_make_attrs(ticurses *session, uint32_t kind, size_t window, int attrs) {
     ticurses_request request = ticurses_request_of(kind, window, 0);
     request.attrs = attrs;
     return ticurses_make(session, &request);
 }
 
-/* Makes a call that has a cell, and perhaps a number. */
+/* Makes a call with a cell, and perhaps a number. */
 static inline int ticurses_make_cell(ticurses *session, uint32_t kind, size_t window, ticurses_cell cell, int count) {
     ticurses_request request = ticurses_request_of(kind, window, 0);
     request.cell = cell, request.first = count;
     return ticurses_make(session, &request);
 }
 
-/* Makes a window with its corner at a place of the screen; of 0 lines or columns it goes to the screen's edge.
- * TICURSES_OUT_OF_SCREEN where it isn't within the screen or is empty. For all that make windows: TICURSES_NUMBER_USED,
+/* Makes a window with its corner at a place of the screen; with 0 lines or columns it reaches to the screen's edge.
+ * TICURSES_OUT_OF_SCREEN if it isn't within the screen or is empty. All calls that make windows: TICURSES_NUMBER_USED,
  * TICURSES_BAD_REGION for a negative size, TICURSES_NO_MEMORY. */
 static inline int ticurses_newwin(ticurses *session, size_t window, int lines, int cols, int row, int col) {
     return ticurses_make_window(session, ticurses_request_of(TICURSES_NEWWIN, window, 0), lines, cols, row, col);
 }
 
-/* Makes a window that is a part of another one, and has the same cells; the place is one of the screen. For this and
- * the next two: TICURSES_OUT_OF_WINDOW, TICURSES_PAD_KIND. */
+/* Makes a window that is a part of `parent`, whose cells it shares; the place is on the screen. This and the next two:
+ * TICURSES_OUT_OF_WINDOW, TICURSES_PAD_KIND. */
 static inline int ticurses_subwin(ticurses *session, size_t window, size_t parent, int lines, int cols, int row,
                                   int col) {
     return ticurses_make_window(session, ticurses_request_of(TICURSES_SUBWIN, window, parent), lines, cols, row, col);
 }
 
-/* Makes one whose place is one of that window. */
+/* Makes a window that is a part of `parent`; the place is in that window. */
 static inline int ticurses_derwin(ticurses *session, size_t window, size_t parent, int lines, int cols, int row,
                                   int col) {
     return ticurses_make_window(session, ticurses_request_of(TICURSES_DERWIN, window, parent), lines, cols, row, col);
 }
 
-/* Makes a pad that is a part of another one; the place is one of that pad. */
+/* Makes a pad that is a part of the pad `parent`; the place is in that pad. */
 static inline int ticurses_subpad(ticurses *session, size_t window, size_t parent, int lines, int cols, int row,
                                   int col) {
     return ticurses_make_window(session, ticurses_request_of(TICURSES_SUBPAD, window, parent), lines, cols, row, col);
@@ -132,14 +132,14 @@ static inline int ticurses_move(ticurses *session, size_t window, int row, int c
     return ticurses_make_numbers(session, TICURSES_MOVE, window, row, col);
 }
 
-/* Writes a character at the cursor, which goes on; controls as ticurses_addstr does. TICURSES_BAD_CELL for a byte above
- * 127, TICURSES_BAD_PAIR, TICURSES_NO_SCROLL. */
+/* Writes a character at the cursor and advances the cursor; controls act as in ticurses_addstr. TICURSES_BAD_CELL for a
+ * byte above 127, TICURSES_BAD_PAIR, TICURSES_NO_SCROLL. */
 static inline int ticurses_addch(ticurses *session, size_t window, ticurses_cell cell) {
     return ticurses_make_cell(session, TICURSES_ADDCH, window, cell, 0);
 }
 
-/* Inserts a character at the cursor, which stays. TICURSES_BAD_CELL for a byte outside 32 to 126, TICURSES_BAD_PAIR; so
- * too where cells are drawn or are a background. */
+/* Inserts a character at the cursor, which stays. This, and the calls that draw lines or set a background:
+ * TICURSES_BAD_CELL for a byte outside 32 to 126, TICURSES_BAD_PAIR. */
 static inline int ticurses_insch(ticurses *session, size_t window, ticurses_cell cell) {
     return ticurses_make_cell(session, TICURSES_INSCH, window, cell, 0);
 }
@@ -169,28 +169,28 @@ static inline int ticurses_clrtobot(ticurses *session, size_t window) {
     return ticurses_make_plain(session, TICURSES_CLRTOBOT, window);
 }
 
-/* Clears the window, and puts its cursor to 0 0. */
+/* Clears the window, and moves its cursor to 0 0. */
 static inline int ticurses_erase(ticurses *session, size_t window) {
     return ticurses_make_plain(session, TICURSES_ERASE, window);
 }
 
-/* Does the same, and has the next refresh of the window paint the whole screen. */
+/* Does what ticurses_erase does, and has the next refresh of the window paint the whole screen. */
 static inline int ticurses_clear(ticurses *session, size_t window) {
     return ticurses_make_plain(session, TICURSES_CLEAR, window);
 }
 
-/* Draws a horizontal line of `count` cells from the cursor on, at most to the edge. A cell of which all is 0 is the
- * default one, here and in vline, border and box. */
+/* Draws a horizontal line of `count` cells from the cursor on, at most to the edge. A cell of zeros means the default
+ * one, here and in vline, border and box. */
 static inline int ticurses_hline(ticurses *session, size_t window, ticurses_cell cell, int count) {
     return ticurses_make_cell(session, TICURSES_HLINE, window, cell, count);
 }
 
-/* Draws a vertical line so. */
+/* Draws a vertical line of `count` cells from the cursor on, at most to the edge. */
 static inline int ticurses_vline(ticurses *session, size_t window, ticurses_cell cell, int count) {
     return ticurses_make_cell(session, TICURSES_VLINE, window, cell, count);
 }
 
-/* Draws a border along the window's edges; TICURSES_NULL where there is no frame. */
+/* Draws a border along the window's edges; TICURSES_NULL if `frame` is null. */
 static inline int ticurses_border(ticurses *session, size_t window, const ticurses_frame *frame) {
     ticurses_request request = ticurses_request_of(TICURSES_BORDER, window, 0);
     if (!frame) return TICURSES_NULL;
@@ -215,17 +215,17 @@ static inline int ticurses_setscrreg(ticurses *session, size_t window, int top, 
     return ticurses_make_numbers(session, TICURSES_SETSCRREG, window, top, bottom);
 }
 
-/* Adds attributes to those that a window writes with. For these: TICURSES_BAD_CALL. */
+/* Adds attributes to those that a window writes with. This and the next two: TICURSES_BAD_CALL. */
 static inline int ticurses_attron(ticurses *session, size_t window, int attrs) {
     return ticurses_make_attrs(session, TICURSES_ATTRON, window, attrs);
 }
 
-/* Takes attributes from them. */
+/* Removes attributes from those that a window writes with. */
 static inline int ticurses_attroff(ticurses *session, size_t window, int attrs) {
     return ticurses_make_attrs(session, TICURSES_ATTROFF, window, attrs);
 }
 
-/* Sets them. */
+/* Sets the attributes that a window writes with. */
 static inline int ticurses_attrset(ticurses *session, size_t window, int attrs) {
     return ticurses_make_attrs(session, TICURSES_ATTRSET, window, attrs);
 }
@@ -240,7 +240,7 @@ static inline int ticurses_bkgdset(ticurses *session, size_t window, ticurses_ce
     return ticurses_make_cell(session, TICURSES_BKGDSET, window, cell, 0);
 }
 
-/* Sets it, and changes the cells that have the old one. */
+/* Sets the background, and changes the cells that have the old one. */
 static inline int ticurses_bkgd(ticurses *session, size_t window, ticurses_cell cell) {
     return ticurses_make_cell(session, TICURSES_BKGD, window, cell, 0);
 }
@@ -250,7 +250,7 @@ static inline int ticurses_overlay(ticurses *session, size_t source, size_t targ
     return ticurses_make_pair(session, TICURSES_OVERLAY, source, target);
 }
 
-/* Copies it with its spaces. */
+/* Copies a window over another one where they overlap on the screen, with its spaces: TICURSES_PAD_KIND. */
 static inline int ticurses_overwrite(ticurses *session, size_t source, size_t target) {
     return ticurses_make_pair(session, TICURSES_OVERWRITE, source, target);
 }
@@ -266,17 +266,17 @@ static inline int ticurses_copywin(ticurses *session, size_t source, size_t targ
     return ticurses_make(session, &request);
 }
 
-/* Says whether a window scrolls where a text goes past its last line. For the options: TICURSES_BAD_CALL. */
+/* Sets whether a window scrolls when a text goes past its last line. All options: TICURSES_BAD_CALL. */
 static inline int ticurses_scrollok(ticurses *session, size_t window, int is_on) {
     return ticurses_make_flag(session, TICURSES_SCROLLOK, window, is_on);
 }
 
-/* Says whether a refresh of the window may leave the cursor anywhere. */
+/* Sets whether a refresh of the window may leave the cursor anywhere. */
 static inline int ticurses_leaveok(ticurses *session, size_t window, int is_on) {
     return ticurses_make_flag(session, TICURSES_LEAVEOK, window, is_on);
 }
 
-/* Says whether the next refresh of the window paints the whole screen. */
+/* Sets whether the next refresh of the window paints the whole screen. */
 static inline int ticurses_clearok(ticurses *session, size_t window, int is_on) {
     return ticurses_make_flag(session, TICURSES_CLEAROK, window, is_on);
 }
@@ -311,8 +311,7 @@ static inline int ticurses_doupdate(ticurses *session) {
     return ticurses_make_plain(session, TICURSES_DOUPDATE, 0);
 }
 
-/* Makes a call that shows a pad from a place of it on, on the screen's rows `top` to `bottom` and columns `left` to
- * `right`. */
+/* Makes a call that shows a part of a pad on the screen's rows `top` to `bottom` and columns `left` to `right`. */
 static inline int ticurses_make_shown(ticurses *session, ticurses_request request, int top, int left, int bottom,
                                       int right) {
     request.third = top, request.fourth = left, request.fifth = bottom, request.sixth = right;
@@ -328,7 +327,7 @@ static inline int ticurses_pnoutrefresh(ticurses *session, size_t pad, int row, 
     return ticurses_make_shown(session, request, top, left, bottom, right);
 }
 
-/* Copies it, and makes the terminal show the virtual screen. */
+/* Does what ticurses_pnoutrefresh does, and makes the terminal show the virtual screen. */
 static inline int ticurses_prefresh(ticurses *session, size_t pad, int row, int col, int top, int left, int bottom,
                                     int right) {
     ticurses_request request = ticurses_request_of(TICURSES_PREFRESH, pad, 0);
@@ -348,7 +347,7 @@ static inline int ticurses_init_pair(ticurses *session, int pair, int foreground
     return ticurses_make(session, &request);
 }
 
-/* As ticurses_init_pair, and -1 is the terminal's default color. It is no call of a script. */
+/* Does what ticurses_init_pair does, and takes -1 for the terminal's default color. Scripts don't have this call. */
 static inline int ticurses_init_pair_or_default(ticurses *session, int pair, int foreground, int background) {
     return !session ? TICURSES_NULL : ticurses_raw_init_pair_or_default(session, pair, foreground, background);
 }
@@ -358,7 +357,7 @@ static inline int ticurses_beep(ticurses *session) {
     return ticurses_make_plain(session, TICURSES_BEEP, 0);
 }
 
-/* Leaves the terminal as other programs want it; the next refresh begins anew. */
+/* Leaves the terminal as other programs need it; the next refresh begins anew. */
 static inline int ticurses_endwin(ticurses *session) {
     return ticurses_make_plain(session, TICURSES_ENDWIN, 0);
 }

@@ -19,16 +19,16 @@
 #ifdef __cplusplus
 extern "C" {
 #ifdef __GNUC__
-/* what is C too has the casts of C */
+/* code that is C and C++ has the casts of C */
 #pragma GCC diagnostic push
 #pragma GCC diagnostic ignored "-Wold-style-cast"
 #endif
 #endif
 
-/* A compiled entry is at most so long. */
+/* The most bytes of a compiled entry. */
 #define TICURSES_ENTRY_MAX 32768
 
-/* The number at a place of a compiled entry, of two bytes, the lower one first. */
+/* The number in two bytes of a compiled entry, the lower byte first. */
 static inline size_t ticurses_short_at(const unsigned char *bytes, size_t at) {
     return bytes[at] + 256u * bytes[at + 1];
 }
@@ -44,7 +44,7 @@ static inline int ticurses_is_entry(const unsigned char *bytes, size_t len) {
     return width > 0 && needed <= len;
 }
 
-/* Reads a file into the room, and gives its length; 0 where it can't be read or is longer. */
+/* Reads a file to `room` and returns its length; 0 if it can't be read or is longer than `room_len`. */
 static inline size_t ticurses_read(const char *path, unsigned char *room, size_t room_len) {
     unsigned char more;
     struct stat found;
@@ -77,7 +77,7 @@ static inline size_t ticurses_entry_in(const char *folder, size_t folder_len, co
     return 0;
 }
 
-/* The value of a variable; null where the program has rights that its user lacks, since that user could make it read
+/* The value of a variable; null if the program has rights that its user lacks, since that user could make it read
  * files. */
 static inline const char *ticurses_variable(const char *name) {
     return geteuid() == getuid() && getegid() == getgid() ? getenv(name) : NULL;
@@ -111,9 +111,9 @@ static inline size_t ticurses_entry(const char *term, void *room, size_t room_le
     return 0;
 }
 
-/* The size of the terminal at a descriptor: 24 by 80 where the terminal doesn't say. It is TICURSES_BAD_SIZE where
- * no session has this size (2 to 200 rows and 2 to 500 columns): on a terminal of another size than the
- * session's what it draws would be wrong. */
+/* Gets the size of the terminal at `fd`: 24 by 80 if the terminal doesn't say. Returns TICURSES_BAD_SIZE if no
+ * session can have this size (2 to 200 rows and 2 to 500 columns), since a session of another size would draw
+ * wrongly on the terminal. */
 static inline int ticurses_size(int fd, uint16_t *rows, uint16_t *cols) {
     struct winsize size;
     if (!rows || !cols) return TICURSES_NULL;
@@ -127,7 +127,7 @@ static inline int ticurses_size(int fd, uint16_t *rows, uint16_t *cols) {
     return *rows >= 2 && *rows <= 200 && *cols >= 2 && *cols <= 500 ? TICURSES_OK : TICURSES_BAD_SIZE;
 }
 
-/* Sets the terminal to be like this once it has what was written; signals don't end the wait. */
+/* Sets the terminal's modes once it has received all output; signals don't end the wait. */
 static inline int ticurses_set(int fd, const struct termios *like) {
     int result;
     do {
@@ -137,9 +137,9 @@ static inline int ticurses_set(int fd, const struct termios *like) {
 }
 
 /* Has the terminal pass on bytes unaltered, which a refresh needs (it may move down by a newline), and keys
- * as they are pressed, without showing them. Keys that send signals go on doing so. `before` becomes what it
- * was like; ticurses_set_cooked sets it back. Both wait until the terminal has what was written, and give 0,
- * or -1 with errno: then the terminal is as it was. */
+ * as they are pressed, without showing them. Keys that send signals still do. `before` gets the modes from
+ * before, which ticurses_set_cooked restores. Both wait until the terminal has received all output, and return
+ * 0, or -1 with errno: then the terminal is unchanged. */
 static inline int ticurses_set_raw(int fd, struct termios *before) {
     struct termios raw;
     memset(&raw, 0, sizeof raw);
