@@ -1,5 +1,5 @@
-/* monitor FILE [LOG]: shows a file, of which the keys move the part that is seen, and below it the last lines of a
- * log as they come. It needs POSIX: termios, poll and signals. */
+/* monitor FILE [LOG]: shows a part of a file, which keys move, and below it the last lines of a log as they come. It
+ * needs POSIX: termios, poll and signals. */
 #define _POSIX_C_SOURCE 200809L
 #include <ticurses_terminal.h>
 
@@ -12,9 +12,9 @@
 enum { FRAME = 1, PAGE, HEAD, LOG, STATUS, HELP };
 /* the color pairs */
 enum { LIGHT = 1, BAD, WARNING };
-/* a pad has at most so many lines and columns, and so many lines of the log are kept */
+/* the most lines or columns of a pad, and the number of lines of the log that are kept */
 enum { PAD_MAX = 1000, KEPT = 200 };
-/* what the last byte of a key was */
+/* the kind of the last byte of a key */
 enum { PLAIN, ESCAPE, INTRODUCER };
 
 struct text {
@@ -40,7 +40,7 @@ struct monitor {
     uint16_t rows, cols;
     int page_rows, page_cols, log_rows, pad_rows, pad_cols;
     int is_small, is_helping, is_changed, is_ending;
-    /* the first line and column that are seen, and the first line that is in the pad */
+    /* the first line and column shown, and the first line in the pad */
     int top, left, base;
     /* the output: bytes from `sent` to `taken` of the piece are still to be written */
     int fd, failures;
@@ -60,7 +60,7 @@ static void on_signal(int number) {
     else ended = number;
 }
 
-/* Calls that are refused end the monitor, which then says why. */
+/* Notes the code of a call; a refused call ends the monitor, which then says why. */
 static void note(struct monitor *m, int code) {
     if (code != TICURSES_OK && m->code == TICURSES_OK) m->code = code;
 }
@@ -72,7 +72,7 @@ static int larger(int one, int other) {
     return one > other ? one : other;
 }
 
-/* -- what is shown -- */
+/* -- the text and the log -- */
 
 /* A line as it is drawn: tabs are spaces, and a character that no cell can hold is a question mark. */
 static char *drawable(const char *bytes, size_t len) {
@@ -203,14 +203,14 @@ static void make_windows(struct monitor *m) {
         show_logged(m, m->log.kept[at % KEPT]);
 }
 
-/* Opens the session, also anew, for the size that the terminal has now, and draws all windows. Where there is none
- * of this size, the one that was open stays open, and ends the screen. */
+/* Opens the session for the size that the terminal has now, also after a change, and draws all windows. If no session
+ * can have this size, the open one stays open, and ends the screen. */
 static int open_session(struct monitor *m) {
     int code = ticurses_size(m->fd, &m->rows, &m->cols);
     if (code == TICURSES_OK)
         code = ticurses_open(&m->session, m->entry, m->entry_len, NULL, 0, m->rows, m->cols, NULL, 0);
     if (code != TICURSES_OK) return code;
-    /* what the terminal shows, and whether it got a part of what an earlier session sent, isn't known */
+    /* the terminal may show anything, and may have got only a part of an earlier session's output */
     note(m, ticurses_lost(&m->session));
     m->taken = m->sent = 0;
     m->is_small = m->rows < 10 || m->cols < 40;
@@ -231,7 +231,7 @@ static int open_session(struct monitor *m) {
     return TICURSES_OK;
 }
 
-/* Keeps the part that is seen within the text, and the pad round it. */
+/* Keeps the part that is shown within the text, and the pad around it. */
 static void place_page(struct monitor *m) {
     int count = (int)m->text.count;
     m->top = larger(0, smaller(m->top, count - m->page_rows));
@@ -251,7 +251,7 @@ static void draw_status(struct monitor *m) {
     note(m, ticurses_addstr(&m->session, STATUS, line, (size_t)smaller(len, m->cols - 1)));
 }
 
-/* Has the session send what makes the terminal show all windows as they are. */
+/* Has the session make the terminal show all windows. */
 static void draw(struct monitor *m) {
     m->is_changed = 0;
     if (m->is_small) {
@@ -298,7 +298,7 @@ static void drain(struct monitor *m) {
     }
 }
 
-/* Leaves the terminal as other programs want it; waits at most two seconds for one that takes nothing. */
+/* Leaves the terminal as other programs need it; waits at most two seconds for a terminal that takes no bytes. */
 static void restore(struct monitor *m) {
     ticurses_callf(&m->session, "endwin");
     for (int turn = 0; turn < 20 && is_pending(m) && m->failures < 5; turn++) {
@@ -310,7 +310,7 @@ static void restore(struct monitor *m) {
     else ticurses_set_cooked(STDIN_FILENO, &m->before);
 }
 
-/* Stops as ^Z asks for, and goes on with a terminal of which nothing is known. */
+/* Stops the program after ^Z. When it continues, the terminal may show anything. */
 static void stop(struct monitor *m) {
     stopped = 0;
     restore(m);
@@ -332,7 +332,7 @@ static void take_signals(void) {
 
 /* -- the keys -- */
 
-/* The letter that stands for a key which sends a sequence. */
+/* The letter for a key that sends a sequence. */
 static int letter_of(int byte, int number) {
     switch (byte) {
         case 'A': return 'k';
@@ -364,7 +364,7 @@ static void act(struct monitor *m, int letter) {
     }
 }
 
-/* A byte of a key; sequences may come in parts. */
+/* Takes a byte of a key; sequences may come in parts. */
 static void take_byte(struct monitor *m, int byte) {
     if (m->key == ESCAPE) {
         m->key = byte == '[' || byte == 'O' ? INTRODUCER : PLAIN;
@@ -388,8 +388,8 @@ static void take_keys(struct monitor *m) {
     for (ssize_t at = 0; at < count; at++) take_byte(m, bytes[at]);
 }
 
-/* Draws, writes and waits until a key or a signal ends it. Nothing is drawn while the terminal takes no more
- * bytes, so that a slow one gets the last state and not each. */
+/* Draws, writes and waits until a key or a signal ends it. It draws nothing while the terminal takes no more bytes, so
+ * that a slow terminal gets the last state and not each one. */
 static void run(struct monitor *m) {
     while (!m->is_ending && !ended && m->code == TICURSES_OK) {
         if (stopped) stop(m);
@@ -405,7 +405,7 @@ static void run(struct monitor *m) {
     }
 }
 
-/* Says why it ended. */
+/* Says why the monitor ended. */
 static void explain(struct monitor *m) {
     char reason[256];
     size_t len = 0;

@@ -98,7 +98,7 @@ static void advance(struct game *game) {
     }
 }
 
-/* Turns, but not back; whether the game goes on. */
+/* Turns the snake, but not back. Returns whether the game continues. */
 static bool steer(struct game *game, int key) {
     struct place turn = game->step;
     if (key == 'p') {

@@ -1,6 +1,6 @@
 #!/usr/bin/env python3
-"""monitor.py FILE [LOG]: shows a file, of which the keys move the part that is seen, and below it the last lines of a
-log as they come. It makes the same calls as examples/c/monitor.c."""
+"""monitor.py FILE [LOG]: shows a part of a file, which keys move, and below it the last lines of a log as they come. It
+makes the same calls as examples/c/monitor.c."""
 
 import collections
 import errno
@@ -17,9 +17,9 @@ import ticurses
 FRAME, PAGE, HEAD, LOG, STATUS, HELP = range(1, 7)
 # the color pairs
 LIGHT, BAD, WARNING = range(1, 4)
-# a pad has at most so many lines and columns, and so many lines of the log are kept
+# the most lines or columns of a pad, and the number of lines of the log that are kept
 PAD_MAX, KEPT = 1000, 200
-# what the last byte of a key was
+# the kind of the last byte of a key
 PLAIN, ESCAPE, INTRODUCER = range(3)
 
 HELP_LINES = [
@@ -30,7 +30,7 @@ HELP_LINES = [
     "^L                 draw anew",
     "q                  quit",
 ]
-# the letters that stand for keys which send a sequence
+# the letters for keys that send a sequence
 LETTERS = {"A": "k", "B": "j", "C": "l", "D": "h", "H": "g", "F": "G"}
 NUMBERS = {1: "g", 4: "G", 5: "b", 6: " "}
 # the signals that don't end it
@@ -52,7 +52,7 @@ class Log:
         self.kept, self.partial = collections.deque(maxlen=KEPT), b""
 
     def added(self):
-        """The lines that were added since. A file that became shorter is read from its start."""
+        """The lines that were added since the last call. A file that became shorter is read from its start."""
         if self.fd is None:
             return
         now = os.fstat(self.fd)
@@ -92,14 +92,14 @@ class Monitor:
     # -- the screen --
 
     def open_session(self):
-        """Opens the session, also anew, for the size that the terminal has now, and draws all windows. Where there is none
-        of this size, the one that was open stays open, and ends the screen."""
+        """Opens the session for the size that the terminal has now, also after a change, and draws all windows. If no
+        session can have this size, the open one stays open, and ends the screen."""
         self.rows, self.cols = ticurses.terminal_size(self.fd)
         if self.session is None:
             self.session = ticurses.Session(self.entry, self.rows, self.cols)
         else:
             self.session.open(self.entry, self.rows, self.cols)
-        # what the terminal shows, and whether it got a part of what an earlier session sent, isn't known
+        # the terminal may show anything, and may have got only a part of an earlier session's output
         self.session.lost()
         self.piece = b""
         self.is_small, self.is_changed = self.rows < 10 or self.cols < 40, True
@@ -155,7 +155,7 @@ class Monitor:
         self.is_changed = True
 
     def place_page(self):
-        """Keeps the part that is seen within the text, and the pad round it."""
+        """Keeps the part that is shown within the text, and the pad around it."""
         count = len(self.lines)
         self.top = max(0, min(self.top, count - self.page_rows))
         self.left = max(0, min(self.left, self.pad_cols - self.page_cols))
@@ -172,7 +172,7 @@ class Monitor:
         self.session.addstr(STATUS, line[: self.cols - 1])
 
     def draw(self):
-        """Has the session send what makes the terminal show all windows as they are."""
+        """Has the session make the terminal show all windows."""
         self.is_changed = False
         if self.is_small:
             self.session.call("refresh 0")
@@ -209,7 +209,7 @@ class Monitor:
                 return
 
     def restore(self):
-        """Leaves the terminal as other programs want it; waits at most two seconds for one that takes nothing."""
+        """Leaves the terminal as other programs need it; waits at most two seconds for one that takes no bytes."""
         try:
             self.session.call("endwin")
             for _ in range(20):
@@ -221,7 +221,7 @@ class Monitor:
             self.set_cooked()
 
     def set_cooked(self):
-        """Sets the terminal back; one that takes nothing isn't waited for."""
+        """Restores the terminal, without a wait for one that takes no bytes."""
         try:
             if self.is_pending():
                 termios.tcsetattr(0, termios.TCSANOW, self.before)
@@ -233,7 +233,7 @@ class Monitor:
                 raise
 
     def stop(self):
-        """Stops as ^Z asks for, and goes on with a terminal of which nothing is known."""
+        """Stops the program after ^Z. When it continues, the terminal may show anything."""
         self.restore()
         os.kill(os.getpid(), signal.SIGSTOP)
         self.before = ticurses.set_raw()
@@ -241,7 +241,7 @@ class Monitor:
         self.piece, self.is_changed = b"", True
 
     def take_signals(self):
-        """A signal is counted, and wakes the wait for keys."""
+        """Has each signal counted and end the wait for keys."""
         self.woken, waking = os.pipe()
         os.set_blocking(self.woken, False)
         os.set_blocking(waking, False)
@@ -271,7 +271,7 @@ class Monitor:
             self.is_changed = False
 
     def take_byte(self, byte):
-        """A byte of a key; sequences may come in parts."""
+        """Takes a byte of a key; sequences may come in parts."""
         if self.key == ESCAPE:
             self.key, self.number = INTRODUCER if byte in "[O" else PLAIN, 0
         elif self.key == INTRODUCER and byte in "0123456789":
@@ -295,7 +295,7 @@ class Monitor:
             self.take_byte(byte)
 
     def waits(self, wanted):
-        """Waits a tenth of a second for one of these descriptors, and gives those that are ready."""
+        """Waits a tenth of a second for one of these descriptors, and returns those that are ready."""
         waiting = select.poll()
         for fd, events in wanted:
             waiting.register(fd, events)
@@ -311,8 +311,8 @@ class Monitor:
             self.take_keys()
 
     def run(self):
-        """Draws, writes and waits until a key or a signal ends it, and gives the signal. Nothing is drawn while the
-        terminal takes no more bytes, so that a slow one gets the last state and not each."""
+        """Draws, writes and waits until a key or a signal ends it, and returns the signal. It draws nothing while the
+        terminal takes no more bytes, so that a slow terminal gets the last state and not each one."""
         while not self.is_ending:
             if self.signals.pop(signal.SIGTSTP, 0):
                 self.stop()
