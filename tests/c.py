@@ -204,7 +204,7 @@ def written(work):
 
 
 def watch(words, environment, grow):
-    """A whole run of the monitor on a terminal of which each byte is seen. Gives all that was sent."""
+    """A whole run of the monitor on a terminal that keeps every byte. Returns all bytes."""
     terminal = Terminal(20, 60, words, environment)
     terminal.shows(monitored(20, 60, "poem.txt", TEXT, LOGGED).text())
     terminal.press(b"j\x1b[B\x1b[6~")
@@ -270,7 +270,7 @@ def check_ends(words, environment, status):
 
 
 def check_refused(words, work):
-    """A terminal of which a string is wrong: the monitor says which, and sends nothing."""
+    """A terminal with a wrong string: the monitor names the string, and sends nothing."""
     os.makedirs(f"{work}/wrong/w")
     ticurses(["tic", "--out", f"{work}/wrong/w/w", "--", "-:w"], WRONG.encode())
     terminal = Terminal(20, 60, words, {"TERMINFO": f"{work}/wrong", "TERM": "w"})

@@ -79,7 +79,7 @@ def on_certificate(room):
 
 
 def on_command(room):
-    """Any program with a terminal in it, of which the cursor alone is known; here tmux, with where it is known to differ."""
+    """Any program with a terminal in it, which reports only its cursor; here tmux, with its known differences."""
     if not shutil.which("tmux"):
         print("conform: tmux is not installed, and no program is given by --command")
         return

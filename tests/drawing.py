@@ -1,4 +1,4 @@
-"""Random scripts of curses calls, most of which are not refused: windows, text, attributes, colors, refreshes."""
+"""Random scripts of curses calls, few of which are refused: windows, text, attributes, colors, refreshes."""
 
 import random
 

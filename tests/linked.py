@@ -22,7 +22,7 @@ from sources import LIBRARY
 
 STRICT = ["-Wall", "-Wextra", "-pedantic", "-Werror"]
 SANITIZED = ["-g", "-fsanitize=address,undefined", "-fno-sanitize-recover=all"]
-# an entry of which a string is wrong
+# an entry with a wrong string
 WRONG = (
     "w|w,\n\tclear=\\E[H\\E[2J, cup=\\E[%i%p1%d;%p2%dH, sgr0=\\E[m,\n"
     "\tsetaf=\\E[3%p1%dm, setab=\\E[4%p1%dm, op=\\E[m,\n"
@@ -102,7 +102,7 @@ def all_fed(rows, cols, sent):
 
 
 class Terminal:
-    """A program on a terminal of this size, of which the bytes are kept that it sends."""
+    """A program on a terminal of this size; its output is kept."""
 
     def __init__(self, rows, cols, words, environment):
         self.sent = b""
@@ -115,12 +115,12 @@ class Terminal:
         os.close(inner)
 
     def resize(self, rows, cols):
-        """Another size; what is shown then is what comes from now on."""
+        """Changes the size; the screen is then made of the bytes from now on."""
         self.rows, self.cols, self.begun = rows, cols, len(self.sent)
         fcntl.ioctl(self.fd, termios.TIOCSWINSZ, struct.pack("HHHH", rows, cols, 0, 0))
 
     def read(self, seconds):
-        """Takes what comes within so many seconds; whether anything did."""
+        """Reads the bytes that come within `seconds`. Returns whether any did."""
         if not select.select([self.fd], [], [], seconds)[0]:
             return False
         with contextlib.suppress(OSError):
@@ -196,7 +196,7 @@ class Multiplexer:
         self.run("resize-window", "-x", str(cols), "-y", str(rows))
 
     def shows(self, lines):
-        """Waits until the pane has these lines, of which blanks at the end count nothing."""
+        """Waits until the pane has these lines; blanks at their ends don't count."""
         wanted, end, seen = [it.rstrip() for it in lines], time.monotonic() + PATIENCE, []
         while time.monotonic() < end:
             seen = [it.rstrip() for it in self.run("capture-pane", "-p").split("\n")[: len(wanted)]]

@@ -191,7 +191,8 @@ def words(command, entry, rows, cols, script):
 
 
 def judge_shown(runs, files):
-    """`show` prints what is wanted of each, and `play`, fed to the terminal, leaves its screen. Returns what was played."""
+    """`show` prints the wanted text for each script, and the output of `play`, fed to the terminal, leaves its screen.
+    Returns the outputs."""
     shown = run_cases(PROGRAM, [Case(words("show", *run[:4])) for run in runs], files)
     played = run_cases(PROGRAM, [Case(words("play", *run[:4])) for run in runs], files)
     streams = {f"stream{at:03}": answer.out for at, answer in enumerate(played)}

@@ -14,7 +14,7 @@ class Window:
         self.first, self.last = 0, rows - 1
 
     def scroll(self, by):
-        """The lines of the region go up by so many, or down; spaces come in."""
+        """Scrolls the region's lines up by `by`, or down if it is negative; spaces come in."""
         inside = self.lines[self.first : self.last + 1]
         blanks = [" " * self.cols] * min(abs(by), len(inside))
         kept = inside[len(blanks) :] if by > 0 else inside[: len(inside) - len(blanks)]
@@ -26,7 +26,7 @@ class Window:
 
 
 class Script:
-    """A script of calls none of which is refused, and the screen that it leaves: the screen's window is full, and shown."""
+    """A script of calls without a refusal, and the screen that it leaves: the screen's window is full, and shown."""
 
     def __init__(self, seed, rows=ROWS, cols=COLS):
         self.pick, self.rows, self.cols = random.Random(seed), rows, cols

@@ -171,7 +171,7 @@ class Build:
         return f"{len(self.built)} of {len(self.names)} crates built, {minutes:.1f} minutes{self.estimate(minutes)}"
 
     def estimate(self, minutes):
-        """How long the rest will take, if it goes on as it has gone so far, by the sizes of the crates."""
+        """How long the rest will take at the speed so far, by the sizes of the crates."""
         done = sum(self.sizes[name] for name in self.built)
         left = sum(self.sizes.values()) - done
         # what an earlier run has built takes no time, and says nothing

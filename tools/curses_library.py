@@ -1,8 +1,8 @@
-"""Compiles the library behind <ticurses/curses.h>, in both forms, from the C sources in curses/.
+"""Compiles the library of <ticurses/curses.h>, in both forms, from the C sources in curses/.
 
     python3 -B tools/curses_library.py FOLDER LIBTICURSES.so     leaves them in FOLDER; for a try by hand
 
-It is no part of what is proved, and is compiled anew whenever it is installed or packed, which takes seconds."""
+The library isn't proved. It is compiled anew whenever it is installed or packed, which takes seconds."""
 
 import os
 import re

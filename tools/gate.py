@@ -147,7 +147,7 @@ def rt_ci(is_anew):
 
 
 def proved(words):
-    """Runs `rt ci`, and notes of which sources the program is that it leaves. Returns its status and last line."""
+    """Runs `rt ci`, and notes the sources of the program that it leaves. Returns its status and last line."""
     sources = PROVED.sources()
     status, last = Crates().run(words)
     if status == 0 and os.path.isfile(PROVED.files[0]) and PROVED.sources() == sources:

@@ -106,7 +106,7 @@ class File:
         self.at, self.path, self.text, self.mode = at, path, text, mode
 
     def place(self):
-        """Writes it; what was there is replaced at once."""
+        """Writes the file, which replaces an older one at once."""
         folder = os.path.dirname(self.at)
         os.makedirs(folder, exist_ok=True)
         # a new file, whatever other users have put there

@@ -13,7 +13,7 @@ import tempfile
 
 from sources import checksum
 
-# so many of each kind stay
+# the number of each kind that stays
 COUNT = 4
 
 

@@ -8,7 +8,7 @@ SANS, MONO = "Helvetica, Arial, sans-serif", "Menlo, Consolas, 'DejaVu Sans Mono
 
 
 def number(value):
-    """A coordinate, with one digit behind the point where it needs one."""
+    """A coordinate, with one digit after the point if it needs one."""
     return f"{value:.1f}".rstrip("0").rstrip(".")
 
 

@@ -61,7 +61,7 @@ def _of(crate):
 
 
 def heading(sources):
-    """The line that ties verdicts to the sources of which they are."""
+    """The line that ties verdicts to their sources."""
     return f"sources {hashlib.sha256(sources.encode('utf-8', 'surrogateescape')).hexdigest()}\n"
 
 
