@@ -34,14 +34,7 @@ SKIPPED = {"out", "proofs", "must-fail", "__pycache__"}
 
 LIMIT = 20
 NOT_REWRITTEN = {
-    "crates/ti_cert": 44,
-    "crates/ti_checker": 45,
-    "crates/ti_faults": 17,
-    "crates/ti_hints": 8,
     "crates/ti_reports": 48,
-    "crates/ti_surveys": 54,
-    "crates/ti_verdicts": 27,
-    "crates/ti_words": 25,
     # made from the program's --help
     "man/ticurses.1": 8,
 }
