@@ -29,7 +29,7 @@ fn send_from_cnorm<C: Certificate, W: Wire>(checked: &C, wire: &mut W) -> Result
     send_row(checked, Row::Rmcup, wire)
 }
 
-/// Moves the cursor to the last line, and goes on as `send_from_cnorm` does.
+/// Moves the cursor to the last line, and continues as `send_from_cnorm` does.
 fn send_from_cup<C: Certificate, W: Wire>(checked: &C, wire: &mut W) -> Result<(), WireFault>
     ensures sends { Sends W.went W.failures wire.old wire.new (from_cup_text (C.table checked.now)) result }
 {

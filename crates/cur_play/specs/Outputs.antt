@@ -22,7 +22,7 @@ pub record IsQuiet {W C : Type 0} (old new : W) (bytes : List ℕ) (before after
   pub session : after.session ≡ before.session
   pub shown : after.shown ≡ before.shown
 
--- a refresh that shows this virtual screen, which is then the one shown last
+-- the bytes show this virtual screen, which is then the one shown last
 pub record Showed {W C : Type 0} (went : W → W → List ℕ → Type 0) (old new : W) (t : Table) (partners : ℕ → Option ℕ)
     (v : Screen) (bytes : List ℕ) (before after : Painted C) : Type 0 where
   pub refreshed : Refreshed went old new t (ink_at t partners before.shown) (ink_at t partners v)

@@ -58,7 +58,7 @@ on_both s x = (record s { desk = x.0; screen = x.1 }, answer_of x.2)
 abbrev pub on_mode : Scene → Mode × Result ℕ Refusal → Step
 on_mode s x = (record s { mode = x.0 }, mode_answer x.1)
 
--- each call's step before anything is sent: `refresh` and `prefresh` copy, and a call that only sends draws nothing
+-- the scene after a call, before it sends anything: `refresh` and `prefresh` copy; a call that only sends draws nothing
 abbrev pub drawn : Table → Scene → Call → Step
 drawn t s (Newwin n lines cols y x) = on_desk s (make.newwin s.desk n lines cols y x)
 drawn t s (Newpad n lines cols) = on_desk s (pads.newpad s.desk n lines cols)

@@ -22,7 +22,7 @@ abbrev pub AreShown : (ℕ → ℕ → Ink) → Cells → Ink → List ℕ → L
 AreShown g s ink text shown = (k : ℕ) → k < s.count
     → slice_index_or shown k false ≡ same (g s.row (s.from + k)) (record ink { byte = slice_index_or text k 0 })
 
--- for each of the first n cells, all of them blank, whether it is printed like the ink with the character of the text
+-- for each of the first n cells, which are all blank: whether it prints like the ink with the text's character
 abbrev pub AreBlank : ℕ → Ink → List ℕ → List Bool → Type 0
 AreBlank n ink text shown = (k : ℕ) → k < n
     → slice_index_or shown k false ≡ same blank_ink (record ink { byte = slice_index_or text k 0 })

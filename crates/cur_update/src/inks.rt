@@ -123,7 +123,7 @@ pub(crate) fn ink_of<C: Certificate>(
     styled_ink(checked, means, colors, cell)
 }
 
-/// How `cell` is printed, given the `colors` of its pair: `ink_of` without the short cut for plain cells.
+/// The ink of any `cell`, given the `colors` of its pair. `ink_of` and `shows_ink` don't call it for a plain one.
 #[inline(never)]
 fn styled_ink<C: Certificate>(
     checked: &C,

@@ -53,8 +53,7 @@ WritesLine k d (Ok s) (Ok t) i = WritesOn k d s t i
 WritesLine k d (Ok s) (Err e) i = ⊥
 WritesLine k d (Err e) t i = ⊥
 
--- an unmarked place of a grid stays unmarked, except in lines in which the call may have written in the window of a
--- number
+-- an unmarked place of a grid stays unmarked, except in lines that the call may have written in window `id`
 pub record MarksWritten (t u : Markings) (d e : State) (id : ℕ) : Type 0 where
   pub only : (k i j : ℕ) → IsUnmarked (grid_marks t k) i j → (WritesLine k d (slot_of d id) (slot_of e id) i → ⊥)
       → IsUnmarked (grid_marks u k) i j

@@ -45,7 +45,7 @@ impl Desk {
         Ok(line[(window.area.left + window.col) as usize])
     }
 
-    /// The parent of a subwindow, or `None` for any other window. `Full`, `NoWindow`.
+    /// The parent of a subwindow, or `None` for any other window. Errors: `Full`, `NoWindow`.
     pub fn parent(&self, id: usize) -> Result<Option<u8>, Refusal>
         ensures { result ≡ parent_of self.now id }
     {

@@ -111,7 +111,7 @@ fn written<'a>(request: &Request) -> Option<Call<'a>>
     }
 }
 
-/// Attributes and backgrounds, and copying from window to window.
+/// The call of a `request` about attributes, backgrounds or copies between windows; `None` for other kinds.
 fn styled<'a>(request: &Request) -> Option<Call<'a>>
     ensures { result ≡ spec.call_in spec.rows_styled request.now }
 {

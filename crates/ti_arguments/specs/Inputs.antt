@@ -69,7 +69,7 @@ pub record TakesInput (request : Request) : Type 0 where
   pub once : input_count (paths_read request) ≤ 1
   pub unwritten : writes_input request ≡ false
 
--- for an answer that is a request: it takes standard input as allowed
+-- if the answer is a request, it takes standard input as allowed
 abbrev pub AnswersWithInput : ParsedLine → Type 0
 AnswersWithInput (answers.Request request) = TakesInput request
 AnswersWithInput (answers.Text text) = Unit {0}

@@ -38,7 +38,7 @@ IsInfocmp name rows common neither entries =
     (name ≡ codes "infocmp") × (is_on (codes "c") rows ≡ common) × (is_on (codes "n") rows ≡ neither)
     × (words_of (codes "ENTRY") rows ≡ entries)
 
--- the words of a run of a script
+-- the arguments of a command that runs a script
 abbrev pub Plays : List Row → ScriptWords → Type 0
 Plays rows words =
     (words.entry.now ≡ word_of (codes "ENTRY") rows) × (words.rows.now ≡ word_of (codes "ROWS") rows)

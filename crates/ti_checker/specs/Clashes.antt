@@ -51,7 +51,7 @@ pub record AreClashes (entry : Content) (rows cols : ℕ) (nos : List No) : Type
   pub of_clear : OfStrings entry rows cols (cap_of Clear) NoResync (λ t. BeginsOpen t) clear
   pub are : nos ≡ ((smacs ++ rmacs) ++ acsc) ++ clear
 
--- ---- (Serves the code alone.) The refusals for the clashes that were computed, and a list to which each is added.
+-- ---- (Serves the code alone.) The clashes by computed values, and the refusals that each adds.
 
 -- one refusal about the row's capability if a charset is named, with a probe that has it and is a free start
 -- (`IsFree`); otherwise none

@@ -14,7 +14,7 @@ pub record Reading : Type 0 where
   -- how many more bytes may be passed
   pub budget : ℕ
 
--- Nothing more was taken; or the last call gave a piece of it, before which no line was whole.
+-- Either nothing more was taken, or the last call returned a piece of these bytes, before which no line was complete.
 pub data Refills (unread bytes : List ℕ) : Type 0 where
   NotAtAll : bytes ≡ [] → Refills unread bytes
   InPieces : (before piece : List ℕ) → bytes ≡ before ++ piece → length piece ≤ piece_limit

@@ -15,7 +15,7 @@ use Rattle.ti_source.specs.Layout.{Marked, cut_of, lines_of, marked_in, skip_whi
 use Rattle.ti_source.specs.Source.{begins_white, is_passed}
 use Rattle.ti_source.specs.Marks.{percent, caret}
 
--- a `%` that no backslash and no caret takes
+-- a `%` that isn't part of a backslash or caret escape
 abbrev pub is_percent : Opener → ℕ → Bool
 is_percent Nothing b = b == percent
 is_percent Backslash b = false

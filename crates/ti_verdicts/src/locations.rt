@@ -23,7 +23,7 @@ pub struct SourcePlace<'a> {
     pub text: &'a [u8],
     /// All entries of the text, as they were read.
     pub raws: &'a [RawEntry],
-    /// The place of the entry among them.
+    /// The place of the entry in `raws`.
     pub place: usize,
 }
 

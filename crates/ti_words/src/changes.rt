@@ -13,7 +13,7 @@ pub struct Changed {
     pub first: (usize, usize),
     /// The row and the column of the last one.
     pub last: (usize, usize),
-    /// Whether each of them is a space now.
+    /// Whether each changed cell is a space now.
     pub are_blank: bool,
 }
 
