@@ -5,38 +5,35 @@ use Rattle.ti_checker.specs.declared.causes.Cause.{Cause}
 use Rattle.ti_checker.specs.declared.causes.Cause.TheVariants.{FlagOut, Absent, AcsByte, Parm, StaticRead, Unfinished}
 use Rattle.ti_checker.specs.declared.causes.Cause.TheVariants.{Stuck, NotTame, BadLook, WrongEffect, NotShown, TooLong}
 use Rattle.ti_checker.specs.declared.causes.Cause.TheVariants.{NoResync, NoMemory}
+use Rattle.ti_checker.specs.declared.causes.No.{No}
+use Rattle.ti_rows.specs.declared.rows.Row.{Row}
+use Rattle.ti_reports.specs.Sent.{IsRowFor}
 use Rattle.ti_reports.specs.Texts.{IsShownAs}
 use Rattle.ti_verdicts.specs.Starts.{settings_of}
 use Rattle.ti_words.specs.Starts.{start_text}
+use Rattle.ti_words.specs.Wanted.{wanted_text}
 
 -- a text that may be there for a cause of which this holds, and for no other one
 abbrev pub IsOnlyIf : Bool → Option (String Global) → Type 0
 IsOnlyIf true text = Unit {0}
 IsOnlyIf false text = text ≡ None
 
--- whether something is wanted of what is sent, and whether that was run
-pub record Telling : Type 0 where
-  pub wants : Bool
-  pub runs : Bool
-
-abbrev pub silent : Telling
-silent = record { wants = false; runs = false }
-
-abbrev pub telling : Cause → Telling
-telling FlagOut = silent
-telling Absent = silent
-telling AcsByte = silent
-telling (Parm fault) = silent
-telling StaticRead = silent
-telling Unfinished = silent
-telling Stuck = silent
-telling NotTame = silent
-telling BadLook = record { wants = true; runs = true }
-telling (WrongEffect probe) = record { wants = true; runs = true }
-telling NotShown = record { wants = true; runs = false }
-telling TooLong = silent
-telling NoResync = silent
-telling NoMemory = silent
+-- whether what is sent was run
+abbrev pub runs : Cause → Bool
+runs FlagOut = false
+runs Absent = false
+runs AcsByte = false
+runs (Parm fault) = false
+runs StaticRead = false
+runs Unfinished = false
+runs Stuck = false
+runs NotTame = false
+runs BadLook = true
+runs (WrongEffect probe) = true
+runs NotShown = false
+runs TooLong = false
+runs NoResync = false
+runs NoMemory = false
 
 -- there is a text, and it shows these bytes
 abbrev pub HasText : List ℕ → Option (String Global) → Type 0
@@ -60,8 +57,37 @@ HasStart height TooLong start = start ≡ None
 HasStart height NoResync start = start ≡ None
 HasStart height NoMemory start = start ≡ None
 
--- Where a state shows the fault, it is the cause's own; what is wanted, and what is seen, is in free words.
-pub record IsExplained (height : ℕ) (cause : Cause) (start wanted seen : Option (String Global)) : Type 0 where
-  pub start_is : HasStart height cause start
-  pub wanted_is : IsOnlyIf (telling cause).wants wanted
-  pub seen_is : IsOnlyIf (telling cause).runs seen
+-- what is wanted of a row, in words
+abbrev pub HasWanted : Option Row → Option (String Global) → Type 0
+HasWanted (Some row) wanted = HasText (wanted_text row) wanted
+HasWanted None wanted = wanted ≡ None
+
+-- what is wanted of the row that the no is about, if it is about one
+pub record IsOfItsRow (refusal : No) (wanted : Option (String Global)) : Type 0 where
+  pub row : Option Row
+  pub of : IsRowFor refusal row
+  pub has : HasWanted row wanted
+
+-- so where the cause is that this isn't so
+abbrev pub IsWanted : Cause → No → Option (String Global) → Type 0
+IsWanted FlagOut refusal wanted = wanted ≡ None
+IsWanted Absent refusal wanted = wanted ≡ None
+IsWanted AcsByte refusal wanted = wanted ≡ None
+IsWanted (Parm fault) refusal wanted = wanted ≡ None
+IsWanted StaticRead refusal wanted = wanted ≡ None
+IsWanted Unfinished refusal wanted = wanted ≡ None
+IsWanted Stuck refusal wanted = wanted ≡ None
+IsWanted NotTame refusal wanted = wanted ≡ None
+IsWanted BadLook refusal wanted = IsOfItsRow refusal wanted
+IsWanted (WrongEffect probe) refusal wanted = IsOfItsRow refusal wanted
+IsWanted NotShown refusal wanted = IsOfItsRow refusal wanted
+IsWanted TooLong refusal wanted = wanted ≡ None
+IsWanted NoResync refusal wanted = wanted ≡ None
+IsWanted NoMemory refusal wanted = wanted ≡ None
+
+-- Where a state shows the fault, it is the cause's own. What is wanted is that of the row. What is seen is in free
+-- words.
+pub record IsExplained (height : ℕ) (refusal : No) (start wanted seen : Option (String Global)) : Type 0 where
+  pub start_is : HasStart height refusal.cause start
+  pub wanted_is : IsWanted refusal.cause refusal wanted
+  pub seen_is : IsOnlyIf (runs refusal.cause) seen

@@ -1,14 +1,18 @@
 //! What the lines for people say of a run.
 
-ghost use Rattle.std.specs.Prelude.{◌≡◌, IfOk};
+ghost use Rattle.std.specs.Prelude.{◌≡◌, IfOk, string_bytes};
 ghost use Rattle.ti_reports.specs.Explanations as spec;
+ghost use Rattle.ti_reports.specs.Texts.{IsShownAs};
+ghost use Rattle.ti_words.specs.Wanted as told;
 
+use crate::sent::row_of;
 use crate::texts::text_of;
 use std::alloc::{AllocError, Global};
 use ti_caps::Entry;
 use ti_checker::{Cause, No};
+use ti_rows::Row;
 use ti_verdicts::{explain_no, probe_words};
-use ti_words::Remarks;
+use ti_words::{Remarks, wanted_words};
 use vt_term::Size;
 
 /// What is said of the run that shows a no, in words.
@@ -29,13 +33,13 @@ pub fn explained(
     size: Size,
     no: &No,
 ) -> Result<Explanation, AllocError>
-    ensures { IfOk result (λ it. spec.IsExplained size.rows no.now.cause it.start it.wanted it.seen) }
+    ensures { IfOk result (λ it. spec.IsExplained size.rows no.now it.start it.wanted it.seen) }
 {
     let mut remarks = Remarks::new(alloc);
     explain_no(alloc, entry, size, no, &mut remarks);
     Ok(Explanation {
         start: start_of(alloc, size, no.cause)?,
-        wanted: wanted_in(alloc, no.cause, remarks.lines())?,
+        wanted: wanted_of(alloc, no)?,
         seen: seen_in(alloc, no.cause, remarks.lines())?,
     })
 }
@@ -56,23 +60,47 @@ fn start_of(alloc: Global, size: Size, cause: Cause) -> Result<Option<String>, A
     }
 }
 
-/// What is wanted, as one of the `lines` says, if the `cause` is that it isn't so.
-fn wanted_in(alloc: Global, cause: Cause, lines: &[Vec<u8>]) -> Result<Option<String>, AllocError>
-    ensures { IfOk result (λ wanted. spec.IsOnlyIf (spec.telling cause).wants wanted) }
+/// What is wanted of the row that `no` is about, if its cause is that this isn't so.
+fn wanted_of(alloc: Global, no: &No) -> Result<Option<String>, AllocError>
+    ensures { IfOk result (λ wanted. spec.IsWanted no.now.cause no.now wanted) }
 {
-    match cause {
-        Cause::BadLook | Cause::WrongEffect(_) | Cause::NotShown => {
-            line_after(alloc, lines, b"wanted: ")
-        }
+    match no.cause {
+        Cause::BadLook | Cause::WrongEffect(_) | Cause::NotShown => wanted_of_row(alloc, no),
         Cause::FlagOut | Cause::Absent | Cause::AcsByte | Cause::Parm(_) => Ok(None),
         Cause::StaticRead | Cause::Unfinished | Cause::Stuck | Cause::NotTame => Ok(None),
         Cause::TooLong | Cause::NoResync | Cause::NoMemory => Ok(None),
     }
 }
 
+/// What is wanted of the row that `no` is about; `None` if it is about none.
+fn wanted_of_row(alloc: Global, no: &No) -> Result<Option<String>, AllocError>
+    ensures { IfOk result (λ wanted. spec.IsOfItsRow no.now wanted) }
+{
+    let row = row_of(no);
+    let wanted = wanted_text(alloc, row)?;
+    Ok(wanted)
+}
+
+/// What is wanted of `row`, if there is one.
+fn wanted_text(alloc: Global, row: Option<Row>) -> Result<Option<String>, AllocError>
+    ensures { IfOk result (λ wanted. spec.HasWanted row wanted) }
+{
+    match row {
+        Some(row) => Ok(Some(row_text(alloc, row)?)),
+        None => Ok(None),
+    }
+}
+
+fn row_text(alloc: Global, row: Row) -> Result<String, AllocError>
+    ensures { IfOk result (λ text. IsShownAs (told.wanted_text row) (string_bytes text)) }
+{
+    let words = wanted_words(alloc, row)?;
+    text_of(alloc, words.as_slice())
+}
+
 /// What happens, as one of the `lines` says, if a run showed the `cause`.
 fn seen_in(alloc: Global, cause: Cause, lines: &[Vec<u8>]) -> Result<Option<String>, AllocError>
-    ensures { IfOk result (λ seen. spec.IsOnlyIf (spec.telling cause).runs seen) }
+    ensures { IfOk result (λ seen. spec.IsOnlyIf (spec.runs cause) seen) }
 {
     match cause {
         Cause::BadLook | Cause::WrongEffect(_) => line_after(alloc, lines, b"seen: "),

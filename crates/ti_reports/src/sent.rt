@@ -51,7 +51,7 @@ fn sent_by(alloc: Global, string: &[u8], row: Row) -> Result<Option<String>, All
 }
 
 /// The row with the capability and the parameters of `no`.
-fn row_of(no: &No) -> Option<Row>
+pub fn row_of(no: &No) -> Option<Row>
     ensures { spec.IsRowFor no.now result }
 {
     with_params(first_row(no.cap), no.params.as_slice())
