@@ -77,7 +77,7 @@ static void text(int w, const char *bytes, int len) {
 static void bold(int w, int is_on) {
     is_on ? wattron(windows[w], A_BOLD) : wattroff(windows[w], A_BOLD);
 }
-static void colour(int w, int pair) {
+static void set_colors(int w, int pair) {
     wcolor_set(windows[w], (short)pair, NULL);
 }
 static void make_pair(int pair, int fore, int back) {
@@ -176,7 +176,7 @@ static void text(int w, const char *bytes, int len) {
 static void bold(int w, int is_on) {
     done(ticurses_callf(&session, "%s %d B", is_on ? "attron" : "attroff", w));
 }
-static void colour(int w, int pair) {
+static void set_colors(int w, int pair) {
     done(ticurses_callf(&session, "color_set %d %d", w, pair));
 }
 static void make_pair(int pair, int fore, int back) {
@@ -362,10 +362,10 @@ static void set_colours(void) {
     set_page();
 }
 
-static void coloured(int step) {
+static void colored_cells(int step) {
     for (int row = 0; row < rows; row++) {
         for (int col = 0; col + 8 <= width(row); col += 8) {
-            colour(0, 1 + (row + col / 8 + step) % 63);
+            set_colors(0, 1 + (row + col / 8 + step) % 63);
             bold(0, (row + step) % 2);
             go(0, row, col);
             text(0, words(8), 8);
@@ -398,7 +398,7 @@ static const struct scene {
     {"log", set_log, logged, 2000, 1},
     {"windows", set_windows, moved, 2000, 1},
     {"pad", set_pad, padded, 1000, 1},
-    {"colours", set_colours, coloured, 500, 1},
+    {"colours", set_colours, colored_cells, 500, 1},
     {"open", none, opened, 20, 0},
 };
 

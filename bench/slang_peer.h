@@ -48,7 +48,7 @@ static void bold(int w, int is_on) {
     SLsmg_set_color(pair_now + bold_now);
 }
 
-static void colour(int w, int pair) {
+static void set_colors(int w, int pair) {
     (void)w;
     pair_now = pair;
     SLsmg_set_color(pair_now + bold_now);

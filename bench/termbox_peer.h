@@ -59,7 +59,7 @@ static void bold(int w, int is_on) {
     bold_now = is_on ? TB_BOLD : 0;
 }
 
-static void colour(int w, int pair) {
+static void set_colors(int w, int pair) {
     (void)w;
     fore_now = pairs[pair].fore;
     back_now = pairs[pair].back;

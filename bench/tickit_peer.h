@@ -150,7 +150,7 @@ static void bold(int w, int is_on) {
     bold_now = is_on ? IN_BOLD : 0;
 }
 
-static void colour(int w, int pair) {
+static void set_colors(int w, int pair) {
     (void)w;
     pair_now = pair;
 }

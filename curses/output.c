@@ -42,7 +42,8 @@ static int add(WINDOW *window, chtype ch) {
     const char *text;
     int code = OK;
     if (TCU_BYTE(ch) < 128) return session_addch(window->number, ch);
-    for (text = unctrl(ch); *text && code == OK; text++) code = session_addch(window->number, (unsigned char)*text | (ch & ~A_CHARTEXT));
+    for (text = unctrl(ch); *text && code == OK; text++)
+        code = session_addch(window->number, (unsigned char)*text | (ch & ~A_CHARTEXT));
     return code;
 }
 
