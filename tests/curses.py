@@ -143,6 +143,18 @@ def judge_library(prefix):
     print(f"curses: both forms of the library export the {len(declared)} names of curses.h alone")
 
 
+def judge_own_names(work, prefix):
+    """A program whose functions have names of curses' changes no call within the shared library."""
+    line = ["cc", "-std=c99", *STRICT, f"-I{prefix}/include/ticurses", f"{HERE}/own_names.c", "-o", f"{work}/own_names"]
+    libraries = [f"{prefix}/lib/{curses_library.SONAME}", f"-Wl,-rpath,{prefix}/lib", f"-L{prefix}/lib", "-lticurses"]
+    if subprocess.run([*line, *libraries]).returncode:
+        fail("own_names.c doesn't compile")
+    ran = subprocess.run([f"{work}/own_names"], capture_output=True, text=True)
+    if ran.returncode:
+        fail(f"where a program has functions by names of curses, the library calls {ran.stdout or ran.stderr}")
+    print("curses: the shared library's calls of its own functions stay in it")
+
+
 # -- programs --
 
 
@@ -390,6 +402,7 @@ def main():
         judge_headers(work)
         prefix = given[0] if given else installed(work)
         judge_library(prefix)
+        judge_own_names(work, prefix)
         judge_random(work, prefix)
         if missing("curses", "tmux") or not os.path.exists("/usr/include/curses.h"):
             print("curses: tmux or ncurses' header is not installed; the programs are left out")

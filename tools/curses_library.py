@@ -66,7 +66,9 @@ def built(room, shared, searched=""):
         # a program may have names of its own for all but these
         run([*copier.split(), "--keep-global-symbols=names", "whole.o", "ticurses_curses.o"], cwd=work)
         run([*archiver.split(), "rcsD", f"{os.path.abspath(room)}/{ARCHIVE}", "ticurses_curses.o"], cwd=work)
-        words = ["-shared", f"-Wl,-soname,{SONAME}", "-Wl,--version-script,exported"]
+        # Calls within the library stay in it, whatever functions a program defines. Not so variables: a program may
+        # hold those itself, such as stdscr, and the library must use the program's.
+        words = ["-shared", "-Wl,-Bsymbolic-functions", f"-Wl,-soname,{SONAME}", "-Wl,--version-script,exported"]
         words += [f"-Wl,-rpath,{searched}"] if searched else []
         words += ["-o", f"{os.path.abspath(room)}/{SONAME}", "ticurses_curses.o", os.path.abspath(shared)]
         run([*compiler.split(), *words], cwd=work)
