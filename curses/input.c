@@ -15,7 +15,14 @@ enum { QUEUED = 1024, LONGEST = 64 };
  * a key and turned out to be none. */
 static int given[QUEUED];
 static size_t given_count;
+/* The first bytes of a function key whose rest the program itself waits for, by ticurses_wgetch. */
+static char begun[LONGEST];
+static size_t begun_count;
 static bool is_keypad_on;
+
+/* How a key is read: by wgetch, which waits; or by ticurses_wgetch, which waits for nothing, and leaves the first bytes
+ * of a function key for the next read or takes each as a key. */
+static enum { WAITS, LEAVES_REST, TAKES_REST } manner;
 
 /* The strings of the entry's keys. */
 static struct {
@@ -49,7 +56,7 @@ int tcu_keypad(bool is_on) {
 }
 
 void tcu_forget_keys(void) {
-    given_count = 0;
+    given_count = begun_count = 0;
 }
 
 int keypad(WINDOW *window, bool is_on) {
@@ -97,36 +104,49 @@ static int key_of(const char *bytes, size_t count, bool *is_beginning) {
     int found = 0;
     *is_beginning = false;
     for (size_t at = 0; at < known_count; at++) {
-        if (strncmp(known[at].text, bytes, count) != 0) continue;
-        if (strlen(known[at].text) > count) *is_beginning = true;
+        size_t len = strlen(known[at].text);
+        /* a zero byte is of no key */
+        if (len < count || memcmp(known[at].text, bytes, count) != 0) continue;
+        if (len > count) *is_beginning = true;
         else if (found == 0) found = known[at].key;
     }
     return found;
 }
 
-/* How many milliseconds to wait for the rest of a key. */
+/* How many milliseconds wgetch waits for the rest of a key. */
 static int patience(const WINDOW *window) {
     return window->waits_in_keys ? -1 : ESCDELAY;
 }
 
-/* Reads the rest of a key that may begin with the byte `first`. Bytes that are no key are returned one by one. */
-static int read_key(const WINDOW *window, int first) {
-    char bytes[LONGEST];
-    size_t count = 0;
-    bool is_beginning = true;
-    int byte = first, key = 0;
-    while (byte > 0 && byte < 256 && is_beginning && count < sizeof bytes) {
-        bytes[count++] = (char)byte;
-        key = key_of(bytes, count, &is_beginning);
-        if (key > 0) return key;
-        if (is_beginning) byte = next_byte(patience(window));
-    }
-    if (count == 0) return first;
-    while (count > 1 && given_count < QUEUED) given[given_count++] = (unsigned char)bytes[--count];
-    return (unsigned char)bytes[0];
+/* Returns the first of the bytes that turned out to be no key, and the others to the next reads. */
+static int give_back(void) {
+    while (begun_count > 1 && given_count < QUEUED) given[given_count++] = (unsigned char)begun[--begun_count];
+    begun_count = 0;
+    return (unsigned char)begun[0];
 }
 
+/* Reads the rest of a key that may begin with the bytes so far and with `byte`. Bytes that are no key are returned one
+ * by one. */
+static int read_key(const WINDOW *window, int byte) {
+    while (byte >= 0 && byte < 256) {
+        bool is_beginning;
+        int key;
+        begun[begun_count++] = (char)byte;
+        key = key_of(begun, begun_count, &is_beginning);
+        if (key > 0) {
+            begun_count = 0;
+            return key;
+        }
+        if (!is_beginning || begun_count == sizeof begun) return give_back();
+        byte = next_byte(manner == WAITS ? patience(window) : 0);
+    }
+    return byte == ERR && manner == LEAVES_REST ? ERR : give_back();
+}
+
+/* How many milliseconds to wait for the next byte. */
 static int patience_of(const WINDOW *window) {
+    if (manner != WAITS) return 0;
+    if (begun_count > 0) return patience(window);
     if (window->delay >= 0) return window->delay;
     return tcu_modes.half_delay > 0 ? tcu_modes.half_delay * 100 : -1;
 }
@@ -141,8 +161,9 @@ static int read_one(const WINDOW *window) {
     if (given_count > 0) return given[--given_count];
     if (signals_has_size_changed()) return KEY_RESIZE;
     key = next_byte(patience_of(window));
-    if (key == ERR || key == KEY_RESIZE) return key;
-    if (window->has_keypad) key = read_key(window, key);
+    if (key == KEY_RESIZE || (key == ERR && begun_count == 0)) return key;
+    if (window->has_keypad || begun_count > 0) key = read_key(window, key);
+    if (key == ERR) return key;
     return key < 256 && !is_eight_bits() ? key & 127 : key;
 }
 
@@ -174,4 +195,15 @@ int wgetch(WINDOW *window) {
     /* the echo is of the key as it was typed */
     if (tcu_modes.echoes && key >= 0 && key < 256) wechochar(window, (chtype)key);
     return key == '\r' && tcu_modes.reads_newlines ? '\n' : key;
+}
+
+int ticurses_wgetch(WINDOW *window, bool takes_rest, int *count, int *milliseconds) {
+    int key;
+    if (!tcu_is_own(window)) return ERR;
+    manner = takes_rest ? TAKES_REST : LEAVES_REST;
+    key = wgetch(window);
+    manner = WAITS;
+    if (count) *count = (int)begun_count;
+    if (milliseconds) *milliseconds = patience(window);
+    return key;
 }

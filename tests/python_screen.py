@@ -97,6 +97,37 @@ def main(screen):
     say("line by line", [screen.getch() for _ in range(4)])
     curses.cbreak()
     curses.noecho()
+
+    # the rest of a function key is awaited without the lock: another thread counts meanwhile, and a handler runs
+    counted = []
+
+    def count():
+        while len(counted) < 100:
+            time.sleep(0.01)
+            counted.append(time.monotonic())
+
+    curses.set_escdelay(1500)
+    thread = threading.Thread(target=count)
+    say("ready 6")
+    thread.start()
+    say("escape", screen.getch(), len(counted) > 20)
+    thread.join()
+    curses.set_escdelay(5000)
+    say("ready 7")
+    begun = time.monotonic()
+    say("arrow", screen.getch() == curses.KEY_UP, time.monotonic() - begun < 4)
+    screen.nodelay(True)
+    say("ready 8")
+    time.sleep(1)
+    say("arrow", screen.getch() == curses.KEY_UP, screen.getch())
+    screen.nodelay(False)
+    signal.setitimer(signal.ITIMER_REAL, 2)
+    say("ready 9")
+    say(raised(screen.getch), screen.getch() == curses.KEY_DOWN)
+    curses.set_escdelay(10)
+    screen.notimeout(True)
+    say("ready 10")
+    say("arrow", screen.getch() == curses.KEY_LEFT)
     say("pickled", raised(pickle.dumps, screen), raised(copy.copy, screen))
     say("pickled", repr(pickle.loads(pickle.dumps(curses.error("x")))))
 
@@ -119,6 +150,16 @@ ready 4
 line b'hullo' b'   hullo    '
 ready 5
 line by line [120, 121, 122, 10]
+ready 6
+escape 27 True
+ready 7
+arrow True True
+ready 8
+arrow True -1
+ready 9
+TimeoutError True
+ready 10
+arrow True
 pickled TypeError TypeError
 pickled error('x')
 over
@@ -219,8 +260,16 @@ def check_keys(package, work):
     run.terminal.press(b"hello\x7f\x7f\x7f\x7fullo\r")
     run.waits_for("ready 5")
     run.terminal.press(b"xyz\r")
+    run.waits_for("ready 6")
+    run.terminal.press(b"\033")
+    for number, pause, rest in ((7, 0.5, b"OA"), (8, 1.5, b"OA"), (9, 3, b"OB"), (10, 0.5, b"OD")):
+        run.waits_for(f"ready {number}")
+        run.terminal.press(b"\033")
+        time.sleep(pause)
+        run.terminal.press(rest)
     hold(run.ends() == 0 and run.told() == KEYS_WANTED, "keys are read otherwise", run.told(), run.terminal.sent[-500:])
-    print("python: a wait for a key ends with signals, sizes and times, lets threads run, and lines are read")
+    print("python: a wait for a key ends with signals, sizes and times, lets threads run, also within a function key; "
+          "lines are read")
 
 
 def check_forked(package, work):

@@ -492,6 +492,12 @@ attr_t getattrs(const WINDOW *window);
 WINDOW *wgetparent(const WINDOW *window);
 int wgetscrreg(const WINDOW *window, int *top, int *bottom);
 int wgetdelay(const WINDOW *window);
+/* Reads a key as wgetch does where keys come one by one, and waits for nothing; for programs that wait in their own way.
+ * Answers ERR if no key is there. If the first bytes of a function key are, *count becomes their number and
+ * *milliseconds the time that wgetch would wait for the rest, without end if negative; else *count becomes 0. The next
+ * read continues with these bytes, or takes each as a key if `takes_rest` and the rest isn't there. Either pointer may
+ * be null. */
+int ticurses_wgetch(WINDOW *window, bool takes_rest, int *count, int *milliseconds);
 bool is_cleared(const WINDOW *window);
 bool is_idcok(const WINDOW *window);
 bool is_idlok(const WINDOW *window);

@@ -2,6 +2,7 @@
 
 from __future__ import annotations
 
+import ctypes
 import time
 from typing import TYPE_CHECKING, Any
 
@@ -50,36 +51,52 @@ def _read_key(shown: Showing) -> int:
     delay = LIBRARY.wgetdelay(shown.at)
     if delay < 0 and MODES.half_delay:
         delay = MODES.half_delay * 100
-    key = LIBRARY.wgetch(shown.at) if delay == 0 else _awaited(shown, delay)
+    key = _awaited(shown, delay)
     if key == KEY_RESIZE:
         size_published()
-    return int(key)
+    return key
+
+
+def _asked(at: int, takes_rest: bool = False) -> tuple[int, int, int]:
+    """A key that is there, or ERR; and if the first bytes of a function key are there, their number, with the
+    milliseconds to wait for the rest, without end if negative. With `takes_rest` such bytes are keys if the rest isn't
+    there."""
+    count, milliseconds = ctypes.c_int(0), ctypes.c_int(0)
+    key = LIBRARY.ticurses_wgetch(at, takes_rest, ctypes.byref(count), ctypes.byref(milliseconds))
+    return int(key), count.value, milliseconds.value
+
+
+def _end_of(milliseconds: int) -> float | None:
+    """The moment in this many milliseconds; None if they are negative."""
+    return None if milliseconds < 0 else time.monotonic() + milliseconds / 1000
+
+
+def _left(end: float | None) -> float | None:
+    """The seconds until `end`, not below 0; None is no end."""
+    return None if end is None else max(end - time.monotonic(), 0)
 
 
 def _awaited(shown: Showing, delay: int) -> int:
-    """Reads a key within `delay` milliseconds. The library only returns keys that are there; the wait is outside it."""
-    at, before = shown.at, LIBRARY.wgetdelay(shown.at)
-    end = None if delay < 0 else time.monotonic() + delay / 1000
-    has_come = False
-    LIBRARY.wtimeout(at, 0)
-    try:
-        key = LIBRARY.wgetch(at)
-        while key == ERR:
-            left = None if end is None else end - time.monotonic()
-            if left is not None and left <= 0:
-                return ERR
-            with held_signals() as mask:
-                # this call also acts on signals that have come meanwhile
-                key = LIBRARY.wgetch(at)
-                if key == ERR and has_come:
-                    # the descriptor was ready, but there was nothing to read: the terminal is gone
-                    return ERR
-                if key == ERR:
-                    has_come = ready(INPUT, left, mask)
-        return int(key)
-    finally:
-        if shown.is_usable():
-            LIBRARY.wtimeout(at, before)
+    """Reads a key within `delay` milliseconds. The library only returns keys that are there; the wait is outside it,
+    also the one for the rest of a function key."""
+    at, has_come = shown.at, False
+    key, held, patience = _asked(at)
+    late = _end_of(delay)
+    end = _end_of(patience) if held else late
+    while key == ERR and _left(end) != 0:
+        with held_signals() as mask:
+            before = held
+            # this call also acts on signals that have come meanwhile
+            key, held, patience = _asked(at)
+            if held != before:
+                end = _end_of(patience) if held else late
+            elif key == ERR and has_come:
+                # the descriptor was ready, but there was nothing to read: the terminal is gone
+                break
+            if key == ERR:
+                has_come = ready(INPUT, _left(end), mask)
+    # the rest of a function key didn't come
+    return _asked(at, True)[0] if key == ERR and held else key
 
 
 class _Line:

@@ -74,7 +74,7 @@ _MODES: dict[str, tuple[Any, list[Any]]] = {
 }
 
 _KEYS: dict[str, tuple[Any, list[Any]]] = {
-    "wgetch": (INT, [WINDOW]),
+    "ticurses_wgetch": (INT, [WINDOW, BOOL, ctypes.POINTER(INT), ctypes.POINTER(INT)]),
     "flushinp": (INT, []),
     "has_key": (INT, [INT]),
     "keyname": (TEXT, [INT]),
