@@ -8,6 +8,7 @@ takes the library from where ./install put it. With names it runs only these pro
 NCURSES_TESTS names a folder with the sources of ncurses' test programs, which are no part of this repository."""
 
 import os
+import pathlib
 import re
 import shutil
 import subprocess
@@ -15,7 +16,7 @@ import sys
 import time
 from concurrent.futures import ThreadPoolExecutor
 
-from linked import SANITIZED, STRICT, installed, missing, rooms
+from linked import PATIENCE, SANITIZED, STRICT, installed, missing, rooms
 from trying import TOP, held_in
 
 sys.path.append(f"{TOP}/tools")
@@ -68,6 +69,12 @@ PROGRAMS = {
 }
 # programs that differ, as the page explains
 EXPLAINED = {"background", "newdemo", "testaddch"}
+# programs that also run with the sanitizers and under valgrind: of this repository, with their keys, and of ncurses
+OWN = {
+    f"{HERE}/answers.c": "a Left F5 =word BSpace Enter =12 Space =34 Enter x %-x,70,-y,20 y",
+    f"{TOP}/examples/curses/snake.c": "Right Down p p q",
+}
+CHECKED = ("chgat", "movewindow", "padview", "testcurs", "view")
 # files that a program is linked with if its source includes their headers
 PARTS = ("popup_msg", "dump_window")
 
@@ -258,6 +265,24 @@ class Pane:
         else:
             self.run("send-keys", key)
 
+    def until(self, holds):
+        """The text of the screen once it meets the condition, or after the longest time."""
+        end, text = time.monotonic() + PATIENCE, self.seen()[0]
+        while not holds(text) and time.monotonic() < end:
+            time.sleep(0.1)
+            text = self.seen()[0]
+        return text
+
+    def last(self, keys):
+        """The screen after all keys, where the shell says that the program has ended. It may be a slow one."""
+        self.until(str.strip)
+        for key in keys:
+            self.press(key)
+            self.quiet()
+        text = self.until(lambda it: "ended " in it)
+        self.run("kill-server")
+        return text
+
     def shots(self, keys):
         """The screens at the beginning and after each key."""
         time.sleep(0.5)
@@ -287,13 +312,17 @@ def differing(one, other):
     return [(at, a, b) for at, (a, b) in pairs if a[1] != b[1] or cells_of(a[0]) != cells_of(b[0])]
 
 
+def sources_of(tests, name):
+    """The files of a program of ncurses' test directory."""
+    text = held_in(f"{tests}/{name}.c").decode("latin-1")
+    return [f"{tests}/{it}.c" for it in (name, *PARTS) if it == name or f'"{it}.h"' in text or f"<{it}.h>" in text]
+
+
 def judge_programs(made, tests, names):
     """The programs of ncurses' test directory."""
     counts, others, names, all_names = [], {}, names or sorted(PROGRAMS), not names
     for name in names:
-        text = held_in(f"{tests}/{name}.c").decode("latin-1")
-        sources = [f"{tests}/{it}.c" for it in (name, *PARTS) if it == name or f'"{it}.h"' in text or f"<{it}.h>" in text]
-        refused = made.make(name, sources, f"-I{HERE}", f"-I{tests}")
+        refused = made.make(name, sources_of(tests, name), f"-I{HERE}", f"-I{tests}")
         if refused:
             fail(f"{name} doesn't compile: {refused}")
     with ThreadPoolExecutor(len(os.sched_getaffinity(0))) as pool:
@@ -395,6 +424,69 @@ def judge_random(work, prefix):
     print(f"curses: random calls, {len(tries)} runs, some with the sanitizers and valgrind, find nothing wrong")
 
 
+# -- the sanitizers and valgrind --
+
+
+class Watched:
+    """The library's objects with the sanitizers, and with what valgrind needs; programs that are linked with them."""
+
+    def __init__(self, work, prefix):
+        self.panes, self.work, self.prefix = work, f"{work}/watched", prefix
+        self.tools = {"sanitized": SANITIZED}
+        if not missing("curses", "valgrind"):
+            self.tools["valgrind"] = ["-g"]
+        for tool, own in self.tools.items():
+            os.makedirs(f"{self.work}/{tool}/objects")
+            sources = [f"{curses_library.SOURCES}/{it}" for it in curses_library.sources()]
+            line = ["cc", "-std=c99", "-O1", "-w", *own, "-c", *sources]
+            if subprocess.run(line, cwd=f"{self.work}/{tool}/objects").returncode:
+                fail(f"the library doesn't compile for {tool}")
+
+    def make(self, tool, name, sources, *words):
+        """Compiles a program, without the sanitizers if it is another's, and links it with the library's objects."""
+        room, own = f"{self.work}/{tool}", self.tools[tool]
+        os.makedirs(f"{room}/{name}.objects")
+        line = ["cc", "-w", "-g", "-O1", f"-I{curses_library.INCLUDE}", *words, "-c", *sources]
+        objects = [f"{room}/objects/{it[:-2]}.o" for it in curses_library.sources()]
+        objects += [f"{room}/{name}.objects/{os.path.basename(it)[:-2]}.o" for it in sources]
+        link = ["cc", *own, *objects, f"{self.prefix}/lib/libticurses.a", "-lm", "-o", f"{room}/{name}"]
+        for words in (line, link):
+            if subprocess.run(words, cwd=f"{room}/{name}.objects").returncode:
+                fail(f"{name} doesn't compile for {tool}")
+
+    def found(self, tool, name, words, keys):
+        """What a tool reports of a program, or its last screen if it didn't end as it should; "" where all is well."""
+        report = f"{self.work}/{tool}/{name}.report"
+        line = [f"ASAN_OPTIONS=detect_leaks=0:log_path={report}", f"UBSAN_OPTIONS=print_stacktrace=1:log_path={report}"]
+        if tool == "valgrind":
+            line = ["valgrind", "-q", "--error-exitcode=99", f"--log-file={report}"]
+        # the sanitizers must come before anything that is preloaded
+        line = ["env", "-u", "LD_PRELOAD", *line, f"{self.work}/{tool}/{name}", *words]
+        text = Pane(self.panes, f"{tool}-{name}", line).last(keys)
+        told = "".join(it.read_text("latin-1") for it in sorted(pathlib.Path(report).parent.glob(f"{name}.report*")))
+        return told or ("" if "ended 0" in text else text)
+
+
+def judge_watched(work, prefix, tests):
+    """Programs with the sanitizers and under valgrind: the repository's own, and some of ncurses where they are there."""
+    watched, runs = Watched(work, prefix), []
+    for tool, own in watched.tools.items():
+        for source, keys in OWN.items():
+            name = os.path.basename(source)[:-2]
+            watched.make(tool, name, [source], "-std=c99", *own)
+            runs.append((tool, name, [f"{watched.work}/{tool}/log"] if name == "answers" else [], keys.split()))
+        for name in CHECKED if tests else ():
+            watched.make(tool, name, sources_of(tests, name), f"-I{HERE}", f"-I{tests}")
+            words, keys = PROGRAMS[name]
+            runs.append((tool, name, [it.replace("{tests}", tests) for it in words], keys.split()))
+    with ThreadPoolExecutor(len(os.sched_getaffinity(0))) as pool:
+        for run, told in zip(runs, pool.map(lambda it: watched.found(*it), runs)):
+            if told:
+                fail(f"{run[1]} ({run[0]}): {told[:4000]}")
+    count = len(runs) // len(watched.tools)
+    print(f"curses: {count} programs run with {' and '.join(watched.tools)}, and nothing is reported")
+
+
 def main():
     given = sys.argv[1:]
     judge_page()
@@ -410,11 +502,14 @@ def main():
         made = Compiled(work, prefix)
         judge_answers(made)
         judge_signals(made)
-        tests = os.environ.get("NCURSES_TESTS", "")
-        if not os.path.isfile(f"{tests}/test.priv.h"):
+        tests = os.path.abspath(os.environ.get("NCURSES_TESTS") or f"{work}/none")
+        has_tests = os.path.isfile(f"{tests}/test.priv.h")
+        if not given[1:]:
+            judge_watched(work, prefix, tests if has_tests else "")
+        if not has_tests:
             print("curses: NCURSES_TESTS names no folder of ncurses' test programs (docs/CURSES.md); they are left out")
             return
-        judge_programs(made, os.path.abspath(tests), given[1:])
+        judge_programs(made, tests, given[1:])
 
 
 if __name__ == "__main__":

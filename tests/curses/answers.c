@@ -136,7 +136,7 @@ static void looks(void) {
     WINDOW *w = newwin(3, 12, 0, 0);
     chtype row[20];
     attr_t attrs;
-    short pair, other;
+    short pair = -9, other = -9;
     SAY(has_colors());
     SAY(start_color());
     SAY(init_pair(1, COLOR_RED, COLOR_BLUE));
