@@ -1,0 +1,4 @@
+pub mod Ends
+pub mod Scans
+pub mod Texts
+pub mod Readings

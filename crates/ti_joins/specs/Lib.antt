@@ -1,0 +1,4 @@
+-- The definitions of joined texts.
+pub mod Joins
+pub mod Steps
+pub mod Laws

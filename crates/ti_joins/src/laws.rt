@@ -1,0 +1,10 @@
+//! Laws of joined texts.
+
+ghost use Rattle.ti_joins.specs.Laws.{LinesAreJoined, LinesAreKept};
+
+/// Law: the lines of a joined text are the joined lines, and there are as many as before, so each line that isn't taken
+/// up keeps its number.
+pub fn lines_are_joined()
+    ensures joined { LinesAreJoined }
+    ensures kept { LinesAreKept }
+{}

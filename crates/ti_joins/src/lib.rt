@@ -1,0 +1,10 @@
+//! Source texts in which fields continue on further lines: each such field is put on one line.
+#![tactic(auto)]
+
+mod joiner;
+mod laws;
+mod lines;
+mod scan;
+
+pub use joiner::joined;
+pub use laws::lines_are_joined;
