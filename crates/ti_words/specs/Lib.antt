@@ -2,5 +2,7 @@
 pub mod Numbers
 pub mod Shown
 pub mod Remarks
+pub mod Runs
+pub mod Seen
 pub mod Starts
 pub mod Wanted

@@ -1,66 +1,200 @@
 //! The cells that a run has changed.
 
-ghost use Rattle.std.specs.Prelude.{◌<◌};
+ghost use Rattle.std.specs.Prelude.{◌≡◌, ◌<◌, ◌++◌, [], ◌∷◌, IfOk, OnOk, length};
+ghost use Rattle.vt_term.specs.Grid.{line_at};
+ghost use Rattle.ti_words.specs.Seen as spec;
 
-use vt_term::{Cell, Rendition, Terminal};
+use crate::starts::has_look;
+use std::alloc::{AllocError, Global};
+use vt_term::{Cell, Terminal};
 
-/// Cells that have changed.
+/// A cell that has changed.
 #[derive(Clone, Copy)]
-pub struct Changed {
-    /// The number of changed cells.
-    pub count: usize,
-    /// The row and the column of the first one in reading order.
-    pub first: (usize, usize),
-    /// The row and the column of the last one.
-    pub last: (usize, usize),
-    /// Whether each changed cell is a space now.
-    pub are_blank: bool,
+pub struct Change {
+    /// The cell's row.
+    pub row: usize,
+    /// The cell's column.
+    pub col: usize,
+    /// The character that it shows.
+    pub byte: u8,
 }
 
-impl Changed {
-    fn none() -> Changed {
-        Changed {
-            count: 0,
-            first: (0, 0),
-            last: (0, 0),
-            are_blank: true,
-        }
-    }
-
-    /// The changed cells with `cell` added, which is at `place`, after all of them.
-    fn with(self, place: (usize, usize), cell: Cell) -> Changed {
-        Changed {
-            count: self.count.saturating_add(1),
-            first: if self.count == 0 { place } else { self.first },
-            last: place,
-            are_blank: self.are_blank && cell.byte() == b' ',
-        }
-    }
-}
-
-/// The cells of `terminal` that don't show the character `fill` plainly.
-pub fn changed_cells(terminal: &Terminal, fill: u8) -> Changed {
-    let mut changed = Changed::none();
-    for row in 0..terminal.size().rows {
-        changed = changed_in_row(terminal, fill, row, changed);
-    }
-    changed
-}
-
-/// The changed cells of the rows before `row`, which are `above`, and those of `row`.
-fn changed_in_row(terminal: &Terminal, fill: u8, row: usize, above: Changed) -> Changed
-    requires { row < terminal.now.screen.rows }
+/// The cells of `terminal` that don't show the character `fill` plainly, in reading order.
+pub fn changed_cells(
+    alloc: Global,
+    terminal: &Terminal,
+    fill: u8,
+) -> Result<Vec<Change>, AllocError>
+    ensures { IfOk result (λ changes. changes.items ≡ spec.changes_from fill 0 terminal.now.screen.grid) }
 {
-    let mut changed = above;
-    for col in 0..terminal.size().cols {
-        let cell = terminal.cell(row, col);
-        if is_other(cell, fill) {
-            changed = changed.with((row, col), cell);
-        }
+    let mut changes = Vec::new(alloc);
+    for row in 0..terminal.size().rows {
+        let cells = row_cells(alloc, terminal, row)?;
+        push_changes(fill, row, cells.as_slice(), &mut changes)?;
     }
-    changed
+    Ok(changes)
 }
 
-fn is_other(cell: Cell, fill: u8) -> bool {
-    cell.byte() != fill || cell.is_graphic() || cell.rendition() != Rendition::plain()
+/// The cells of one row.
+fn row_cells(alloc: Global, terminal: &Terminal, row: usize) -> Result<Vec<Cell>, AllocError>
+    requires { row < terminal.now.screen.rows }
+    ensures { IfOk result (λ cells. cells.items ≡ line_at terminal.now.screen.grid row) }
+{
+    let mut cells = Vec::new(alloc);
+    for col in 0..terminal.size().cols {
+        cells.push(terminal.cell(row, col))?;
+    }
+    Ok(cells)
+}
+
+/// Appends the changed ones of the `cells` of a row.
+fn push_changes(
+    fill: u8,
+    row: usize,
+    cells: &[Cell],
+    changes: &mut Vec<Change>,
+) -> Result<(), AllocError>
+    ensures { OnOk result (changes.new.items ≡ changes.old.items ++ spec.changes_in fill row 0 cells.now) }
+{
+    for col in 0..cells.len() {
+        push_change(fill, row, col, cells[col], changes)?;
+    }
+    Ok(())
+}
+
+/// Appends the `cell` at this place, if it has changed.
+fn push_change(
+    fill: u8,
+    row: usize,
+    col: usize,
+    cell: Cell,
+    changes: &mut Vec<Change>,
+) -> Result<(), AllocError>
+    ensures { OnOk result (changes.new.items ≡ changes.old.items ++ spec.change_if fill row col cell) }
+{
+    if is_other(cell, fill) {
+        changes.push(Change {
+            row,
+            col,
+            byte: cell.byte(),
+        })?;
+    }
+    Ok(())
+}
+
+fn is_other(cell: Cell, fill: u8) -> bool
+    ensures { result ≡ spec.is_other fill cell }
+{
+    cell.byte() != fill || cell.is_graphic() || has_look(cell.rendition())
+}
+
+/// Appends the number of the `changes`, the first and the last one, and whether all are blank.
+pub fn push_changed(
+    alloc: Global,
+    changes: &[Change],
+    words: &mut Vec<u8>,
+) -> Result<(), AllocError>
+    ensures { OnOk result (words.new.items ≡ words.old.items ++ spec.changed_text changes.now) }
+{
+    match changes {
+        [] => words.extend_from_slice(b"no cell has changed"),
+        [one] => push_one(alloc, *one, now_words(changes), words),
+        [first, others @ ..] => {
+            let last = last_of(*first, others);
+            push_several(alloc, changes, *first, last, words)
+        }
+    }
+}
+
+/// Appends the words for the only changed cell, which is `now` in this state.
+fn push_one(alloc: Global, one: Change, now: &[u8], words: &mut Vec<u8>) -> Result<(), AllocError>
+    ensures { OnOk result (words.new.items ≡ words.old.items ++ spec.one_text one now.now) }
+{
+    words.extend_from_slice(b"the cell at ")?;
+    push_place(alloc, one, words)?;
+    words.extend_from_slice(b" is ")?;
+    words.extend_from_slice(now)
+}
+
+/// Appends the words for several `changes`, from the `first` to the `last` one.
+fn push_several(
+    alloc: Global,
+    changes: &[Change],
+    first: Change,
+    last: Change,
+    words: &mut Vec<u8>,
+) -> Result<(), AllocError>
+    ensures { OnOk result (words.new.items ≡ words.old.items ++ spec.several_text changes.now first last) }
+{
+    push_first(alloc, changes.len(), first, words)?;
+    push_last(alloc, last, now_words(changes), words)
+}
+
+/// Appends the number of the changed cells, and the `first` of them.
+fn push_first(
+    alloc: Global,
+    count: usize,
+    first: Change,
+    words: &mut Vec<u8>,
+) -> Result<(), AllocError>
+    ensures { OnOk result (words.new.items ≡ words.old.items ++ spec.first_text count first) }
+{
+    push_count(alloc, count, words)?;
+    push_place(alloc, first, words)
+}
+
+#[tactic(auto, unfolding(crate::specs::Seen::count_text))]
+fn push_count(alloc: Global, count: usize, words: &mut Vec<u8>) -> Result<(), AllocError>
+    ensures { OnOk result (words.new.items ≡ words.old.items ++ spec.count_text count) }
+{
+    let front = format!(in alloc; "{count} cells from ")?;
+    words.extend_from_slice(front.as_bytes())
+}
+
+/// Appends the `last` of the changed cells, which are `now` in this state.
+fn push_last(alloc: Global, last: Change, now: &[u8], words: &mut Vec<u8>) -> Result<(), AllocError>
+    ensures { OnOk result (words.new.items ≡ words.old.items ++ spec.last_text last now.now) }
+{
+    words.extend_from_slice(b" to ")?;
+    push_place(alloc, last, words)?;
+    words.extend_from_slice(b" are ")?;
+    words.extend_from_slice(now)
+}
+
+/// Appends the place of a changed cell.
+fn push_place(alloc: Global, change: Change, words: &mut Vec<u8>) -> Result<(), AllocError>
+    ensures { OnOk result (words.new.items ≡ words.old.items ++ spec.place_text change) }
+{
+    let row = change.row;
+    let col = change.col;
+    let place = format!(in alloc; "row {row}, column {col}")?;
+    words.extend_from_slice(place.as_bytes())
+}
+
+/// The last of the changes `first` and `others`.
+fn last_of(first: Change, others: &[Change]) -> Change
+    ensures { result ≡ spec.last_of first others.now }
+{
+    let mut last = first;
+    for change in others {
+        last = *change;
+    }
+    last
+}
+
+/// The new contents of the `changes`.
+fn now_words(changes: &[Change]) -> &'static [u8]
+    ensures { result.now ≡ spec.now_text changes.now }
+{
+    if are_blank(changes) {
+        b"blank"
+    } else {
+        b"other than before"
+    }
+}
+
+fn are_blank(changes: &[Change]) -> bool
+    ensures { result ≡ spec.are_blank changes.now }
+{
+    changes.iter().all(|change| change.byte == b' ')
 }

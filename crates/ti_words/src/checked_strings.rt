@@ -264,7 +264,8 @@ pub fn explain_run(
         return Ok(());
     }
     let wanted = wanted_line(alloc, row)?;
-    let seen = seen_words(alloc, &start, &terminal, fill)?;
+    let mut seen = Vec::from_slice(alloc, b"seen: ")?;
+    seen.extend_from_slice(seen_words(alloc, &start, &terminal, fill)?.as_slice())?;
     let mut began = Vec::from_slice(alloc, b"start: ")?;
     began.extend_from_slice(start_words(alloc, size, &start, fill)?.as_slice())?;
     remarks.add_words(began.as_slice());

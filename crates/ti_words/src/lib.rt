@@ -8,6 +8,7 @@ mod escapes;
 mod numbers;
 mod remarks;
 mod remedies;
+mod runs;
 mod seen;
 mod starts;
 mod states;
@@ -24,6 +25,7 @@ pub use escapes::push_spelled;
 pub use numbers::push_numbers;
 pub use remarks::{Remarks, SUGGESTION_END, push_shown, write_shown};
 pub use remedies::OF_ANOTHER_KIND;
+pub use runs::{filled_terminal, run_words};
 pub use seen::Seen;
 pub use starts::start_words;
 pub use strings::{

@@ -102,7 +102,7 @@ fn push_look(rendition: Rendition, words: &mut Vec<u8>) -> Result<(), AllocError
 }
 
 /// Appends `front` and the words for `rendition`.
-fn push_after(front: &[u8], rendition: Rendition, words: &mut Vec<u8>) -> Result<(), AllocError>
+pub fn push_after(front: &[u8], rendition: Rendition, words: &mut Vec<u8>) -> Result<(), AllocError>
     ensures { OnOk result (words.new.items
         ≡ words.old.items ++ (front.now ++ spec.rendition_text rendition)) }
 {
@@ -112,7 +112,7 @@ fn push_after(front: &[u8], rendition: Rendition, words: &mut Vec<u8>) -> Result
 
 /// Whether a mark is on, or a color is not the default.
 #[tactic(auto, unfolding(crate::specs::Starts::has_look))]
-fn has_look(rendition: Rendition) -> bool
+pub fn has_look(rendition: Rendition) -> bool
     ensures { result ≡ spec.has_look rendition }
 {
     has_mark(rendition) || has_colors(rendition)
@@ -174,7 +174,7 @@ fn push_colors(rendition: Rendition, words: &mut Vec<u8>) -> Result<(), AllocErr
     words.extend_from_slice(color_name(rendition.background))
 }
 
-fn color_name(color: Option<Color>) -> &'static [u8]
+pub fn color_name(color: Option<Color>) -> &'static [u8]
     ensures { result.now ≡ spec.color_name color }
 {
     match color {
