@@ -212,6 +212,19 @@ def judge_twins():
             fail(f"the lines of two entries of one name: {ones}")
 
 
+RIGHT = b"a|the standard's strings,\n\tclear=\\E[H\\E[2J, cup=\\E[%i%p1%d;%p2%dH, sgr0=\\E[m,\n"
+
+
+def judge_failing():
+    """With `--fail` the objects are the same, and the status is 1 if a verdict isn't yes."""
+    for held, status in ((RIGHT, 0), (TWINS, 1), (NAMES, 1)):
+        for form in (["--json"], ["--all", "--json"]):
+            cases = [Case(["survey", *form, *more, *SIZE, "entries"]) for more in ([], ["--fail"])]
+            plain, failing = run_cases(PROGRAM, cases, {"entries": held})
+            if plain.status or failing.out != plain.out or failing.status != status:
+                fail(f"survey --fail: {failing.status} {failing.err} {failing.out}")
+
+
 NO_OUT = b"error: check writes a certificate, or with --json reports on the entry: --out is not for --json\n"
 
 
@@ -245,6 +258,7 @@ def main():
     lines = sum(judge_survey(path, held) for path, held in surveyed.items())
     judge_names()
     judge_twins()
+    judge_failing()
     judge_refused()
     print(f"reports: {count} objects of check --json say what the plain form says, and those of survey --json, {lines} with a line")
 

@@ -96,8 +96,14 @@ play_rules = with_script_rules (new_app (codes "play"))
 abbrev pub show_rules : App
 show_rules = with_script_rules (new_app (codes "show"))
 
+-- a survey that fails if an entry isn't right
+abbrev pub with_fail_rule : App → App
+with_fail_rule a = with_rule a (long_switch_rule (codes "fail"))
+
 abbrev pub survey_rules : App
-survey_rules = with_rule (with_size_rules (with_report_rules (new_app (codes "survey")))) (several_rule (codes "FILE"))
+survey_rules =
+    with_rule (with_size_rules (with_fail_rule (with_report_rules (new_app (codes "survey")))))
+    (several_rule (codes "FILE"))
 
 -- the program alone: its own name is not among the words, and a command must follow
 abbrev pub program : App

@@ -49,6 +49,7 @@ Plays rows words =
 abbrev pub Surveys : Text → List Row → SurveyWords → Type 0
 Surveys name rows words =
     (name ≡ codes "survey") × (words.lists_all ≡ is_on (codes "all") rows)
+    × (words.is_strict ≡ is_on (codes "fail") rows)
     × (words.rows.now ≡ word_of (codes "ROWS") rows) × (words.cols.now ≡ word_of (codes "COLS") rows)
     × (map (λ f. f.now) words.paths.items ≡ words_of (codes "FILE") rows)
 

@@ -6,7 +6,7 @@ ghost use Rattle.clap.specs.declared.builder.command.Command.TheViews.{out-Comma
 ghost use Rattle.ti_arguments.specs.Line.{check_rules, expand_rules, feed_rules, infocmp_rules, line, long_switch_rule};
 ghost use Rattle.ti_arguments.specs.Line.{out_rule, params_rule, play_rules, positional_rule, program, several_rule};
 ghost use Rattle.ti_arguments.specs.Line.{show_rules, survey_rules, switch_rule, tic_rules, verify_rules, with_plays};
-ghost use Rattle.ti_arguments.specs.Line.{with_script_rules, with_case_rule, with_plain_rule, with_report_rules};
+ghost use Rattle.ti_arguments.specs.Line.{with_script_rules, with_case_rule, with_fail_rule, with_plain_rule, with_report_rules};
 ghost use Rattle.ti_arguments.specs.Line.{with_size_rules, with_verdicts};
 
 use crate::help;
@@ -305,6 +305,19 @@ fn with_script<'a>(alloc: Global, command: Command<'a>) -> Result<Command<'a>, A
         ))
 }
 
+/// `command` with the switch for a survey that fails if an entry isn't right.
+fn with_fail<'a>(alloc: Global, command: Command<'a>) -> Result<Command<'a>, AllocError>
+    requires { (out-Command command).has_globals ≡ false }
+    ensures shape { IfOk result (λ c. app_of c ≡ with_fail_rule (app_of command.entry)) }
+    ensures local { IfOk result (λ c. (out-Command c).has_globals ≡ false) }
+{
+    command.arg(long_switch(
+        alloc,
+        "fail",
+        "End with status 1 if an entry has a fault or can't be read",
+    ))
+}
+
 fn survey_command<'a>(alloc: Global) -> Result<Command<'a>, AllocError>
     ensures shape { IfOk result (λ c. app_of c ≡ survey_rules) }
     ensures local { IfOk result (λ c. (out-Command c).has_globals ≡ false) }
@@ -315,6 +328,7 @@ fn survey_command<'a>(alloc: Global) -> Result<Command<'a>, AllocError>
     let all = "List all faults of each entry, a line for each";
     let json = "Report in JSON, an object a line";
     let command = with_reports(alloc, command, all, json)?;
+    let command = with_fail(alloc, command)?;
     with_size(alloc, command)?.arg(several(
         alloc,
         "FILE",

@@ -409,13 +409,15 @@ With --json the output is a JSON object on a line of its own for each of these l
 `ticurses check --json`. In place of KIND the verdict is `refused`, and cause has the KIND; entry is null where a FILE has a
 fault of its own.
 
+With --fail the status is 1 if an answer isn't yes, with the line `refused: Faulty` on standard error. The output is the same.
+
 A FILE has at most 16777216 bytes. One that can't be read has no line, and the others are checked all the same.
 
-Exit status: 0 done, whatever the answers are; 1 refused, with a line `refused: BadSize` on standard error; 2 usage
-error; 3 a file could not be read or is too long (`file: PATH` names the first), or standard output could not be
-written; 4 out of memory.
+Exit status: 0 done, whatever the answers are without --fail; 1 refused, with a line `refused: BadSize` on standard error,
+or `refused: Faulty` with --fail; 2 usage error; 3 a file could not be read or is too long (`file: PATH` names the first),
+or standard output could not be written; 4 out of memory.
 
 Example:
   ticurses survey 24 80 my.ti /usr/share/terminfo/*/*
-  ticurses survey --all 24 80 my.ti
+  ticurses survey --all --fail 24 80 my.ti
   ticurses survey --json 24 80 my.ti";

@@ -236,6 +236,7 @@ fn survey_request<'a>(alloc: Global, words: &ArgMatches<'a>) -> Result<Request<'
     let json = is_on(words, "json");
     let words = SurveyWords {
         lists_all: is_on(words, "all"),
+        is_strict: is_on(words, "fail"),
         rows: word(words, "ROWS"),
         cols: word(words, "COLS"),
         paths: Vec::from_slice(alloc, paths)?,

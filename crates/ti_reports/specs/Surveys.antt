@@ -1,11 +1,12 @@
 -- The answer of `survey --json`, by the contents of its files.
-use Rattle.std.specs.Prelude.{◌≡◌, ℕ, Bool, List, [], Option, Some, None, String, string_bytes}
+use Rattle.std.specs.Prelude.{◌≡◌, ℕ, Bool, List, [], ◌∷◌, Option, Some, None, String, string_bytes}
 use Rattle.std.specs.declared.alloc.Global.{Global}
 use Rattle.ti_caps.specs.Entry.{Content}
 use Rattle.ti_checker.specs.declared.causes.No.{No}
 use Rattle.ti_commands.specs.Contents.{Held}
 use Rattle.ti_commands.specs.Sizes.{SizeGiven}
 use Rattle.ti_commands.specs.Words.{texts_of}
+use Rattle.ti_commands.specs.declared.failure.Failure.{Failure}
 use Rattle.ti_commands.specs.declared.failure.Reply.{Reply}
 use Rattle.ti_reports.specs.Faults.{AreFoundLines, HasWords, IsFaultless, IsReportLine}
 use Rattle.ti_reports.specs.Findings.{AreFaults}
@@ -13,9 +14,13 @@ use Rattle.ti_reports.specs.Sources.{Whereabouts, by_place}
 use Rattle.ti_reports.specs.declared.reports.Report.{Report}
 use Rattle.ti_reports.specs.declared.reports.Verdict.TheVariants as verdicts
 use Rattle.ti_requests.specs.declared.request.SurveyWords.{SurveyWords}
+use Rattle.ti_surveys.specs.Answers.{fault_answers}
 use Rattle.ti_surveys.specs.Lines.{AreLines, Refusing, Saying}
+use Rattle.ti_surveys.specs.Strict.{EndsStrictly}
 use Rattle.ti_surveys.specs.Surveys.{EndsPaths}
 use Rattle.ti_surveys.specs.Told.{Told}
+use Rattle.ti_verdicts.specs.declared.answers.Answer.{Answer}
+use Rattle.ti_verdicts.specs.declared.answers.Answer.TheVariants as answers
 
 -- ---- an entry
 
@@ -39,32 +44,36 @@ pub record ReportsRefused (height width : ℕ) (path : List ℕ) (name : Option 
 abbrev pub IsRefusedReport : ℕ → ℕ → List ℕ → Option (List ℕ) → List ℕ → List ℕ → Type 0
 IsRefusedReport height width path name why line = IsReportLine (ReportsRefused height width path name why) line
 
--- the reports on an entry that is there
+-- the reports on an entry that is there, and their answers
 pub record AreOfEntry (height width : ℕ) (all : Bool) (path : List ℕ) (stands : Whereabouts) (entry : Content)
-    (lines : List ℕ) : Type 0 where
+    (lines : List ℕ) (answered : List Answer) : Type 0 where
   pub nos : List No
   pub found : AreFaults all entry height width nos
   pub tells : AreFoundLines entry height width path stands nos lines
+  pub each : answered ≡ fault_answers nos
 
 -- the reports on an entry, and nothing beside them
 abbrev pub Reports : ℕ → ℕ → Bool → Saying
 Reports height width all path stands name entry told =
-    AreOfEntry height width all path (by_place stands) entry told.lines × (told.places ≡ [])
+    AreOfEntry height width all path (by_place stands) entry told.lines told.answers × (told.places ≡ [])
 
 -- the report on an entry that can't be read under its name, or on a whole file, with the reason
 abbrev pub ReportsLack : ℕ → ℕ → Refusing
 ReportsLack height width path name why told =
-    IsRefusedReport height width path name why told.lines × (told.places ≡ [])
+    IsRefusedReport height width path name why told.lines × (told.places ≡ []) × (told.answers ≡ answers.Refused ∷ [])
 
 -- ---- the reply
 
--- the reply has the lines of each path; it fails if a path can't be read
+-- the reply has the lines of each path; it fails if a path can't be read, or, if the words ask for it, if a line has a
+-- verdict other than yes
 pub record AreSurveyed (held : Held) (words : SurveyWords) (reply : Reply) : Type 0 where
   pub height : ℕ
   pub width : ℕ
   pub given : SizeGiven words.rows.now words.cols.now height width
   pub told : Told
+  pub failed : Option Failure
   pub ends : EndsPaths (AreLines (Reports height width words.lists_all) (ReportsLack height width)) held
-      (texts_of words.paths.items) told reply.failure
+      (texts_of words.paths.items) told failed
+  pub strictly : EndsStrictly words.is_strict told.answers failed reply.failure
   pub places : reply.notes.items ≡ told.places
   pub says : reply.text.items ≡ told.lines

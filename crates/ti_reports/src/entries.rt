@@ -12,7 +12,8 @@ use crate::lines::{Standing, placed};
 use crate::refusals::refused_line;
 use std::alloc::{AllocError, Global};
 use ti_caps::Entry;
-use ti_surveys::{FileEntry, Said, Speaker};
+use ti_surveys::{FileEntry, Said, Speaker, answers_of};
+use ti_verdicts::Answer;
 
 impl Speaker for Asked {
     ghost says = { λ asked. spec.Reports asked.size.rows asked.size.cols asked.lists_all };
@@ -24,8 +25,7 @@ impl Speaker for Asked {
     }
 
     fn say(&self, alloc: Global, found: &FileEntry<'_>) -> Result<Said, AllocError> {
-        let lines = entry_lines(alloc, *self, found.path, placed(found.stands), found.entry)?;
-        Ok(of_lines(alloc, lines))
+        entry_said(alloc, *self, found.path, placed(found.stands), found.entry)
     }
 
     fn refuse(
@@ -36,33 +36,22 @@ impl Speaker for Asked {
         why: &[u8],
     ) -> Result<Said, AllocError> {
         let line = refused_line(alloc, *self, path, name, why)?;
-        Ok(of_lines(alloc, line))
+        Said::of_line(alloc, line, Answer::Refused)
     }
 }
 
-/// The statement that has only these `lines`.
-fn of_lines(alloc: Global, lines: Vec<u8>) -> Said
-    ensures lines { result.lines ≡ lines }
-    ensures places { result.places.items ≡ [] }
-{
-    Said {
-        lines,
-        places: Vec::new(alloc),
-        answers: Vec::new(alloc),
-    }
-}
-
-/// The report lines of `entry`, which is at the place `stands` in the file at `path`.
-fn entry_lines(
+/// The report lines of `entry`, which is at the place `stands` in the file at `path`, and the answer of each.
+fn entry_said(
     alloc: Global,
     asked: Asked,
     path: &str,
     stands: Standing<'_>,
     entry: &Entry,
-) -> Result<Vec<u8>, AllocError>
+) -> Result<Said, AllocError>
     requires { IsThere stands }
-    ensures { IfOk result (λ lines. spec.AreOfEntry asked.size.rows asked.size.cols asked.lists_all
-        path.now (whereabouts_of stands.entry) entry.now lines.items) }
+    ensures lines { IfOk result (λ said. spec.AreOfEntry asked.size.rows asked.size.cols asked.lists_all
+        path.now (whereabouts_of stands.entry) entry.now said.lines.items said.answers.items) }
+    ensures places { IfOk result (λ said. said.places.items ≡ []) }
 {
     let nos = found_faults(alloc, entry, asked.size, asked.lists_all)?;
     let subject = Subject {
@@ -71,5 +60,11 @@ fn entry_lines(
         file: path,
         stands,
     };
-    found_lines(alloc, &subject, nos.as_slice())
+    let lines = found_lines(alloc, &subject, nos.as_slice())?;
+    let answers = answers_of(alloc, nos.as_slice())?;
+    Ok(Said {
+        lines,
+        places: Vec::new(alloc),
+        answers,
+    })
 }

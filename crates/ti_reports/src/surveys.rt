@@ -8,13 +8,13 @@ use crate::asked::Asked;
 use std::alloc::Global;
 use ti_commands::{Failure, Files, Reply, size_words};
 use ti_requests::SurveyWords;
-use ti_surveys::{Said, Surveyed, Watcher, survey_paths};
+use ti_surveys::{Said, Surveyed, Watcher, strict_failure, survey_paths};
 use ti_words::Remarks;
 
 /// Reports in JSON on each entry of each file that the `words` name: its first fault, or all of them if the `words` ask
 /// for that, or that it has a certificate. An entry that can't be read has its line too. If a file can't be read, the
-/// reply fails as the first such file does, and the others are surveyed all the same. The `watcher` sees how far the
-/// survey has come.
+/// reply fails as the first such file does, and the others are surveyed all the same; else it is refused if the `words`
+/// ask for that and a verdict isn't yes. The `watcher` sees how far the survey has come.
 ///
 /// # Errors
 /// The reason why the words give no size; out of memory.
@@ -45,8 +45,9 @@ pub fn survey_reports<F: Files, W: Watcher + Drop>(
     let Said {
         lines,
         places,
-        answers: _answers,
+        answers,
     } = said;
+    let failure = strict_failure(alloc, words.is_strict, answers.as_slice(), failure)?;
     Ok(Reply {
         notes: places,
         text: lines,

@@ -74,6 +74,8 @@ pub struct ScriptWords<'a> {
 pub struct SurveyWords<'a> {
     /// Whether all faults of each entry are listed.
     pub lists_all: bool,
+    /// Whether the survey fails if an entry has a fault or can't be read.
+    pub is_strict: bool,
     /// The terminal's rows, a decimal number.
     pub rows: &'a str,
     /// The terminal's columns, a decimal number.
@@ -122,9 +124,9 @@ pub enum Request<'a> {
     Play(ScriptWords<'a>),
     /// `show ENTRY ROWS COLS CERT SCRIPT`: show the screen that a script of curses calls leaves.
     Show(ScriptWords<'a>),
-    /// `survey [--all] ROWS COLS FILE..`: check all entries of some files.
+    /// `survey [--all] [--fail] ROWS COLS FILE..`: check all entries of some files.
     Survey(SurveyWords<'a>),
-    /// `survey --json [--all] ROWS COLS FILE..`: report on all entries of some files in JSON.
+    /// `survey --json [--all] [--fail] ROWS COLS FILE..`: report on all entries of some files in JSON.
     SurveyJson(SurveyWords<'a>),
     /// `infocmp ENTRY`: print an entry.
     Print {

@@ -11,6 +11,7 @@ use Rattle.ti_commands.specs.declared.failure.Reply.{Reply}
 use Rattle.ti_surveys.specs.Answers.{IsRefused, SaysBy}
 use Rattle.ti_verdicts.specs.Counts.{answers_line}
 use Rattle.ti_surveys.specs.Lines.{AreLines}
+use Rattle.ti_surveys.specs.Strict.{EndsStrictly}
 use Rattle.ti_surveys.specs.Told.{IsToldOfEach, Told, followed_by, nothing}
 use Rattle.ti_requests.specs.declared.request.SurveyWords.{SurveyWords}
 
@@ -56,14 +57,16 @@ first_failure (Some failure) later = Some failure
 first_failure None later = later
 
 -- The reply has the lines of each path, and after them the number of lines with each answer; its notes are the places
--- of the faults in the lines. It fails if a path can't be read.
+-- of the faults in the lines. It fails if a path can't be read, or, if the words ask for it, if a line doesn't say yes.
 pub record IsSurveyed (certifies : Content → ℕ → ℕ → List ℕ → Type 0) (refuses : Content → ℕ → ℕ → No → Type 0)
     (held : Held) (words : SurveyWords) (reply : Reply) : Type 0 where
   pub height : ℕ
   pub width : ℕ
   pub given : SizeGiven words.rows.now words.cols.now height width
   pub told : Told
+  pub failed : Option Failure
   pub ends : EndsPaths (AreLines (SaysBy words.lists_all certifies refuses height width) IsRefused)
-      held (texts_of words.paths.items) told reply.failure
+      held (texts_of words.paths.items) told failed
+  pub strictly : EndsStrictly words.is_strict told.answers failed reply.failure
   pub places : reply.notes.items ≡ told.places
   pub says : reply.text.items ≡ told.lines ++ answers_line told.answers

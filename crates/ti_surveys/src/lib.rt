@@ -7,11 +7,14 @@ mod laws;
 mod lines;
 mod said;
 mod speakers;
+mod strict;
 mod surveys;
 mod watchers;
 
 pub use laws::faultless_is_whole;
+pub use lines::answers_of;
 pub use said::Said;
 pub use speakers::{FileEntry, Speaker};
+pub use strict::strict_failure;
 pub use surveys::{Surveyed, survey_files, survey_paths};
 pub use watchers::Watcher;

@@ -168,7 +168,7 @@ fn fault_line(alloc: Global, name: &[u8], no: &No) -> Result<Vec<u8>, AllocError
 }
 
 /// The answers of the lines of the faults `nos`, or of the line ` yes` if there are none.
-fn answers_of(alloc: Global, nos: &[No]) -> Result<Vec<Answer>, AllocError>
+pub fn answers_of(alloc: Global, nos: &[No]) -> Result<Vec<Answer>, AllocError>
     ensures { IfOk result (λ answers. answers.items ≡ spec.fault_answers nos.now) }
 {
     match nos {

@@ -11,6 +11,7 @@ use crate::asked::Asked;
 use crate::files::file_lines;
 use crate::said::Said;
 use crate::speakers::Speaker;
+use crate::strict::strict_failure;
 use crate::watchers::Watcher;
 use std::alloc::{AllocError, Global};
 use ti_commands::{Failure, Files, LONGEST_FILE, Reply, read_whole, size_words};
@@ -31,7 +32,8 @@ pub struct Surveyed {
 /// certificate, or why not; or it lists all faults of the entry, if the `words` ask for them. An entry that can't be
 /// read has its line too, and the last line counts the answers. For each listed fault of a source's entry, the reply's
 /// notes give the place of its value. If a file can't be read, the reply has the failure of the first such file, and
-/// the others are surveyed all the same. The `watcher` receives reports of how far the survey has come.
+/// the others are surveyed all the same; else it is refused if the `words` ask for that and a line doesn't say yes. The
+/// `watcher` receives reports of how far the survey has come.
 ///
 /// # Errors
 /// The reason why the words give no size; out of memory.
@@ -70,10 +72,11 @@ pub fn survey_files<C: Certifier, F: Files, W: Watcher + Drop>(
     let mut text = lines;
     let counts = answers_line(alloc, answers.as_slice())?;
     text.extend_from_slice(counts.as_slice())?;
+    let failure = strict_failure(alloc, words.is_strict, answers.as_slice(), surveyed.failure)?;
     Ok(Reply {
         notes: places,
         text,
-        failure: surveyed.failure,
+        failure,
     })
 }
 

@@ -1,8 +1,10 @@
 use Rattle.std.proofs.Common.{ℕ, List, Bor, refl, subst}
 use Rattle.ti_commands.specs.Words.{texts_of}
 use Rattle.ti_surveys.specs.Lines.{AreLines}
+use Rattle.ti_surveys.specs.Strict.{EndsStrictly}
 use Rattle.ti_surveys.specs.Surveys.{EndsPaths}
 use Rattle.ti_surveys.specs.Told.{told_of}
+use Rattle.ti_verdicts.specs.declared.answers.Answer.{Answer}
 use Rattle.ti_reports.specs.Surveys.{Reports, ReportsLack}
 use Rattle.ti_reports.proofs.surveys.survey_reports.Goals as goal
 
@@ -15,11 +17,13 @@ returns-clause-reply g c =
       width = c.in_ok-size.size.cols;
       given = c.in_ok-size.ensures.size;
       told = told_of said;
+      failed = c.in_ok-said.field-0.failure;
       ends = subst
           (λ (paths : List (Bor (List ℕ))).
           EndsPaths (AreLines (Reports c.in_ok-size.size.rows c.in_ok-size.size.cols c.args.words.now.lists_all) (ReportsLack c.in_ok-size.size.rows c.in_ok-size.size.cols))
           (g.F.Files.holds c.args.files.now) (texts_of paths) (told_of said) c.in_ok-said.field-0.failure)
           c.as_slice.ensures.value c.in_ok-said.ensures.told;
+      strictly = subst (λ (answered : List Answer). EndsStrictly c.args.words.now.is_strict answered c.in_ok-said.field-0.failure c.in_ok-failure.failure) c.as_slice-2.ensures.value c.in_ok-failure.ensures;
       places = refl;
       says = refl;
     }

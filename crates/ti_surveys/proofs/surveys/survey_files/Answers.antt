@@ -4,7 +4,9 @@ use Rattle.ti_surveys.specs.Answers.{IsRefused, SaysBy}
 use Rattle.ti_verdicts.specs.Counts.{answers_line}
 use Rattle.ti_surveys.specs.Lines.{AreLines}
 use Rattle.ti_surveys.specs.Surveys.{EndsPaths}
+use Rattle.ti_surveys.specs.Strict.{EndsStrictly}
 use Rattle.ti_surveys.specs.Told.{told_of}
+use Rattle.ti_verdicts.specs.declared.answers.Answer.{Answer}
 use Rattle.ti_surveys.proofs.surveys.survey_files.Goals as goal
 
 -- the certifier's answers, as the words ask, and then the counts
@@ -16,12 +18,14 @@ returns-clause-reply g c =
       width = c.in_ok-size.size.cols;
       given = c.in_ok-size.ensures.size;
       told = told_of said;
+      failed = c.in_ok-surveyed.surveyed.failure;
       ends = subst
           (λ (paths : List (Bor (List ℕ))).
           EndsPaths
           (AreLines (SaysBy c.args.words.now.lists_all (g.C.Certifier.certifies c.args.certifier.now) (g.C.Certifier.refuses c.args.certifier.now) c.in_ok-size.size.rows c.in_ok-size.size.cols) IsRefused)
           (g.F.Files.holds c.args.files.now) (texts_of paths) (told_of said) c.in_ok-surveyed.surveyed.failure)
           c.as_slice.ensures.value c.in_ok-surveyed.ensures.told;
+      strictly = subst (λ (answered : List Answer). EndsStrictly c.args.words.now.is_strict answered c.in_ok-surveyed.surveyed.failure c.in_ok-failure.failure) c.as_slice-4.ensures.value c.in_ok-failure.ensures;
       places = refl;
       says = c.in_ok-extend_from_slice.ensures.items
           ∙ ap (λ (own : List ℕ). said.lines.items ++ own) (c.as_slice-3.ensures.value ∙ (c.in_ok-counts.ensures ∙ ap answers_line c.as_slice-2.ensures.value));

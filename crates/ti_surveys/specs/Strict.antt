@@ -1,0 +1,29 @@
+-- The failure of a survey that fails if an entry isn't right.
+use Rattle.std.specs.Prelude.{◌≡◌, ◌&&◌, Bool, true, false, not, List, Option, Some, None, codes}
+use Rattle.std.specs.List.{list_all}
+use Rattle.ti_commands.specs.declared.failure.CommandRefusal.TheVariants.{Verdict}
+use Rattle.ti_commands.specs.declared.failure.Failure.{Failure}
+use Rattle.ti_commands.specs.declared.failure.Failure.TheVariants.{Refused}
+use Rattle.ti_verdicts.specs.declared.answers.Answer.{Answer}
+use Rattle.ti_verdicts.specs.declared.answers.Answer.TheVariants as answers
+
+-- the answer of a line that says yes
+abbrev pub is_yes : Answer → Bool
+is_yes answers.Yes = true
+is_yes (answers.No cause) = false
+is_yes answers.Refused = false
+
+-- the failure of a survey with a line that doesn't say yes
+abbrev pub IsFaulty : Option Failure → Type 0
+IsFaulty (Some (Refused (Verdict words))) = words.items ≡ codes "Faulty"
+IsFaulty _ = ⊥
+
+abbrev pub FailsIf : Bool → Option Failure → Type 0
+FailsIf true ended = IsFaulty ended
+FailsIf false ended = ended ≡ None
+
+-- The end of a survey whose lines have these answers, with the failure of the paths. A path that can't be read comes
+-- first; else a strict survey fails if some line doesn't say yes.
+abbrev pub EndsStrictly : Bool → List Answer → Option Failure → Option Failure → Type 0
+EndsStrictly is_strict answered (Some failure) ended = ended ≡ Some failure
+EndsStrictly is_strict answered None ended = FailsIf (is_strict && not (list_all is_yes answered)) ended

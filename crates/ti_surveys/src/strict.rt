@@ -1,0 +1,56 @@
+//! The failure of a survey that fails if an entry isn't right.
+
+ghost use Rattle.std.specs.Prelude.{◌≡◌, IfOk, Some};
+ghost use Rattle.std.specs.List.{list_all};
+ghost use Rattle.ti_surveys.specs.Strict as spec;
+
+use std::alloc::{AllocError, Global};
+use ti_commands::{CommandRefusal, Failure};
+use ti_verdicts::Answer;
+
+/// The failure of a survey whose lines have these `answers`. The `failure` of a path that can't be read comes first;
+/// else, if the survey `is_strict`, it is refused as `Faulty` if some line doesn't say yes.
+pub fn strict_failure(
+    alloc: Global,
+    is_strict: bool,
+    answers: &[Answer],
+    failure: Option<Failure>,
+) -> Result<Option<Failure>, AllocError>
+    ensures { IfOk result (λ ended. spec.EndsStrictly is_strict answers.now failure ended) }
+{
+    match failure {
+        Some(failure) => Ok(Some(failure)),
+        None => {
+            if is_strict && !are_yes(answers) {
+                Ok(Some(faulty(alloc)?))
+            } else {
+                Ok(None)
+            }
+        }
+    }
+}
+
+/// The failure of a survey with a line that doesn't say yes.
+fn faulty(alloc: Global) -> Result<Failure, AllocError>
+    ensures { IfOk result (λ failure. spec.IsFaulty (Some failure)) }
+{
+    let words = Vec::from_slice(alloc, b"Faulty")?;
+    Ok(Failure::Refused(CommandRefusal::Verdict(words)))
+}
+
+/// Whether all lines say yes.
+fn are_yes(answers: &[Answer]) -> bool
+    ensures { result ≡ list_all spec.is_yes answers.now }
+{
+    answers.iter().all(|answer| is_yes(*answer))
+}
+
+/// Whether a line with this `answer` says yes.
+fn is_yes(answer: Answer) -> bool
+    ensures { result ≡ spec.is_yes answer }
+{
+    match answer {
+        Answer::Yes => true,
+        Answer::No(_) | Answer::Refused => false,
+    }
+}
