@@ -34,7 +34,6 @@ SKIPPED = {"out", "proofs", "must-fail", "__pycache__"}
 
 LIMIT = 20
 NOT_REWRITTEN = {
-    "crates/ti_reports": 48,
     # made from the program's --help
     "man/ticurses.1": 8,
 }

@@ -1,8 +1,14 @@
-"""The reports of --json, compared field by field with the output of the plain form for the same entries."""
+"""The reports of --json, compared field by field with the output of the plain form for the same entries, and object by
+object with docs/report.schema.json where Python's jsonschema is installed."""
 
 import json
 import re
 import sys
+
+try:
+    from jsonschema import Draft202012Validator
+except ImportError:
+    Draft202012Validator = None
 
 from faults import COLS, FIVE, MENDED, ROWS, TOGETHER, all_entries, together_source
 from trying import PROGRAM, TOP, Case, run_cases
@@ -26,11 +32,50 @@ lost|uses what isn't there,
 """.encode() + b"lat\xeen\x7f|written in Latin-1,\n\tclear=\\E[H\\E[2J, sgr0=\\E[m,\n"
 NAMES_SHOWN = ['quoted"name\\', "größe", "lost", "lat\\356n\\177"]
 
+# objects that the schema has to refuse, each by what differs from a yes
+REFUSED_BY_SCHEMA = [
+    {"cause": "WrongEffect"},
+    {"line": 0},
+    {"other": None},
+    {"verdict": "no"},
+    {"verdict": "no", "capability": "cup", "cause": "Unheard"},
+    {"verdict": "no", "capability": "cup", "cause": "WrongEffect"},
+    {"verdict": "no", "capability": "cup", "cause": "Absent", "seen": "nothing changes"},
+    {"verdict": "refused", "cause": "NoSuchEntry a", "advice": ["sgr: never"]},
+    {"size": {"cols": 80, "rows": 1}},
+]
+
 LETTERS = {"E": 27, "n": 10, "r": 13, "t": 9, "b": 8, "f": 12}
 
 
 def fail(text):
     sys.exit(f"reports: {text}")
+
+
+def schema():
+    """The validator of the schema; None where Python's jsonschema is missing."""
+    if Draft202012Validator is None:
+        return None
+    with open(f"{TOP}/docs/report.schema.json", encoding="ascii") as file:
+        wanted = json.load(file)
+    Draft202012Validator.check_schema(wanted)
+    if set(wanted["properties"]) != set(MEMBERS):
+        fail(f"the schema has the members {sorted(wanted['properties'])}")
+    return Draft202012Validator(wanted)
+
+
+SCHEMA = schema()
+
+
+def judge_schema():
+    """The schema accepts a yes, and refuses objects that no report may be."""
+    yes = {**{key: [] if list in kinds else None for key, kinds in MEMBERS.items()}, "entry": "a", "file": "a.ti"}
+    yes |= {"size": {"cols": COLS, "rows": ROWS}, "verdict": "yes"}
+    if not SCHEMA.is_valid(yes):
+        fail(f"the schema refuses {yes}")
+    for other in REFUSED_BY_SCHEMA:
+        if SCHEMA.is_valid({**yes, **other}):
+            fail(f"the schema accepts {yes} with {other}")
 
 
 def objects(told, size=(ROWS, COLS)):
@@ -43,6 +88,8 @@ def objects(told, size=(ROWS, COLS)):
             fail(f"not as Python writes it: {line}")
         if list(one) != list(MEMBERS) or not all(isinstance(one[key], kinds) for key, kinds in MEMBERS.items()):
             fail(f"not the members of a report: {line}")
+        for error in SCHEMA.iter_errors(one) if SCHEMA else []:
+            fail(f"not as docs/report.schema.json says: {line}: {error.message}")
         if one["size"] != {"cols": size[1], "rows": size[0]}:
             fail(f"not the size that was given: {line}")
         if one["verdict"] != "no" and any(one[key] is not None for key in OF_FAULTS if key != "cause"):
@@ -245,6 +292,10 @@ def judge_refused():
 
 
 def main():
+    if SCHEMA:
+        judge_schema()
+    else:
+        print("reports: Python's jsonschema is missing, so docs/report.schema.json is not compared", file=sys.stderr)
     source, wanted = all_entries()
     count = judge_entries("planted", source.text(), list(wanted))
     with open(f"{TOP}/examples/terminals.ti", "rb") as file:

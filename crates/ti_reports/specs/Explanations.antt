@@ -1,4 +1,4 @@
--- What a report says of the run that shows a fault.
+-- The run that shows a fault, in the words of a report.
 use Rattle.std.specs.Prelude.{◌≡◌, ℕ, Bool, true, false, List, Option, Some, None, String, string_bytes}
 use Rattle.std.specs.declared.alloc.Global.{Global}
 use Rattle.ti_checker.specs.declared.causes.Cause.{Cause}
@@ -85,8 +85,8 @@ IsWanted TooLong refusal wanted = wanted ≡ None
 IsWanted NoResync refusal wanted = wanted ≡ None
 IsWanted NoMemory refusal wanted = wanted ≡ None
 
--- Where a state shows the fault, it is the cause's own. What is wanted is that of the row. What is seen is in free
--- words.
+-- Where a state shows the fault, it is the cause's own. The wanted effect is that of the row. The effect that is seen
+-- is in free words.
 pub record IsExplained (height : ℕ) (refusal : No) (start wanted seen : Option (String Global)) : Type 0 where
   pub start_is : HasStart height refusal.cause start
   pub wanted_is : IsWanted refusal.cause refusal wanted

@@ -1,4 +1,4 @@
--- What is reported of an entry: that it has a certificate, or each of its faults.
+-- The report on an entry: that it has a certificate, or each of its faults.
 use Rattle.std.specs.Prelude.{◌≡◌, ℕ, List, [], ◌∷◌, Option, Some, None, String, string_bytes}
 use Rattle.std.specs.declared.alloc.Global.{Global}
 use Rattle.ti_caps.specs.Entry.{Content}

@@ -1,4 +1,4 @@
-//! What the lines for people say of a run.
+//! A run in words, as the lines for people have them.
 
 ghost use Rattle.std.specs.Prelude.{◌≡◌, IfOk, string_bytes};
 ghost use Rattle.ti_reports.specs.Explanations as spec;
@@ -15,18 +15,18 @@ use ti_verdicts::{explain_no, probe_words};
 use ti_words::{Remarks, wanted_words};
 use vt_term::Size;
 
-/// What is said of the run that shows a no, in words.
+/// The run that shows a no, in words.
 #[derive(Drop)]
 pub struct Explanation {
     /// The state of the terminal from which it goes wrong.
     pub start: Option<String>,
-    /// What is wanted there.
+    /// The wanted effect.
     pub wanted: Option<String>,
-    /// What happens instead.
+    /// The effect that is seen instead.
     pub seen: Option<String>,
 }
 
-/// What is said of the run that shows the `no` of `entry`.
+/// The words about the run that shows the `no` of `entry`.
 pub fn explained(
     alloc: Global,
     entry: &Entry,
@@ -60,7 +60,7 @@ fn start_of(alloc: Global, size: Size, cause: Cause) -> Result<Option<String>, A
     }
 }
 
-/// What is wanted of the row that `no` is about, if its cause is that this isn't so.
+/// The words for the wanted effect of the row that `no` is about, if its cause is that this isn't so.
 fn wanted_of(alloc: Global, no: &No) -> Result<Option<String>, AllocError>
     ensures { IfOk result (λ wanted. spec.IsWanted no.now.cause no.now wanted) }
 {
@@ -72,7 +72,7 @@ fn wanted_of(alloc: Global, no: &No) -> Result<Option<String>, AllocError>
     }
 }
 
-/// What is wanted of the row that `no` is about; `None` if it is about none.
+/// The words for the wanted effect of the row that `no` is about; `None` if it is about none.
 fn wanted_of_row(alloc: Global, no: &No) -> Result<Option<String>, AllocError>
     ensures { IfOk result (λ wanted. spec.IsOfItsRow no.now wanted) }
 {
@@ -81,7 +81,7 @@ fn wanted_of_row(alloc: Global, no: &No) -> Result<Option<String>, AllocError>
     Ok(wanted)
 }
 
-/// What is wanted of `row`, if there is one.
+/// The words for the wanted effect of `row`, if there is one.
 fn wanted_text(alloc: Global, row: Option<Row>) -> Result<Option<String>, AllocError>
     ensures { IfOk result (λ wanted. spec.HasWanted row wanted) }
 {
@@ -98,7 +98,7 @@ fn row_text(alloc: Global, row: Row) -> Result<String, AllocError>
     text_of(alloc, words.as_slice())
 }
 
-/// What happens, as one of the `lines` says, if a run showed the `cause`.
+/// The words of one of the `lines` for the effect that is seen, if a run showed the `cause`.
 fn seen_in(alloc: Global, cause: Cause, lines: &[Vec<u8>]) -> Result<Option<String>, AllocError>
     ensures { IfOk result (λ seen. spec.IsOnlyIf (spec.runs cause) seen) }
 {
@@ -110,7 +110,7 @@ fn seen_in(alloc: Global, cause: Cause, lines: &[Vec<u8>]) -> Result<Option<Stri
     }
 }
 
-/// What follows `front` in the first of the `lines` that begins with it.
+/// The words after `front` in the first of the `lines` that begins with it.
 fn line_after(
     alloc: Global,
     lines: &[Vec<u8>],

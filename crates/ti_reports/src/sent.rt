@@ -1,4 +1,4 @@
-//! What the string that a no is about sends.
+//! The bytes that the string of a no sends.
 
 ghost use Rattle.std.specs.Prelude.{◌≡◌, IfOk, option_and_then, option_copied};
 ghost use Rattle.ti_caps.specs.Table.{name_at};
@@ -11,8 +11,8 @@ use ti_checker::No;
 use ti_conforms::{SendFault, send};
 use ti_rows::Row;
 
-/// What the string of `entry` that `no` is about sends for its parameters, in hexadecimal; `None` where it is about no
-/// string, or nothing is sent.
+/// The bytes that the string of `entry` that `no` is about sends for its parameters, in hexadecimal; `None` where it is
+/// about no string, or nothing is sent.
 pub fn sent_text(alloc: Global, entry: &Entry, no: &No) -> Result<Option<String>, AllocError>
     ensures { IfOk result (λ text. spec.IsSentText entry.now no.now text) }
 {
@@ -21,7 +21,7 @@ pub fn sent_text(alloc: Global, entry: &Entry, no: &No) -> Result<Option<String>
     Ok(text)
 }
 
-/// What `string` sends for `row`, in hexadecimal, where there are both.
+/// The bytes that `string` sends for `row`, in hexadecimal, where there are both.
 fn sent_for(
     alloc: Global,
     row: Option<Row>,
@@ -38,7 +38,7 @@ fn sent_for(
     }
 }
 
-/// What `string` sends for `row`, in hexadecimal; `None` where it can't be expanded.
+/// The bytes that `string` sends for `row`, in hexadecimal; `None` where it can't be expanded.
 #[tactic(auto, using(crate::proofs::Sends::unsent_sends_nothing))]
 fn sent_by(alloc: Global, string: &[u8], row: Row) -> Result<Option<String>, AllocError>
     ensures { IfOk result (λ text. spec.IsSentBy string.now row text) }
