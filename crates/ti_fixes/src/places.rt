@@ -1,0 +1,205 @@
+//! The place in a text of a field of an entry. Nothing is promised of it: a text that is changed there is read again
+//! and compared.
+
+use std::alloc::{AllocError, Global};
+use ti_caps::{Cap, Opener, name};
+use ti_source::RawEntry;
+
+/// A piece of a text: the place of its first byte, and its length.
+#[derive(Clone, Copy, Debug, PartialEq, Eq)]
+pub struct Piece {
+    pub start: usize,
+    pub length: usize,
+}
+
+/// A walk over the bytes of a text, for the pieces of one entry before commas.
+#[derive(Drop)]
+struct Walk {
+    /// The place of the next byte.
+    at: usize,
+    /// The line of the next byte, from 1.
+    line: u32,
+    /// The entry's first line.
+    first: u32,
+    /// Whether the next byte is the first of its line.
+    is_start: bool,
+    /// Whether the line is a comment.
+    is_comment: bool,
+    opener: Opener,
+    /// The place of the first byte behind the last comma.
+    start: usize,
+    pieces: Vec<Piece>,
+}
+
+impl Walk {
+    /// A walk for the entry that begins on the line `first`.
+    fn new(alloc: Global, first: u32) -> Walk {
+        Walk {
+            at: 0,
+            line: 1,
+            first,
+            is_start: true,
+            is_comment: false,
+            opener: Opener::Nothing,
+            start: 0,
+            pieces: Vec::new(alloc),
+        }
+    }
+
+    /// Goes on by a byte.
+    fn take(&mut self, byte: u8) -> Result<(), AllocError> {
+        let at = self.at;
+        self.at = at.saturating_add(1);
+        if byte == b'\n' {
+            self.end_line();
+            return Ok(());
+        }
+        if self.is_start {
+            self.is_start = false;
+            self.is_comment = byte == b'#';
+        }
+        if self.is_comment || self.line < self.first {
+            return Ok(());
+        }
+        self.take_in_field(at, byte)
+    }
+
+    fn end_line(&mut self) {
+        self.line = self.line.saturating_add(1);
+        self.is_start = true;
+        self.is_comment = false;
+        self.opener = Opener::Nothing;
+        self.start = self.at;
+    }
+
+    /// Goes on by a byte at the place `at`, which isn't in a comment.
+    fn take_in_field(&mut self, at: usize, byte: u8) -> Result<(), AllocError> {
+        if !self.opener.ends_field(byte) {
+            self.opener = self.opener.after(byte);
+            return Ok(());
+        }
+        let start = self.start;
+        self.opener = Opener::Nothing;
+        self.start = at.saturating_add(1);
+        self.pieces.push(Piece {
+            start,
+            length: at.saturating_sub(start),
+        })?;
+        Ok(())
+    }
+}
+
+/// The pieces before commas of the entry whose names are on the line `first`; the line `next` is behind it.
+fn pieces_of(
+    alloc: Global,
+    text: &[u8],
+    first: u32,
+    next: u32,
+) -> Result<Vec<Piece>, AllocError> {
+    let mut walk = Walk::new(alloc, first);
+    for byte in text {
+        if walk.line < next {
+            walk.take(*byte)?;
+        }
+    }
+    let Walk { pieces, .. } = walk;
+    Ok(pieces)
+}
+
+/// The bytes of a piece; none if the text has no such piece.
+fn bytes_of(text: &[u8], piece: Piece) -> &[u8] {
+    if piece.start > text.len() {
+        return &[];
+    }
+    let (_, rest) = text.split_at(piece.start);
+    if piece.length > rest.len() {
+        return &[];
+    }
+    let (own, _) = rest.split_at(piece.length);
+    own
+}
+
+/// The number of spaces and tabs at the start.
+fn white_before(bytes: &[u8]) -> usize {
+    match bytes
+        .iter()
+        .position(|byte| *byte != b' ' && *byte != b'\t')
+    {
+        Some(count) => count,
+        None => bytes.len(),
+    }
+}
+
+/// The piece without the spaces and tabs at its start.
+fn trimmed(text: &[u8], piece: Piece) -> Piece {
+    let white = white_before(bytes_of(text, piece));
+    Piece {
+        start: piece.start.saturating_add(white),
+        length: piece.length.saturating_sub(white),
+    }
+}
+
+/// Whether a field with this name sets it or cancels it.
+fn is_about(field: &[u8], name: &[u8]) -> bool {
+    match field.strip_prefix(name) {
+        Some(rest) => match rest {
+            [mark, ..] => *mark == b'=' || *mark == b'@' || *mark == b'#',
+            [] => false,
+        },
+        None => false,
+    }
+}
+
+/// The first of the fields with this name.
+fn named_piece(text: &[u8], pieces: &[Piece], name: &[u8]) -> Option<Piece> {
+    for piece in pieces {
+        let own = trimmed(text, *piece);
+        if is_about(bytes_of(text, own), name) {
+            return Some(own);
+        }
+    }
+    None
+}
+
+/// The empty piece behind the comma after the last of the pieces.
+fn behind(pieces: &[Piece]) -> Option<Piece> {
+    match pieces {
+        [] => None,
+        [.., last] => Some(Piece {
+            start: last.start.saturating_add(last.length).saturating_add(1),
+            length: 0,
+        }),
+    }
+}
+
+/// The line on which the entry behind the one at `place` begins.
+fn next_line(raws: &[RawEntry], place: usize) -> u32 {
+    match raws.get(place.saturating_add(1)) {
+        Some(raw) => raw.line,
+        None => u32::MAX,
+    }
+}
+
+/// The piece of the text that is the field of the entry at `place` about `cap`, or the empty piece behind the entry's
+/// last field if it has none.
+pub fn find_piece(
+    alloc: Global,
+    text: &[u8],
+    raws: &[RawEntry],
+    place: usize,
+    cap: Cap,
+) -> Result<Option<Piece>, AllocError> {
+    let first = match raws.get(place) {
+        Some(raw) => raw.line,
+        None => return Ok(None),
+    };
+    let pieces = pieces_of(alloc, text, first, next_line(raws, place))?;
+    let fields: &[Piece] = match pieces.as_slice() {
+        [] => &[],
+        [_names, fields @ ..] => fields,
+    };
+    match named_piece(text, fields, name(cap)) {
+        Some(piece) => Ok(Some(piece)),
+        None => Ok(behind(pieces.as_slice())),
+    }
+}

@@ -1,0 +1,132 @@
+//! Writing a field into a text.
+
+ghost use Rattle.std.specs.Prelude.{◌≡◌, ◌==◌, ◌++◌, [], ◌∷◌, IfOk, IfSome, IsTrue, not};
+ghost use Rattle.std.specs.List.{list_all};
+ghost use Rattle.ti_caps.specs.Fits.{is_one_field, string_fits};
+ghost use Rattle.ti_caps.specs.declared.fits.Opener.TheVariants as opener;
+ghost use Rattle.ti_fixes.specs.Texts.{IsWritten, field_text};
+
+use crate::places::Piece;
+use std::alloc::{AllocError, Global};
+use ti_caps::{Cap, Opener, name};
+use ti_source::escape;
+
+/// `NAME=STRING`, as a source text has it.
+pub fn field_text(alloc: Global, cap: Cap, string: &[u8]) -> Result<Vec<u8>, AllocError>
+    requires { IsTrue (string_fits string.now) }
+    ensures { IfOk result (λ text. text.items ≡ field_text cap string.now) }
+{
+    let spelled = escape(alloc, string)?;
+    let mut text = Vec::from_slice(alloc, name(cap))?;
+    text.push(b'=')?;
+    text.extend_from_slice(spelled.as_slice())?;
+    Ok(text)
+}
+
+/// The three parts of a text, one after another.
+fn joined(alloc: Global, front: &[u8], own: &[u8], back: &[u8]) -> Result<Vec<u8>, AllocError>
+    ensures { IfOk result (λ text. text.items ≡ front.now ++ (own.now ++ back.now)) }
+{
+    let mut text = Vec::from_slice(alloc, front)?;
+    text.extend_from_slice(own)?;
+    text.extend_from_slice(back)?;
+    Ok(text)
+}
+
+/// Whether no line ends among the bytes.
+fn has_no_feed(bytes: &[u8]) -> bool
+    ensures { result ≡ list_all (λ b. not (b == 10)) bytes.now }
+{
+    bytes.iter().all(|byte| *byte != b'\n')
+}
+
+/// Whether no comma ends a field among the bytes, and a comma after them does.
+fn is_one_field(field: &[u8]) -> bool
+    ensures { result ≡ is_one_field opener.Nothing field.now }
+{
+    let mut opener = Opener::Nothing;
+    for byte in field {
+        if opener.ends_field(*byte) {
+            return false;
+        }
+        opener = opener.after(*byte);
+    }
+    opener.ends_at_comma()
+}
+
+/// The field with a space before it and a comma after it.
+fn spaced_field(alloc: Global, cap: Cap, string: &[u8]) -> Result<Vec<u8>, AllocError>
+    requires { IsTrue (string_fits string.now) }
+    ensures { IfOk result (λ text. text.items ≡ 32 ∷ (field_text cap string.now ++ 44 ∷ [])) }
+{
+    let field = field_text(alloc, cap, string)?;
+    let mut text = Vec::from_slice(alloc, b" ")?;
+    text.extend_from_slice(field.as_slice())?;
+    text.push(b',')?;
+    Ok(text)
+}
+
+/// The text with the field between its two parts.
+#[tactic(auto, using(crate::proofs::Written::added_so))]
+fn added(
+    alloc: Global,
+    front: &[u8],
+    back: &[u8],
+    cap: Cap,
+    string: &[u8],
+) -> Result<Vec<u8>, AllocError>
+    requires { IsTrue (string_fits string.now) }
+    ensures { IfOk result (λ text. IsWritten cap string.now (front.now ++ back.now) text.items) }
+{
+    let own = spaced_field(alloc, cap, string)?;
+    joined(alloc, front, own.as_slice(), back)
+}
+
+/// The text with the field in place of `own`; `None` if that is more than one field.
+#[tactic(auto, using(crate::proofs::Written::replaced_so))]
+fn replaced(
+    alloc: Global,
+    front: &[u8],
+    own: &[u8],
+    back: &[u8],
+    cap: Cap,
+    string: &[u8],
+) -> Result<Option<Vec<u8>>, AllocError>
+    requires { IsTrue (string_fits string.now) }
+    ensures { IfOk result (λ found. IfSome found
+        (λ text. IsWritten cap string.now (front.now ++ (own.now ++ back.now)) text.items)) }
+{
+    if !has_no_feed(own) || !is_one_field(own) {
+        return Ok(None);
+    }
+    let field = field_text(alloc, cap, string)?;
+    let text = joined(alloc, front, field.as_slice(), back)?;
+    Ok(Some(text))
+}
+
+/// The text with the field in place of the piece, or there if the piece is empty; `None` if the text has no such piece.
+#[tactic(auto, using(crate::proofs::Written::parts_of))]
+pub fn written(
+    alloc: Global,
+    text: &[u8],
+    piece: Piece,
+    cap: Cap,
+    string: &[u8],
+) -> Result<Option<Vec<u8>>, AllocError>
+    requires { IsTrue (string_fits string.now) }
+    ensures { IfOk result (λ found. IfSome found (λ after. IsWritten cap string.now text.now after.items)) }
+{
+    if piece.start > text.len() {
+        return Ok(None);
+    }
+    let (front, rest) = text.split_at(piece.start);
+    if piece.length > rest.len() {
+        return Ok(None);
+    }
+    if piece.length == 0 {
+        let after = added(alloc, front, rest, cap, string)?;
+        return Ok(Some(after));
+    }
+    let (own, back) = rest.split_at(piece.length);
+    replaced(alloc, front, own, back, cap, string)
+}
