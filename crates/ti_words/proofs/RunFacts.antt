@@ -3,7 +3,7 @@ use Rattle.std.proofs.Common.{◌≡◌, ◌*◌, ◌∙◌, ℕ, List, Option, 
 use Rattle.vt_term.proofs.Runs.{runs_once, runs_or_sticks}
 use Rattle.vt_term.specs.Run.{Runs, Sticks}
 use Rattle.vt_term.specs.Screen.{Settings, State, reset, with_settings}
-use Rattle.ti_words.specs.Runs.{IsRunText, IsTextFrom, RunsFrom, SaysFrom, SaysRun, StartsWith}
+use Rattle.ti_words.specs.Runs.{IsRunText, IsTextFrom, RunsFrom, StartsWith}
 
 -- there is one state that begins so
 pub one_start : (height width : ℕ) (settings : Settings) (fill : ℕ) (s t : State) → StartsWith height width settings fill s → StartsWith height width settings fill t → t ≡ s

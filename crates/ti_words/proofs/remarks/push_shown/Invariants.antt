@@ -1,7 +1,7 @@
 use Rattle.std.proofs.Common.{◌≡◌, ◌++◌, take, flat_map}
 use Rattle.std.specs.List.{AllByRecursion}
 use Rattle.ti_words.specs.Remarks.{IsPrintable}
-use Rattle.ti_words.specs.Shown.{shown, shown_byte}
+use Rattle.ti_words.specs.Shown.{shown_byte}
 use Rattle.ti_words.proofs.remarks.push_shown.Given as goal
 
 -- the bytes before this one are shown
