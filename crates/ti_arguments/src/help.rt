@@ -50,7 +50,7 @@ output could not be written; 4 out of memory.
 KIND is one of:
   BadSize        ROWS is not 2 to 200, or COLS is not 2 to 500
   BadEscape      STRING ends with `\\` or `^`, or has a `^` before a comma
-  TooLong        STRING stands for more than 4095 bytes
+  TooLong        STRING is more than 4095 bytes
   BadCode        what follows a `%` is not a code
   BadNest        a conditional does not have the form `%? %t %e %;`
   Underflow      a code takes a value from the empty stack
@@ -83,7 +83,7 @@ for each case the JSON object of the state that its bytes leave of a blank termi
 are stuck, also with `stuck`, the place, and the state is that of the bytes before it.
 
 With --plain-text the file is a recording: strings (titles and other OSC, DCS, SOS, PM, APC) are dropped up to their
-end, and a character above 127 counts as `?`. What was dropped is counted on standard error.
+end, and a character above 127 counts as `?`. Standard error has the count of dropped bytes.
 
 Exit status: 0 done; 1 refused, with a line `refused: KIND` on standard error; 2 usage error; 3 the file
 could not be read or has more than 16777216 bytes, or standard output could not be written; 4 out of memory.
@@ -129,7 +129,7 @@ for a compiled file:
   BadCount   a size is negative, or there are too many flags, numbers or strings
   BadFlag, BadNumber, BadOffset  a value that the format does not allow
   NoNul      the names or a string are not ended by a 0
-  BadNames   the names can't stand in a source file
+  BadNames   a source file can't have these names
   TooLarge   a string is longer than 4095 bytes, or the file to be written is longer than its form allows
 
 Example:
@@ -165,7 +165,7 @@ whole or not at all, and there is no output; a terminal as standard error has a 
 Standard error gets a line `note CAP HEX` for each sequence of the entry's strings, with the first parameters of each,
 that the terminal ignores, or of which it ignores a number. There are none where a string can't be expanded, or doesn't
 send text and whole sequences. Of an entry of a source, and of those that it uses, it gets a line
-`hint line N: NAME is no capability` for each name that is none, and hints at names that stand in the entry before, and at
+`hint line N: NAME is no capability` for each name that is none, and hints at names that the entry has twice, and at
 escapes without a meaning. Behind a certificate it gets a line `advice CAP: ..` for what is never seen although the entry
 has a string for it: an attribute that sgr never shows, colors without setaf, setab or op, acsc without smacs or rmacs,
 civis without cnorm. Neither changes what is answered.
@@ -177,7 +177,7 @@ which state of the terminal it goes wrong, what was wanted there, and what happe
 With --all there is no certificate. The output is all that is wrong: a line `no CAP P..: CAUSE` for what the entry as a
 whole has or lacks (FlagOut, Absent, AcsByte), and one for each other capability that goes wrong, with the first of its
 parameters for which it does; then what is wrong with all strings together once these are mended. Below each of an
-entry of a source is a line `FILE:LINE: CAP of NAME`, with the line on which its value stands and the first name of the
+entry of a source is a line `FILE:LINE: CAP of NAME`, with the line on which its value is and the first name of the
 entry that has it, through `use=`; then come the lines that explain it, after two spaces. Where the standard's string
 would be right in that place, with all others that are named taken too, the last of them is
 `CAP=STRING would be right on T`; where clear and cup are both at fault, standard error says instead that the
@@ -232,8 +232,8 @@ pub const VERIFY: &str =
 pub const VERIFY_MORE: &str = "\
 The output is `yes` if the certificate CERT shows that the entry conforms on a terminal of this size: each checked
 string, with all parameters in range and from every state in which programs send it, does what they rely on. It does
-not matter who wrote the certificate. A certificate has at most 67108864 bytes, and is judged as it is read. What its
-lines and words say, and in what order they are judged, stands in docs/CERTIFICATE.md.
+not matter who wrote the certificate. A certificate has at most 67108864 bytes, and is judged as it is read.
+docs/CERTIFICATE.md explains its lines and words, and in which order they are judged.
 
 Exit status: 0 done; 1 refused, with a line `refused: KIND` on standard error; 2 usage error; 3 a file could not
 be read, or standard output could not be written; 4 out of memory.
@@ -341,8 +341,8 @@ The calls are those of X/Open Curses:
   endwin                leaves the terminal as other programs want it
 
 Exit status: 0 done; 1 refused, with a line `refused: KIND` on standard error; 2 usage error; 3 a file could not
-be read or the script has more than 1048576 bytes, or, told after the last call, standard output could not be
-written; 4 out of memory.
+be read or the script has more than 1048576 bytes, or standard output could not be written (reported
+after the last call); 4 out of memory.
 
 KIND is one of, for the script:
   line N: BadLine  the line is not a call with its arguments, and neither empty nor a comment that begins with `#`
@@ -393,7 +393,7 @@ Each FILE is a source file, of which all entries are checked in their order, or 
 1a 01 or 1e 02. The output is a line for each entry, after its first name:
   NAME yes                   there is a certificate
   NAME no CAP P..: CAUSE     there is none; `ticurses check --help` explains each CAUSE
-  NAME refused: KIND         the entry can't be had; `ticurses tic --help` explains each KIND
+  NAME refused: KIND         the entry can't be read; `ticurses tic --help` explains each KIND
 Each entry of a source is read by itself, from a line that begins in column one up to the next. One that can't be read, and
 one that uses it, has the line `NAME refused: line N: KIND`; the others are checked. A FILE with a fault of its own has one
 line, `FILE refused: KIND`: a compiled file, or a source that is too long or has a fault before its first entry. A source
@@ -401,7 +401,7 @@ without entries has none. A byte outside 32 to 126 of a name is a backslash and 
 number of the lines before it, and then how many got each answer.
 
 With --all an entry that has no certificate has a line `NAME no CAP P..: CAUSE` for each of its faults, those that
-`ticurses check --all` lists. For each of them whose value stands in a source FILE, standard error has the line
+`ticurses check --all` lists. For each of them whose value is in a source FILE, standard error has the line
 `FILE:LINE: CAP of ENTRY: NAME no CAP P..: CAUSE`; ENTRY is NAME, or an entry that it uses. It also gets the hints of
 `ticurses check`, each with `, in FILE` at its end.
 
