@@ -1,10 +1,12 @@
 #!/usr/bin/env python3
-"""Writes docs/DATABASE.md: what `survey` says of all entries of the system's ncurses, and the faults of tools/faults.txt.
+"""Writes docs/DATABASE.md: what `survey --json --all` says of all entries of the system's ncurses, and the faults of
+tools/faults.txt.
 
 Needs infocmp and the entries of ncurses-base and ncurses-term. Each fault is run again; one that no longer shows is
 reported, and the page isn't written then."""
 
 import collections
+import json
 import os
 import re
 import subprocess
@@ -44,9 +46,22 @@ def files():
 
 
 def survey(paths):
-    """Each entry's first name with its verdict."""
-    lines = run(["./ticurses", "survey", ROWS, COLS, *paths]).stdout.decode().splitlines()
-    return [line.split(" ", 1) for line in lines[:-1]], lines[-1]
+    """Each entry's first name with its verdict in the words of a line of `survey`, and all objects that are noes.
+
+    The first object of a file has its verdict; further ones are further faults of the entry."""
+    lines = run(["./ticurses", "survey", "--json", "--all", ROWS, COLS, *paths]).stdout.decode().splitlines()
+    objects = [json.loads(line) for line in lines]
+    first = {}
+    for found in objects:
+        first.setdefault(found["file"], found)
+    return [(found["entry"], words_of(found)) for found in first.values()], [found for found in objects if found["verdict"] == "no"]
+
+
+def words_of(found):
+    """An object's verdict in the words of a line of `survey`."""
+    if found["verdict"] == "no":
+        return f"no {' '.join([found['capability'], *map(str, found['parameters'])])}: {found['cause']}"
+    return found["verdict"]
 
 
 def place_of(name):
@@ -64,12 +79,26 @@ def cause_of(verdict):
     return (found.group(2), found.group(1)) if found else None
 
 
-def counts_table(verdicts):
-    """How many entries have which verdict."""
+def counts_table(verdicts, noes):
+    """How many entries have which verdict, and how many faults have which cause."""
     counts = collections.Counter("yes" if verdict == "yes" else (cause_of(verdict) or ("refused",))[0] for _, verdict in verdicts)
-    rows = [("**a certificate**", counts.pop("yes"), "")]
-    rows += [(f"`{cause}`", count, MEANING.get(cause, "the file could not be read")) for cause, count in counts.most_common()]
-    return "| verdict | entries | meaning |\n|---|---|---|\n" + "".join(f"| {a} | {b} | {c} |\n" for a, b, c in rows)
+    faults = collections.Counter(found["cause"] for found in noes)
+    rows = [("**a certificate**", counts.pop("yes"), "", "")]
+    rows += [
+        (f"`{cause}`", counts[cause], faults[cause] or "", MEANING.get(cause, "the file could not be read"))
+        for cause in sorted(counts | faults, key=lambda cause: (-counts[cause], -faults[cause]))
+    ]
+    return "| verdict | entries | faults | meaning |\n|---|---|---|---|\n" + "".join(f"| {a} | {b} | {c} | {d} |\n" for a, b, c, d in rows)
+
+
+def about_faults(verdicts, noes):
+    """The paragraph below the table of counts."""
+    refused = sum(cause_of(verdict) is not None for _, verdict in verdicts)
+    return wrapped(
+        f"An entry's verdict names the first fault along the certificate's lines. The column \"faults\" counts all {len(noes)} "
+        f"faults of the {refused} entries without a certificate. Most of these entries are for terminals of other kinds than "
+        "T: attributes take a cell on the screen (`xmc`), the terminal prints on paper (`hc`, `os`), or it has control "
+        "functions of its own.")
 
 
 def causes_table(verdicts):
@@ -112,6 +141,12 @@ def alone(name, caps):
     return (f"{name}|,\n" + "".join(f"{line}\n" for line in kept) + PLAIN).encode()
 
 
+def code_of(text):
+    """A text as code in a cell of a table. A text with backticks is between pairs of them."""
+    text = text.replace("|", "\\|")
+    return f"`` {text} ``" if "`" in text else f"`{text}`"
+
+
 def fault_row(fields):
     """A fault's row of its table, and what is stale of it."""
     names, caps, wanted, does, should, log = fields
@@ -122,9 +157,9 @@ def fault_row(fields):
     at = re.search(r"no (\w+)", refused)
     cap = at.group(1) if at else caps
     string = re.search(rf"^\t{cap}=(.*),$", given.decode(), re.M)
-    code = string.group(1).replace("|", "\\|") if string else ""
+    code = code_of(f"{cap}={string.group(1) if string else ''}")
     words = f"one {first} {caps}" if "|" not in caps else f"one {first} '{caps}'".replace("|", "\\|")
-    row = f"| {names.replace(',', ', ')} | `{cap}={code}` | {does} | {should} | `{words}`: {refused} | {log} |"
+    row = f"| {names.replace(',', ', ')} | {code} | {does} | {should} | `{words}`: {refused} | {log} |"
     stale = "" if refused.startswith(wanted) else f"{first}: {refused}, and was to be {wanted}"
     return row, stale
 
@@ -150,22 +185,19 @@ def faults():
 
 def main():
     paths = files()
-    verdicts, total = survey(paths)
+    verdicts, noes = survey(paths)
     version = run(["infocmp", "-V"]).stdout.decode().strip()
     list_of_faults, count = faults()
     page = f"""# What the checker finds in ncurses' database
 
 Made by `tools/database.py` from {version} (Debian's ncurses-base and ncurses-term): {len(verdicts)} entries, each checked at
-{ROWS} by {COLS} by `./ticurses survey`. The lists of faults are tools/faults.txt, read by hand; the script runs each again.
+{ROWS} by {COLS} by `./ticurses survey --json --all`. The lists of faults are tools/faults.txt, read by hand; the script
+runs each again.
 
 ## Verdicts
 
-{counts_table(verdicts)}
-The last line of `survey`: `{total}`
-
-A no names the first fault along the certificate's lines; an entry may have more. Most noes are for terminals of other
-kinds than T: attributes take a cell on the screen (`xmc`), the terminal prints on paper (`hc`, `os`), or it has control
-functions of its own.
+{counts_table(verdicts, noes)}
+{about_faults(verdicts, noes)}
 
 ## Well-known terminals
 
