@@ -32,10 +32,9 @@ given_step cap string zero (x ∷ olds) (y ∷ news) raw first l m is other abov
 given_step cap string (suc left) (x ∷ olds) (y ∷ news) raw first l m is other above kept h =
     let one : raw ≡ x = is in
     let two : first ≡ y = other in
-    let less : suc left - 1 ≡ left = omega arith in
-    (
+    let less : suc left - 1 ≡ left = omega arith in (
       subst (λ (o : RawEntry). IsKept o y) one (subst (λ (n : RawEntry). IsKept raw n) two kept),
       subst (λ (k : ℕ). AreGiven cap string k olds news) less
-      (subst (λ (os : List RawEntry). AreGiven cap string (suc left - 1) os news) (take_rest (x ∷ olds) 1)
-      (subst (λ (ns : List RawEntry). AreGiven cap string (suc left - 1) (take (length (x ∷ olds) - 1) (drop 1 (x ∷ olds))) ns) (take_rest (y ∷ news) 1) h)),
+          (subst (λ (os : List RawEntry). AreGiven cap string (suc left - 1) os news) (take_rest (x ∷ olds) 1)
+          (subst (λ (ns : List RawEntry). AreGiven cap string (suc left - 1) (take (length (x ∷ olds) - 1) (drop 1 (x ∷ olds))) ns) (take_rest (y ∷ news) 1) h)),
     )

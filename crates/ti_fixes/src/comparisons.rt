@@ -147,13 +147,7 @@ fn are_kept(old: &[RawEntry], new: &[RawEntry]) -> bool
 }
 
 /// Whether the entry at `place` has the string given, and all others are as they were.
-pub fn are_given(
-    old: &[RawEntry],
-    new: &[RawEntry],
-    place: usize,
-    cap: Cap,
-    string: &[u8],
-) -> bool
+pub fn are_given(old: &[RawEntry], new: &[RawEntry], place: usize, cap: Cap, string: &[u8]) -> bool
     ensures { result ≡ true → AreGiven cap string.now place old.now new.now }
 {
     let mut olds = old;

@@ -90,12 +90,7 @@ impl Walk {
 }
 
 /// The pieces before commas of the entry whose names are on the line `first`; the line `next` is behind it.
-fn pieces_of(
-    alloc: Global,
-    text: &[u8],
-    first: u32,
-    next: u32,
-) -> Result<Vec<Piece>, AllocError> {
+fn pieces_of(alloc: Global, text: &[u8], first: u32, next: u32) -> Result<Vec<Piece>, AllocError> {
     let mut walk = Walk::new(alloc, first);
     for byte in text {
         if walk.line < next {
