@@ -22,5 +22,5 @@ pub use fault_lists::check_all;
 pub use locations::{SourcePlace, first_name, line_of_field, placed};
 pub use reasons::explain_no;
 pub use refusals::{cause_name, no_failure, no_words};
-pub use starts::probe_words;
+pub use starts::{probe_run_words, probe_words};
 pub use verifications::{checked_at, verify_certificate};

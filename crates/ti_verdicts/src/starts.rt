@@ -1,32 +1,22 @@
 //! A terminal in the state that a probe describes.
 
-ghost use Rattle.std.specs.Prelude.{◌≡◌, IfOk};
+ghost use Rattle.std.specs.Prelude.{◌≡◌, IfOk, option_map};
 ghost use Rattle.ti_verdicts.specs.Starts as spec;
+ghost use Rattle.ti_words.specs.Runs.{IsRunText};
 ghost use Rattle.ti_words.specs.Starts.{start_text};
 
 use std::alloc::{AllocError, Global};
 use ti_checker::Probe;
-use ti_words::start_words;
+use ti_words::{filled_terminal, run_words, start_words};
 use vt_term::{Rendition, Settings, Size, Terminal};
 
-/// A terminal of `size` in the state of `probe`; `None` if the probe's cursor or margins aren't within the size.
+/// A terminal of `size` in the state of `probe`; `None` if there is none.
 pub fn terminal_at(
     alloc: Global,
     size: Size,
     probe: &Probe,
 ) -> Result<Option<Terminal>, AllocError> {
-    let mut terminal = Terminal::new(alloc, size)?;
-    let cells = vec![in alloc; probe.fill; size.rows.saturating_mul(size.cols)]?;
-    let _ = terminal.feed(cells.as_slice());
-    let settings = settings_of(probe);
-    let size = terminal.size();
-    let is_within = settings.row < size.rows && settings.col < size.cols;
-    if is_within && settings.top < settings.bottom && settings.bottom < size.rows {
-        terminal.set(settings);
-        Ok(Some(terminal))
-    } else {
-        Ok(None)
-    }
+    filled_terminal(alloc, size, &settings_of(probe), probe.fill)
 }
 
 /// The state of `probe` on a terminal of `size`, in words.
@@ -35,6 +25,20 @@ pub fn probe_words(alloc: Global, size: Size, probe: &Probe) -> Result<Vec<u8>, 
         ≡ start_text size.rows (spec.settings_of probe.now) probe.now.fill) }
 {
     start_words(alloc, size, &settings_of(probe), probe.fill)
+}
+
+/// The words for the changes by a run of `bytes` from the state of `probe` on a terminal of `size`; `None` if there is
+/// no such terminal, or the bytes don't run on it.
+pub fn probe_run_words(
+    alloc: Global,
+    size: Size,
+    probe: &Probe,
+    bytes: &[u8],
+) -> Result<Option<Vec<u8>>, AllocError>
+    ensures { IfOk result (λ found. IsRunText size.rows size.cols (spec.settings_of probe.now)
+        probe.now.fill bytes.now (option_map (λ words. words.items) found)) }
+{
+    run_words(alloc, size, &settings_of(probe), probe.fill, bytes)
 }
 
 fn settings_of(probe: &Probe) -> Settings
