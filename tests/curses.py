@@ -455,7 +455,7 @@ class Watched:
                 fail(f"{name} doesn't compile for {tool}")
 
     def found(self, tool, name, words, keys):
-        """What a tool reports of a program, or its last screen if it didn't end as it should; "" where all is well."""
+        """The report of a tool on a program, or its last screen if it didn't end as it should; "" where all is well."""
         report = f"{self.work}/{tool}/{name}.report"
         line = [f"ASAN_OPTIONS=detect_leaks=0:log_path={report}", f"UBSAN_OPTIONS=print_stacktrace=1:log_path={report}"]
         if tool == "valgrind":

@@ -1,6 +1,6 @@
 """The kinds of stilted English that can be counted, in pages and comments.
 
-english.py          counts them; status 1 if an area has more than its limit
+english.py          counts them; status 1 if there are more than the limit
 english.py --list   prints each with its file and line, and then the counts
 
 Two sorts of things are counted:
@@ -12,9 +12,7 @@ Two sorts of things are counted:
 
 Comments of Rattle and shell, and those of C after `//`, count only on lines of their own.
 
-Most of the repository was rewritten at once, and some areas were not. `NOT_REWRITTEN` lists those areas, each with the
-highest count that it may have: its count on the day when the others were rewritten. Everything else together may have
-at most `LIMIT`. Rewriting an area means taking its line out of the table; no number in it may rise."""
+All of it together may have at most `LIMIT` such places."""
 
 import ast
 import io
@@ -33,10 +31,6 @@ LEFT_OUT = {"docs/MAP.md", "tests/english.py"}
 SKIPPED = {"out", "proofs", "must-fail", "__pycache__"}
 
 LIMIT = 20
-NOT_REWRITTEN = {
-    # made from the program's --help
-    "man/ticurses.1": 8,
-}
 # the fewest paragraphs that must be read of each kind of file, so that the script can't pass by reading nothing
 FEWEST = {"md": 4000, "rt": 3500, "antt": 2300, "py": 850, "sh": 120, "c": 400, "man": 400}
 
@@ -232,11 +226,6 @@ def read_files():
             yield path, kind, text
 
 
-def area_of(path):
-    """The area of a file that isn't rewritten yet, or "all else"."""
-    return next((area for area in NOT_REWRITTEN if f"{path}/".startswith(f"{area}/")), "all else")
-
-
 def found_in(kind, text):
     """The counted places of a file, each with its kind, line and words; and the number of its paragraphs."""
     texts_of, functions_of = READERS[kind]
@@ -325,11 +314,10 @@ def printed(counts):
     return ", ".join(f"{name} {count}" for name, count in counts.most_common()) or "none"
 
 
-def over(areas, read):
-    """The areas above their limits, and the kinds of files of which hardly anything was read."""
-    for area, limit in {**NOT_REWRITTEN, "all else": LIMIT}.items():
-        if areas[area] > limit:
-            yield f"{area}: {areas[area]} places, and {limit} is the limit; `english.py --list` shows them"
+def over(count, read):
+    """What is above the limit, and the kinds of files of which hardly anything was read."""
+    if count > LIMIT:
+        yield f"{count} places, and {LIMIT} is the limit; `english.py --list` shows them"
     for kind, fewest in FEWEST.items():
         if read[kind] < fewest:
             yield f"only {read[kind]} paragraphs of {kind} were read"
@@ -340,26 +328,22 @@ def main():
     if wrong:
         sys.exit("english: " + "\nenglish: ".join(wrong))
     is_listed = sys.argv[1:] == ["--list"]
-    kinds, areas, places, read = Counter(), Counter(), Counter(), Counter()
+    kinds, places, read = Counter(), Counter(), Counter()
     for path, kind, text in read_files():
         found, count = found_in(kind, text)
         read[kind] += count
         for what, at, shown in found:
             kinds[what] += 1
-            areas[area_of(path)] += 1
             places["/".join(path.split("/")[:2])] += 1
             if is_listed:
                 print(f"{path}:{at}: {what}: {shown[:160]}")
     if is_listed:
-        for name, counts in (("by kind", kinds), ("by place", places), ("by area", areas), ("read", read)):
+        for name, counts in (("by kind", kinds), ("by place", places), ("read", read)):
             print(f"{name}: {printed(counts)}")
-    wrong = list(over(areas, read))
+    wrong = list(over(kinds.total(), read))
     if wrong:
         sys.exit("english: " + "\nenglish: ".join(wrong))
-    print(
-        f"english: {read.total()} paragraphs have {areas['all else']} places to reword, of {LIMIT} that they may have; "
-        f"{len(NOT_REWRITTEN)} areas that aren't rewritten yet have {areas.total() - areas['all else']}"
-    )
+    print(f"english: {read.total()} paragraphs have {kinds.total()} places to reword, of {LIMIT} that they may have")
 
 
 if __name__ == "__main__":

@@ -28,7 +28,9 @@ PARTS = [
     ("For programs", ["curses", "hello", "curses_c"]),
     (
         "Descriptions",
-        ["ti_entries", "ti_joins", "ti_resolve", "ti_source", "ti_compiled", "ti_caps", "ti_parm", "ti_reach"],
+        [
+            "ti_entries", "ti_fixes", "ti_joins", "ti_resolve", "ti_source", "ti_compiled", "ti_caps", "ti_parm", "ti_reach",
+        ],
     ),
     ("The terminal", ["vt_effects", "vt_states", "vt_term", "vt_screen", "grids"]),
     ("Certificates", ["ti_faults", "ti_checker", "ti_cert", "ti_lines", "ti_conforms", "ti_rows"]),
