@@ -118,7 +118,7 @@ fn all_faults(
     })
 }
 
-/// For each of the faults `nos` of the entry of this `name` at the place `stands`, the line that says where the fault
+/// A line for each of the faults `nos` of the entry `name`, which is at `stands` in its source: where the field at fault
 /// is.
 fn places_of(
     alloc: Global,

@@ -23,12 +23,12 @@ change_at row col cell = record { row = row; col = col; byte = cell.byte }
 abbrev pub change_if : ℕ → ℕ → ℕ → Look → List Change
 change_if fill row col cell = if is_other fill cell then change_at row col cell ∷ [] else []
 
--- the changed cells of a line of which these are left, the first of them in this column
+-- the changed ones of these cells, which are the line `row` from the column `col` on
 abbrev pub changes_in : ℕ → ℕ → ℕ → List Look → List Change
 changes_in fill row col [] = []
 changes_in fill row col (cell ∷ cells) = change_if fill row col cell ++ changes_in fill row (col + 1) cells
 
--- the changed cells of these lines in reading order, of which the first is this row
+-- the changed cells of these lines, which are the screen's from `row` on, in reading order
 abbrev pub changes_from : ℕ → ℕ → Grid → List Change
 changes_from fill row [] = []
 changes_from fill row (line ∷ lines) = changes_in fill row 0 line ++ changes_from fill (row + 1) lines
@@ -122,7 +122,7 @@ wrap_text pending =
 abbrev pub cursor_seen_text : Bool → List ℕ
 cursor_seen_text visible = if visible then codes ", the cursor is visible" else codes ", the cursor is hidden"
 
--- the region, the rendition and the sets `now`, if they aren't those before or those at rest
+-- the region, the rendition and the sets of `now`, each if it differs from the one `before` or from the one at rest
 abbrev pub region_seen_text : Settings → Settings → Settings → List ℕ
 region_seen_text before rest now =
     if_so (not (same_region now before) || not (same_region now rest)) (margins_text now.top now.bottom)
@@ -135,7 +135,7 @@ abbrev pub sets_seen_text : Charset → Charset → Charset → List ℕ
 sets_seen_text before rest now =
     if_so (not (same_charset now before) || not (same_charset now rest)) (sets_text now)
 
--- the settings `now`, except the cursor's place, that aren't those `before` or those at rest
+-- each setting of `now`, except the cursor's place, that differs from the one `before` or from the one at rest
 abbrev pub settings_text : Settings → Settings → Settings → List ℕ
 settings_text before rest now =
     if_so (not (same_flag now.pending before.pending) || now.pending) (wrap_text now.pending)

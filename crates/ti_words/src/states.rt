@@ -29,7 +29,7 @@ pub fn seen_words(
     )
 }
 
-/// The words for these `changes`, and for the settings that were those `before` and are `now` these.
+/// The words for the changed cells `changes`, and for the settings `now`, as far as they differ from those `before`.
 fn outcome_words(
     alloc: Global,
     size: Size,
