@@ -330,6 +330,8 @@ def judge_programs(made, tests, names):
             counts.append(count)
             if bad:
                 others[name] = (count, bad)
+    # a busy machine may show a program before it has drawn all; those that differ run once more, one at a time
+    others = {name: (count, bad) for name in others for count, bad in [compared(made, tests, name)] if bad}
     for name, (count, bad) in others.items():
         print(f"curses: {name}: {len(bad)} of {count} screens differ")
         if not all_names:

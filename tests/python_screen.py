@@ -343,6 +343,7 @@ def check_stopped(package, work):
     """^Z stops the demo with the terminal as the shell needs it; when it continues, it draws anew."""
     write(f"{work}/demo.sh", f"exec '{sys.executable}' -m ticurses.demo\n".encode())
     pane = package.pane(work, "stopped", ["sh", "-c", STOPPED, f"{work}/demo.sh"])
+    pane.until(lambda it: "24 lines" in it)
     shots = [re.sub(r"\x1b\[[\d;]*m", "", text) for text, _ in pane.shots(["C-z", "Enter", "x", "q"])]
     shows = ["24 lines, 80 columns" in it for it in shots]
     hold(shows == [True, False, True, True, False], "stopped, the demo shows", shots)
