@@ -1,5 +1,5 @@
 -- A marked rectangle of the screen, and calls that change nothing outside a window's rectangle.
-use Rattle.std.proofs.Common.{◌≡◌, ℕ, ◌+◌, ◌-◌, false, List, [], Option, Result, Ok, Err, refl, sym, ap, ◌∙◌, subst, arith}
+use Rattle.std.proofs.Common.{◌≡◌, ℕ, ◌+◌, false, List, [], Option, Result, Ok, Err, refl, sym, ap, ◌∙◌, subst, arith}
 use Rattle.std.proofs.lemmas.Bool.Decides.{nat_tests}
 use Rattle.std.proofs.lemmas.List.{set-get_or}
 use Rattle.grids.specs.declared.areas.Area.{Area}
@@ -7,7 +7,6 @@ use Rattle.cur_drawing.specs.declared.refusals.Refusal.{Refusal}
 use Rattle.cur_drawing.specs.Calls.{Canvas, CanvasStep, canvas}
 use Rattle.cur_drawing.specs.Grids.{Grid, cell_at, is_in}
 use Rattle.cur_drawing.specs.Laws.{IsLocal}
-use Rattle.cur_screens.specs.Marks.{nothing}
 use Rattle.cur_drawing.proofs.Stability.{stays_same}
 use Rattle.cur_screens.specs.declared.slots.Origin.{Origin}
 use Rattle.cur_screens.specs.declared.slots.Slot.{Slot}

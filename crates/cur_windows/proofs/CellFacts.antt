@@ -1,5 +1,5 @@
 -- Text that becomes cells of the cursor's line changes and marks nothing else.
-use Rattle.std.proofs.Common.{Some, Ok, set, ◌≡◌, inl, inr, ℕ, ◌+◌, ◌-◌, ◌<◌, ◌==◌, ◌||◌, nat_lt, Bool, true, false, List, [], Option, length, get_or, sym, ap, subst, ◌∙◌, arith, if◌then◌else◌, refl, suc, ◌∷◌}
+use Rattle.std.proofs.Common.{Some, Ok, set, ◌≡◌, inl, inr, ℕ, ◌+◌, ◌<◌, ◌==◌, ◌||◌, nat_lt, Bool, true, false, List, [], Option, length, get_or, sym, ap, subst, ◌∙◌, arith, if◌then◌else◌, refl, suc, ◌∷◌}
 use Rattle.std.proofs.lemmas.Bool.{cases_lt}
 use Rattle.std.proofs.lemmas.Bool.Decides.{nat_tests}
 use Rattle.std.proofs.lemmas.List.{get_or_default}

@@ -23,7 +23,7 @@ use Rattle.cur_windows.specs.Desks.{State, DeskStep, after, slot_of, some_slot, 
 use Rattle.cur_windows.specs.Creations as making
 use Rattle.cur_windows.specs.Creations.{is_some_slot, corner, has_child}
 use Rattle.cur_windows.specs.Refusals as causes
-use Rattle.cur_windows.specs.Refusals.{is_past_last, is_used, slot_is, slots_are, is_pad, lies_outside, moves_outside, in_turn, border_printed, border_pairs, cannot_advance}
+use Rattle.cur_windows.specs.Refusals.{is_past_last, is_used, slot_is, slots_are, is_pad, lies_outside, moves_outside, in_turn, lacks_lines, border_printed, border_pairs, cannot_advance}
 use Rattle.cur_windows.specs.Refreshes as refreshes
 use Rattle.cur_screens.specs.VirtualScreen.{Screen}
 use Rattle.cur_windows.specs.Refreshes.{Refresh, if_shown}
@@ -212,6 +212,26 @@ noutrefresh d v n = record {
   order = refl;
   first = shown_if d v (nat_lt 63 n) Full (some_slot (window_at d n)) _ _ (λ low. shown_slot d v (window_at d n) _ (λ o. first_refusal ((PadKind, slot_is (is_pad d) o) ∷ []))
       (λ s. shown_if d v (is_pad d s) PadKind (Ok tt) _ (Ok tt) (λ window. refl)));
+}
+
+either_lines : (b : Bool) (d : State) (v : Screen) (part : Area) (next : Area → Refresh) (x : Answer) → (next part).2 ≡ x →
+    (if_shown (if b then Ok part else Err BadRegion) d v next).2 ≡ (if not b then Err BadRegion else x)
+either_lines true d v part next x p = p
+either_lines false d v part next x p = refl
+
+shown_lines : (d : State) (v : Screen) (t b : Option ℕ) (a : Area) (next : Area → Refresh) (x : Answer) → ((part : Area) → (next part).2 ≡ x) →
+    (if_shown (refreshes.lines_between t b a) d v next).2 ≡ (if not (in_turn t b) then Err BadRegion else x)
+shown_lines d v (Some t) (Some b) a next x p = either_lines (nat_le t b) d v _ next x (p _)
+shown_lines d v (Some t) None a next x p = refl
+shown_lines d v None b a next x p = refl
+
+pub noutrefresh_lines : (d : State) (v : Screen) (n : ℕ) (t b : ℤ) → IsFirstOf (causes.noutrefresh_lines d n t b) (refreshes.noutrefresh_lines d v n t b).2
+noutrefresh_lines d v n t b = record {
+  order = refl;
+  first = shown_if d v (nat_lt 63 n) Full (some_slot (window_at d n)) _ _ (λ low. shown_slot d v (window_at d n) _
+      (λ o. first_refusal ((PadKind, slot_is (is_pad d) o) ∷ (BadRegion, slot_is (lacks_lines t b) o) ∷ []))
+      (λ s. shown_if d v (is_pad d s) PadKind (Ok tt) _ _ (λ window.
+      shown_lines d v (place_below t s.window.area.rows) (place_below b s.window.area.rows) s.window.area _ (Ok tt) (λ part. refl))));
 }
 
 -- ---- calls on one window

@@ -14,7 +14,7 @@ use Rattle.cur_drawing.specs.declared.refusals.Refusal.{Refusal}
 use Rattle.cur_drawing.specs.Calls.{Canvas, CanvasStep, IsCanvas, IsKept, canvas, place, step}
 use Rattle.cur_drawing.specs.Grids.{Grid, Fits, cell_at, copied, is_in, line_at, shape_of, taken}
 use Rattle.cur_drawing.specs.Laws.{ChangesNothingIfRefusedButNoScroll, IsLocal, Stays}
-use Rattle.cur_screens.specs.Marks.{AreSame, IsUnmarked, JoinsMarks, Marking, none_marked, nothing}
+use Rattle.cur_screens.specs.Marks.{AreSame, IsUnmarked, JoinsMarks, Marking, none_marked}
 use Rattle.cur_drawing.specs.declared.refusals.Refusal.TheVariants.{Full}
 use Rattle.cur_drawing.proofs.DrawingFacts.{shape_of-line, shape_of-length}
 use Rattle.cur_windows.proofs.WrittenLines.{Writes, Writing}

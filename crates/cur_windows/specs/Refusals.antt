@@ -130,13 +130,18 @@ in_turn (Some t) (Some b) = nat_le t b
 in_turn (Some t) None = false
 in_turn None b = false
 
+-- these aren't lines of the window, in order
+abbrev pub lacks_lines : ℤ → ℤ → Slot → Bool
+lacks_lines t b s = not (in_turn (place_below t s.window.area.rows) (place_below b s.window.area.rows))
+
+abbrev pub noutrefresh_lines : State → ℕ → ℤ → ℤ → List Condition
+noutrefresh_lines d n t b =
+    (Full, is_past_last n) ∷ (NoWindow, not (is_used d n)) ∷ (PadKind, window_is d n (is_pad d))
+    ∷ (BadRegion, window_is d n (lacks_lines t b)) ∷ []
+
 abbrev pub setscrreg : State → ℕ → ℤ → ℤ → List Condition
 setscrreg d n t b =
-    (Full, is_past_last n) ∷ (NoWindow, not (is_used d n))
-    ∷ (
-      BadRegion,
-      window_is d n (λ s. not (in_turn (place_below t s.window.area.rows) (place_below b s.window.area.rows))),
-    ) ∷ []
+    (Full, is_past_last n) ∷ (NoWindow, not (is_used d n)) ∷ (BadRegion, window_is d n (lacks_lines t b)) ∷ []
 
 abbrev pub color_set : State → ℕ → ℤ → List Condition
 color_set d n p =

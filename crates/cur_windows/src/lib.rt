@@ -5,6 +5,7 @@ mod calls;
 mod copies;
 mod creations;
 mod desks;
+mod lines;
 mod marking;
 mod pads;
 mod queries;

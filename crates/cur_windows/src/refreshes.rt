@@ -10,7 +10,8 @@ ghost use Rattle.cur_screens.specs.Touched.{IsShownBut, LiesWithin, grid_marks};
 ghost use Rattle.cur_windows.specs.TouchedWindows.{HasAll, MarksCopied, ShowsBut};
 ghost use Rattle.cur_screens.specs.declared.slots.Slot.{Slot};
 ghost use Rattle.cur_screens.specs.VirtualScreen.{IsScreen, shown};
-ghost use Rattle.cur_windows.specs.Refreshes.{refresh, noutrefresh, area_on_screen, cursor_on_screen};
+ghost use Rattle.cur_windows.specs.Refreshes.{AreLinesOf, area_on_screen, cursor_on_screen, noutrefresh, part_on_screen};
+ghost use Rattle.cur_windows.specs.Refreshes.{refresh};
 
 use crate::desks::Desk;
 use cur_drawing::{Cell, Refusal};
@@ -57,14 +58,25 @@ impl Desk {
         let slot = self.slot(id)?;
         self.check_window(slot)?;
         self.copy_slot(slot, screen, touched, marks);
-        let mut slot = *slot;
+        let slot = *slot;
+        self.end_copy(id, slot);
+        Ok(())
+    }
+
+    // Takes `clearok` from the window `id`, which must be `slot`, and the hint from the desk: the screen has both.
+    pub(crate) fn end_copy(&mut self, id: usize, slot: Slot)
+        requires number { id < 64 }
+        requires there { spec.window_at self.old id ≡ Some slot }
+        requires placed { spec.IsPlaced self.old id slot }
+        ensures { self.new ≡ spec.with_window self.old id slot (record slot.window { clears = false }) }
+    {
+        let mut slot = slot;
         self.scrolled = None;
         if !slot.window.clears {
-            return Ok(());
+            return;
         }
         slot.window.clears = false;
         self.windows[id] = Some(slot);
-        Ok(())
     }
 
     // Copies the whole window to the screen, with its cursor, its `clearok` and the desk's hint.
@@ -85,42 +97,52 @@ impl Desk {
         ensures marked { Keeps marks.old (screen.old).grid marks.new (screen.new).grid }
         ensures only { MarksOnly marks.old (screen.old).grid marks.new (screen.new).grid }
     {
-        self.show_slot(slot, screen, touched, marks);
+        self.show_lines(slot, slot.window.area, screen, touched, marks);
         let root = slot.root as usize;
         spread(touched, root, marks, self.rows, self.cols);
         unmark(touched, root, self.has_all(slot));
     }
 
-    // Copies the marked places of the window's grid as `copy_slot` does.
-    fn show_slot(&self, slot: &Slot, screen: &mut Virtual, touched: &Touched, marks: &mut Marks)
+    // Copies the marked places in the lines `part` of the window, with its cursor, its `clearok` and the desk's hint.
+    pub(crate) fn show_lines(
+        &self,
+        slot: &Slot,
+        part: Area,
+        screen: &mut Virtual,
+        touched: &Touched,
+        marks: &mut Marks,
+    )
         requires canvas { IsCanvas (spec.grid_at self.now (slot.now).root) (slot.now).window }
         requires root { (slot.now).root < 64 }
         requires window { (spec.origin_at self.now (slot.now).root).pad ≡ false }
+        requires lines { AreLinesOf (slot.now).window.area part }
         requires rows { (screen.old).rows ≡ (self.now).rows }
         requires cols { (screen.old).cols ≡ (self.now).cols }
         requires touched { IsShownBut (grid_marks touched.now (slot.now).root)
             (spec.origin_at self.now (slot.now).root) (spec.grid_at self.now (slot.now).root) (screen.old).grid }
-        ensures value { screen.new ≡ shown (area_on_screen self.now slot.now) (spec.grid_at self.now (slot.now).root)
-            (place (slot.now).window.area.top (slot.now).window.area.left) (cursor_on_screen self.now slot.now)
+        ensures value { screen.new ≡ shown (part_on_screen self.now slot.now part)
+            (spec.grid_at self.now (slot.now).root) (place part.top part.left) (cursor_on_screen self.now slot.now)
             (slot.now).window.clears screen.old }
         ensures marked { Keeps marks.old (screen.old).grid marks.new (screen.new).grid }
         ensures only { MarksOnly marks.old (screen.old).grid marks.new (screen.new).grid }
-        ensures rows { (area_on_screen self.now slot.now).top + (area_on_screen self.now slot.now).rows
-            ≤ (self.now).rows }
-        ensures cols { (area_on_screen self.now slot.now).left + (area_on_screen self.now slot.now).cols
-            ≤ (self.now).cols }
+        ensures rows { (part_on_screen self.now slot.now part).top + part.rows ≤ (self.now).rows }
+        ensures cols { (part_on_screen self.now slot.now part).left + part.cols ≤ (self.now).cols }
         ensures legal { IsScreen screen.old }
     {
         let (scrolled, root) = (self.scrolled, slot.root as usize);
-        let area = self.place_on_screen(slot);
-        let from = Place {
-            row: slot.window.area.top,
-            col: slot.window.area.left,
-        };
+        let whole = self.place_on_screen(slot);
         let copy = ScreenCopy {
-            area,
-            from,
-            cursor: cursor_in(slot, area),
+            area: Area {
+                top: whole.top + (part.top - slot.window.area.top),
+                left: whole.left,
+                rows: part.rows,
+                cols: part.cols,
+            },
+            from: Place {
+                row: part.top,
+                col: part.left,
+            },
+            cursor: cursor_in(slot, whole),
             clears: slot.window.clears,
             root: slot.root,
         };

@@ -1,4 +1,4 @@
-use Rattle.std.proofs.Common.{ap, subst, sym, refl, Bool, true, false, ◌≡◌, ◌∙◌}
+use Rattle.std.proofs.Common.{ap, subst, sym, refl, true, false, ◌≡◌, ◌∙◌}
 use Rattle.grids.specs.declared.areas.Area.{Area}
 use Rattle.cur_screens.specs.declared.slots.Origin.{Origin}
 use Rattle.cur_windows.specs.Desks.{origin_at}
