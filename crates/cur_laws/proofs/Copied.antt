@@ -63,7 +63,7 @@ if_copy_span false s v h = absurd cc
 num_inj : (m n : ℕ) → Some m ≡ Some n → m ≡ n
 num_inj m n e = cc
 
-if_number : (b : Bool) (a k : ℕ) → (if b then Some a else None) ≡ Some k → (b ≡ true) × (a ≡ k)
+pub if_number : (b : Bool) (a k : ℕ) → (if b then Some a else None) ≡ Some k → (b ≡ true) × (a ≡ k)
 if_number true a k h = (refl, num_inj a k h)
 if_number false a k h = absurd cc
 

@@ -1,4 +1,5 @@
 pub mod Copied
 pub mod Places
 pub mod Shares
+pub mod ShownLines
 pub mod Within

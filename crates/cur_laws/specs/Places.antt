@@ -15,6 +15,14 @@ IsWindowShown d s old new = (i j : ℕ) → j < length (line_at old.grid i) →
     cell_at new.grid i j ≡ (if is_in (area_on_screen d s) i j then cell d s (i - (corner d s).0) (j - (corner d s).1)
     else cell_at old.grid i j)
 
+-- the places of the window's lines t to b on the screen have its cells, and all others keep their cells
+abbrev pub AreLinesShown : State → Slot → ℕ → ℕ → Screen → Screen → Type 0
+AreLinesShown d s t b old new = (i j : ℕ) → j < length (line_at old.grid i) →
+    cell_at new.grid i j ≡
+    (if is_in (area_on_screen d s) i j && is_between ((corner d s).0 + t) ((corner d s).0 + b) i
+    then cell d s (i - (corner d s).0) (j - (corner d s).1)
+    else cell_at old.grid i j)
+
 -- the target's rows dr to er and columns dc to ec have the source's cells from row sr and column sc on, and all its
 -- other places keep their cells; a place also keeps its cell if a space is skipped there
 abbrev pub IsCopied : State → State → Slot → Slot → Bool → ℕ → ℕ → ℕ → ℕ → ℕ → ℕ → Type 0

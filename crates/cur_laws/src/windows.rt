@@ -14,10 +14,10 @@ ghost use Rattle.cur_windows.specs.Creations as making;
 ghost use Rattle.cur_drawing.specs.Refusals.{IsFirstOf};
 ghost use Rattle.cur_windows.specs.Refusals as causes;
 ghost use Rattle.cur_windows.specs.Rows.{line_of, line_area, row_written, written_through};
-ghost use Rattle.cur_laws.specs.Places.{IsWindowShown, IsCopied, IsOverlaid, IsCopyOf};
+ghost use Rattle.cur_laws.specs.Places.{AreLinesShown, IsWindowShown, IsCopied, IsOverlaid, IsCopyOf};
 ghost use Rattle.cur_windows.specs.Views.{window_cells};
 ghost use Rattle.cur_screens.specs.VirtualScreen.{Screen};
-ghost use Rattle.cur_windows.specs.Refreshes.{noutrefresh};
+ghost use Rattle.cur_windows.specs.Refreshes.{noutrefresh, noutrefresh_lines};
 
 use cur_drawing::{Border, Cell, Put, Refusal, Window};
 use cur_screens::{Origin, Slot};
@@ -168,6 +168,14 @@ pub fn windows_are_shown_by_place()
         → (noutrefresh d v n).2 ≡ Ok tt → IsWindowShown d s v (noutrefresh d v n).1 }
 {}
 
+/// `noutrefresh_lines` gives each place of the virtual screen under the window's lines `t` to `b` the window's cell, and
+/// keeps all other places.
+pub fn lines_are_shown_by_place()
+    ensures { (d : State) (v : Screen) (n t b : ℕ) (s : Slot) → IsDesk d → slot_of d n ≡ Ok s
+        → (noutrefresh_lines d v n (pos t) (pos b)).2 ≡ Ok tt
+        → AreLinesShown d s t b v (noutrefresh_lines d v n (pos t) (pos b)).1 }
+{}
+
 /// `overlay`, `overwrite` and `copywin` write the source's cells, as they were before the call, to the
 /// copied places of the target, and keep all its other places. `copywin` refuses every negative number.
 pub fn copies_are_made_by_place()
@@ -214,6 +222,8 @@ pub fn refused_copying_is_ranked()
     ensures copywin { (d : State) (n m : ℕ) (sr sc dr dc er ec : ℤ) (skip : Bool)
         → IsFirstOf (causes.copywin d n m sr sc dr dc er ec) (copying.copywin d n m sr sc dr dc er ec skip).1 }
     ensures noutrefresh { (d : State) (v : Screen) (n : ℕ) → IsFirstOf (causes.noutrefresh d n) (noutrefresh d v n).2 }
+    ensures noutrefresh_lines { (d : State) (v : Screen) (n : ℕ) (t b : ℤ)
+        → IsFirstOf (causes.noutrefresh_lines d n t b) (noutrefresh_lines d v n t b).2 }
 {}
 
 /// The refusal of a call that sets a window's cursor, region, pair, options or background is the

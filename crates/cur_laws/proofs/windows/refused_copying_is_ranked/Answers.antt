@@ -9,3 +9,6 @@ returns-clause-copywin c = ranks.copywin
 
 pub returns-clause-noutrefresh : goal.returns-clause-noutrefresh
 returns-clause-noutrefresh c = ranks.noutrefresh
+
+pub returns-clause-noutrefresh_lines : goal.returns-clause-noutrefresh_lines
+returns-clause-noutrefresh_lines c = ranks.noutrefresh_lines
