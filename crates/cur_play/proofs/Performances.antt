@@ -9,7 +9,7 @@ use Rattle.cur_windows.specs.Desks.{State, DeskStep, slot_of}
 use Rattle.cur_windows.specs.Copies.{in_order}
 use Rattle.cur_windows.specs.Creations.{window_only}
 use Rattle.cur_screens.specs.VirtualScreen.{Screen, init_pair, initialized}
-use Rattle.cur_windows.specs.Refreshes.{Refresh, if_shown, noutrefresh}
+use Rattle.cur_windows.specs.Refreshes.{Refresh, if_shown, lines_of, noutrefresh, noutrefresh_lines}
 use Rattle.cur_pads.specs.Creations.{pad_of}
 use Rattle.cur_pads.specs.Ranges.{between, from}
 use Rattle.cur_pads.specs.Displays.{pnoutrefresh, start}
@@ -125,6 +125,10 @@ if_sized (Err e) d v next h = same_sizes d v
 
 noutrefresh_sizes : (d : State) (v : Screen) (n : ℕ) → SameSizes d v (noutrefresh d v n).0 (noutrefresh d v n).1
 noutrefresh_sizes d v n = if_sized (slot_of d n) d v _ (λ s. if_sized (window_only d s) d v _ (λ u. record { desk_rows = refl; desk_cols = refl; rows = refl; cols = refl }))
+
+pub noutrefresh_lines_sizes : (d : State) (v : Screen) (n : ℕ) (t b : ℤ) → SameSizes d v (noutrefresh_lines d v n t b).0 (noutrefresh_lines d v n t b).1
+noutrefresh_lines_sizes d v n t b = if_sized (slot_of d n) d v _ (λ s. if_sized (window_only d s) d v _ (λ u.
+    if_sized (lines_of t b s.window.area) d v _ (λ a. record { desk_rows = refl; desk_cols = refl; rows = refl; cols = refl })))
 
 pnoutrefresh_sizes : (d : State) (v : Screen) (n : ℕ) (pr pc sr sc er ec : ℤ) → SameSizes d v (pnoutrefresh d v n pr pc sr sc er ec).0 (pnoutrefresh d v n pr pc sr sc er ec).1
 pnoutrefresh_sizes d v n pr pc sr sc er ec =

@@ -91,6 +91,12 @@ recolored p f b s =
     let x = screens.init_pair_or_default p f b s.screen in
     (record s { screen = x.0 }, answer_of x.1)
 
+-- another such call: the lines from `top` to `bottom` of a window are copied to the virtual screen
+abbrev pub lines_shown : {C : Type 0} → ℕ → ℤ → ℤ → Stage C → Stage C × Answer
+lines_shown n top bottom s =
+    let x = refreshes.noutrefresh_lines s.desk s.screen n top bottom in
+    (record s { desk = x.0; screen = x.1 }, answer_of x.2)
+
 abbrev pub shown_window : ShowCall → Emission
 shown_window Noutrefresh = Nothing
 shown_window Refresh = Update

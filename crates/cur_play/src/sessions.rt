@@ -6,7 +6,7 @@ ghost use Rattle.cur_play.specs.Deliveries.{Carries};
 ghost use Rattle.cur_play.specs.Drawings.{SameSizes};
 ghost use Rattle.cur_play.specs.Outputs.{poised};
 ghost use Rattle.cur_play.specs.Scenes.{IsStage, first, lost_stage, scene_of, stage_of};
-ghost use Rattle.cur_play.specs.Steps.{CallStep, drawn, output_of, recolored};
+ghost use Rattle.cur_play.specs.Steps.{CallStep, drawn, lines_shown, output_of, recolored};
 
 use crate::answers::{Answer, answer_of};
 use crate::drawings::draw;
@@ -80,6 +80,24 @@ impl<C: Certificate> Session<C> {
         answer_of(
             self.screen
                 .init_pair_or_default(pair, foreground, background),
+        )
+    }
+
+    /// Copies the lines `top` to `bottom` of `window` to the virtual screen, as the call `noutrefresh` copies all of its
+    /// lines. Nothing is sent. Fails with `Full` for a number above 63, `NoWindow`, `PadKind` for a pad, and `BadRegion`
+    /// unless these are lines of the window, in order; nothing has changed then.
+    pub fn noutrefresh_lines(&mut self, window: usize, top: i32, bottom: i32) -> Answer
+        ensures { (self.new, result) ≡ lines_shown window top bottom self.old }
+    {
+        answer_of(
+            self.desk.noutrefresh_lines_marked(
+                window,
+                top,
+                bottom,
+                &mut self.screen,
+                &mut self.stale.window,
+                &mut self.stale.screen,
+            ),
         )
     }
 
