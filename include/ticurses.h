@@ -165,6 +165,7 @@ int32_t ticurses_raw_failed(ticurses *session, size_t *line);
 int32_t ticurses_raw_addstr(ticurses *session, size_t window, const uint8_t *text, size_t len);
 int32_t ticurses_raw_make(ticurses *session, const ticurses_request *request);
 int32_t ticurses_raw_init_pair_or_default(ticurses *session, int32_t pair, int32_t foreground, int32_t background);
+int32_t ticurses_raw_noutrefresh_lines(ticurses *session, size_t window, int32_t top, int32_t bottom);
 int32_t ticurses_raw_cursor(ticurses *session, size_t window, uint16_t *row, uint16_t *col);
 int32_t ticurses_raw_size(ticurses *session, size_t window, uint16_t *rows, uint16_t *cols);
 int32_t ticurses_raw_cell(ticurses *session, size_t window, uint16_t row, uint16_t col, ticurses_cell *cell);

@@ -301,6 +301,12 @@ static inline int ticurses_noutrefresh(ticurses *session, size_t window) {
     return ticurses_make_plain(session, TICURSES_NOUTREFRESH, window);
 }
 
+/* Does what ticurses_noutrefresh does, but copies only the lines `top` to `bottom` of the window: TICURSES_PAD_KIND,
+ * TICURSES_BAD_REGION. Scripts don't have this call. */
+static inline int ticurses_noutrefresh_lines(ticurses *session, size_t window, int top, int bottom) {
+    return !session ? TICURSES_NULL : ticurses_raw_noutrefresh_lines(session, window, top, bottom);
+}
+
 /* Copies a window to the virtual screen, and makes the terminal show that: TICURSES_PAD_KIND. */
 static inline int ticurses_refresh(ticurses *session, size_t window) {
     return ticurses_make_plain(session, TICURSES_REFRESH, window);

@@ -466,6 +466,45 @@ static void default_colors(void) {
     ticurses_close(&session);
 }
 
+/* Whether the text is among the bytes that a refresh of the virtual screen sends. */
+static int shows(ticurses *session, char *sent, size_t size, const char *text) {
+    IS(TICURSES_OK, ticurses_doupdate(session));
+    IS(1, ticurses_waiting(session) < size);
+    sent[ticurses_output(session, sent, size - 1)] = '\0';
+    return strstr(sent, text) != NULL;
+}
+
+/* Lines of a window are copied to the virtual screen, and a window in front of its other lines stays. */
+static void copied_lines(void) {
+    ticurses session = {0, 0};
+    char sent[400] = "";
+    IS(TICURSES_NULL, ticurses_noutrefresh_lines(NULL, 0, 0, 0));
+    IS(TICURSES_CLOSED, ticurses_noutrefresh_lines(&session, 0, 0, 0));
+    IS(TICURSES_OK, OPEN(&session, "vt", 6, 24));
+    IS(TICURSES_OK, CALL(&session, "newwin 1 2 8 2 4\nnewpad 2 6 24\naddstr 1 ppp\nnoutrefresh 0\nrefresh 1"));
+    sent[ticurses_output(&session, sent, sizeof sent - 1)] = '\0';
+    IS(1, strstr(sent, "ppp") != NULL);
+    IS(TICURSES_OK, CALL(&session, "addstr 0 bbb\nmove 0 2 4\naddstr 0 uuu\nmove 0 5 0\naddstr 0 ccc"));
+    IS(TICURSES_FULL, ticurses_noutrefresh_lines(&session, 64, 0, 5));
+    IS(TICURSES_NO_WINDOW, ticurses_noutrefresh_lines(&session, 3, 0, 5));
+    IS(TICURSES_PAD_KIND, ticurses_noutrefresh_lines(&session, 2, 0, 5));
+    IS(TICURSES_BAD_REGION, ticurses_noutrefresh_lines(&session, 0, -1, 5));
+    IS(TICURSES_BAD_REGION, ticurses_noutrefresh_lines(&session, 0, 0, 6));
+    IS(TICURSES_BAD_REGION, ticurses_noutrefresh_lines(&session, 0, 3, 2));
+    IS(TICURSES_BAD_REGION, ticurses_noutrefresh_lines(&session, 0, INT_MAX, INT_MIN));
+    IS(TICURSES_OK, ticurses_doupdate(&session));
+    IS(0, ticurses_waiting(&session));
+    IS(TICURSES_OK, ticurses_noutrefresh_lines(&session, 0, 0, 1));
+    IS(1, shows(&session, sent, sizeof sent, "bbb"));
+    IS(1, strstr(sent, "uuu") == NULL && strstr(sent, "ccc") == NULL);
+    IS(TICURSES_OK, ticurses_noutrefresh_lines(&session, 0, 4, 5));
+    IS(1, shows(&session, sent, sizeof sent, "ccc"));
+    IS(1, strstr(sent, "uuu") == NULL);
+    IS(TICURSES_OK, ticurses_noutrefresh(&session, 0));
+    IS(1, shows(&session, sent, sizeof sent, "uuu"));
+    ticurses_close(&session);
+}
+
 static void strings(void) {
     ticurses session = {0, 0};
     IS(TICURSES_OK, OPEN(&session, "vt", 6, 24));
@@ -681,7 +720,7 @@ static void no_memory_call(void) {
 int main(int argc, char **argv) {
     static void (*const parts[])(void) = {
         nulls,    closed, opening,   certificates, reasons, capabilities, packed_capabilities,
-        refusals, lines,  questions, default_colors, strings, numbers, output,    texts,
+        refusals, lines,  questions, default_colors, copied_lines, strings, numbers, output, texts,
         many_sessions, many_calls, no_memory_open, no_memory_call,
     };
     FILE *file = argc >= 2 ? fopen(argv[1], "rb") : NULL;

@@ -20,8 +20,8 @@ use Rattle.cur_update.specs.Painters.{Painted}
 use Rattle.cur_play.specs.Deliveries.{FitsIn}
 use Rattle.cur_play.specs.Scenes.{Scene, Stage}
 use Rattle.cur_play.specs.declared.answers.Answer.{Answer}
-use Rattle.curses_c.specs.Held.{Hands, Makes, Recolors, noting}
-use Rattle.curses_c.specs.Laws.{Played, Begun, Called, Took, Noted, Recolored, Rests, Still, Drew, TookMore, NotedMore, RecoloredMore, FitsHeld, ShowsAfter, Begins, CallsReach, RefreshesShow, LossesBegin, LossesFit, OpeningsBegin}
+use Rattle.curses_c.specs.Held.{CopiesLines, Hands, Makes, Recolors, noting}
+use Rattle.curses_c.specs.Laws.{Played, Begun, Called, Took, Noted, Recolored, CopiedLines, Rests, Still, Drew, TookMore, NotedMore, RecoloredMore, CopiedMoreLines, FitsHeld, ShowsAfter, Begins, CallsReach, RefreshesShow, LossesBegin, LossesFit, OpeningsBegin}
 use Rattle.curses_c.specs.declared.held.Held.{Held}
 
 -- all sent bytes lead to a state that fits, and each prefix of them to a state that fits a lost session
@@ -78,6 +78,10 @@ noted mid k line sent s e r = subst (λ (x : Held). Reached x sent s) (sym e) (r
 recolors : (mid k : Held) (p f b : ℤ) (answer : Answer) (sent : List ℕ) (s : State) → Recolors p f b mid answer k → Reached mid sent s → Reached k sent s
 recolors mid k p f b answer sent s e r = subst (λ (x : Held). Reached x sent s) (sym e.0) (record { whole = r.whole; cut = r.cut; checked = r.checked })
 
+-- nor do lines that are copied to the virtual screen
+copies_lines : (mid k : Held) (n : ℕ) (top bottom : ℤ) (answer : Answer) (sent : List ℕ) (s : State) → CopiesLines n top bottom mid answer k → Reached mid sent s → Reached k sent s
+copies_lines mid k n top bottom answer sent s e r = subst (λ (x : Held). Reached x sent s) (sym e.0) (record { whole = r.whole; cut = r.cut; checked = r.checked })
+
 nothing_sent : {C : Type 0} (t : Table) → IsChecked t → (partners : ℕ → Option ℕ) (p : Painted C) (s : State) → FitsIn t partners p s → Ends s [] (FitsIn t partners p)
 nothing_sent t checked partners p s f =
     let lost = fits_lost t checked (ink_at t partners p.shown) p.session.status p.session.cursor s f in
@@ -101,6 +105,8 @@ reached h k taken s (Noted _ mid _ line p e) b =
     subst (λ (l : List ℕ). Reached k (taken ++ l) s) (sym (ap (λ (x : Held). x.outbox.waiting) e)) (noted mid k line (taken ++ mid.outbox.waiting) s e (reached h mid taken s p b))
 reached h k taken s (Recolored _ mid _ p f b answer q e) x =
     subst (λ (l : List ℕ). Reached k (taken ++ l) s) (sym (ap (λ (y : Held). y.outbox.waiting) e.0)) (recolors mid k p f b answer (taken ++ mid.outbox.waiting) s e (reached h mid taken s q x))
+reached h k taken s (CopiedLines _ mid _ n top bottom answer q e) x =
+    subst (λ (l : List ℕ). Reached k (taken ++ l) s) (sym (ap (λ (y : Held). y.outbox.waiting) e.0)) (copies_lines mid k n top bottom answer (taken ++ mid.outbox.waiting) s e (reached h mid taken s q x))
 
 pub calls_reach : CallsReach
 calls_reach h k taken s p b = (reached h k taken s p b).whole
@@ -114,6 +120,7 @@ rested h k taken (Drew _ mid _ call answer p m quiet) =
 rested h k taken (TookMore before _ mid _ room count p hands e) = handed before taken mid.outbox.waiting k.outbox.waiting count e hands.rest ∙ rested h mid before p
 rested h k taken (NotedMore _ mid _ line p e) = ap (λ (x : Held). taken ++ x.outbox.waiting) e ∙ rested h mid taken p
 rested h k taken (RecoloredMore _ mid _ p f b answer q e) = ap (λ (x : Held). taken ++ x.outbox.waiting) e.0 ∙ rested h mid taken q
+rested h k taken (CopiedMoreLines _ mid _ n top bottom answer q e) = ap (λ (x : Held). taken ++ x.outbox.waiting) e.0 ∙ rested h mid taken q
 
 pub refreshes_show : RefreshesShow
 refreshes_show h mid k last taken more call answer s p m shown rests none b =

@@ -11,7 +11,7 @@ use Rattle.cur_scripts.specs.declared.faults.ScriptFaultKind.TheVariants.{BadLin
 use Rattle.cur_play.specs.Deliveries.{Carries}
 use Rattle.cur_play.specs.Outputs.{poised}
 use Rattle.cur_play.specs.Scenes.{lost_stage, scene_of}
-use Rattle.cur_play.specs.Steps.{CallStep, drawn, output_of, recolored}
+use Rattle.cur_play.specs.Steps.{CallStep, drawn, lines_shown, output_of, recolored}
 use Rattle.cur_play.specs.declared.answers.Answer.{Answer}
 use Rattle.cur_play.specs.declared.answers.Answer.TheVariants.{Done, Was, Refused, WireFailed}
 use Rattle.curses_c.specs.Codes.{answer_code, failure_code, script_code}
@@ -74,6 +74,16 @@ Recolors p f b h answer k =
 
 abbrev pub RecolorsAs : ℤ → ℤ → ℤ → Held → ℤ → Held → Type 0
 RecolorsAs p f b h code k = (answer : Answer) × Recolors p f b h answer k × (code ≡ answer_code answer)
+
+-- lines of a window are copied to the virtual screen; nothing is sent, and the noted line stays
+abbrev pub CopiesLines : ℕ → ℤ → ℤ → Held → Answer → Held → Type 0
+CopiesLines n top bottom h answer k =
+    let x = lines_shown n top bottom h.session in
+    (k ≡ record h { session = x.0 }) × (answer ≡ x.1)
+
+abbrev pub CopiesLinesAs : ℕ → ℤ → ℤ → Held → ℤ → Held → Type 0
+CopiesLinesAs n top bottom h code k =
+    (answer : Answer) × CopiesLines n top bottom h answer k × (code ≡ answer_code answer)
 
 -- this line becomes the noted one; nothing else changes
 abbrev pub noting : ℕ → Held → Held

@@ -16,11 +16,11 @@ use Rattle.cur_play.specs.Scenes.{first, scene_of}
 use Rattle.cur_play.specs.Steps.{drawn, output_of}
 use Rattle.cur_play.specs.declared.answers.Answer.{Answer}
 use Rattle.cur_play.specs.declared.sends.Emission.TheVariants.{Nothing}
-use Rattle.curses_c.specs.Held.{Hands, Loses, Makes, Recolors, noting}
+use Rattle.curses_c.specs.Held.{CopiesLines, Hands, Loses, Makes, Recolors, noting}
 use Rattle.curses_c.specs.declared.held.Held.{Held}
 
--- calls on a session, colors of pairs, and takings of waiting bytes, with all bytes taken; a change of the noted line
--- changes none of these
+-- calls on a session, colors of pairs, copies of lines, and takings of waiting bytes, with all bytes taken; a change of
+-- the noted line changes none of these
 pub data Played (h : Held) : List ℕ → Held → Type 0 where
   Begun : (taken : List ℕ) (k : Held) → taken ≡ [] → k ≡ h → Played h taken k
   Called : (taken : List ℕ) (mid k : Held) (call : Call) (answer : Answer) → Played h taken mid
@@ -30,6 +30,8 @@ pub data Played (h : Held) : List ℕ → Held → Type 0 where
   Noted : (taken : List ℕ) (mid k : Held) (line : ℕ) → Played h taken mid → k ≡ noting line mid → Played h taken k
   Recolored : (taken : List ℕ) (mid k : Held) (p f b : ℤ) (answer : Answer) → Played h taken mid
       → Recolors p f b mid answer k → Played h taken k
+  CopiedLines : (taken : List ℕ) (mid k : Held) (n : ℕ) (top bottom : ℤ) (answer : Answer) → Played h taken mid
+      → CopiesLines n top bottom mid answer k → Played h taken k
 
 -- as `Played`, with only calls that send nothing
 pub data Rests (h : Held) : List ℕ → Held → Type 0 where
@@ -41,6 +43,8 @@ pub data Rests (h : Held) : List ℕ → Held → Type 0 where
   NotedMore : (taken : List ℕ) (mid k : Held) (line : ℕ) → Rests h taken mid → k ≡ noting line mid → Rests h taken k
   RecoloredMore : (taken : List ℕ) (mid k : Held) (p f b : ℤ) (answer : Answer) → Rests h taken mid
       → Recolors p f b mid answer k → Rests h taken k
+  CopiedMoreLines : (taken : List ℕ) (mid k : Held) (n : ℕ) (top bottom : ℤ) (answer : Answer) → Rests h taken mid
+      → CopiesLines n top bottom mid answer k → Rests h taken k
 
 -- the states that the terminal may be in if nothing waits
 abbrev pub FitsHeld : Held → State → Type 0

@@ -5,8 +5,8 @@ ghost use Rattle.cur_play.specs.Scenes.{first, scene_of};
 ghost use Rattle.ti_cert.specs.Table.{certified};
 ghost use Rattle.ti_conforms.specs.Certified.{IsChecked};
 ghost use Rattle.curses_c.specs.Codes as codes;
-ghost use Rattle.curses_c.specs.Held.{Does, Hands, Loses, Makes, MakesUpTo, Plays, Recolors, Says, fault_line};
-ghost use Rattle.curses_c.specs.Held.{is_done, line_left, noting};
+ghost use Rattle.curses_c.specs.Held.{CopiesLines, Does, Hands, Loses, Makes, MakesUpTo, Plays, Recolors, Says};
+ghost use Rattle.curses_c.specs.Held.{fault_line, is_done, line_left, noting};
 
 use crate::codes::{Failure, answer_code, failure_code, script_code};
 use crate::lines::line_of;
@@ -91,6 +91,13 @@ impl Held {
     {
         self.session
             .init_pair_or_default(pair, foreground, background)
+    }
+
+    /// Copies the lines `top` to `bottom` of `window` to the virtual screen, as `noutrefresh` copies all of its lines.
+    pub fn noutrefresh_lines(&mut self, window: usize, top: i32, bottom: i32) -> Answer
+        ensures { CopiesLines window top bottom self.old result self.new }
+    {
+        self.session.noutrefresh_lines(window, top, bottom)
     }
 
     /// Does `calls` up to the first that isn't done.

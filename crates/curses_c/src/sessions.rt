@@ -2,7 +2,7 @@
 ghost use Rattle.std.specs.Prelude.{◌≡◌, None, IfErr, IfOk, length, pos};
 ghost use Rattle.cur_calls.specs.declared.calls.Call.TheVariants.{Addstr};
 ghost use Rattle.curses_c.specs.Entries.{IsShown};
-ghost use Rattle.curses_c.specs.Held.{Does, Loses, MakesAlone, RecolorsAs, Says};
+ghost use Rattle.curses_c.specs.Held.{CopiesLinesAs, Does, Loses, MakesAlone, RecolorsAs, Says};
 ghost use Rattle.curses_c.specs.Sessions.{Answers, Fetches, IsOpened, IsOwnTable, IsTableFor, IsUnopened, LacksChecked};
 ghost use Rattle.curses_c.specs.Sessions.{LacksOwn, Opens, closed};
 
@@ -167,6 +167,27 @@ pub extern "C" fn ticurses_raw_init_pair_or_default(
     };
     let mut held = held;
     let code = answer_code(held.init_pair_or_default(pair, foreground, background));
+    handle.put(held);
+    code
+}
+
+/// Copies the lines `top` to `bottom` of `window` to the virtual screen, as `noutrefresh` copies all of its lines.
+/// Nothing is sent. Returns the number of the answer, or of `Closed`.
+#[unsafe(no_mangle)]
+pub extern "C" fn ticurses_raw_noutrefresh_lines(
+    alloc: Global,
+    handle: &mut Handle,
+    window: usize,
+    top: i32,
+    bottom: i32,
+) -> i32
+    ensures { Answers closed (CopiesLinesAs window top bottom) (handle.old).slot.held result (handle.new).slot.held }
+{
+    let Some(held) = handle.take(alloc) else {
+        return failure_code(Failure::Closed);
+    };
+    let mut held = held;
+    let code = answer_code(held.noutrefresh_lines(window, top, bottom));
     handle.put(held);
     code
 }
