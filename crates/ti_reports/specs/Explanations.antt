@@ -1,39 +1,19 @@
 -- The run that shows a fault, in the words of a report.
-use Rattle.std.specs.Prelude.{◌≡◌, ℕ, Bool, true, false, List, Option, Some, None, String, string_bytes}
+use Rattle.std.specs.Prelude.{◌≡◌, ℕ, List, Option, Some, None, String, string_bytes}
 use Rattle.std.specs.declared.alloc.Global.{Global}
+use Rattle.ti_caps.specs.Entry.{Content}
 use Rattle.ti_checker.specs.declared.causes.Cause.{Cause}
 use Rattle.ti_checker.specs.declared.causes.Cause.TheVariants.{FlagOut, Absent, AcsByte, Parm, StaticRead, Unfinished}
 use Rattle.ti_checker.specs.declared.causes.Cause.TheVariants.{Stuck, NotTame, BadLook, WrongEffect, NotShown, TooLong}
 use Rattle.ti_checker.specs.declared.causes.Cause.TheVariants.{NoResync, NoMemory}
 use Rattle.ti_checker.specs.declared.causes.No.{No}
 use Rattle.ti_rows.specs.declared.rows.Row.{Row}
+use Rattle.ti_reports.specs.Ran.{IsRunOf}
 use Rattle.ti_reports.specs.Sent.{IsRowFor}
 use Rattle.ti_reports.specs.Texts.{IsShownAs}
 use Rattle.ti_verdicts.specs.Starts.{settings_of}
 use Rattle.ti_words.specs.Starts.{start_text}
 use Rattle.ti_words.specs.Wanted.{wanted_text}
-
--- a text that may be there for a cause of which this holds, and for no other one
-abbrev pub IsOnlyIf : Bool → Option (String Global) → Type 0
-IsOnlyIf true text = Unit {0}
-IsOnlyIf false text = text ≡ None
-
--- whether what is sent was run
-abbrev pub runs : Cause → Bool
-runs FlagOut = false
-runs Absent = false
-runs AcsByte = false
-runs (Parm fault) = false
-runs StaticRead = false
-runs Unfinished = false
-runs Stuck = false
-runs NotTame = false
-runs BadLook = true
-runs (WrongEffect probe) = true
-runs NotShown = false
-runs TooLong = false
-runs NoResync = false
-runs NoMemory = false
 
 -- there is a text, and it shows these bytes
 abbrev pub HasText : List ℕ → Option (String Global) → Type 0
@@ -85,9 +65,27 @@ IsWanted TooLong refusal wanted = wanted ≡ None
 IsWanted NoResync refusal wanted = wanted ≡ None
 IsWanted NoMemory refusal wanted = wanted ≡ None
 
+-- the effect that is seen: of the run from the cause's state; with `BadLook` in free words; and none for other causes
+abbrev pub IsSeen : Cause → Content → ℕ → ℕ → No → Option (String Global) → Type 0
+IsSeen FlagOut entry height width refusal seen = seen ≡ None
+IsSeen Absent entry height width refusal seen = seen ≡ None
+IsSeen AcsByte entry height width refusal seen = seen ≡ None
+IsSeen (Parm fault) entry height width refusal seen = seen ≡ None
+IsSeen StaticRead entry height width refusal seen = seen ≡ None
+IsSeen Unfinished entry height width refusal seen = seen ≡ None
+IsSeen Stuck entry height width refusal seen = seen ≡ None
+IsSeen NotTame entry height width refusal seen = seen ≡ None
+IsSeen BadLook entry height width refusal seen = Unit {0}
+IsSeen (WrongEffect probe) entry height width refusal seen = IsRunOf entry height width refusal probe seen
+IsSeen NotShown entry height width refusal seen = seen ≡ None
+IsSeen TooLong entry height width refusal seen = seen ≡ None
+IsSeen NoResync entry height width refusal seen = seen ≡ None
+IsSeen NoMemory entry height width refusal seen = seen ≡ None
+
 -- Where a state shows the fault, it is the cause's own. The wanted effect is that of the row. The effect that is seen
--- is in free words.
-pub record IsExplained (height : ℕ) (refusal : No) (start wanted seen : Option (String Global)) : Type 0 where
+-- is that of the entry's string.
+pub record IsExplained (entry : Content) (height width : ℕ) (refusal : No) (start wanted seen : Option (String Global))
+    : Type 0 where
   pub start_is : HasStart height refusal.cause start
   pub wanted_is : IsWanted refusal.cause refusal wanted
-  pub seen_is : IsOnlyIf (runs refusal.cause) seen
+  pub seen_is : IsSeen refusal.cause entry height width refusal seen

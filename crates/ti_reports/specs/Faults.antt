@@ -53,7 +53,7 @@ pub record ReportsFault (entry : Content) (height width : ℕ) (file : List ℕ)
   pub parameters : report.parameters.items ≡ refusal.params.items
   pub cause : HasWords (cause_name refusal.cause) report.cause
   pub bytes : IsSentText entry refusal report.bytes
-  pub run : IsExplained height refusal report.start report.wanted report.seen
+  pub run : IsExplained entry height width refusal report.start report.wanted report.seen
   pub line : IsValueLine stands refusal.cap report.line
   pub no_advice : report.advice.items ≡ []
 

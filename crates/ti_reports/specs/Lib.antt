@@ -3,6 +3,7 @@ pub mod Escapes
 pub mod Explanations
 pub mod Faults
 pub mod Findings
+pub mod Ran
 pub mod Reports
 pub mod Sent
 pub mod Sources

@@ -5,6 +5,7 @@ ghost use Rattle.ti_reports.specs.Explanations as spec;
 ghost use Rattle.ti_reports.specs.Texts.{IsShownAs};
 ghost use Rattle.ti_words.specs.Wanted as told;
 
+use crate::ran::ran_text;
 use crate::sent::row_of;
 use crate::texts::text_of;
 use std::alloc::{AllocError, Global};
@@ -33,14 +34,12 @@ pub fn explained(
     size: Size,
     no: &No,
 ) -> Result<Explanation, AllocError>
-    ensures { IfOk result (λ it. spec.IsExplained size.rows no.now it.start it.wanted it.seen) }
+    ensures { IfOk result (λ it. spec.IsExplained entry.now size.rows size.cols no.now it.start it.wanted it.seen) }
 {
-    let mut remarks = Remarks::new(alloc);
-    explain_no(alloc, entry, size, no, &mut remarks);
     Ok(Explanation {
         start: start_of(alloc, size, no.cause)?,
         wanted: wanted_of(alloc, no)?,
-        seen: seen_in(alloc, no.cause, remarks.lines())?,
+        seen: seen_of(alloc, entry, size, no)?,
     })
 }
 
@@ -98,16 +97,29 @@ fn row_text(alloc: Global, row: Row) -> Result<String, AllocError>
     text_of(alloc, words.as_slice())
 }
 
-/// The words of one of the `lines` for the effect that is seen, if a run showed the `cause`.
-fn seen_in(alloc: Global, cause: Cause, lines: &[Vec<u8>]) -> Result<Option<String>, AllocError>
-    ensures { IfOk result (λ seen. spec.IsOnlyIf (spec.runs cause) seen) }
+/// The words for the effect of the string of `entry` that `no` is about, if a run showed its cause.
+fn seen_of(alloc: Global, entry: &Entry, size: Size, no: &No) -> Result<Option<String>, AllocError>
+    ensures { IfOk result (λ seen. spec.IsSeen no.now.cause entry.now size.rows size.cols no.now seen) }
 {
-    match cause {
-        Cause::BadLook | Cause::WrongEffect(_) => line_after(alloc, lines, b"seen: "),
+    match no.cause {
+        Cause::WrongEffect(probe) => ran_text(alloc, entry, size, no, &probe),
+        Cause::BadLook => look_of(alloc, entry, size, no),
         Cause::FlagOut | Cause::Absent | Cause::AcsByte | Cause::Parm(_) => Ok(None),
         Cause::StaticRead | Cause::Unfinished | Cause::Stuck | Cause::NotTame => Ok(None),
         Cause::NotShown | Cause::TooLong | Cause::NoResync | Cause::NoMemory => Ok(None),
     }
+}
+
+/// The rendition that the string turns on, in the words that explain the `no`.
+fn look_of(
+    alloc: Global,
+    entry: &Entry,
+    size: Size,
+    no: &No,
+) -> Result<Option<String>, AllocError> {
+    let mut remarks = Remarks::new(alloc);
+    explain_no(alloc, entry, size, no, &mut remarks);
+    line_after(alloc, remarks.lines(), b"seen: ")
 }
 
 /// The words after `front` in the first of the `lines` that begins with it.
