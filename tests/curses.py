@@ -265,9 +265,9 @@ class Pane:
         else:
             self.run("send-keys", key)
 
-    def until(self, holds):
-        """The text of the screen once it meets the condition, or after the longest time."""
-        end, text = time.monotonic() + PATIENCE, self.seen()[0]
+    def until(self, holds, seconds=PATIENCE):
+        """The text of the screen once it meets the condition, or after so long."""
+        end, text = time.monotonic() + seconds, self.seen()[0]
         while not holds(text) and time.monotonic() < end:
             time.sleep(0.1)
             text = self.seen()[0]
@@ -286,6 +286,8 @@ class Pane:
     def shots(self, keys):
         """The screens at the beginning and after each key."""
         time.sleep(0.5)
+        # on a busy machine a program takes longer to begin; some begin with a blank screen
+        self.until(str.strip, LONGEST)
         found = [("", "") if keys[0].startswith("~") else self.quiet()]
         for key in keys:
             self.press(key.removeprefix("~"))
