@@ -39,7 +39,8 @@ PROGRAMS = {
     "chgat": ([], "Down Right Right v c q"),
     "color_set": ([], "Space Space Space"),
     "firstlast": ([], "Space @2500 Space"),
-    "gdc": ([], "@800 q"),
+    # reads a key once a second
+    "gdc": ([], "@800 ~q @1500"),
     "hanoi": (["3"], "1 ~=3 @900 ~Enter @900 q"),
     "inchs": (["{tests}/README"], "Down Down w q"),
     "insdelln": ([], "Down Down i d I D w q"),
