@@ -284,11 +284,11 @@ class Pane:
         self.run("kill-server")
         return text
 
-    def shots(self, keys):
-        """The screens at the beginning and after each key."""
+    def shots(self, keys, seconds=LONGEST):
+        """The screens at the beginning, for which it waits at most so long, and after each key."""
         time.sleep(0.5)
         # on a busy machine a program takes longer to begin; some begin with a blank screen
-        self.until(str.strip, LONGEST)
+        self.until(str.strip, seconds)
         found = [("", "") if keys[0].startswith("~") else self.quiet()]
         for key in keys:
             self.press(key.removeprefix("~"))

@@ -17,7 +17,7 @@ import time
 # tests/curses.py, and not the standard module
 import curses as panes
 import python_screen
-from linked import Terminal, missing, rooms
+from linked import PATIENCE, Terminal, missing, rooms
 from trying import TOP, held_in, write
 
 HEADER = f"{TOP}/include/ticurses/curses.h"
@@ -146,7 +146,7 @@ def shots(package, work, name, words, keys):
     """The screens of a program after each key, over the standard module and over the package."""
     one = package.pane(work, f"{name}-ncurses", [sys.executable, *words])
     other = package.pane(work, f"{name}-ticurses", package.words(*words))
-    return one.shots(keys), other.shots(keys)
+    return one.shots(keys, PATIENCE), other.shots(keys, PATIENCE)
 
 
 def check_programs(package, work):
