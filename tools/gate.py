@@ -37,6 +37,12 @@ def minutes(since):
     return f"{(time.monotonic() - since) / 60:.1f} minutes"
 
 
+def processor_minutes():
+    """The processor time of all programs that ended so far, in minutes."""
+    used = os.times()
+    return (used.children_user + used.children_system) / 60
+
+
 def say(text):
     print(f"test: {text}", flush=True)
 
@@ -118,7 +124,7 @@ class Crates:
 
     def run(self, words):
         """Runs `rt ci`; returns its status and its last line, which is held back until all else is said."""
-        began, last, gates = time.monotonic(), "", []
+        began, used, last, gates = time.monotonic(), processor_minutes(), "", []
         say(f"{' '.join(words)}: {len(self.uses)} crates and {self.all_edits} must-fail edits{self.come()}")
         try:
             with held():
@@ -131,7 +137,7 @@ class Crates:
         except Ended:
             stop(gates)
             raise
-        say(f"rt ci ended after {minutes(began)}: {last.strip()}")
+        say(f"rt ci ended after {minutes(began)}, {processor_minutes() - used:.0f} of the processors: {last.strip()}")
         return gates[0].returncode, last
 
 
