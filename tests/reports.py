@@ -32,6 +32,15 @@ lost|uses what isn't there,
 """.encode() + b"lat\xeen\x7f|written in Latin-1,\n\tclear=\\E[H\\E[2J, sgr0=\\E[m,\n"
 NAMES_SHOWN = ['quoted"name\\', "größe", "lost", "lat\\356n\\177"]
 
+# attributes whose strings turn on another one's rendition, and what these strings make
+LOOKS = rb"""looks|bold where it isn't asked for,
+	clear=\E[H\E[2J, cup=\E[%i%p1%d;%p2%dH, sgr0=\E[m, dim=\E[30;1m, rev=\E[1;7m,
+"""
+LOOKS_SEEN = {
+    "dim": "sent after a reset, it makes the rendition bold in black on default",
+    "rev": "sent after a reset, it makes the rendition bold reverse",
+}
+
 # objects that the schema has to refuse, each by what differs from a yes
 REFUSED_BY_SCHEMA = [
     {"cause": "WrongEffect"},
@@ -227,6 +236,14 @@ def shown(line):
     return re.sub(r"[^ -~]", lambda it: f"\\{ord(it[0]):03o}", line)
 
 
+def judge_looks():
+    """The rendition that is seen in place of an attribute's own."""
+    (told,) = run_cases(PROGRAM, [Case(["check", "--all", "--json", "--", "looks:looks", *SIZE])], {"looks": LOOKS})
+    found = {it["capability"]: (it["cause"], it["seen"]) for it in objects(told)}
+    if found != {cap: ("BadLook", seen) for cap, seen in LOOKS_SEEN.items()}:
+        fail(f"what is seen of {LOOKS}: {found}")
+
+
 def judge_names():
     """Names with quotes and backslashes, in UTF-8, and of bytes that are no text."""
     cases = [Case(["survey", "--json", *SIZE, "names"]), Case(["survey", "--json", *SIZE, "faulty"])]
@@ -303,10 +320,12 @@ def main():
     names = [line.split("|")[0].rstrip(",") for line in samples.decode().splitlines() if line and line[0] not in "# \t"]
     count += judge_entries("samples", samples, names)
     count += judge_entries("five.ti", FIVE, ["five", "base"]) + judge_entries("mended.ti", MENDED, ["five", "base"])
+    count += judge_entries("looks", LOOKS, ["looks"])
     together = together_source()
     count += judge_entries("together", together, ["base", *(f"e{i}" for i in range(len(TOGETHER)))])
     surveyed = {"planted": source.text(), "samples": samples, "five.ti": FIVE, "together": together, "names": NAMES}
     lines = sum(judge_survey(path, held) for path, held in surveyed.items())
+    judge_looks()
     judge_names()
     judge_twins()
     judge_failing()

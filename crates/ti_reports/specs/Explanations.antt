@@ -11,6 +11,7 @@ use Rattle.ti_rows.specs.declared.rows.Row.{Row}
 use Rattle.ti_reports.specs.Ran.{IsRunOf}
 use Rattle.ti_reports.specs.Sent.{IsRowFor}
 use Rattle.ti_reports.specs.Texts.{IsShownAs}
+use Rattle.ti_reports.specs.declared.ran.Telling.TheVariants.{ChangesFrom, LookAfterReset}
 use Rattle.ti_verdicts.specs.Starts.{settings_of}
 use Rattle.ti_words.specs.Starts.{start_text}
 use Rattle.ti_words.specs.Wanted.{wanted_text}
@@ -65,7 +66,8 @@ IsWanted TooLong refusal wanted = wanted ≡ None
 IsWanted NoResync refusal wanted = wanted ≡ None
 IsWanted NoMemory refusal wanted = wanted ≡ None
 
--- the effect that is seen: of the run from the cause's state; with `BadLook` in free words; and none for other causes
+-- the effect that is seen: with `BadLook`, the rendition that the string makes after a reset; with `WrongEffect`, the
+-- changes from the cause's state; none for other causes
 abbrev pub IsSeen : Cause → Content → ℕ → ℕ → No → Option (String Global) → Type 0
 IsSeen FlagOut entry height width refusal seen = seen ≡ None
 IsSeen Absent entry height width refusal seen = seen ≡ None
@@ -75,8 +77,8 @@ IsSeen StaticRead entry height width refusal seen = seen ≡ None
 IsSeen Unfinished entry height width refusal seen = seen ≡ None
 IsSeen Stuck entry height width refusal seen = seen ≡ None
 IsSeen NotTame entry height width refusal seen = seen ≡ None
-IsSeen BadLook entry height width refusal seen = Unit {0}
-IsSeen (WrongEffect probe) entry height width refusal seen = IsRunOf entry height width refusal probe seen
+IsSeen BadLook entry height width refusal seen = IsRunOf entry height width refusal LookAfterReset seen
+IsSeen (WrongEffect probe) entry height width refusal seen = IsRunOf entry height width refusal (ChangesFrom probe) seen
 IsSeen NotShown entry height width refusal seen = seen ≡ None
 IsSeen TooLong entry height width refusal seen = seen ≡ None
 IsSeen NoResync entry height width refusal seen = seen ≡ None

@@ -5,15 +5,15 @@ ghost use Rattle.ti_reports.specs.Explanations as spec;
 ghost use Rattle.ti_reports.specs.Texts.{IsShownAs};
 ghost use Rattle.ti_words.specs.Wanted as told;
 
-use crate::ran::ran_text;
+use crate::ran::{Telling, ran_text};
 use crate::sent::row_of;
 use crate::texts::text_of;
 use std::alloc::{AllocError, Global};
 use ti_caps::Entry;
 use ti_checker::{Cause, No};
 use ti_rows::Row;
-use ti_verdicts::{explain_no, probe_words};
-use ti_words::{Remarks, wanted_words};
+use ti_verdicts::probe_words;
+use ti_words::wanted_words;
 use vt_term::Size;
 
 /// The run that shows a no, in words.
@@ -102,36 +102,10 @@ fn seen_of(alloc: Global, entry: &Entry, size: Size, no: &No) -> Result<Option<S
     ensures { IfOk result (λ seen. spec.IsSeen no.now.cause entry.now size.rows size.cols no.now seen) }
 {
     match no.cause {
-        Cause::WrongEffect(probe) => ran_text(alloc, entry, size, no, &probe),
-        Cause::BadLook => look_of(alloc, entry, size, no),
+        Cause::WrongEffect(probe) => ran_text(alloc, entry, size, no, Telling::ChangesFrom(probe)),
+        Cause::BadLook => ran_text(alloc, entry, size, no, Telling::LookAfterReset),
         Cause::FlagOut | Cause::Absent | Cause::AcsByte | Cause::Parm(_) => Ok(None),
         Cause::StaticRead | Cause::Unfinished | Cause::Stuck | Cause::NotTame => Ok(None),
         Cause::NotShown | Cause::TooLong | Cause::NoResync | Cause::NoMemory => Ok(None),
     }
-}
-
-/// The rendition that the string turns on, in the words that explain the `no`.
-fn look_of(
-    alloc: Global,
-    entry: &Entry,
-    size: Size,
-    no: &No,
-) -> Result<Option<String>, AllocError> {
-    let mut remarks = Remarks::new(alloc);
-    explain_no(alloc, entry, size, no, &mut remarks);
-    line_after(alloc, remarks.lines(), b"seen: ")
-}
-
-/// The words after `front` in the first of the `lines` that begins with it.
-fn line_after(
-    alloc: Global,
-    lines: &[Vec<u8>],
-    front: &[u8],
-) -> Result<Option<String>, AllocError> {
-    for line in lines {
-        if let Some(words) = line.as_slice().strip_prefix(front) {
-            return Ok(Some(text_of(alloc, words)?));
-        }
-    }
-    Ok(None)
 }

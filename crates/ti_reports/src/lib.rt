@@ -9,6 +9,7 @@ mod explanations;
 mod faults;
 mod findings;
 mod lines;
+mod looks;
 mod ran;
 mod refusals;
 mod reports;

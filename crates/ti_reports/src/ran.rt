@@ -1,8 +1,9 @@
-//! The effect of the string of a no from the state of a probe, in words.
+//! The effect of the string of a no on T, in words.
 
 ghost use Rattle.std.specs.Prelude.{◌≡◌, IfOk, option_copied, option_map};
 ghost use Rattle.ti_reports.specs.Ran as spec;
 
+use crate::looks::look_words;
 use crate::sent::row_of;
 use crate::texts::text_of;
 use std::alloc::{AllocError, Global};
@@ -13,19 +14,28 @@ use ti_rows::Row;
 use ti_verdicts::probe_run_words;
 use vt_term::Size;
 
-/// The effect of the string of `entry` that `no` is about, on a terminal of `size` in the state of `probe`; `None`
-/// where it is about no string, or nothing is sent or runs.
+/// The part of a run that its words tell.
+#[derive(Clone, Copy)]
+pub enum Telling {
+    /// The changes by a run from the state of this probe.
+    ChangesFrom(Probe),
+    /// The rendition at the end of a run after a reset.
+    LookAfterReset,
+}
+
+/// The effect of the string of `entry` that `no` is about, on a terminal of `size`; `None` where it is about no string,
+/// or nothing is sent or runs.
 pub fn ran_text(
     alloc: Global,
     entry: &Entry,
     size: Size,
     no: &No,
-    probe: &Probe,
+    telling: Telling,
 ) -> Result<Option<String>, AllocError>
-    ensures { IfOk result (λ text. spec.IsRunOf entry.now size.rows size.cols no.now probe.now text) }
+    ensures { IfOk result (λ text. spec.IsRunOf entry.now size.rows size.cols no.now telling text) }
 {
     let row = row_of(no);
-    let text = ran_for(alloc, size, probe, row, entry.get_string(no.cap))?;
+    let text = ran_for(alloc, size, telling, row, entry.get_string(no.cap))?;
     Ok(text)
 }
 
@@ -33,16 +43,16 @@ pub fn ran_text(
 fn ran_for(
     alloc: Global,
     size: Size,
-    probe: &Probe,
+    telling: Telling,
     row: Option<Row>,
     string: Option<&[u8]>,
 ) -> Result<Option<String>, AllocError>
-    ensures { IfOk result (λ text. spec.IsRanFor size.rows size.cols probe.now row
+    ensures { IfOk result (λ text. spec.IsRunFor size.rows size.cols telling row
         (option_copied string.entry) text) }
 {
     match row {
         Some(row) => match string {
-            Some(string) => ran_by(alloc, size, probe, string, row),
+            Some(string) => ran_by(alloc, size, telling, string, row),
             None => Ok(None),
         },
         None => Ok(None),
@@ -54,31 +64,47 @@ fn ran_for(
 fn ran_by(
     alloc: Global,
     size: Size,
-    probe: &Probe,
+    telling: Telling,
     string: &[u8],
     row: Row,
 ) -> Result<Option<String>, AllocError>
-    ensures { IfOk result (λ text. spec.IsRanBy size.rows size.cols probe.now string.now row text) }
+    ensures { IfOk result (λ text. spec.IsRunBy size.rows size.cols telling string.now row text) }
 {
     match send(alloc, string, row) {
-        Ok(bytes) => Ok(run_text(alloc, size, probe, bytes.as_slice())?),
+        Ok(bytes) => Ok(run_text(alloc, size, telling, bytes.as_slice())?),
         Err(SendFault::NoMemory) => Err(AllocError),
         Err(_) => Ok(None),
     }
 }
 
-/// The effect of `bytes` from the state of `probe`; `None` where they don't run.
+/// The effect of `bytes`; `None` where they don't run.
 fn run_text(
     alloc: Global,
     size: Size,
-    probe: &Probe,
+    telling: Telling,
     bytes: &[u8],
 ) -> Result<Option<String>, AllocError>
-    ensures { IfOk result (λ text. spec.ShowsRun size.rows size.cols probe.now bytes.now text) }
+    ensures { IfOk result (λ text. spec.ShowsRun size.rows size.cols telling bytes.now text) }
 {
-    let words = probe_run_words(alloc, size, probe, bytes)?;
+    let words = told_words(alloc, size, telling, bytes)?;
     let text = text_if(alloc, words)?;
     Ok(text)
+}
+
+/// The words for the effect of `bytes`; `None` where they don't run.
+fn told_words(
+    alloc: Global,
+    size: Size,
+    telling: Telling,
+    bytes: &[u8],
+) -> Result<Option<Vec<u8>>, AllocError>
+    ensures { IfOk result (λ found. spec.IsToldText size.rows size.cols telling bytes.now
+        (option_map (λ words. words.items) found)) }
+{
+    match telling {
+        Telling::ChangesFrom(probe) => probe_run_words(alloc, size, &probe, bytes),
+        Telling::LookAfterReset => look_words(alloc, size, bytes),
+    }
 }
 
 /// The text of `words`, if there are any.
