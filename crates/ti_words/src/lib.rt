@@ -27,7 +27,7 @@ pub use remarks::{Remarks, SUGGESTION_END, push_shown, write_shown};
 pub use remedies::OF_ANOTHER_KIND;
 pub use runs::{filled_terminal, run_words};
 pub use seen::Seen;
-pub use starts::start_words;
+pub use starts::{push_after, start_words};
 pub use strings::{
     explain_escape, explain_length, explain_parm, explain_size, explain_stuck, explain_token,
     explain_whole,
