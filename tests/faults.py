@@ -250,11 +250,14 @@ def judge_suggestions():
     print("faults: the strings that are suggested, as they are printed, mend an entry")
 
 
-# Entries whose strings are right only together, each with its faults and with what is suggested: `smacs` by SO needs an
-# `enacs`, and what `\E(0` begins `\E(B` ends and SI doesn't. SGR 10 and 11 switch no set, which shows only once `op` is
-# right. SGR 7 alone turns nothing off. `\E(B` in `smacs` and `\E(0` in `rmacs` are exchanged: each activates the other's set. SI
-# in front of `sgr0` is the first byte that is sent in an unknown state, where an open sequence takes it. Without `acsc` no
-# program ends the set that `\E(0` in `sgr0` begins.
+# Entries whose strings are right only together, each with its faults, with what is suggested, and with the faults that
+# are left once that is taken. `smacs` by SO needs an `enacs`, and what `\E(0` begins `\E(B` ends and SI doesn't. SGR 10
+# and 11 switch no set. SGR 7 alone turns nothing off. `\E(B` in `smacs` and `\E(0` in `rmacs` are exchanged: each
+# activates the other's set. SI in front of `sgr0` is the first byte that is sent in an unknown state, where an open
+# sequence takes it. Without `acsc` no program ends the set that `\E(0` in `sgr0` begins.
+# Strings at fault are left out when the others are judged together. So without an `enacs` that prints, SO in `smacs`
+# activates no graphic set, and SI in `sgr0` is sent first; without an `rmacs` that prints, nothing ends the set that
+# `smacs` begins; and where none of the strings that lead out of an unknown state is left, nothing begins with ESC.
 BASE = r"""base|base, acsc=qqxx, clear=\E[H\E[2J, cup=\E[%i%p1%d;%p2%dH, sgr0=\E[m, setaf=\E[3%p1%dm, setab=\E[4%p1%dm,"""
 KEEPING = (
     r"sgr=%?%p1%p2%|%p3%|%p4%|%p5%|%p6%|%p7%|%!%t\E[0m%e%?%p1%t\E[7m%e"
@@ -262,47 +265,73 @@ KEEPING = (
 )
 ATTRIBUTES = r"sgr=\E[0%?%p1%p3%|%t;7%;%?%p2%t;4%;%?%p4%t;5%;%?%p5%t;2%;%?%p6%t;1%;%?%p7%t;8%;m"
 TOGETHER = [
-    ([r"op=\E[39;49m", r"smacs=x\E(0", r"rmacs=\017"], ["no smacs: NotTame"], []),
-    ([r"op=\E[m", r"smacs=x\E(0", r"rmacs=\017"], ["no op: WrongEffect", "no smacs: NotTame"], [r"op=\E[39;49m"]),
+    ([r"op=\E[39;49m", r"smacs=x\E(0", r"rmacs=\017"], ["no smacs: NotTame"], [], ["no smacs: NotTame"]),
+    (
+        [r"op=\E[m", r"smacs=x\E(0", r"rmacs=\017"],
+        ["no op: WrongEffect", "no smacs: NotTame"],
+        [r"op=\E[39;49m"],
+        ["no smacs: NotTame"],
+    ),
     (
         [r"op=\E[39;49m", r"smacs=x\E(0", r"rmacs=x\017"],
         ["no rmacs: NotTame", "no smacs: NotTame"],
         [r"rmacs=\E(B", r"smacs=\E(0"],
+        [],
     ),
     (
         [r"op=\E[m", r"smacs=\E(0", r"rmacs=x\017"],
-        ["no op: WrongEffect", "no rmacs: NotTame"],
+        ["no op: WrongEffect", "no rmacs: NotTame", "no acsc: BadLook"],
         [r"op=\E[39;49m", r"rmacs=\E(B"],
+        [],
     ),
     (
         [r"op=\E[m", r"smacs=\E[11m", r"rmacs=\E[10m"],
         ["no op: WrongEffect", "no smacs: WrongEffect"],
         [r"op=\E[39;49m"],
+        ["no smacs: WrongEffect"],
     ),
     (
         [r"op=\E[39;49m", r"smacs=\E(B", r"rmacs=\E(0"],
         ["no smacs: WrongEffect", "no rmacs: WrongEffect"],
         [r"smacs=\E(0", r"rmacs=\E(B"],
+        [],
     ),
     (
         [r"op=\E[39;49m", r"smacs=\E(B", r"rmacs=\E(0", r"sgr0=\017\E[m"],
         ["no smacs: WrongEffect", "no rmacs: WrongEffect", "no clear: NoResync"],
         [r"smacs=\E(0", r"rmacs=\E(B"],
+        ["no clear: NoResync"],
     ),
     (
         [r"op=\E[m", r"smacs=\E[11m", r"rmacs=\E[10m", r"sgr0=\017\E[m"],
         ["no op: WrongEffect", "no smacs: WrongEffect", "no clear: NoResync"],
         [r"op=\E[39;49m"],
+        ["no smacs: WrongEffect", "no clear: NoResync"],
     ),
     (
         [r"op=\E[39;49m", "acsc@", r"sgr0=\017\E(0\E[m"],
         ["no acsc: BadLook", "no clear: NoResync"],
         [],
+        ["no acsc: BadLook", "no clear: NoResync"],
+    ),
+    ([r"op=\E[39;49m", "acsc@", KEEPING], ["no sgr 1 0 0 0 0 0 0 0 0: WrongEffect"], [ATTRIBUTES], []),
+    (
+        [r"op=\E[39;49m", r"enacs=x\E(B\E)0", r"smacs=\016", r"rmacs=\017", r"sgr0=\017\E[m"],
+        ["no enacs: NotTame", "no smacs: WrongEffect", "no clear: NoResync"],
+        [r"enacs=\E(B\E)0"],
+        [],
     ),
     (
-        [r"op=\E[39;49m", "acsc@", KEEPING],
-        ["no sgr 1 0 0 0 0 0 0 0 0: WrongEffect"],
-        [ATTRIBUTES],
+        [r"op=\E[39;49m", "cup@", r"smacs=\E(B", r"rmacs=\E(0"],
+        ["no cup: Absent", "no smacs: WrongEffect", "no rmacs: WrongEffect"],
+        [r"cup=\E[%i%p1%d;%p2%dH", r"smacs=\E(0", r"rmacs=\E(B"],
+        [],
+    ),
+    (
+        [r"op=\E[39;49m", "clear@", "sgr0@"],
+        ["no clear: Absent", "no sgr0: Absent", "no clear: NoResync"],
+        [r"clear=\E[H\E[2J", r"sgr0=\E[m"],
+        [],
     ),
 ]  # fmt: skip
 
@@ -316,7 +345,7 @@ def list_together(entries):
 
 def together_source():
     """One source with all of these entries, `e0` and so on."""
-    entries = [f"e{i}|e, {', '.join(fields)}, use=base," for i, (fields, _, _) in enumerate(TOGETHER)]
+    entries = [f"e{i}|e, {', '.join(fields)}, use=base," for i, (fields, _, _, _) in enumerate(TOGETHER)]
     return "\n".join([*entries, BASE, ""]).encode()
 
 
@@ -326,22 +355,22 @@ def told_faults(lines):
 
 def judge_together():
     """With all strings that are suggested, what is still at fault is none of them."""
-    listed = list_together([fields for fields, _, _ in TOGETHER])
+    listed = list_together([fields for fields, _, _, _ in TOGETHER])
     mended = []
-    for (fields, faults, wanted), lines in zip(TOGETHER, listed):
-        suggested = [found[1] for found in map(SUGGESTED.fullmatch, lines) if found]
+    for (fields, faults, wanted, _), lines in zip(TOGETHER, listed):
+        # one for each fault of a capability, and the same one
+        suggested = list(dict.fromkeys(found[1] for found in map(SUGGESTED.fullmatch, lines) if found))
         if told_faults(lines) != faults or suggested != wanted:
             fail(f"{fields} printed {lines}")
         mended.append(wanted + [field for field in fields if named(field) not in map(named, wanted)])
-    for (_, faults, wanted), fields, lines in zip(TOGETHER, mended, list_together(mended)):
-        left = [fault for fault in faults if named(fault[3:]) not in map(named, wanted)]
+    for (_, _, _, left), fields, lines in zip(TOGETHER, mended, list_together(mended)):
         if told_faults(lines) != left:
             fail(f"the mended {fields} printed {lines}")
     [survey] = run_cases(PROGRAM, [Case(["survey", "--all", "3", "5", "together"])], {"together": together_source()})
-    surveyed = [f"e{i} {fault}" for i, (_, faults, _) in enumerate(TOGETHER) for fault in faults] + ["base yes"]
+    surveyed = [f"e{i} {fault}" for i, (_, faults, _, _) in enumerate(TOGETHER) for fault in faults] + ["base yes"]
     if survey.out.decode().splitlines()[:-1] != surveyed:
         fail(f"survey --all printed {survey.out.decode()} and was to print {surveyed}")
-    print("faults: strings that are suggested hold together, and no fault is hidden by others")
+    print("faults: strings that are suggested hold together, and no fault hides what is wrong with the others together")
 
 
 # two entries of one name, which has a byte that isn't shown

@@ -8,49 +8,48 @@ use Rattle.ti_rows.specs.declared.rows.Row.{Row}
 use Rattle.ti_rows.specs.declared.rows.Row.TheVariants.{Clear, Smacs, Rmacs}
 use Rattle.ti_rows.specs.Names.{cap_of}
 use Rattle.ti_rows.specs.Starts.{IsFree, Starts}
-use Rattle.ti_conforms.specs.Conforms.{IsFit}
 use Rattle.ti_conforms.specs.Entries as entries
 use Rattle.ti_conforms.specs.Table.{Table}
 use Rattle.ti_cert.specs.Clashes.{Misswitches, StaysGraphic, BeginsOpen}
 use Rattle.ti_cert.specs.Clashes as clashes
 use Rattle.ti_cert.specs.declared.clashes.AllClashes.{AllClashes}
 use Rattle.ti_checker.specs.Clashes.{OfSwitch, GoesWrong, GoesRight, OfStrings, IsSo, IsNotSo, AreClashes, IsSwitchTold, IsTold, AreTold}
-use Rattle.ti_checker.specs.First.{EachStands, EachWritten}
+use Rattle.ti_checker.specs.Kept.{KeptStand, IsStanding, OfAllKept}
 use Rattle.ti_checker.specs.Probes.{screen_of}
-use Rattle.ti_checker.specs.Switches.{OfAllSent, RunsWrong}
+use Rattle.ti_checker.specs.Switches.{RunsWrong}
 use Rattle.ti_checker.specs.declared.causes.Cause.{Cause}
 use Rattle.ti_checker.specs.declared.causes.Cause.TheVariants.{BadLook, NoResync}
 use Rattle.ti_checker.specs.declared.causes.No.{No}
 use Rattle.ti_checker.specs.declared.probes.Probe.{Probe}
-use Rattle.ti_checker.proofs.Sent.{of_sent, runs_wrong}
+use Rattle.ti_checker.proofs.Sent.{of_kept, runs_wrong}
 
-switch_of : (entry : Content) (rows cols : ℕ) (row : Row) (before : Option Charset) (own : List No) → IsSize rows cols → EachStands entry rows cols → ((p : Probe) → IsFree rows cols (screen_of rows cols p) → Starts rows cols row (screen_of rows cols p))
-    → OfAllSent entry rows cols (λ t. clashes.OfSwitch t row before) → IsSwitchTold rows cols row before own → OfSwitch entry rows cols row own
-switch_of entry rows cols row None own size stands starts all told = GoesRight told all
-switch_of entry rows cols row (Some before) own size stands starts all told =
+switch_of : (entry : Content) (rows cols : ℕ) (kept : ℕ → Bool) (row : Row) (before : Option Charset) (own : List No) → IsSize rows cols → KeptStand entry rows cols kept → ((p : Probe) → IsFree rows cols (screen_of rows cols p) → Starts rows cols row (screen_of rows cols p))
+    → OfAllKept entry rows cols kept (λ t. clashes.OfSwitch t row before) → IsSwitchTold rows cols row before own → OfSwitch entry rows cols kept row own
+switch_of entry rows cols kept row None own size stand starts all told = GoesRight told all
+switch_of entry rows cols kept row (Some before) own size stand starts all told =
     let p : Probe = told.1 in
-    let at : OfAllSent entry rows cols (λ t. Misswitches t row p.charset) = λ t h. subst (λ (x : Charset). Misswitches t row x) (sym told.4) (all t h) in
-    GoesWrong told.0 p told.2 told.3 (of_sent entry rows cols (λ t. Misswitches t row p.charset) size stands at)
-    (of_sent entry rows cols (λ t. RunsWrong rows cols row p t) size stands (λ t h. runs_wrong rows cols row p t (starts p told.5) (at t h)))
+    let at : OfAllKept entry rows cols kept (λ t. Misswitches t row p.charset) = λ t h. subst (λ (x : Charset). Misswitches t row x) (sym told.4) (all t h) in
+    GoesWrong told.0 p told.2 told.3 (of_kept entry rows cols kept (λ t. Misswitches t row p.charset) size stand at)
+    (of_kept entry rows cols kept (λ t. RunsWrong rows cols row p t) size stand (λ t h. runs_wrong rows cols row p t (starts p told.5) (at t h)))
 
-strings_of : (entry : Content) (rows cols : ℕ) (is_so : Bool) (cap : ℕ) (cause : Cause) (Is : Table → Type 0) (own : List No) → IsSize rows cols → EachStands entry rows cols
-    → (is_so ≡ true → OfAllSent entry rows cols Is) → (is_so ≡ false → OfAllSent entry rows cols (λ t. Is t → ⊥)) → IsTold is_so cap cause own → OfStrings entry rows cols cap cause Is own
-strings_of entry rows cols true cap cause Is own size stands on off told = IsSo told.0 told.1 told.2 (of_sent entry rows cols Is size stands (on refl))
-strings_of entry rows cols false cap cause Is own size stands on off told = IsNotSo told (off refl)
+strings_of : (entry : Content) (rows cols : ℕ) (kept : ℕ → Bool) (is_so : Bool) (cap : ℕ) (cause : Cause) (Is : Table → Type 0) (own : List No) → IsSize rows cols → KeptStand entry rows cols kept
+    → (is_so ≡ true → OfAllKept entry rows cols kept Is) → (is_so ≡ false → OfAllKept entry rows cols kept (λ t. Is t → ⊥)) → IsTold is_so cap cause own → OfStrings entry rows cols kept cap cause Is own
+strings_of entry rows cols kept true cap cause Is own size stand on off told = IsSo told.0 told.1 told.2 (of_kept entry rows cols kept Is size stand (on refl))
+strings_of entry rows cols kept false cap cause Is own size stand on off told = IsNotSo told (off refl)
 
-pub all_told : (entry : Content) (rows cols : ℕ) (all : AllClashes) (nos : List No) → IsSize rows cols → IsFit entry → EachWritten entry rows cols
-    → OfAllSent entry rows cols (λ t. clashes.AreClashes (is_some (string_at entry entries.acsc)) t all) → AreTold rows cols all nos → AreClashes entry rows cols nos
-all_told entry rows cols all nos size fit written found told = record {
-  fit = fit;
-  written = written;
+pub all_told : (entry : Content) (rows cols : ℕ) (kept : ℕ → Bool) (all : AllClashes) (nos : List No) → IsSize rows cols → IsStanding entry rows cols kept
+    → OfAllKept entry rows cols kept (λ t. clashes.AreClashes (is_some (string_at entry entries.acsc)) t all) → AreTold rows cols all nos → AreClashes entry rows cols nos
+all_told entry rows cols kept all nos size standing found told = record {
+  kept = kept;
+  standing = standing;
   smacs = told.smacs;
-  of_smacs = switch_of entry rows cols Smacs all.smacs told.smacs size written.stands (λ p free. free) (λ t h. (found t h).of_smacs) told.of_smacs;
+  of_smacs = switch_of entry rows cols kept Smacs all.smacs told.smacs size standing.stand (λ p free. free) (λ t h. (found t h).of_smacs) told.of_smacs;
   rmacs = told.rmacs;
-  of_rmacs = switch_of entry rows cols Rmacs all.rmacs told.rmacs size written.stands (λ p free. free) (λ t h. (found t h).of_rmacs) told.of_rmacs;
+  of_rmacs = switch_of entry rows cols kept Rmacs all.rmacs told.rmacs size standing.stand (λ p free. free) (λ t h. (found t h).of_rmacs) told.of_rmacs;
   acsc = told.acsc;
-  of_acsc = strings_of entry rows cols all.acsc entries.acsc BadLook (λ t. StaysGraphic (is_some (string_at entry entries.acsc)) t) told.acsc size written.stands
+  of_acsc = strings_of entry rows cols kept all.acsc entries.acsc BadLook (λ t. StaysGraphic (is_some (string_at entry entries.acsc)) t) told.acsc size standing.stand
       (λ on t h. (found t h).graphic on) (λ off t h. (found t h).plain off) told.of_acsc;
   clear = told.clear;
-  of_clear = strings_of entry rows cols all.clear (cap_of Clear) NoResync (λ t. BeginsOpen t) told.clear size written.stands (λ on t h. (found t h).opens on) (λ off t h. (found t h).escapes off) told.of_clear;
+  of_clear = strings_of entry rows cols kept all.clear (cap_of Clear) NoResync (λ t. BeginsOpen t) told.clear size standing.stand (λ on t h. (found t h).opens on) (λ off t h. (found t h).escapes off) told.of_clear;
   are = told.are;
 }

@@ -17,6 +17,7 @@ pub mod Once
 pub mod Sent
 pub mod Quiet
 pub mod Exclusions
+pub mod OnlyMemory
 pub mod Doubts
 pub mod Certified
 pub mod BasicCertificates

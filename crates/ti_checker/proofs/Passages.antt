@@ -18,9 +18,8 @@ use Rattle.ti_conforms.specs.Sends.{Sends}
 use Rattle.ti_conforms.specs.Entries.{acsc}
 use Rattle.ti_cert.specs.Texts.{IsCertificate}
 use Rattle.ti_cert.proofs.Texts.{that_of_certificate}
-use Rattle.ti_checker.specs.Certificate.{IsCertificateOf}
+use Rattle.ti_checker.specs.Certificate.{IsCertificateOf, SendsFor}
 use Rattle.ti_checker.specs.Limit.{IsLineOf, PassesLimit, text_with, front_with}
-use Rattle.ti_checker.specs.Resync.{SendsFor}
 use Rattle.ti_cert.proofs.Elements.{reversed_has}
 use Rattle.ti_cert.proofs.Standing.{has_its_effect}
 use Rattle.ti_checker.proofs.Order.{size_of, no_longer, in_order}

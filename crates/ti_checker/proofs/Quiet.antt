@@ -1,7 +1,7 @@
--- `csr` and `clear` change no charset, if every row stands.
-use Rattle.std.proofs.Common.{◌≡◌, inl, inr, ℕ, zero, suc, ◌-◌, true, List, [], length, replicate, Some, refl, sym, ap, subst, ◌∙◌, arith}
+-- `csr` and `clear` change no charset, if they stand.
+use Rattle.std.proofs.Common.{◌≡◌, inl, inr, ℕ, zero, suc, ◌-◌, Bool, true, List, [], length, replicate, Some, refl, sym, ap, subst, ◌∙◌, arith}
 use Rattle.std.specs.Prelude.{slice_index_or}
-use Rattle.std.proofs.lemmas.Bool.{cases_Bool}
+use Rattle.std.proofs.lemmas.Bool.{and_parts, cases_Bool}
 use Rattle.std.proofs.lemmas.List.{get_or-replicate, length-replicate}
 use Rattle.std.proofs.lemmas.Option.{same_Some, none-some}
 use Rattle.vt_term.specs.Size.{IsSize}
@@ -18,6 +18,7 @@ use Rattle.ti_rows.specs.declared.rows.Row.{Row}
 use Rattle.ti_rows.specs.declared.rows.Row.TheVariants.{Clear, Csr}
 use Rattle.ti_rows.specs.Lists.{IsInRange}
 use Rattle.ti_rows.specs.Looks.{learned}
+use Rattle.ti_rows.specs.Names.{order}
 use Rattle.ti_rows.specs.Right.{IsRight}
 use Rattle.ti_rows.specs.Starts.{Starts, IsAny, IsFree}
 use Rattle.ti_rows.specs.Wants.{Wants}
@@ -25,8 +26,8 @@ use Rattle.ti_conforms.specs.Entries.{is_checked}
 use Rattle.ti_conforms.specs.Table.{Table, widening}
 use Rattle.ti_conforms.proofs.Judgements.{over_steps}
 use Rattle.ti_cert.specs.Seen.{KeepsSets}
-use Rattle.ti_checker.specs.First.{EachStands, SendsAsked}
-use Rattle.ti_checker.specs.Switches.{HasSent, OfAllSent}
+use Rattle.ti_checker.specs.First.{SendsAsked}
+use Rattle.ti_checker.specs.Kept.{KeptStand, is_sent, HasKept, OfAllKept}
 use Rattle.ti_checker.proofs.Settled.{sent_line}
 use Rattle.ti_checker.proofs.Together.{whole_screen}
 
@@ -76,11 +77,12 @@ record Line (rows cols : ℕ) (t : Table) (row : Row) : Type 0 where
   looks : Looks
   right : IsRight rows cols looks row bytes
 
-line_at : (entry : Content) (rows cols : ℕ) → EachStands entry rows cols → (t : Table) → HasSent entry rows cols t → (row : Row) → IsInRange rows cols row → is_checked entry row ≡ true → Line rows cols t row
-line_at entry rows cols stands t h row range checked =
-    let own = (h.sends row range).checked checked in
-    let r : SendsAsked rows cols own.string row = stands row range checked own.string own.there in
-    record { bytes = r.bytes; there = sent_line entry rows cols t h row own.string r.bytes range checked own.there r.is.sends; looks = learned row r.effect r.looks; right = r.right }
+line_at : (entry : Content) (rows cols : ℕ) (kept : ℕ → Bool) → KeptStand entry rows cols kept → (t : Table) → HasKept entry rows cols kept t → (row : Row) → IsInRange rows cols row → is_sent entry kept row ≡ true → Line rows cols t row
+line_at entry rows cols kept stand t h row range sent =
+    let own = (h.sends row range).sent sent in
+    let on = and_parts (kept (order row)) (is_checked entry row) sent in
+    let r : SendsAsked rows cols own.string row = stand row range on.0 on.1 own.string own.there in
+    record { bytes = r.bytes; there = sent_line entry rows cols kept t h row own.string r.bytes range sent own.there r.is.sends; looks = learned row r.effect r.looks; right = r.right }
 
 line_keeps : (rows cols : ℕ) (t : Table) (row : Row) (l : Line rows cols t row) (c : Charset) → Starts rows cols row (start rows cols c).screen
     → ((s u : Screen) → Wants l.looks row s u → u.charset ≡ s.charset) → charset_over l.right.tokens c ≡ c
@@ -91,22 +93,22 @@ line_keeps rows cols t row l c starts keeps =
     let same : e.after ≡ record { screen = steps l.right.tokens s.screen; rest = [] } = runs_once s (record { screen = steps l.right.tokens s.screen; rest = [] }) e.after l.bytes own e.runs in
     sym (over_steps l.right.tokens s.screen) ∙ (ap (λ (x : State). x.screen.charset) (sym same) ∙ keeps s.screen e.after.screen e.wanted)
 
-row_keeps : (entry : Content) (rows cols : ℕ) → EachStands entry rows cols → (t : Table) → HasSent entry rows cols t → (row : Row) → IsInRange rows cols row → ((c : Charset) → Starts rows cols row (start rows cols c).screen)
+row_keeps : (entry : Content) (rows cols : ℕ) (kept : ℕ → Bool) → KeptStand entry rows cols kept → (t : Table) → HasKept entry rows cols kept t → (row : Row) → IsInRange rows cols row → ((c : Charset) → Starts rows cols row (start rows cols c).screen)
     → ((l : Looks) (s u : Screen) → Wants l row s u → u.charset ≡ s.charset) → KeepsSets t row
-row_keeps entry rows cols stands t h row range starts keeps bytes there = elim (cases_Bool (is_checked entry row)) [
-  | inl checked ↦ (let l = line_at entry rows cols stands t h row range checked in
+row_keeps entry rows cols kept stand t h row range starts keeps bytes there = elim (cases_Bool (is_sent entry kept row)) [
+  | inl sent ↦ (let l = line_at entry rows cols kept stand t h row range sent in
       let same : l.bytes ≡ bytes = same_Some l.bytes bytes (sym l.there ∙ there) in
       record {
         tokens = l.right.tokens;
         whole = subst (λ (b : List ℕ). Splits b l.right.tokens []) same l.right.whole;
         leads = λ c. line_keeps rows cols t row l c (starts c) (keeps l.looks);
       })
-  | inr unchecked ↦ absurd (none-some bytes (sym ((h.sends row range).unchecked unchecked) ∙ there))
+  | inr unsent ↦ absurd (none-some bytes (sym ((h.sends row range).unsent unsent) ∙ there))
 ]
 
-pub csr_keeps : (entry : Content) (rows cols : ℕ) → IsSize rows cols → EachStands entry rows cols → OfAllSent entry rows cols (λ t. KeepsSets t (widening t))
-csr_keeps entry rows cols size stands t h = subst (λ (n : ℕ). KeepsSets t (Csr 0 (n - 1))) (sym h.rows_are)
-    (row_keeps entry rows cols stands t h (Csr 0 (rows - 1)) (whole_screen rows cols size) (λ c. starts_any rows cols c size) (λ l s u w. ap (λ (x : Screen). x.charset) w.others))
+pub csr_keeps : (entry : Content) (rows cols : ℕ) (kept : ℕ → Bool) → IsSize rows cols → KeptStand entry rows cols kept → OfAllKept entry rows cols kept (λ t. KeepsSets t (widening t))
+csr_keeps entry rows cols kept size stand t h = subst (λ (n : ℕ). KeepsSets t (Csr 0 (n - 1))) (sym h.rows_are)
+    (row_keeps entry rows cols kept stand t h (Csr 0 (rows - 1)) (whole_screen rows cols size) (λ c. starts_any rows cols c size) (λ l s u w. ap (λ (x : Screen). x.charset) w.others))
 
-pub clear_keeps : (entry : Content) (rows cols : ℕ) → IsSize rows cols → EachStands entry rows cols → OfAllSent entry rows cols (λ t. KeepsSets t Clear)
-clear_keeps entry rows cols size stands t h = row_keeps entry rows cols stands t h Clear tt (λ c. starts_free rows cols c size) (λ l s u w. ap (λ (x : Screen). x.charset) w)
+pub clear_keeps : (entry : Content) (rows cols : ℕ) (kept : ℕ → Bool) → IsSize rows cols → KeptStand entry rows cols kept → OfAllKept entry rows cols kept (λ t. KeepsSets t Clear)
+clear_keeps entry rows cols kept size stand t h = row_keeps entry rows cols kept stand t h Clear tt (λ c. starts_free rows cols c size) (λ l s u w. ap (λ (x : Screen). x.charset) w)

@@ -25,7 +25,7 @@ use Rattle.ti_rows.specs.declared.rows.Row.{Row}
 use Rattle.ti_rows.specs.declared.rows.Row.TheVariants.{Clear, Csr, Smcup, Enacs, Sgr0, Smacs, Rmacs}
 use Rattle.ti_rows.specs.Lists.{IsInRange}
 use Rattle.ti_rows.specs.Starts.{Starts}
-use Rattle.ti_rows.specs.Names.{capabilities}
+use Rattle.ti_rows.specs.Names.{order, capabilities}
 use Rattle.ti_parm.specs.Meaning.{sent}
 use Rattle.ti_parm.specs.declared.fault.ParmFault.{ParmFault}
 use Rattle.ti_conforms.specs.Sends.{Sends, values}
@@ -39,13 +39,14 @@ use Rattle.ti_cert.proofs.Ranges.{in_range, is_allowed}
 use Rattle.ti_checker.specs.Probes.{screen_of}
 use Rattle.ti_checker.specs.declared.probes.Probe.{Probe}
 use Rattle.ti_checker.specs.First.{EachStands, EachWritten, SendsAsked}
+use Rattle.ti_checker.specs.Kept.{every, KeptStand, is_sent, IsLineKept, HasKept, OfKept, OfAllKept}
 use Rattle.ti_checker.specs.Limit.{AreLines}
 use Rattle.ti_checker.specs.No.{HasClash, AtSmacs, AtRmacs, AtAcsc, AtClear, IsNo, OfAll, IsToldAs}
 use Rattle.ti_checker.specs.Switches.{HasSent, OfSent, OfAllSent, RunsWrong, IsSeen, RowChanges}
 use Rattle.ti_checker.specs.declared.causes.No.{No}
 use Rattle.ti_checker.proofs.Together.{whole_screen}
 use Rattle.ti_checker.proofs.Quiet.{csr_keeps, clear_keeps}
-use Rattle.ti_checker.proofs.Settled.{all_seen, sent_line}
+use Rattle.ti_checker.proofs.Settled.{all_kept, all_seen, sent_line}
 
 -- ---- two tables that agree with an entry
 
@@ -176,19 +177,20 @@ sent_for : Option (List ℕ) → Row → Option (List ℕ)
 sent_for None row = None
 sent_for (Some string) row = bytes_of (sent string (values row))
 
-pub line_for : Content → ℕ → ℕ → Row → Option (List ℕ)
-line_for entry rows cols row = if allows rows cols row && is_checked entry row then sent_for (string_of entry row) row else None
+pub line_for : Content → ℕ → ℕ → (ℕ → Bool) → Row → Option (List ℕ)
+line_for entry rows cols kept row = if allows rows cols row && is_sent entry kept row then sent_for (string_of entry row) row else None
 
 some_there : (o : Option (List ℕ)) → is_some o ≡ true → (x : List ℕ) × (o ≡ Some x)
 some_there (Some x) e = (x, refl)
 some_there None e = absurd (false≢true e)
 
-line_agrees : (entry : Content) (rows cols : ℕ) → EachStands entry rows cols → EntryAgrees rows cols entry (λ row. line_for entry rows cols row)
+line_kept : (entry : Content) (rows cols : ℕ) (kept : ℕ → Bool) → KeptStand entry rows cols kept → (row : Row) → IsInRange rows cols row → IsLineKept entry kept (line_for entry rows cols kept row) row
 unfolding line_for sent_for bytes_of
-line_agrees entry rows cols stands row range = record {
-  checked = λ checked.
-      let s = some_there (string_of entry row) (and_parts (is_some (string_of entry row)) (meets entry (group_of row)) checked).0 in
-      let r : SendsAsked rows cols s.0 row = stands row range checked s.0 s.1 in
+line_kept entry rows cols kept stand row range = record {
+  sent = λ sent.
+      let on = and_parts (kept (order row)) (is_checked entry row) sent in
+      let s = some_there (string_of entry row) (and_parts (is_some (string_of entry row)) (meets entry (group_of row)) on.1).0 in
+      let r : SendsAsked rows cols s.0 row = stand row range on.0 on.1 s.0 s.1 in
       record {
         string = s.0;
         there = s.1;
@@ -196,26 +198,26 @@ line_agrees entry rows cols stands row range = record {
           bytes = r.bytes;
           sends = r.is.sends;
           line_has =
-              ap (λ (b : Bool). if b && is_checked entry row then sent_for (string_of entry row) row else None) (is_allowed rows cols row range)
-              ∙ (ap (λ (b : Bool). if b then sent_for (string_of entry row) row else None) checked
+              ap (λ (b : Bool). if b && is_sent entry kept row then sent_for (string_of entry row) row else None) (is_allowed rows cols row range)
+              ∙ (ap (λ (b : Bool). if b then sent_for (string_of entry row) row else None) sent
               ∙ (ap (λ (o : Option (List ℕ)). sent_for o row) s.1 ∙ ap (λ x. bytes_of x) r.is.sends.sends));
         };
       };
-  unchecked = λ unchecked.
-      ap (λ (b : Bool). if b && is_checked entry row then sent_for (string_of entry row) row else None) (is_allowed rows cols row range)
-      ∙ ap (λ (b : Bool). if b then sent_for (string_of entry row) row else None) unchecked;
+  unsent = λ unsent.
+      ap (λ (b : Bool). if b && is_sent entry kept row then sent_for (string_of entry row) row else None) (is_allowed rows cols row range)
+      ∙ ap (λ (b : Bool). if b then sent_for (string_of entry row) row else None) unsent;
 }
 
 within : (a b : Bool) (o : Option (List ℕ)) (bytes : List ℕ) → (if a && b then o else None) ≡ Some bytes → a ≡ true
 within true b o bytes h = refl
 within false b o bytes h = absurd (none-some bytes h)
 
--- a table of what the entry sends, with looks and sets that the strings alone don't determine
-abbrev pub table_with : Content → ℕ → ℕ → Looks → (Charset → Bool) → (Charset → Bool) → Table
-table_with entry rows cols looks reached settled = record {
+-- a table of what the entry sends for the kept capabilities, with looks and sets that the strings alone don't determine
+abbrev pub kept_table : Content → ℕ → ℕ → (ℕ → Bool) → Looks → (Charset → Bool) → (Charset → Bool) → Table
+kept_table entry rows cols kept looks reached settled = record {
   rows = rows;
   cols = cols;
-  line_of = λ row. line_for entry rows cols row;
+  line_of = λ row. line_for entry rows cols kept row;
   looks = looks;
   reached = reached;
   settled = settled;
@@ -223,16 +225,36 @@ table_with entry rows cols looks reached settled = record {
   longest = no_lengths;
 }
 
-pub has_sent : (entry : Content) (rows cols : ℕ) (looks : Looks) (reached settled : Charset → Bool) → IsSize rows cols → EachStands entry rows cols → HasSent entry rows cols (table_with entry rows cols looks reached settled)
+has_kept : (entry : Content) (rows cols : ℕ) (kept : ℕ → Bool) (looks : Looks) (reached settled : Charset → Bool) → IsSize rows cols → KeptStand entry rows cols kept → HasKept entry rows cols kept (kept_table entry rows cols kept looks reached settled)
 unfolding line_for
-has_sent entry rows cols looks reached settled size stands = record {
+has_kept entry rows cols kept looks reached settled size stand = record {
   size = size;
   rows_are = refl;
-  sends = line_agrees entry rows cols stands;
-  only = λ row bytes there. in_range rows cols row (within (allows rows cols row) (is_checked entry row) (sent_for (string_of entry row) row) bytes there);
+  sends = λ row range. line_kept entry rows cols kept stand row range;
+  only = λ row bytes there. in_range rows cols row (within (allows rows cols row) (is_sent entry kept row) (sent_for (string_of entry row) row) bytes there);
 }
 
-pub of_sent : (entry : Content) (rows cols : ℕ) (Is : Table → Type 0) → IsSize rows cols → EachStands entry rows cols → ((t : Table) → HasSent entry rows cols t → Is t) → OfSent entry rows cols Is
+pub of_kept : (entry : Content) (rows cols : ℕ) (kept : ℕ → Bool) (Is : Table → Type 0) → IsSize rows cols → KeptStand entry rows cols kept → OfAllKept entry rows cols kept Is → OfKept entry rows cols kept Is
+of_kept entry rows cols kept Is size stand always =
+    let t : Table = kept_table entry rows cols kept no_looks (λ c. false) (λ c. false) in
+    let has : HasKept entry rows cols kept t = has_kept entry rows cols kept no_looks (λ c. false) (λ c. false) size stand in
+    record { table = t; has = has; is = always t has }
+
+-- the table of all that the entry sends
+abbrev pub table_with : Content → ℕ → ℕ → Looks → (Charset → Bool) → (Charset → Bool) → Table
+table_with entry rows cols looks reached settled = kept_table entry rows cols every looks reached settled
+
+pub has_sent : (entry : Content) (rows cols : ℕ) (looks : Looks) (reached settled : Charset → Bool) → IsSize rows cols → EachStands entry rows cols → HasSent entry rows cols (table_with entry rows cols looks reached settled)
+has_sent entry rows cols looks reached settled size stands =
+    let h : HasKept entry rows cols every (table_with entry rows cols looks reached settled) = has_kept entry rows cols every looks reached settled size (λ row range on. stands row range) in
+    record {
+      size = size;
+      rows_are = refl;
+      sends = λ row range. record { checked = (h.sends row range).sent; unchecked = (h.sends row range).unsent };
+      only = h.only;
+    }
+
+of_sent : (entry : Content) (rows cols : ℕ) (Is : Table → Type 0) → IsSize rows cols → EachStands entry rows cols → ((t : Table) → HasSent entry rows cols t → Is t) → OfSent entry rows cols Is
 of_sent entry rows cols Is size stands always =
     let t : Table = table_with entry rows cols no_looks (λ c. false) (λ c. false) in
     let has : HasSent entry rows cols t = has_sent entry rows cols no_looks (λ c. false) (λ c. false) size stands in
@@ -251,7 +273,7 @@ its_line entry rows cols lines t h are row bytes there =
     elim (cases_Bool (is_checked entry row)) [
       | inl checked ↦ (let l = are.all row range checked tt in
           let k = are.each l.line l.among in
-          let own : t.line_of l.line.row ≡ Some l.line.bytes = sent_line entry rows cols t h l.line.row k.sent.sends.string l.line.bytes k.sent.range k.sent.checked k.sent.sends.there k.sent.sends.sends in
+          let own : t.line_of l.line.row ≡ Some l.line.bytes = sent_line entry rows cols every t (all_kept entry rows cols t h) l.line.row k.sent.sends.string l.line.bytes k.sent.range k.sent.checked k.sent.sends.there k.sent.sends.sends in
           record { line = l.line; among = l.among; of_row = l.of_row; bytes_are = same_Some l.line.bytes bytes (sym own ∙ (ap (λ (r : Row). t.line_of r) l.of_row ∙ there)) })
       | inr unchecked ↦ absurd (none-some bytes (sym ((h.sends row range).unchecked unchecked) ∙ there))
     ]
@@ -292,25 +314,25 @@ no_told entry rows cols refusal clashes.Clear size fit written told all = OfAll 
 -- ---- the facts found of all strings hold of each table of what is sent
 
 -- the changes found of the strings that lead out of an unknown state, and of `smacs`
-pub record AreChanges (entry : Content) (rows cols : ℕ) (r : Resync) (smacs : Option Sets) : Type 0 where
-  pub smcup : RowChanges entry rows cols Smcup r.smcup
-  pub enacs : RowChanges entry rows cols Enacs r.enacs
-  pub sgr0 : RowChanges entry rows cols Sgr0 r.sgr0
-  pub rmacs : RowChanges entry rows cols Rmacs r.rmacs
-  pub smacs_is : RowChanges entry rows cols Smacs smacs
+pub record AreChanges (entry : Content) (rows cols : ℕ) (kept : ℕ → Bool) (r : Resync) (smacs : Option Sets) : Type 0 where
+  pub smcup : RowChanges entry rows cols kept Smcup r.smcup
+  pub enacs : RowChanges entry rows cols kept Enacs r.enacs
+  pub sgr0 : RowChanges entry rows cols kept Sgr0 r.sgr0
+  pub rmacs : RowChanges entry rows cols kept Rmacs r.rmacs
+  pub smacs_is : RowChanges entry rows cols kept Smacs smacs
 
-pub is_found : (entry : Content) (rows cols : ℕ) (reach : Reach) (changes others : List Sets) (r : Resync) (smacs : Option Sets) (begins : Bool) → IsSize rows cols → EachStands entry rows cols → IsSeen entry rows cols reach changes capabilities 0 → others ≡ changes
-    → AreChanges entry rows cols r smacs → (begins ≡ true → OfAllSent entry rows cols (λ t. BeginsOpen t → ⊥)) → (begins ≡ false → OfAllSent entry rows cols (λ t. BeginsOpen t))
-    → OfAllSent entry rows cols (λ t. IsFound t reach others r smacs begins)
-is_found entry rows cols reach changes others r smacs begins size stands s same a begun opened t h = record {
-  seen = subst (λ (xs : List Sets). AreSeen t reach xs) (sym same) (all_seen entry rows cols reach changes s t h);
+pub is_found : (entry : Content) (rows cols : ℕ) (kept : ℕ → Bool) (reach : Reach) (changes others : List Sets) (r : Resync) (smacs : Option Sets) (begins : Bool) → IsSize rows cols → KeptStand entry rows cols kept
+    → IsSeen entry rows cols kept reach changes capabilities 0 → others ≡ changes → AreChanges entry rows cols kept r smacs
+    → (begins ≡ true → OfAllKept entry rows cols kept (λ t. BeginsOpen t → ⊥)) → (begins ≡ false → OfAllKept entry rows cols kept (λ t. BeginsOpen t)) → OfAllKept entry rows cols kept (λ t. IsFound t reach others r smacs begins)
+is_found entry rows cols kept reach changes others r smacs begins size stand s same a begun opened t h = record {
+  seen = subst (λ (xs : List Sets). AreSeen t reach xs) (sym same) (all_seen entry rows cols kept reach changes s t h);
   smcup_is = a.smcup t h;
   enacs_is = a.enacs t h;
   sgr0_is = a.sgr0 t h;
   rmacs_is = a.rmacs t h;
   smacs_is = a.smacs_is t h;
-  widens = csr_keeps entry rows cols size stands t h;
-  clears = clear_keeps entry rows cols size stands t h;
+  widens = csr_keeps entry rows cols kept size stand t h;
+  clears = clear_keeps entry rows cols kept size stand t h;
   opens = λ off. opened off t h;
   begins = λ on. begun on t h;
 }

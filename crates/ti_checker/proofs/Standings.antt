@@ -10,7 +10,6 @@ use Rattle.ti_conforms.proofs.Matches.{same_checked}
 use Rattle.ti_rows.specs.declared.rows.Row.{Row}
 use Rattle.ti_rows.specs.declared.rows.Row.TheVariants.{Clear, Cup, Sgr0}
 use Rattle.ti_rows.specs.Lists.{IsInRange}
-use Rattle.ti_rows.specs.Names.{order}
 use Rattle.ti_lines.specs.declared.row_lines.RowLine.{RowLine}
 use Rattle.ti_cert.specs.Order.{Precedes, HasLine, HasCap, IsRequiredLine, IsOfCap, IsComplete, IsInPlace}
 use Rattle.ti_cert.specs.Texts.{StandInOrder}

@@ -1,22 +1,18 @@
 -- Refusals, and the bytes that lead out of an unknown state as a text.
-use Rattle.std.proofs.Common.{◌≡◌, inl, inr, ℕ, ◌-◌, ◌+◌, ◌<◌, suc, true, List, [], ◌∷◌, ◌++◌, Some, length, get_or, take, zero, sym, ap, subst, ◌∙◌, arith}
+use Rattle.std.proofs.Common.{◌≡◌, inl, inr, ℕ, ◌-◌, ◌+◌, ◌<◌, suc, Bool, List, [], ◌∷◌, ◌++◌, length, get_or, take, zero, sym, ap, subst, ◌∙◌, arith}
 use Rattle.std.proofs.lemmas.Bool.{cases_Bool}
 use Rattle.ti_caps.specs.Entry.{Content}
 use Rattle.ti_rows.specs.declared.rows.Row.{Row}
 use Rattle.ti_rows.specs.declared.rows.Row.TheVariants.{Csr}
 use Rattle.ti_rows.specs.Lists.{IsInRange}
 use Rattle.ti_conforms.specs.Sends.{Sends}
-use Rattle.ti_conforms.specs.Entries.{is_checked, string_of, EntryAgrees}
 use Rattle.ti_conforms.specs.Table.{Table, or_nothing, text_of, resync}
 use Rattle.ti_conforms.specs.Conforms.{IsFit}
 use Rattle.ti_conforms.specs.Unfit.{IsUnfit, cap_of_unfit}
 use Rattle.ti_conforms.specs.declared.fitness.Unfit.{Unfit}
-use Rattle.ti_rows.specs.Names.{cap_of}
-use Rattle.ti_rows.specs.Params.{params}
 use Rattle.vt_term.specs.Size.{IsSize}
-use Rattle.ti_checker.specs.No.{IsFaulty, IsUnsendable, IsRowFault, cause_of_unfit, IsOfEntry, IsOfRow, IsNo, OfEntry, OfRow, OutOfMemory, IsOfPart, PartEntry, PartRow, PartMemory}
-use Rattle.ti_checker.specs.First.{EachWritten}
-use Rattle.ti_checker.specs.Switches.{OfAllSent}
+use Rattle.ti_checker.specs.No.{IsFaulty, IsUnsendable, cause_of_unfit, IsOfEntry, IsOfRow, IsNo, OfEntry, OfRow, OutOfMemory, IsOfPart, PartRow, PartMemory}
+use Rattle.ti_checker.specs.Kept.{is_sent, HasKept, OfAllKept}
 use Rattle.ti_cert.specs.Clashes.{BeginsOpen}
 use Rattle.ti_checker.specs.declared.causes.Cause.{Cause}
 use Rattle.ti_checker.specs.declared.causes.Cause.TheVariants.{FlagOut, Absent, AcsByte, Parm, StaticRead, Unfinished, Stuck, NotTame, BadLook, WrongEffect, NotShown, TooLong, NoResync, NoMemory}
@@ -24,7 +20,6 @@ use Rattle.ti_checker.specs.declared.causes.No.{No}
 use Rattle.ti_checker.specs.Resync.{AreInRange, IsPart, SendsAll}
 use Rattle.ti_conforms.specs.Resync.{resync_rows, texts_of}
 use Rattle.ti_conforms.proofs.Sendable.{in_order, texts_more}
-use Rattle.ti_checker.proofs.FitnessFacts.{within_before}
 
 pub by_reason : (entry : Content) (refusal : No) (why : Unfit) → IsUnfit entry why → refusal.cap ≡ cap_of_unfit why → refusal.params.items ≡ [] → refusal.cause ≡ cause_of_unfit why → IsOfEntry entry refusal
 by_reason entry refusal why h cap none cause = record { why = why; first = h; about = record { cap_is = cap; no_params = none; cause_is = cause } }
@@ -32,37 +27,18 @@ by_reason entry refusal why h cap none cause = record { why = why; first = h; ab
 pub entry_no : (entry : Content) (rows cols : ℕ) (refusal : No) → IsOfEntry entry refusal → IsNo entry rows cols refusal
 entry_no entry rows cols refusal h = OfEntry h
 
-pub entry_of_part : (entry : Content) (rows cols : ℕ) (refusal : No) → IsOfEntry entry refusal → IsOfPart entry rows cols refusal
-entry_of_part entry rows cols refusal h = PartEntry h
-
 pub row_of_part : (entry : Content) (rows cols : ℕ) (refusal : No) → IsFit entry → IsOfRow entry rows cols refusal → IsOfPart entry rows cols refusal
 row_of_part entry rows cols refusal fit h = PartRow fit h
 
 pub memory_of_part : (entry : Content) (rows cols : ℕ) (refusal : No) → refusal.cause ≡ NoMemory → IsOfPart entry rows cols refusal
 memory_of_part entry rows cols refusal e = PartMemory e
 
+pub memory_no : (entry : Content) (rows cols : ℕ) (refusal : No) → refusal.cause ≡ NoMemory → IsNo entry rows cols refusal
+memory_no entry rows cols refusal e = OutOfMemory e
+
 pub part_no : (entry : Content) (rows cols : ℕ) (refusal : No) → IsOfPart entry rows cols refusal → IsNo entry rows cols refusal
-part_no entry rows cols refusal (PartEntry h) = OfEntry h
 part_no entry rows cols refusal (PartRow fit h) = OfRow fit h
 part_no entry rows cols refusal (PartMemory e) = OutOfMemory e
-
-string_fault : (entry : Content) (rows cols : ℕ) (string : List ℕ) (row : Row) (cause : Cause) → string_of entry row ≡ Some string → IsFaulty rows cols string row cause → IsRowFault entry rows cols row cause
-string_fault entry rows cols string row TooLong there f = absurd f
-string_fault entry rows cols string row _ there f = record { string = string; there = there; faulty = f }
-
--- a fault found when a row is expanded once more is a refusal about that row
-pub row_again : (entry : Content) (rows cols : ℕ) (refusal : No) (string : List ℕ) (row : Row) (cause : Cause) → IsFit entry → EachWritten entry rows cols → IsInRange rows cols row → is_checked entry row ≡ true
-    → string_of entry row ≡ Some string → refusal.cap ≡ cap_of row → refusal.params.items ≡ params row → refusal.cause ≡ cause → IsFaulty rows cols string row cause → IsOfPart entry rows cols refusal
-row_again entry rows cols refusal string row cause fit written range checked there cap given e f = PartRow fit (record {
-  row = row;
-  cap_is = cap;
-  params_are = given;
-  range = range;
-  checked = checked;
-  fault = subst (λ (c : Cause). IsRowFault entry rows cols row c) (sym e) (string_fault entry rows cols string row cause there f);
-  earlier = λ other r p. written.stands other r;
-  within = within_before entry rows cols row written.within;
-})
 
 -- the reason why a string sends nothing is a fault of the string
 pub unsendable : (rows cols : ℕ) (string : List ℕ) (row : Row) (cause : Cause) → IsUnsendable string row cause → IsFaulty rows cols string row cause
@@ -81,15 +57,15 @@ unsendable rows cols string row NotShown h = absurd h
 unsendable rows cols string row NoResync h = absurd h
 unsendable rows cols string row TooLong h = absurd h
 
-same_part : (entry : Content) (rows cols : ℕ) (t : Table) → EntryAgrees rows cols entry t.line_of → (row : Row) → IsInRange rows cols row → (bytes : List ℕ) → IsPart entry row bytes → text_of t row ≡ bytes
-same_part entry rows cols t agrees row range bytes p = elim (cases_Bool (is_checked entry row)) [
-  | inl checked ↦ (let s = (agrees row range).checked checked in
-      let own = p.checked checked in
+same_part : (entry : Content) (rows cols : ℕ) (kept : ℕ → Bool) (t : Table) → HasKept entry rows cols kept t → (row : Row) → IsInRange rows cols row → (bytes : List ℕ) → IsPart entry kept row bytes → text_of t row ≡ bytes
+same_part entry rows cols kept t h row range bytes p = elim (cases_Bool (is_sent entry kept row)) [
+  | inl sent ↦ (let s = (h.sends row range).sent sent in
+      let own = p.sent sent in
       let same : s.string ≡ own.string = cc (s.there, own.there) in
       let sends : Sends own.string row s.sends.bytes = subst (λ (x : List ℕ). Sends x row s.sends.bytes) same s.sends.sends in
       let is : s.sends.bytes ≡ bytes = cc (sends.sends, own.sends.sends) in
       ap or_nothing s.sends.line_has ∙ is)
-  | inr unchecked ↦ ap or_nothing ((agrees row range).unchecked unchecked) ∙ sym (p.unchecked unchecked)
+  | inr unsent ↦ ap or_nothing ((h.sends row range).unsent unsent) ∙ sym (p.unsent unsent)
 ]
 
 pub whole_screen : (rows cols : ℕ) → IsSize rows cols → IsInRange rows cols (Csr 0 (rows - 1))
@@ -109,20 +85,19 @@ pub resync_ranges : (rows cols : ℕ) (given : List Row) → IsSize rows cols �
 resync_ranges rows cols given size is = subst (λ (l : List Row). AreInRange rows cols l) (sym is) (in_range rows cols size)
 
 -- the text with the bytes of one more row
-pub sent_more : (entry : Content) (height width : ℕ) (rows : List Row) (i : ℕ) (d row : Row) (text bytes new : List ℕ) → i < length rows → row ≡ get_or rows i d → IsInRange height width row → IsPart entry row bytes
-    → SendsAll entry height width (take i rows) text → new ≡ text ++ bytes → SendsAll entry height width (take (i + 1) rows) new
-sent_more entry height width rows i d row text bytes new lt is range part before joined t agrees =
-    texts_more t.line_of [] text new rows i d row lt is (joined ∙ ap (λ (xs : List ℕ). text ++ xs) (sym (same_part entry height width t agrees row range bytes part))) (before t agrees)
+pub sent_more : (entry : Content) (height width : ℕ) (kept : ℕ → Bool) (rows : List Row) (i : ℕ) (d row : Row) (text bytes new : List ℕ) → i < length rows → row ≡ get_or rows i d → IsInRange height width row → IsPart entry kept row bytes
+    → SendsAll entry height width kept (take i rows) text → new ≡ text ++ bytes → SendsAll entry height width kept (take (i + 1) rows) new
+sent_more entry height width kept rows i d row text bytes new lt is range part before joined t h =
+    texts_more t.line_of [] text new rows i d row lt is (joined ∙ ap (λ (xs : List ℕ). text ++ xs) (sym (same_part entry height width kept t h row range bytes part))) (before t h)
 
-resync_text : (entry : Content) (rows cols : ℕ) (t : Table) → EntryAgrees rows cols entry t.line_of → t.rows ≡ rows → (given : List Row) → given ≡ resync_rows rows → (text : List ℕ)
-    → SendsAll entry rows cols given text → resync t ≡ text
-resync_text entry rows cols t agrees rows_are given is text sends =
-    in_order t ∙ (ap (λ (n : ℕ). texts_of t.line_of (resync_rows n)) rows_are ∙ (ap (λ (l : List Row). texts_of t.line_of l) (sym is) ∙ sym (sends t agrees)))
+resync_text : (entry : Content) (rows cols : ℕ) (kept : ℕ → Bool) (t : Table) → HasKept entry rows cols kept t → (given : List Row) → given ≡ resync_rows rows → (text : List ℕ) → SendsAll entry rows cols kept given text → resync t ≡ text
+resync_text entry rows cols kept t h given is text sends =
+    in_order t ∙ (ap (λ (n : ℕ). texts_of t.line_of (resync_rows n)) h.rows_are ∙ (ap (λ (l : List Row). texts_of t.line_of l) (sym is) ∙ sym (sends t h)))
 
-pub escaped : (entry : Content) (rows cols : ℕ) (given : List Row) → given ≡ resync_rows rows → (text : List ℕ) → SendsAll entry rows cols given text → (rest : List ℕ) → text ≡ 27 ∷ rest
-    → OfAllSent entry rows cols (λ t. BeginsOpen t → ⊥)
-escaped entry rows cols given is text sends rest begins t h never = never rest (resync_text entry rows cols t h.sends h.rows_are given is text sends ∙ begins)
+pub escaped : (entry : Content) (rows cols : ℕ) (kept : ℕ → Bool) (given : List Row) → given ≡ resync_rows rows → (text : List ℕ) → SendsAll entry rows cols kept given text → (rest : List ℕ) → text ≡ 27 ∷ rest
+    → OfAllKept entry rows cols kept (λ t. BeginsOpen t → ⊥)
+escaped entry rows cols kept given is text sends rest begins t h never = never rest (resync_text entry rows cols kept t h given is text sends ∙ begins)
 
-pub stays_open : (entry : Content) (rows cols : ℕ) (given : List Row) → given ≡ resync_rows rows → (text : List ℕ) → SendsAll entry rows cols given text → ((rest : List ℕ) → text ≡ 27 ∷ rest → ⊥)
-    → OfAllSent entry rows cols (λ t. BeginsOpen t)
-stays_open entry rows cols given is text sends never t h rest e = never rest (sym (resync_text entry rows cols t h.sends h.rows_are given is text sends) ∙ e)
+pub stays_open : (entry : Content) (rows cols : ℕ) (kept : ℕ → Bool) (given : List Row) → given ≡ resync_rows rows → (text : List ℕ) → SendsAll entry rows cols kept given text → ((rest : List ℕ) → text ≡ 27 ∷ rest → ⊥)
+    → OfAllKept entry rows cols kept (λ t. BeginsOpen t)
+stays_open entry rows cols kept given is text sends never t h rest e = never rest (sym (resync_text entry rows cols kept t h given is text sends) ∙ e)

@@ -29,12 +29,13 @@ use Rattle.ti_cert.proofs.BasicLines.{is_bytes, size_is}
 use Rattle.ti_cert.proofs.Converse.{accepted_certificate}
 use Rattle.ti_checker.specs.Certificate.{IsCertificateOf}
 use Rattle.ti_checker.specs.First.{EachStands}
+use Rattle.ti_checker.specs.Kept.{every}
 use Rattle.ti_checker.specs.Limit.{IsLineOf, AreLines, IsFullText}
 use Rattle.ti_checker.specs.No.{GoTogether}
 use Rattle.ti_checker.specs.Switches.{HasSent}
 use Rattle.ti_cert.proofs.Elements.{reversed_has, reversed_only}
 use Rattle.ti_checker.proofs.Sent.{table_with, has_sent, its_line}
-use Rattle.ti_checker.proofs.Settled.{sent_line}
+use Rattle.ti_checker.proofs.Settled.{all_kept, sent_line}
 use Rattle.ti_checker.proofs.Standings.{all_stand}
 
 -- ---- a line can be written
@@ -164,7 +165,7 @@ together entry rows cols lines size stands are goes = record {
       record { line = l.line; among = reversed_has lines l.line l.among; of_row = l.of_row; bytes_are = l.bytes_are };
   kept = λ line a.
       let k = are.each line (reversed_only lines line a) in
-      sent_line entry rows cols t has line.row k.sent.sends.string line.bytes k.sent.range k.sent.checked k.sent.sends.there k.sent.sends.sends;
+      sent_line entry rows cols every t (all_kept entry rows cols t has) line.row k.sent.sends.string line.bytes k.sent.range k.sent.checked k.sent.sends.there k.sent.sends.sends;
   is = goes t has;
 }
   where

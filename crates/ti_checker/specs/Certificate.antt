@@ -1,16 +1,22 @@
 -- The certificate of an entry: a text with exactly the lines that its strings send.
-use Rattle.std.specs.Prelude.{ℕ, ◌≡◌, true, List, Ok}
+use Rattle.std.specs.Prelude.{ℕ, ◌≡◌, true, List, Some, Ok}
 use Rattle.ti_caps.specs.Entry.{Content, string_at}
 use Rattle.ti_rows.specs.declared.rows.Row.{Row}
 use Rattle.ti_rows.specs.Lists.{IsInRange}
 use Rattle.ti_lines.specs.declared.row_lines.RowLine.{RowLine}
-use Rattle.ti_conforms.specs.Entries.{acsc, is_checked}
+use Rattle.ti_conforms.specs.Entries.{acsc, is_checked, string_of}
+use Rattle.ti_conforms.specs.Sends.{Sends}
 use Rattle.ti_conforms.specs.Charsets.{IsAmong}
 use Rattle.vt_term.specs.Size.{IsSize}
 use Rattle.ti_cert.specs.Basic.{IsBasic, basic_text_of}
 use Rattle.ti_cert.specs.Order.{HasLine}
 use Rattle.ti_cert.specs.Certificates.{Ended, IsAnswer}
-use Rattle.ti_checker.specs.Resync.{SendsFor}
+
+-- the entry's string sends the bytes for the row
+pub record SendsFor (entry : Content) (row : Row) (bytes : List ℕ) : Type 0 where
+  pub string : List ℕ
+  pub there : string_of entry row ≡ Some string
+  pub sends : Sends string row bytes
 
 -- the row is checked, and the entry's string sends these bytes for it
 pub record IsSent (entry : Content) (rows cols : ℕ) (row : Row) (bytes : List ℕ) : Type 0 where

@@ -1,4 +1,4 @@
--- The clashes of an entry's strings: all that is wrong with them together, though each is right by itself.
+-- The clashes of those strings of an entry that are right by themselves: all that is wrong with them together.
 use Rattle.std.specs.Prelude.{ℕ, ◌≡◌, ◌++◌, is_some, Bool, true, false, List, [], ◌∷◌, Option, Some, None}
 use Rattle.vt_term.specs.Screen.{Charset}
 use Rattle.ti_caps.specs.Entry.{Content, string_at}
@@ -6,15 +6,14 @@ use Rattle.ti_rows.specs.declared.rows.Row.{Row}
 use Rattle.ti_rows.specs.declared.rows.Row.TheVariants.{Clear, Smacs, Rmacs}
 use Rattle.ti_rows.specs.Names.{cap_of}
 use Rattle.ti_rows.specs.Starts.{IsFree}
-use Rattle.ti_conforms.specs.Conforms.{IsFit}
 use Rattle.ti_conforms.specs.Entries as entries
 use Rattle.ti_conforms.specs.Table.{Table}
 use Rattle.ti_cert.specs.Clashes.{Misswitches, SwitchesRight, StaysGraphic, BeginsOpen}
 use Rattle.ti_cert.specs.declared.clashes.AllClashes.{AllClashes}
-use Rattle.ti_checker.specs.First.{EachWritten}
+use Rattle.ti_checker.specs.Kept.{IsStanding, OfKept, OfAllKept}
 use Rattle.ti_checker.specs.No.{IsAbout}
 use Rattle.ti_checker.specs.Probes.{screen_of}
-use Rattle.ti_checker.specs.Switches.{OfSent, OfAllSent, RunsWrong}
+use Rattle.ti_checker.specs.Switches.{RunsWrong}
 use Rattle.ti_checker.specs.declared.causes.Cause.{Cause}
 use Rattle.ti_checker.specs.declared.causes.Cause.TheVariants.{BadLook, WrongEffect, NoResync}
 use Rattle.ti_checker.specs.declared.causes.No.{No}
@@ -22,33 +21,37 @@ use Rattle.ti_checker.specs.declared.probes.Probe.{Probe}
 
 -- the refusals about `smacs` or `rmacs`: if it leaves the wrong set active from a charset that strings can leave, one
 -- that names a start with such a charset; otherwise none
-pub data OfSwitch (entry : Content) (rows cols : ℕ) (row : Row) (nos : List No) : Type 0 where
+pub data OfSwitch (entry : Content) (rows cols : ℕ) (kept : ℕ → Bool) (row : Row) (nos : List No) : Type 0 where
   GoesWrong : (refusal : No) (p : Probe) → nos ≡ refusal ∷ [] → IsAbout refusal (cap_of row) (WrongEffect p)
-      → OfSent entry rows cols (λ t. Misswitches t row p.charset)
-      → OfSent entry rows cols (λ t. RunsWrong rows cols row p t) → OfSwitch entry rows cols row nos
-  GoesRight : nos ≡ [] → OfAllSent entry rows cols (λ t. SwitchesRight t row) → OfSwitch entry rows cols row nos
+      → OfKept entry rows cols kept (λ t. Misswitches t row p.charset)
+      → OfKept entry rows cols kept (λ t. RunsWrong rows cols row p t) → OfSwitch entry rows cols kept row nos
+  GoesRight : nos ≡ [] → OfAllKept entry rows cols kept (λ t. SwitchesRight t row)
+      → OfSwitch entry rows cols kept row nos
 
 -- the refusals about another capability: one if `Is` holds of the strings, otherwise none
-pub data OfStrings (entry : Content) (rows cols cap : ℕ) (cause : Cause) (Is : Table → Type 0) (nos : List No)
-    : Type 0 where
-  IsSo : (refusal : No) → nos ≡ refusal ∷ [] → IsAbout refusal cap cause → OfSent entry rows cols Is
-      → OfStrings entry rows cols cap cause Is nos
-  IsNotSo : nos ≡ [] → OfAllSent entry rows cols (λ t. Is t → ⊥) → OfStrings entry rows cols cap cause Is nos
+pub data OfStrings (entry : Content) (rows cols : ℕ) (kept : ℕ → Bool) (cap : ℕ) (cause : Cause) (Is : Table → Type 0)
+    (nos : List No) : Type 0 where
+  IsSo : (refusal : No) → nos ≡ refusal ∷ [] → IsAbout refusal cap cause → OfKept entry rows cols kept Is
+      → OfStrings entry rows cols kept cap cause Is nos
+  IsNotSo : nos ≡ [] → OfAllKept entry rows cols kept (λ t. Is t → ⊥)
+      → OfStrings entry rows cols kept cap cause Is nos
 
--- The entry is fit, each row stands with all lines short enough, and there is one refusal for each of the four clashes
--- that the strings have.
+-- The clashes over the rows that stand: the table has exactly what the entry sends for each checked capability all rows
+-- of which stand, and there is one refusal for each of the four clashes that it has. If each row stands, these are the
+-- clashes of all strings. The entry needn't be fit, nor its certificate short enough: a capability that is missing or
+-- at fault has no lines, and no clash depends on the length of any text.
 pub record AreClashes (entry : Content) (rows cols : ℕ) (nos : List No) : Type 0 where
-  pub fit : IsFit entry
-  pub written : EachWritten entry rows cols
+  pub kept : ℕ → Bool
+  pub standing : IsStanding entry rows cols kept
   pub smacs : List No
-  pub of_smacs : OfSwitch entry rows cols Smacs smacs
+  pub of_smacs : OfSwitch entry rows cols kept Smacs smacs
   pub rmacs : List No
-  pub of_rmacs : OfSwitch entry rows cols Rmacs rmacs
+  pub of_rmacs : OfSwitch entry rows cols kept Rmacs rmacs
   pub acsc : List No
-  pub of_acsc : OfStrings entry rows cols entries.acsc BadLook
+  pub of_acsc : OfStrings entry rows cols kept entries.acsc BadLook
       (λ t. StaysGraphic (is_some (string_at entry entries.acsc)) t) acsc
   pub clear : List No
-  pub of_clear : OfStrings entry rows cols (cap_of Clear) NoResync (λ t. BeginsOpen t) clear
+  pub of_clear : OfStrings entry rows cols kept (cap_of Clear) NoResync (λ t. BeginsOpen t) clear
   pub are : nos ≡ ((smacs ++ rmacs) ++ acsc) ++ clear
 
 -- ---- (Serves the code alone.) The clashes by computed values, and the refusals that each adds.

@@ -42,6 +42,11 @@ abbrev pub RowStands : Content → ℕ → ℕ → Row → Type 0
 RowStands entry rows cols row = is_checked entry row ≡ true → (string : List ℕ) → string_of entry row ≡ Some string
     → SendsAsked rows cols string row
 
+-- each row of the capability at this place in the order of names stands
+abbrev pub CapStands : Content → ℕ → ℕ → ℕ → Type 0
+CapStands entry rows cols place =
+    (row : Row) → IsInRange rows cols row → order row ≡ place → RowStands entry rows cols row
+
 abbrev pub EachStands : Content → ℕ → ℕ → Type 0
 EachStands entry rows cols = (row : Row) → IsInRange rows cols row → RowStands entry rows cols row
 

@@ -5,6 +5,7 @@ pub mod Certificate
 pub mod Doubts
 pub mod First
 pub mod Ignored
+pub mod Kept
 pub mod Limit
 pub mod Mislooks
 pub mod No

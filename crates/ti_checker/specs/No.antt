@@ -225,9 +225,8 @@ pub data IsNo (entry : Content) (rows cols : ℕ) (refusal : No) : Type 0 where
   OfAll : IsFit entry → EachWritten entry rows cols → IsOfAll entry rows cols refusal → IsNo entry rows cols refusal
   OutOfMemory : refusal.cause ≡ NoMemory → IsNo entry rows cols refusal
 
--- the refusal is about the entry as a whole or about a row, not about all strings together; or memory ran out
+-- (Serves the code alone.) The refusal is about a row; or memory ran out.
 pub data IsOfPart (entry : Content) (rows cols : ℕ) (refusal : No) : Type 0 where
-  PartEntry : IsOfEntry entry refusal → IsOfPart entry rows cols refusal
   PartRow : IsFit entry → IsOfRow entry rows cols refusal → IsOfPart entry rows cols refusal
   PartMemory : refusal.cause ≡ NoMemory → IsOfPart entry rows cols refusal
 

@@ -1,6 +1,6 @@
 -- The character set that the strings of an entry leave active, all of them together (terminfo(5), "Line Graphics";
 -- VT100 user guide, "Select character set").
-use Rattle.std.specs.Prelude.{ℕ, ◌<◌, ◌≡◌, ◌⊎◌, true, List, [], Option, Some}
+use Rattle.std.specs.Prelude.{ℕ, ◌<◌, ◌≡◌, ◌⊎◌, Bool, true, List, [], Option, Some}
 use Rattle.vt_term.specs.Size.{IsSize}
 use Rattle.vt_term.specs.Screen.{Screen, Charset}
 use Rattle.vt_term.specs.Run.{Runs}
@@ -15,11 +15,12 @@ use Rattle.ti_rows.specs.Lists.{IsInRange, rank}
 use Rattle.ti_rows.specs.Names.{order}
 use Rattle.ti_rows.specs.Starts.{Starts}
 use Rattle.ti_conforms.specs.Sends.{Sends}
-use Rattle.ti_conforms.specs.Entries.{is_checked, string_of, EntryAgrees}
+use Rattle.ti_conforms.specs.Entries.{string_of, EntryAgrees}
 use Rattle.ti_conforms.specs.Table.{Table, settles, Activates}
 use Rattle.ti_conforms.specs.Sets.{Occurs}
 use Rattle.ti_cert.specs.Known.{with_change}
 use Rattle.ti_cert.specs.Seen.{IsOfLine, ChangesBy}
+use Rattle.ti_checker.specs.Kept.{is_sent, HasKept, OfAllKept}
 use Rattle.ti_checker.specs.Probes.{screen_of}
 use Rattle.ti_checker.specs.declared.probes.Probe.{Probe}
 
@@ -59,9 +60,10 @@ pub record IsChange (string : List ℕ) (row : Row) (tokens : List (List ℕ)) (
   pub whole : Splits bytes tokens []
   pub leads : (c : Charset) → charset_over tokens c ≡ designated change c
 
--- these are the tokens and the change of the entry's string for a checked row
-pub record IsChangeOf (entry : Content) (row : Row) (tokens : List (List ℕ)) (change : Sets) : Type 0 where
-  pub checked : is_checked entry row ≡ true
+-- these are the tokens and the change of the entry's string for a checked row of a kept capability
+pub record IsChangeOf (entry : Content) (kept : ℕ → Bool) (row : Row) (tokens : List (List ℕ)) (change : Sets)
+    : Type 0 where
+  pub sent : is_sent entry kept row ≡ true
   pub string : List ℕ
   pub there : string_of entry row ≡ Some string
   pub is : IsChange string row tokens change
@@ -71,22 +73,25 @@ abbrev pub IsBefore : ℕ → ℕ → ℕ → ℕ → Row → Type 0
 IsBefore rows cols n k row = (order row < n) ⊎ ((order row ≡ n) × (rank rows cols row < k))
 
 -- the tokens of the row's string are among these, and so is its change if the row leaves settled charsets settled
-pub record IsCounted (entry : Content) (all : List (List ℕ)) (changes : List Sets) (row : Row) : Type 0 where
+pub record IsCounted (entry : Content) (kept : ℕ → Bool) (all : List (List ℕ)) (changes : List Sets) (row : Row)
+    : Type 0 where
   pub tokens : List (List ℕ)
   pub change : Sets
-  pub of_row : IsChangeOf entry row tokens change
+  pub of_row : IsChangeOf entry kept row tokens change
   pub reached : (token : List ℕ) → IsAmong tokens token → IsAmong all token
   pub settled : settles row ≡ true → IsAmong changes change
 
--- facts seen of the entry's strings for the rows so far: the marks that their tokens turn on, and the changes by those
--- strings that leave settled charsets settled
-pub record IsSeen (entry : Content) (rows cols : ℕ) (reach : Reach) (changes : List Sets) (n k : ℕ) : Type 0 where
+-- facts seen of the strings of the kept capabilities for the rows so far: the marks that their tokens turn on, and the
+-- changes by those strings that leave settled charsets settled
+pub record IsSeen (entry : Content) (rows cols : ℕ) (kept : ℕ → Bool) (reach : Reach) (changes : List Sets)
+    (n k : ℕ) : Type 0 where
   pub tokens : List (List ℕ)
   pub reach_is : reach ≡ reach_of tokens
-  pub occurs : (t : Table) → HasSent entry rows cols t → (token : List ℕ) → IsAmong tokens token → Occurs t token
-  pub told : (t : Table) → HasSent entry rows cols t → (change : Sets) → IsAmong changes change → IsOfLine t change
-  pub counted : (row : Row) → IsInRange rows cols row → is_checked entry row ≡ true → IsBefore rows cols n k row
-      → IsCounted entry tokens changes row
+  pub occurs : (t : Table) → HasKept entry rows cols kept t → (token : List ℕ) → IsAmong tokens token → Occurs t token
+  pub told : (t : Table) → HasKept entry rows cols kept t → (change : Sets) → IsAmong changes change
+      → IsOfLine t change
+  pub counted : (row : Row) → IsInRange rows cols row → is_sent entry kept row ≡ true → IsBefore rows cols n k row
+      → IsCounted entry kept tokens changes row
 
 -- the facts after those of the bytes that a string sends for a row are added
 pub record IsSeenToo (string : List ℕ) (row : Row) (old : Reach) (before : List Sets) (new : Reach)
@@ -97,6 +102,6 @@ pub record IsSeenToo (string : List ℕ) (row : Row) (old : Reach) (before : Lis
   pub reach_is : new ≡ joined old (reach_of tokens)
   pub changes_are : after ≡ with_change (settles row) before change
 
--- the change by the row's line, `None` if there is no line, in each table with exactly what the entry sends
-abbrev pub RowChanges : Content → ℕ → ℕ → Row → Option Sets → Type 0
-RowChanges entry rows cols row change = OfAllSent entry rows cols (λ t. ChangesBy t row change)
+-- the change by the row's line, `None` if there is no line, in each table of the kept capabilities
+abbrev pub RowChanges : Content → ℕ → ℕ → (ℕ → Bool) → Row → Option Sets → Type 0
+RowChanges entry rows cols kept row change = OfAllKept entry rows cols kept (λ t. ChangesBy t row change)

@@ -1,12 +1,11 @@
-//! Listing the clashes of an entry's strings: all that is wrong with them together.
+//! Listing the clashes of those strings of an entry that are right by themselves: all that is wrong with them together.
 
-ghost use Rattle.std.specs.Prelude.{IfErr, IfOk, OnOk};
+ghost use Rattle.std.specs.Prelude.{IfOk, OnOk};
 ghost use Rattle.ti_checker.specs.Clashes as spec;
-ghost use Rattle.ti_checker.specs.No.{IsOfPart};
+ghost use Rattle.ti_checker.specs.Kept.{IsStanding, unnamed};
 
 use crate::causes::{Cause, No};
-use crate::drafts::draft_of;
-use crate::fitness::check_fitness;
+use crate::kept::seen_but;
 use crate::switches::{clashes_together, probe_with};
 use std::alloc::{AllocError, Global};
 use ti_caps::{Cap, Entry};
@@ -53,22 +52,24 @@ fn noes_of(alloc: Global, all: AllClashes, size: Size) -> Result<Vec<No>, AllocE
     Ok(nos)
 }
 
-/// The clashes of the strings of `entry` for `size`, each of which is right by itself: a refusal about `smacs` and one
-/// about `rmacs` that names a start from which the string leaves the wrong set active; one about `acsc` if strings can
-/// leave the graphic set active although letters of line graphics can't be sent; one about `clear` if the bytes that
-/// lead out of an unknown state don't begin with ESC. [`check`](crate::check) answers the first of them.
+/// The clashes of those strings of `entry` that are right by themselves: a refusal about `smacs` and one about `rmacs`
+/// that names a start from which the string leaves the wrong set active; one about `acsc` if strings can leave the
+/// graphic set active although letters of line graphics can't be sent; one about `clear` if the bytes that lead out of
+/// an unknown state don't begin with ESC. The refusals `left_out` must name just those checked capabilities a row of
+/// which is at fault. If there are none in an entry that is fit, [`check`](crate::check) answers the first clash.
 ///
 /// # Errors
-/// The refusal of `check` about the entry as a whole or about a row, after which nothing is known of all strings
-/// together; or out of memory.
-#[tactic(auto, using(crate::proofs::Together::entry_of_part, crate::proofs::Together::memory_of_part))]
-pub fn clashes(alloc: Global, entry: &Entry, size: Size) -> Result<Vec<No>, No>
-    ensures all { IfOk result (λ nos. spec.AreClashes entry.now size.rows size.cols nos.items) }
-    ensures refused { IfErr result (IsOfPart entry.now size.rows size.cols) }
+/// Out of memory.
+pub fn clashes(
+    alloc: Global,
+    entry: &Entry,
+    left_out: &[No],
+    size: Size,
+) -> Result<Vec<No>, AllocError>
+    requires { IsStanding entry.now size.rows size.cols (unnamed left_out.now) }
+    ensures { IfOk result (λ nos. spec.AreClashes entry.now size.rows size.cols nos.items) }
 {
-    check_fitness(entry)?;
-    let written = draft_of(alloc, entry, size)?;
-    let all = clashes_together(alloc, entry, size, &written.seen)?;
-    let nos = noes_of(alloc, all, size)?;
-    Ok(nos)
+    let seen = seen_but(alloc, entry, left_out, size)?;
+    let all = clashes_together(alloc, entry, left_out, size, &seen)?;
+    noes_of(alloc, all, size)
 }

@@ -5,6 +5,7 @@ ghost use Rattle.ti_caps.specs.Entry.{string_at};
 ghost use Rattle.ti_cert.specs.Basic.{IsBasic};
 ghost use Rattle.ti_cert.specs.Known.{with_change};
 ghost use Rattle.ti_checker.specs.First as told;
+ghost use Rattle.ti_checker.specs.Kept.{every};
 ghost use Rattle.ti_checker.specs.Limit.{AddsLine, IsFullText, most};
 ghost use Rattle.ti_checker.specs.No as spec;
 ghost use Rattle.ti_checker.specs.Switches.{IsSeen, IsSeenToo};
@@ -87,7 +88,7 @@ impl Draft {
     fn new(alloc: Global, entry: &Entry, size: Size) -> Result<Draft, AllocError>
         ensures drafted { IfOk result (λ draft. told.IsDrafted entry.now size.rows size.cols (λ row. order row < 0)
             draft.text.items) }
-        ensures seen { IfOk result (λ draft. IsSeen entry.now size.rows size.cols draft.seen.reach
+        ensures seen { IfOk result (λ draft. IsSeen entry.now size.rows size.cols every draft.seen.reach
             draft.seen.changes.items 0 0) }
     {
         // only this call's contract says that the entry's strings fit
@@ -191,12 +192,12 @@ fn push_cap(
     requires first { IsFirst size.rows size.cols first }
     requires drafted { told.IsDrafted entry.now size.rows size.cols (λ row. order row < order first)
         draft.old.text.items }
-    requires seen { IsSeen entry.now size.rows size.cols draft.old.seen.reach draft.old.seen.changes.items
+    requires seen { IsSeen entry.now size.rows size.cols every draft.old.seen.reach draft.old.seen.changes.items
         (order first) 0 }
     ensures drafted { OnOk result (told.IsDrafted entry.now size.rows size.cols (λ row. order row < order first + 1)
         draft.new.text.items) }
-    ensures seen { OnOk result (IsSeen entry.now size.rows size.cols draft.new.seen.reach draft.new.seen.changes.items
-        (order first + 1) 0) }
+    ensures seen { OnOk result (IsSeen entry.now size.rows size.cols every draft.new.seen.reach
+        draft.new.seen.changes.items (order first + 1) 0) }
     ensures refused { IfErr result (spec.IsOfRow entry.now size.rows size.cols) }
 {
     let Some(string) = checked_string(entry, first) else {
@@ -226,11 +227,12 @@ fn push_at(
 ) -> Result<(), No>
     requires place { place < capabilities }
     requires drafted { told.IsDrafted entry.now size.rows size.cols (λ row. order row < place) draft.old.text.items }
-    requires seen { IsSeen entry.now size.rows size.cols draft.old.seen.reach draft.old.seen.changes.items place 0 }
+    requires seen { IsSeen entry.now size.rows size.cols every draft.old.seen.reach draft.old.seen.changes.items
+        place 0 }
     ensures drafted { OnOk result (told.IsDrafted entry.now size.rows size.cols (λ row. order row < place + 1)
         draft.new.text.items) }
-    ensures seen { OnOk result (IsSeen entry.now size.rows size.cols draft.new.seen.reach draft.new.seen.changes.items
-        (place + 1) 0) }
+    ensures seen { OnOk result (IsSeen entry.now size.rows size.cols every draft.new.seen.reach
+        draft.new.seen.changes.items (place + 1) 0) }
     ensures refused { IfErr result (spec.IsOfRow entry.now size.rows size.cols) }
 {
     match Row::first(place) {
@@ -242,11 +244,11 @@ fn push_at(
 /// Adds the lines of all checked capabilities of the entry.
 fn push_caps(alloc: Global, entry: &Entry, size: Size, draft: &mut Draft) -> Result<(), No>
     requires drafted { told.IsDrafted entry.now size.rows size.cols (λ row. order row < 0) draft.old.text.items }
-    requires seen { IsSeen entry.now size.rows size.cols draft.old.seen.reach draft.old.seen.changes.items 0 0 }
+    requires seen { IsSeen entry.now size.rows size.cols every draft.old.seen.reach draft.old.seen.changes.items 0 0 }
     ensures drafted { OnOk result (told.IsDrafted entry.now size.rows size.cols (λ row. order row < capabilities)
         draft.new.text.items) }
-    ensures seen { OnOk result (IsSeen entry.now size.rows size.cols draft.new.seen.reach draft.new.seen.changes.items
-        capabilities 0) }
+    ensures seen { OnOk result (IsSeen entry.now size.rows size.cols every draft.new.seen.reach
+        draft.new.seen.changes.items capabilities 0) }
     ensures refused { IfErr result (spec.IsOfRow entry.now size.rows size.cols) }
 {
     for place in 0..CAPABILITIES {
@@ -283,7 +285,7 @@ pub(crate) fn draft_of(alloc: Global, entry: &Entry, size: Size) -> Result<Writt
     requires { IsFit entry.now }
     ensures written { IfOk result (λ _. told.EachWritten entry.now size.rows size.cols) }
     ensures text { IfOk result (λ written. IsFullText entry.now size.rows size.cols written.text.items) }
-    ensures seen { IfOk result (λ written. IsSeen entry.now size.rows size.cols written.seen.reach
+    ensures seen { IfOk result (λ written. IsSeen entry.now size.rows size.cols every written.seen.reach
         written.seen.changes.items capabilities 0) }
     ensures basic { IsBasic entry.now size.rows size.cols → IfErr result (λ refusal. refusal.cause ≡ Cause.NoMemory) }
     ensures refused { IfErr result (spec.IsOfPart entry.now size.rows size.cols) }

@@ -1,12 +1,13 @@
 //! The character set that the strings of an entry, all of them together, leave active.
 
-ghost use Rattle.std.specs.Prelude.{◌≡◌, ℕ, List, [], IfErr, IfOk, OnOk, is_some};
+ghost use Rattle.std.specs.Prelude.{◌≡◌, [], IfErr, IfOk, OnOk, is_some};
 ghost use Rattle.ti_caps.specs.Entry.{string_at};
 ghost use Rattle.ti_cert.specs.Clashes.{AreClashes};
 ghost use Rattle.ti_cert.specs.Known.{with_change};
 ghost use Rattle.ti_cert.specs.Seen.{IsFound};
 ghost use Rattle.ti_checker.specs.First.{EachWritten};
-ghost use Rattle.ti_checker.specs.No.{GoTogether, IsFaulty, IsNo, IsOfPart, IsToldAs};
+ghost use Rattle.ti_checker.specs.Kept as keeping;
+ghost use Rattle.ti_checker.specs.No.{GoTogether, IsFaulty, IsNo, IsToldAs};
 ghost use Rattle.ti_checker.specs.Probes.{screen_of};
 ghost use Rattle.ti_checker.specs.Switches as spec;
 ghost use Rattle.ti_conforms.specs.Charsets.{reach_of};
@@ -20,16 +21,17 @@ ghost use Rattle.ti_rows.specs.Names.{capabilities};
 
 use crate::causes::{Cause, No};
 use crate::judgements::tokens_of;
+use crate::kept::{kept_string, out_of_memory};
 use crate::probes::Probe;
 use crate::resync::escapes;
-use crate::sends::{checked_string, sent};
+use crate::sends::sent;
 use std::alloc::{AllocError, Global};
 use ti_caps::Entry;
 use ti_cert::{AllClashes, Clash, Resync, all_clashes, first_clash};
 use ti_conforms::{Reach, acsc, settles};
 use ti_rows::{NO_MARKS, Row};
 use vt_effects::{Sets, effect_of};
-use vt_term::{Charset, Size};
+use vt_term::{Charset, Size, Token};
 
 /// The facts seen of strings: the marks of the charsets that their tokens turn on, and the changes of the charsets by
 /// whole strings.
@@ -65,51 +67,74 @@ impl Seen {
     }
 }
 
+/// The tokens of the bytes that a string sends, and the change of the charsets by them.
+#[derive(Drop)]
+pub(crate) struct Change {
+    pub tokens: Vec<Token>,
+    pub change: Sets,
+}
+
 /// The change of the charsets by the bytes that `string` sends for `row`. The error is the string's fault.
-fn change_by(alloc: Global, string: &[u8], row: Row, size: Size) -> Result<Sets, Cause>
-    ensures change { IfOk result (λ change. (tokens : List (List ℕ)) × spec.IsChange string.now row tokens change) }
+pub(crate) fn change_by(alloc: Global, string: &[u8], row: Row, size: Size) -> Result<Change, Cause>
+    ensures change { IfOk result (λ found. spec.IsChange string.now row found.tokens.items found.change) }
     ensures faulty { IfErr result (λ cause. IsFaulty size.rows size.cols string.now row cause) }
 {
     let bytes = sent(alloc, string, row)?;
     let tokens = tokens_of(alloc, &bytes)?;
     match effect_of(&tokens, size, &row.start(size)) {
-        Some(effect) => Ok(effect.charset),
+        Some(effect) => Ok(Change {
+            tokens,
+            change: effect.charset,
+        }),
         None => Err(Cause::NotTame),
     }
 }
 
-/// The change of the charsets by the entry's string for `row`, `None` if the row isn't checked.
-fn change_of(alloc: Global, entry: &Entry, row: Row, size: Size) -> Result<Option<Sets>, No>
-    requires fit { IsFit entry.now }
-    requires written { EachWritten entry.now size.rows size.cols }
+/// The change of the charsets by the entry's string for `row`; `None` if the row isn't checked, or if one of the
+/// refusals `left_out` is about its capability. A row that is neither must stand. Fails if memory runs out.
+fn change_of(
+    alloc: Global,
+    entry: &Entry,
+    left_out: &[No],
+    row: Row,
+    size: Size,
+) -> Result<Option<Sets>, AllocError>
+    requires stand { keeping.KeptStand entry.now size.rows size.cols (keeping.unnamed left_out.now) }
     requires range { IsInRange size.rows size.cols row }
-    ensures changes { IfOk result (λ change. spec.RowChanges entry.now size.rows size.cols row change) }
-    ensures refused { IfErr result (IsOfPart entry.now size.rows size.cols) }
+    ensures { IfOk result (spec.RowChanges entry.now size.rows size.cols (keeping.unnamed left_out.now) row) }
 {
-    match checked_string(entry, row) {
+    match kept_string(entry, left_out, row) {
         Some(string) => match change_by(alloc, string, row, size) {
-            Ok(change) => Ok(Some(change)),
-            Err(cause) => Err(No::at(row, cause)),
+            Ok(found) => Ok(Some(found.change)),
+            Err(cause) => Err(out_of_memory(cause)),
         },
         None => Ok(None),
     }
 }
 
-/// The changes of the charsets by those of the entry's strings that lead out of an unknown state and may change them.
-fn resync_sets(alloc: Global, entry: &Entry, size: Size) -> Result<Resync, No>
-    requires fit { IsFit entry.now }
-    requires written { EachWritten entry.now size.rows size.cols }
-    ensures smcup { IfOk result (λ r. spec.RowChanges entry.now size.rows size.cols rows.Smcup r.smcup) }
-    ensures enacs { IfOk result (λ r. spec.RowChanges entry.now size.rows size.cols rows.Enacs r.enacs) }
-    ensures sgr0 { IfOk result (λ r. spec.RowChanges entry.now size.rows size.cols rows.Sgr0 r.sgr0) }
-    ensures rmacs { IfOk result (λ r. spec.RowChanges entry.now size.rows size.cols rows.Rmacs r.rmacs) }
-    ensures refused { IfErr result (IsOfPart entry.now size.rows size.cols) }
+/// The changes of the charsets by those of the entry's strings that lead out of an unknown state and may change them,
+/// without those that the refusals `left_out` are about. The others must stand. Fails if memory runs out.
+fn resync_sets(
+    alloc: Global,
+    entry: &Entry,
+    left_out: &[No],
+    size: Size,
+) -> Result<Resync, AllocError>
+    requires { keeping.KeptStand entry.now size.rows size.cols (keeping.unnamed left_out.now) }
+    ensures smcup { IfOk result (λ r. spec.RowChanges entry.now size.rows size.cols (keeping.unnamed left_out.now)
+        rows.Smcup r.smcup) }
+    ensures enacs { IfOk result (λ r. spec.RowChanges entry.now size.rows size.cols (keeping.unnamed left_out.now)
+        rows.Enacs r.enacs) }
+    ensures sgr0 { IfOk result (λ r. spec.RowChanges entry.now size.rows size.cols (keeping.unnamed left_out.now)
+        rows.Sgr0 r.sgr0) }
+    ensures rmacs { IfOk result (λ r. spec.RowChanges entry.now size.rows size.cols (keeping.unnamed left_out.now)
+        rows.Rmacs r.rmacs) }
 {
     Ok(Resync {
-        smcup: change_of(alloc, entry, Row::Smcup, size)?,
-        enacs: change_of(alloc, entry, Row::Enacs, size)?,
-        sgr0: change_of(alloc, entry, Row::Sgr0, size)?,
-        rmacs: change_of(alloc, entry, Row::Rmacs, size)?,
+        smcup: change_of(alloc, entry, left_out, Row::Smcup, size)?,
+        enacs: change_of(alloc, entry, left_out, Row::Enacs, size)?,
+        sgr0: change_of(alloc, entry, left_out, Row::Sgr0, size)?,
+        rmacs: change_of(alloc, entry, left_out, Row::Rmacs, size)?,
     })
 }
 
@@ -165,20 +190,27 @@ struct Together {
     begins: bool,
 }
 
-/// The facts, beside `seen`, by which the strings of `entry` are judged together. Each string must be right by itself,
-/// and `seen` must have the facts of all of them.
-fn together_of(alloc: Global, entry: &Entry, size: Size, seen: &Seen) -> Result<Together, No>
-    requires fit { IsFit entry.now }
-    requires written { EachWritten entry.now size.rows size.cols }
-    requires seen { spec.IsSeen entry.now size.rows size.cols seen.now.reach seen.now.changes.items capabilities 0 }
-    ensures found { IfOk result (λ all. spec.OfAllSent entry.now size.rows size.cols (λ t.
-        IsFound t seen.now.reach seen.now.changes.items all.resync all.smacs all.begins)) }
+/// The facts, beside `seen`, by which the strings of `entry` are judged together, without those that the refusals
+/// `left_out` are about. Each of the others must be right by itself, and `seen` must have the facts of all of them.
+/// Fails if memory runs out.
+fn together_of(
+    alloc: Global,
+    entry: &Entry,
+    left_out: &[No],
+    size: Size,
+    seen: &Seen,
+) -> Result<Together, AllocError>
+    requires stand { keeping.KeptStand entry.now size.rows size.cols (keeping.unnamed left_out.now) }
+    requires seen { spec.IsSeen entry.now size.rows size.cols (keeping.unnamed left_out.now) seen.now.reach
+        seen.now.changes.items capabilities 0 }
+    ensures found { IfOk result (λ all. keeping.OfAllKept entry.now size.rows size.cols
+        (keeping.unnamed left_out.now) (λ t. IsFound t seen.now.reach seen.now.changes.items all.resync all.smacs
+        all.begins)) }
     ensures pairs { IfOk result (λ all. all.pairs ≡ is_some (string_at entry.now entries.acsc)) }
-    ensures refused { IfErr result (IsOfPart entry.now size.rows size.cols) }
 {
-    let resync = resync_sets(alloc, entry, size)?;
-    let smacs = change_of(alloc, entry, Row::Smacs, size)?;
-    let begins = escapes(alloc, entry, size)?;
+    let resync = resync_sets(alloc, entry, left_out, size)?;
+    let smacs = change_of(alloc, entry, left_out, Row::Smacs, size)?;
+    let begins = escapes(alloc, entry, left_out, size)?;
     Ok(Together {
         resync,
         smacs,
@@ -190,7 +222,7 @@ fn together_of(alloc: Global, entry: &Entry, size: Size, seen: &Seen) -> Result<
 /// Checks the strings of `entry` against each other, as an audit of their lines does. Each string must be right by
 /// itself, and `seen` must have the facts of all of them. The error is the refusal that names the first clash, or out
 /// of memory.
-#[tactic(auto, using(crate::proofs::Together::part_no))]
+#[tactic(auto, using(crate::proofs::Together::memory_no))]
 pub(crate) fn check_together(
     alloc: Global,
     entry: &Entry,
@@ -199,12 +231,13 @@ pub(crate) fn check_together(
 ) -> Result<(), No>
     requires fit { IsFit entry.now }
     requires written { EachWritten entry.now size.rows size.cols }
-    requires seen { spec.IsSeen entry.now size.rows size.cols seen.now.reach seen.now.changes.items capabilities 0 }
+    requires seen { spec.IsSeen entry.now size.rows size.cols keeping.every seen.now.reach seen.now.changes.items
+        capabilities 0 }
     ensures right { OnOk result (GoTogether entry.now size.rows size.cols) }
     ensures conforms { OnOk result (Conforms entry.now size.rows size.cols) }
     ensures refused { IfErr result (IsNo entry.now size.rows size.cols) }
 {
-    let all = together_of(alloc, entry, size, seen)?;
+    let all = together_of(alloc, entry, &[], size, seen)?;
     match first_clash(
         seen.reach,
         &seen.changes,
@@ -218,22 +251,22 @@ pub(crate) fn check_together(
     }
 }
 
-/// The clashes of the strings of `entry`. Each string must be right by itself, and `seen` must have the facts of all of
-/// them.
+/// The clashes of the strings of `entry`, without those that the refusals `left_out` are about. Each of the others must
+/// be right by itself, and `seen` must have the facts of all of them. Fails if memory runs out.
 pub(crate) fn clashes_together(
     alloc: Global,
     entry: &Entry,
+    left_out: &[No],
     size: Size,
     seen: &Seen,
-) -> Result<AllClashes, No>
-    requires fit { IsFit entry.now }
-    requires written { EachWritten entry.now size.rows size.cols }
-    requires seen { spec.IsSeen entry.now size.rows size.cols seen.now.reach seen.now.changes.items capabilities 0 }
-    ensures all { IfOk result (λ all. spec.OfAllSent entry.now size.rows size.cols (λ t.
-        AreClashes (is_some (string_at entry.now entries.acsc)) t all)) }
-    ensures refused { IfErr result (IsOfPart entry.now size.rows size.cols) }
+) -> Result<AllClashes, AllocError>
+    requires stand { keeping.KeptStand entry.now size.rows size.cols (keeping.unnamed left_out.now) }
+    requires seen { spec.IsSeen entry.now size.rows size.cols (keeping.unnamed left_out.now) seen.now.reach
+        seen.now.changes.items capabilities 0 }
+    ensures { IfOk result (λ all. keeping.OfAllKept entry.now size.rows size.cols (keeping.unnamed left_out.now)
+        (λ t. AreClashes (is_some (string_at entry.now entries.acsc)) t all)) }
 {
-    let all = together_of(alloc, entry, size, seen)?;
+    let all = together_of(alloc, entry, left_out, size, seen)?;
     Ok(all_clashes(
         seen.reach,
         &seen.changes,

@@ -1,5 +1,5 @@
 -- The faults of a capability, by its string.
-use Rattle.std.proofs.Common.{◌≡◌, ◌≢◌, ◌+◌, ℕ, suc, true, false, List, [], ◌∷◌, ◌++◌, Option, None, Some, IfNone, IfSome, refl, sym, ap, subst, ◌∙◌, append_assoc, add-one}
+use Rattle.std.proofs.Common.{◌≡◌, ◌≢◌, ◌+◌, ℕ, suc, true, false, List, [], ◌∷◌, ◌++◌, Option, None, Some, IfNone, IfSome, refl, sym, subst, ◌∙◌, add-one}
 use Rattle.std.proofs.lemmas.Bool.{false≢true}
 use Rattle.std.proofs.lemmas.List.{append-nil}
 use Rattle.std.proofs.lemmas.Option.{same_Some}
@@ -8,11 +8,11 @@ use Rattle.ti_rows.specs.declared.rows.Row.{Row}
 use Rattle.ti_rows.specs.Names.{order}
 use Rattle.ti_conforms.specs.Entries.{is_checked, string_of}
 use Rattle.ti_conforms.proofs.Matches.{same_checked}
-use Rattle.ti_checker.specs.First.{SendsAsked, RowStands}
+use Rattle.ti_checker.specs.First.{CapStands, RowStands, SendsAsked}
 use Rattle.ti_checker.specs.declared.causes.Cause.TheVariants.{NoMemory}
 use Rattle.ti_checker.specs.declared.causes.No.{No}
 use Rattle.ti_checker.proofs.Walks.{same_string}
-use Rattle.ti_faults.specs.RowFaults.{CapStands, IsCapFault, OfCap, Stands, Fails, OfCaps, SendsAllAsked, IsStringFault, AddsCap, AddsCaps}
+use Rattle.ti_faults.specs.RowFaults.{IsCapFault, OfCap, Stands, Fails, OfCaps, SendsAllAsked, IsStringFault, AddsCap}
 
 stands : (entry : Content) (rows cols : ℕ) (row : Row) (string : List ℕ) → string_of entry row ≡ Some string → SendsAsked rows cols string row → RowStands entry rows cols row
 stands entry rows cols row string there right checked other found = subst (λ (x : List ℕ). SendsAsked rows cols x row) (same_Some string other (sym there ∙ found)) right
@@ -40,20 +40,17 @@ cap_fault_of entry rows cols place first string refusal same checked there f = r
 
 -- ---- one more capability
 
-pub no_caps : (entry : Content) (rows cols : ℕ) (nos : List No) → AddsCaps entry rows cols 0 nos nos
+pub no_caps : (entry : Content) (rows cols : ℕ) → OfCaps entry rows cols 0 []
 unfolding OfCaps
-no_caps entry rows cols nos = record { own = []; added = sym (append-nil nos); of_caps = refl }
+no_caps entry rows cols = refl
 
 caps_suc : (entry : Content) (rows cols n : ℕ) (front own : List No) → OfCaps entry rows cols n front → OfCap entry rows cols n own → OfCaps entry rows cols (suc n) (front ++ own)
 unfolding OfCaps
 caps_suc entry rows cols n front own h k = (front, own, refl, h, k)
 
-pub one_cap_more : (entry : Content) (rows cols n : ℕ) (old mid new : List No) → AddsCaps entry rows cols n old mid → AddsCap entry rows cols n mid new → AddsCaps entry rows cols (n + 1) old new
-one_cap_more entry rows cols n old mid new a b = record {
-  own = a.own ++ b.own;
-  added = b.added ∙ (ap (λ (l : List No). l ++ b.own) a.added ∙ append_assoc old a.own b.own);
-  of_caps = subst (λ (m : ℕ). OfCaps entry rows cols m (a.own ++ b.own)) (sym (add-one n)) (caps_suc entry rows cols n a.own b.own a.of_caps b.of_cap);
-}
+pub one_cap_more : (entry : Content) (rows cols n : ℕ) (mid new : List No) → OfCaps entry rows cols n mid → AddsCap entry rows cols n mid new → OfCaps entry rows cols (n + 1) new
+one_cap_more entry rows cols n mid new a b =
+    subst (λ (l : List No). OfCaps entry rows cols (n + 1) l) (sym b.added) (subst (λ (m : ℕ). OfCaps entry rows cols m (mid ++ b.own)) (sym (add-one n)) (caps_suc entry rows cols n mid b.own a b.of_cap))
 
 -- the faults added for a capability
 pub stands_added : (entry : Content) (rows cols place : ℕ) (nos : List No) → CapStands entry rows cols place → AddsCap entry rows cols place nos nos

@@ -13,10 +13,11 @@ use Rattle.ti_conforms.specs.Conforms.{Conforms}
 use Rattle.ti_conforms.specs.Entries.{is_checked, string_of}
 use Rattle.ti_conforms.specs.Sends.{Sends}
 use Rattle.ti_conforms.proofs.Matches.{same_checked}
+use Rattle.ti_checker.specs.First.{CapStands}
 use Rattle.ti_checker.specs.declared.causes.No.{No}
 use Rattle.ti_checker.proofs.Walks.{same_string}
-use Rattle.ti_faults.specs.Shown.{AreShown, NoFault, Faulty, OfRest, Single, Together, Alone}
-use Rattle.ti_faults.specs.RowFaults.{CapStands, IsCapFault, OfCap, Stands, Fails, OfCaps}
+use Rattle.ti_faults.specs.AllFaults.{AreAllFaults, NoFault, Faulty, or_one}
+use Rattle.ti_faults.specs.RowFaults.{IsCapFault, OfCap, Stands, Fails, OfCaps}
 use Rattle.ti_faults.specs.Standard.{where_so}
 use Rattle.ti_faults.specs.declared.mended.Mended.{Mended}
 use Rattle.ti_faults.specs.Remedies.{SendsAllRight, SuggestionsAreRight, may_stay, IsAccepted, IsRejected, IsIfAccepted, Accepted, Rejected}
@@ -55,11 +56,10 @@ cap_stands entry rows cols (suc n) place nos p lt out all h = by_place (eq-or-lt
     by_place (inl same) earlier = of_cap entry rows cols place h.1 p out (own_all p h.0 h.1 there) (subst (λ (m : ℕ). OfCap entry rows cols m h.1) (sym same) h.4)
     by_place (inr less) earlier = earlier place h.0 p less out (front_all p h.0 h.1 there) h.3
 
--- a property of all listed faults holds of the faults of the entry as a whole and of single rows
-rest_all : (entry : Content) (rows cols : ℕ) (refusal : No) (p : No → Bool) (found nos : List No) → OfRest entry rows cols refusal found nos → list_all p nos ≡ true → list_all p found ≡ true
-rest_all entry rows cols refusal p found nos (Single some is) h = subst (λ (l : List No). list_all p l ≡ true) is h
-rest_all entry rows cols refusal p found nos (Together clashes none all is) h = ap (λ (l : List No). list_all p l) none
-rest_all entry rows cols refusal p found nos (Alone other none of_part claims is) h = ap (λ (l : List No). list_all p l) none
+-- a property of all listed faults holds of those of the three lists
+lists_all : (refusal : No) (p : No → Bool) (found : List No) → list_all p (or_one found refusal) ≡ true → list_all p found ≡ true
+lists_all refusal p [] h = refl
+lists_all refusal p (first ∷ rest) h = h
 
 -- ---- each row sends the right bytes
 
@@ -85,10 +85,11 @@ standing entry rows cols row string h checked there other range alike =
     (learned other a.effect a.looks, record { bytes = a.bytes; sends = a.is.sends; right = a.right })
 
 pub all_right : (entry : Content) (rows cols : ℕ) (row : Row) (string : List ℕ) (faults : List No) (p : No → Bool) → ((fault : No) → fault.cap ≡ cap_of row → p fault ≡ false) → is_checked entry row ≡ true → string_of entry row ≡ Some string
-    → list_all p faults ≡ true → AreShown entry rows cols faults → SendsAllRight rows cols string (order row)
+    → list_all p faults ≡ true → AreAllFaults entry rows cols faults → SendsAllRight rows cols string (order row)
 all_right entry rows cols row string faults p out checked there all (NoFault none h) = conforming entry rows cols row string h.conforms checked there
 all_right entry rows cols row string faults p out checked there all (Faulty f) =
-    let single : list_all p f.single ≡ true = own_all p f.whole f.single (rest_all entry rows cols f.refusal p (f.whole ++ f.single) faults f.are all) in
+    let lists : list_all p ((f.whole ++ f.single) ++ f.together) ≡ true = lists_all f.refusal p ((f.whole ++ f.single) ++ f.together) (subst (λ (l : List No). list_all p l ≡ true) f.are all) in
+    let single : list_all p f.single ≡ true = own_all p f.whole f.single (front_all p (f.whole ++ f.single) f.together lists) in
     let of_row : (fault : No) → IsCapFault entry rows cols (order row) fault → p fault ≡ false =
     λ fault k. out fault (k.cap_is ∙ ap (λ (n : ℕ). 83 + string_in_order n) k.of_cap) in
     standing entry rows cols row string (cap_stands entry rows cols capabilities (order row) f.single p (orders_small row) of_row single f.of_single) checked there
@@ -99,11 +100,11 @@ own_out : (row : Row) (fault : No) → fault.cap ≡ cap_of row → may_stay row
 own_out row fault same = rw (eq-eqb fault.cap (cap_of row) same) refl
 
 pub accepted_right : SuggestionsAreRight
-accepted_right rows cols m row string all ok = all_right m.entry rows cols row string m.left.items (may_stay row) (own_out row) ok.checked ok.there ok.may_stay all
+accepted_right entry rows cols m row string all ok = all_right m.entry rows cols row string m.left.items (may_stay row) (own_out row) ok.checked ok.there ok.may_stay all
 
 -- ---- the string, if it is accepted
 
-pub if_accepted : (m : Mended) (row : Row) (string : List ℕ) (answer : Bool) (given found : Option (List ℕ)) → given ≡ Some string → found ≡ where_so answer string
-    → (answer ≡ true → IsAccepted m row string) → (answer ≡ false → IsRejected m row string) → IsIfAccepted m row given found
-if_accepted m row string true given found is e right wrong = Accepted string given found is e (right refl)
-if_accepted m row string false given found is e right wrong = Rejected string given found is e (wrong refl)
+pub if_accepted : (entry : Content) (m : Mended) (row : Row) (string : List ℕ) (answer : Bool) (given found : Option (List ℕ)) → given ≡ Some string → found ≡ where_so answer string
+    → (answer ≡ true → IsAccepted entry m row string) → (answer ≡ false → IsRejected entry m row string) → IsIfAccepted entry m row given found
+if_accepted entry m row string true given found is e right wrong = Accepted string given found is e (right refl)
+if_accepted entry m row string false given found is e right wrong = Rejected string given found is e (wrong refl)

@@ -4,3 +4,4 @@ pub mod Whole
 pub mod Places
 pub mod Mends
 pub mod Judged
+pub mod Standing

@@ -1,36 +1,43 @@
--- All faults of an entry: those that it shows as it is, and those of all strings together that these hide.
-use Rattle.std.specs.Prelude.{ℕ, ◌≡◌, ◌==◌, ◌&&◌, ◌++◌, not, if◌then◌else◌, Bool, List, [], filter}
+-- All faults of an entry: of the entry as a whole, of single rows, and of the strings that stand, all together.
+use Rattle.std.specs.Prelude.{ℕ, ◌≡◌, ◌≢◌, ◌++◌, List, [], ◌∷◌}
 use Rattle.ti_caps.specs.Entry.{Content}
-use Rattle.ti_rows.specs.declared.rows.Row.TheVariants.{Smacs, Rmacs}
-use Rattle.ti_rows.specs.Names.{cap_of}
+use Rattle.ti_conforms.specs.Conforms.{Conforms}
+use Rattle.ti_checker.specs.Certificate.{IsCertificateOf}
+use Rattle.ti_checker.specs.Clashes.{AreClashes}
+use Rattle.ti_checker.specs.No.{IsNo}
+use Rattle.ti_checker.specs.declared.causes.Cause.TheVariants.{NoMemory}
 use Rattle.ti_checker.specs.declared.causes.No.{No}
-use Rattle.ti_faults.specs.Mended.{names, IsBestMended}
-use Rattle.ti_faults.specs.Shown.{AreShown}
-pub use Rattle.ti_faults.specs.Shown.{HasCertificate}
-use Rattle.ti_faults.specs.declared.mended.Mended.{Mended}
+use Rattle.ti_faults.specs.Lacks.{Lacks}
+use Rattle.ti_faults.specs.RowFaults.{OfCaps}
+use Rattle.ti_rows.specs.Names.{capabilities}
 
--- the other one of `smacs` and `rmacs`, which are right only together; or the capability itself, if it is neither
-abbrev pub other_of : ℕ → ℕ
-other_of cap =
-    if cap == cap_of Smacs then cap_of Rmacs else (if cap == cap_of Rmacs then cap_of Smacs else cap)
+-- these refusals, or `refusal` alone if there are none
+abbrev pub or_one : List No → No → List No
+or_one [] refusal = refusal ∷ []
+or_one (first ∷ nos) refusal = first ∷ nos
 
--- A fault of the mended entry was hidden by the shown ones if none of them is about its capability or, for `smacs` and
--- `rmacs`, about the other one.
-abbrev pub is_hidden : List No → No → Bool
-is_hidden shown fault = not (names shown fault.cap) && not (names shown (other_of fault.cap))
+-- the entry conforms, and has a certificate
+pub record HasCertificate (entry : Content) (rows cols : ℕ) : Type 0 where
+  pub conforms : Conforms entry rows cols
+  pub text : List ℕ
+  pub certificate : IsCertificateOf entry rows cols text
 
--- If faults are shown, others may be hidden: those of other capabilities that are left once each capability with a
--- shown fault is mended. They are faults of all strings together, which are judged only if each string is right by
--- itself.
-pub data AreHidden (entry : Content) (rows cols : ℕ) (shown hidden : List No) : Type 0 where
-  NoneShown : shown ≡ [] → hidden ≡ [] → AreHidden entry rows cols shown hidden
-  SomeShown : (m : Mended) → IsBestMended entry rows cols shown m
-      → hidden ≡ filter (is_hidden shown) m.left.items → AreHidden entry rows cols shown hidden
+-- The faults of an entry that gets a refusal of `check`, other than for memory: three lists, one after another. They
+-- have the faults of the entry as a whole; the first faulty row of each checked capability; and the clashes over the
+-- rows that stand. If all three are empty, the refusal is listed alone: then the certificate would be too long.
+pub record AreFaults (entry : Content) (rows cols : ℕ) (nos : List No) : Type 0 where
+  pub refusal : No
+  pub refused : IsNo entry rows cols refusal
+  pub claims : refusal.cause ≢ NoMemory
+  pub whole : List No
+  pub of_whole : Lacks entry whole
+  pub single : List No
+  pub of_single : OfCaps entry rows cols capabilities single
+  pub together : List No
+  pub of_together : AreClashes entry rows cols together
+  pub are : nos ≡ or_one ((whole ++ single) ++ together) refusal
 
--- all faults: those that the entry shows, and then those that these hide; none exactly if there is a certificate
-pub record AreAllFaults (entry : Content) (rows cols : ℕ) (nos : List No) : Type 0 where
-  pub shown : List No
-  pub are_shown : AreShown entry rows cols shown
-  pub hidden : List No
-  pub are_hidden : AreHidden entry rows cols shown hidden
-  pub are : nos ≡ shown ++ hidden
+-- all faults of an entry: none exactly if there is a certificate
+pub data AreAllFaults (entry : Content) (rows cols : ℕ) (nos : List No) : Type 0 where
+  NoFault : nos ≡ [] → HasCertificate entry rows cols → AreAllFaults entry rows cols nos
+  Faulty : AreFaults entry rows cols nos → AreAllFaults entry rows cols nos

@@ -1,6 +1,5 @@
 pub mod Lacks
 pub mod RowFaults
-pub mod Shown
 pub mod Standard
 pub mod Candidates
 pub mod Mended

@@ -1,14 +1,14 @@
 -- An entry with everything at fault mended at once.
-use Rattle.std.specs.Prelude.{ℕ, ◌≡◌, ◌≢◌, ◌<◌, ◌==◌, ◌&&◌, not, Bool, true, false, List, [], ◌∷◌, Option, Some, None}
-use Rattle.std.specs.List.{list_any}
+use Rattle.std.specs.Prelude.{ℕ, ◌≡◌, ◌≢◌, ◌<◌, ◌&&◌, not, Bool, true, false, List, [], ◌∷◌, Option, Some, None}
 use Rattle.ti_caps.specs.Entry.{Content, with_value}
 use Rattle.ti_caps.specs.declared.value.Value.TheVariants.{String}
 use Rattle.ti_rows.specs.declared.rows.Row.{Row}
 use Rattle.ti_rows.specs.declared.rows.Row.TheVariants.{Smacs, Rmacs}
 use Rattle.ti_rows.specs.Names.{cap_of}
 use Rattle.ti_conforms.specs.Entries.{acsc}
+use Rattle.ti_checker.specs.Kept.{names}
 use Rattle.ti_checker.specs.declared.causes.No.{No}
-use Rattle.ti_faults.specs.Shown.{AreShown}
+use Rattle.ti_faults.specs.AllFaults.{AreAllFaults}
 use Rattle.ti_faults.specs.Candidates.{choice_of, stand_in}
 use Rattle.ti_faults.specs.declared.candidates.Choice.{Choice}
 use Rattle.ti_faults.specs.declared.mended.Mended.{Mended}
@@ -19,10 +19,6 @@ with_string entry row string = with_value entry (cap_of row) (Some (String strin
 
 abbrev pub without_pairs : Content → Content
 without_pairs entry = with_value entry acsc (Some (String []))
-
--- one of the faults is of the capability
-abbrev pub names : List No → ℕ → Bool
-names faults cap = list_any (λ fault. fault.cap == cap) faults
 
 -- the row's capability gets this string, or is removed if there is none
 abbrev pub put_string : Content → Row → Option (List ℕ) → Content
@@ -48,11 +44,11 @@ MendsAll own choice [] before after = after ≡ before
 MendsAll own choice (fault ∷ rest) before after =
     (between : Content) × Mends own choice fault.cap before between × MendsAll own choice rest between after
 
--- the entry with all of them mended, and the faults that it shows then
+-- the entry with all of them mended, and all faults that it has then
 pub record IsMended (entry : Content) (rows cols : ℕ) (nos : List No) (choice : Choice) (m : Mended) : Type 0 where
   pub chosen : m.choice ≡ choice
   pub mended : MendsAll entry choice nos entry m.entry
-  pub left : AreShown m.entry rows cols m.left.items
+  pub left : AreAllFaults m.entry rows cols m.left.items
 
 abbrev pub switches_sets : List No → Bool
 switches_sets left = not (names left (cap_of Smacs)) && not (names left (cap_of Rmacs))

@@ -9,10 +9,10 @@ use Rattle.ti_rows.specs.Lists.{IsInRange}
 use Rattle.ti_rows.specs.Names.{cap_of, order}
 use Rattle.ti_conforms.specs.Entries.{is_checked, string_of}
 use Rattle.ti_checker.specs.First.{SendsRight}
+use Rattle.ti_checker.specs.Kept.{names}
 use Rattle.ti_checker.specs.declared.causes.No.{No}
 use Rattle.ti_faults.specs.Candidates.{candidate}
-use Rattle.ti_faults.specs.Mended.{names}
-use Rattle.ti_faults.specs.Shown.{AreShown}
+use Rattle.ti_faults.specs.AllFaults.{AreAllFaults}
 use Rattle.ti_faults.specs.declared.mended.Mended.{Mended}
 
 -- the capability that is right only together with the row's, for `smacs` and `rmacs`; or else the row's own
@@ -26,29 +26,31 @@ abbrev pub may_stay : Row → No → Bool
 may_stay row fault = not (fault.cap == cap_of row) && not (fault.cap == partner_of row)
 
 -- The mended entry has the string, the capability is checked there, and none of the faults that are left there speaks
--- against it.
-pub record IsAccepted (m : Mended) (row : Row) (string : List ℕ) : Type 0 where
+-- against it; and `entry`, which was mended, has another string or none.
+pub record IsAccepted (entry : Content) (m : Mended) (row : Row) (string : List ℕ) : Type 0 where
   pub checked : is_checked m.entry row ≡ true
   pub may_stay : list_all (may_stay row) m.left.items ≡ true
   pub there : string_of m.entry row ≡ Some string
+  pub new : string_of entry row ≡ Some string → ⊥
 
 -- the string isn't accepted
-pub data IsRejected (m : Mended) (row : Row) (string : List ℕ) : Type 0 where
-  Unchecked : is_checked m.entry row ≡ false → IsRejected m row string
-  AtFault : list_all (may_stay row) m.left.items ≡ false → IsRejected m row string
-  NotThere : (string_of m.entry row ≡ Some string → ⊥) → IsRejected m row string
+pub data IsRejected (entry : Content) (m : Mended) (row : Row) (string : List ℕ) : Type 0 where
+  Unchecked : is_checked m.entry row ≡ false → IsRejected entry m row string
+  AtFault : list_all (may_stay row) m.left.items ≡ false → IsRejected entry m row string
+  NotThere : (string_of m.entry row ≡ Some string → ⊥) → IsRejected entry m row string
+  Own : string_of entry row ≡ Some string → IsRejected entry m row string
 
 -- the string that is found: the given one, if there is one and it is accepted; else none
-pub data IsIfAccepted (m : Mended) (row : Row) : Option (List ℕ) → Option (List ℕ) → Type 0 where
+pub data IsIfAccepted (entry : Content) (m : Mended) (row : Row) : Option (List ℕ) → Option (List ℕ) → Type 0 where
   Accepted : (string : List ℕ) (given found : Option (List ℕ)) → given ≡ Some string → found ≡ Some string
-      → IsAccepted m row string → IsIfAccepted m row given found
+      → IsAccepted entry m row string → IsIfAccepted entry m row given found
   Rejected : (string : List ℕ) (given found : Option (List ℕ)) → given ≡ Some string → found ≡ None
-      → IsRejected m row string → IsIfAccepted m row given found
-  NoString : (given found : Option (List ℕ)) → given ≡ None → found ≡ None → IsIfAccepted m row given found
+      → IsRejected entry m row string → IsIfAccepted entry m row given found
+  NoString : (given found : Option (List ℕ)) → given ≡ None → found ≡ None → IsIfAccepted entry m row given found
 
 -- the suggestion for a capability: the candidate, if it is accepted; none if the capability isn't a checked one
 pub data IsSuggestion (entry : Content) (m : Mended) (cap : ℕ) (found : Option (List ℕ)) : Type 0 where
-  OfChecked : (row : Row) → cap_of row ≡ cap → IsIfAccepted m row (candidate entry m.choice row) found
+  OfChecked : (row : Row) → cap_of row ≡ cap → IsIfAccepted entry m row (candidate entry m.choice row) found
       → IsSuggestion entry m cap found
   OfOther : ((row : Row) → cap_of row ≢ cap) → found ≡ None → IsSuggestion entry m cap found
 
@@ -57,12 +59,12 @@ abbrev pub SendsAllRight : ℕ → ℕ → List ℕ → ℕ → Type 0
 SendsAllRight rows cols string place =
     (row : Row) → IsInRange rows cols row → order row ≡ place → (looks : Looks) × SendsRight rows cols looks string row
 
--- each row of a capability with an accepted string is right, if the faults that are left are those that the mended
--- entry shows
+-- each row of a capability with an accepted string is right, if the faults that are left are those of the mended entry
 abbrev pub SuggestionsAreRight : Type 0
 SuggestionsAreRight =
-    (rows cols : ℕ) (m : Mended) (row : Row) (string : List ℕ) → AreShown m.entry rows cols m.left.items
-    → IsAccepted m row string → SendsAllRight rows cols string (order row)
+    (entry : Content) (rows cols : ℕ) (m : Mended) (row : Row) (string : List ℕ)
+    → AreAllFaults m.entry rows cols m.left.items → IsAccepted entry m row string
+    → SendsAllRight rows cols string (order row)
 
 -- The faults of an entry for a terminal of another kind: both `clear` and `cup`, which every program needs first, are
 -- wrong.

@@ -6,15 +6,10 @@ use Rattle.ti_rows.specs.declared.rows.Row.{Row}
 use Rattle.ti_rows.specs.Lists.{IsInRange, rank}
 use Rattle.ti_rows.specs.Names.{cap_of, order}
 use Rattle.ti_rows.specs.Params.{params}
-use Rattle.ti_checker.specs.First.{SendsAsked, RowStands}
+use Rattle.ti_checker.specs.First.{CapStands, RowStands, SendsAsked}
 use Rattle.ti_checker.specs.No.{IsFaulty, HasFaultyString}
 use Rattle.ti_checker.specs.declared.causes.Cause.TheVariants.{NoMemory}
 use Rattle.ti_checker.specs.declared.causes.No.{No}
-
--- each row of the capability at this place in the order of names stands
-abbrev pub CapStands : Content → ℕ → ℕ → ℕ → Type 0
-CapStands entry rows cols place =
-    (row : Row) → IsInRange rows cols row → order row ≡ place → RowStands entry rows cols row
 
 -- the refusal names a row of the capability that is at fault, and the capability's rows before it stand
 pub record IsCapFault (entry : Content) (rows cols place : ℕ) (refusal : No) : Type 0 where
@@ -65,8 +60,3 @@ pub record AddsCap (entry : Content) (rows cols place : ℕ) (old new : List No)
   pub own : List No
   pub added : new ≡ old ++ own
   pub of_cap : OfCap entry rows cols place own
-
-pub record AddsCaps (entry : Content) (rows cols n : ℕ) (old new : List No) : Type 0 where
-  pub own : List No
-  pub added : new ≡ old ++ own
-  pub of_caps : OfCaps entry rows cols n own

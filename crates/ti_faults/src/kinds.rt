@@ -3,8 +3,7 @@
 ghost use Rattle.std.specs.Prelude.{◌≡◌};
 ghost use Rattle.ti_faults.specs.Remedies as spec;
 
-use crate::mended::names;
-use ti_checker::No;
+use ti_checker::{No, names};
 use ti_rows::Row;
 
 /// Whether an entry with these `faults` seems to be for a terminal of another kind: both its `clear` and its `cup` are

@@ -1,5 +1,5 @@
 //! All faults of an entry at once: those of the entry as a whole, the first faulty row of each checked capability, and
-//! the clashes of all strings once these are mended; and the strings that would be right in place of those at fault.
+//! the clashes of the strings without such a row; and the strings that would be right in place of those at fault.
 #![tactic(auto)]
 
 mod all_faults;
@@ -12,7 +12,6 @@ mod laws;
 mod mended;
 mod remedies;
 mod row_faults;
-mod shown;
 mod standards;
 
 pub use all_faults::faults;
@@ -21,6 +20,6 @@ pub use capabilities::row_of;
 pub use claims::must_claim;
 pub use kinds::is_of_another_kind;
 pub use laws::suggestions_are_right;
-pub use mended::{Mended, names};
+pub use mended::Mended;
 pub use remedies::{standard_string, suggestion};
 pub use standards::{standard, where_so};

@@ -9,12 +9,12 @@ ghost use Rattle.ti_faults.specs.Mended as spec;
 ghost use Rattle.ti_rows.specs.Names.{cap_of};
 ghost use Rattle.ti_rows.specs.declared.rows.Row as rows;
 
+use crate::all_faults::faults;
 use crate::candidates::Choice;
 use crate::capabilities::row_of;
-use crate::shown::shown_faults;
 use std::alloc::{AllocError, Global};
 use ti_caps::{Cap, Entry};
-use ti_checker::No;
+use ti_checker::{No, names};
 use ti_conforms::acsc;
 use ti_rows::Row;
 use vt_term::Size;
@@ -24,17 +24,10 @@ use vt_term::Size;
 pub struct Mended {
     /// The mended entry.
     pub entry: Entry,
-    /// The faults that it shows.
+    /// All its faults.
     pub left: Vec<No>,
     /// The choice of its candidates for `smacs` and `rmacs`.
     pub choice: Choice,
-}
-
-/// Whether one of the `faults` is about `cap`.
-pub fn names(faults: &[No], cap: Cap) -> bool
-    ensures { result ≡ spec.names faults.now cap }
-{
-    faults.iter().any(|no| no.cap == cap)
 }
 
 /// The entry with this string of the row's capability.
@@ -101,7 +94,7 @@ fn mend_all(own: &Entry, choice: Choice, nos: &[No]) -> Result<Entry, AllocError
     Ok(entry)
 }
 
-/// The entry mended by the choice with this number, and the faults that it shows then.
+/// The entry mended by the choice with this number, and all faults that are left then.
 fn mended_by(
     alloc: Global,
     entry: &Entry,
@@ -113,7 +106,7 @@ fn mended_by(
 {
     let choice = Choice::of(number);
     let mended = mend_all(entry, choice, nos)?;
-    let left = shown_faults(alloc, &mended, size)?;
+    let left = faults(alloc, &mended, size)?;
     Ok(Mended {
         entry: mended,
         left,

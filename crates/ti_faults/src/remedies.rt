@@ -64,11 +64,14 @@ fn has_string(entry: &Entry, row: Row, string: &[u8]) -> bool
 }
 
 /// Whether the mended entry has the string for `row`, which is checked there, and no fault that is left there speaks
-/// against it.
-fn is_accepted(mended: &Mended, row: Row, string: &[u8]) -> bool
-    ensures yes { result ≡ true → spec.IsAccepted mended.now row string.now }
-    ensures no { result ≡ false → spec.IsRejected mended.now row string.now }
+/// against it; and `entry`, which was mended, doesn't have it.
+fn is_accepted(entry: &Entry, mended: &Mended, row: Row, string: &[u8]) -> bool
+    ensures yes { result ≡ true → spec.IsAccepted entry.now mended.now row string.now }
+    ensures no { result ≡ false → spec.IsRejected entry.now mended.now row string.now }
 {
+    if has_string(entry, row, string) {
+        return false;
+    }
     if !is_checked(&mended.entry, row) {
         return false;
     }
@@ -79,27 +82,32 @@ fn is_accepted(mended: &Mended, row: Row, string: &[u8]) -> bool
 }
 
 /// The string, if there is one and it is accepted.
-fn accepted(mended: &Mended, row: Row, string: Option<&'static [u8]>) -> Option<&'static [u8]>
+fn accepted(
+    entry: &Entry,
+    mended: &Mended,
+    row: Row,
+    string: Option<&'static [u8]>,
+) -> Option<&'static [u8]>
     requires { IfSome string (λ bytes. IsTrue (string_fits bytes.now)) }
-    ensures found { spec.IsIfAccepted mended.now row (option_copied string.entry) (option_copied result) }
+    ensures found { spec.IsIfAccepted entry.now mended.now row (option_copied string.entry) (option_copied result) }
     ensures fits { IfSome result (λ bytes. IsTrue (string_fits bytes.now)) }
 {
     match string {
-        Some(bytes) => where_so(is_accepted(mended, row, bytes), bytes),
+        Some(bytes) => where_so(is_accepted(entry, mended, row, bytes), bytes),
         None => None,
     }
 }
 
 /// The string that is suggested for `cap`, one of the capabilities at fault in `entry`, from which `mended` was made:
-/// the candidate for it, if the mended entry has that string and no fault that is left there speaks against it. So all
-/// suggestions by one mended entry are right together. `None` otherwise, also if there is no candidate, or if `cap`
-/// isn't a checked capability.
+/// the candidate for it, if `entry` has another string, the mended entry has this one, and no fault that is left there
+/// speaks against it. So all suggestions by one mended entry are right together. `None` otherwise, also if there is no
+/// candidate, or if `cap` isn't a checked capability.
 pub fn suggestion(entry: &Entry, mended: &Mended, cap: Cap) -> Option<&'static [u8]>
     ensures found { spec.IsSuggestion entry.now mended.now cap (option_copied result) }
     ensures fits { IfSome result (λ bytes. IsTrue (string_fits bytes.now)) }
 {
     match row_of(cap) {
-        Some(row) => accepted(mended, row, mended.choice.candidate(entry, row)),
+        Some(row) => accepted(entry, mended, row, mended.choice.candidate(entry, row)),
         None => None,
     }
 }

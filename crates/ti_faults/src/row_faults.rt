@@ -1,6 +1,7 @@
 //! The first faulty row of each checked capability.
 
-ghost use Rattle.std.specs.Prelude.{◌≡◌, ◌≢◌, ◌<◌, ◌++◌, ◌∷◌, [], IfNone, IfSome, OnOk};
+ghost use Rattle.std.specs.Prelude.{◌≡◌, ◌≢◌, ◌<◌, ◌++◌, ◌∷◌, [], IfNone, IfOk, IfSome, OnOk};
+ghost use Rattle.ti_checker.specs.First.{CapStands};
 ghost use Rattle.ti_faults.specs.RowFaults as spec;
 ghost use Rattle.ti_rows.specs.Lists.{IsFirst};
 ghost use Rattle.ti_rows.specs.Names.{order, capabilities};
@@ -49,7 +50,7 @@ fn cap_fault(
     judge: &mut Judge,
 ) -> Option<No>
     requires { place < capabilities }
-    ensures none { IfNone result (spec.CapStands entry.now size.rows size.cols place) }
+    ensures none { IfNone result (CapStands entry.now size.rows size.cols place) }
     ensures some { IfSome result (spec.IsCapFault entry.now size.rows size.cols place) }
 {
     let Some(first) = Row::first(place) else {
@@ -90,18 +91,14 @@ fn push_claim(no: No, nos: &mut Vec<No>) -> Result<(), AllocError>
     Ok(())
 }
 
-/// Adds the first faulty row of each checked capability, in the order of names.
-pub(crate) fn push_row_faults(
-    alloc: Global,
-    entry: &Entry,
-    size: Size,
-    nos: &mut Vec<No>,
-) -> Result<(), AllocError>
-    ensures { OnOk result (spec.AddsCaps entry.now size.rows size.cols capabilities nos.old.items nos.new.items) }
+/// The first faulty row of each checked capability, in the order of names.
+pub(crate) fn row_faults(alloc: Global, entry: &Entry, size: Size) -> Result<Vec<No>, AllocError>
+    ensures { IfOk result (λ nos. spec.OfCaps entry.now size.rows size.cols capabilities nos.items) }
 {
+    let mut nos = Vec::new(alloc);
     let mut judge = Judge::new(alloc)?;
     for place in 0..CAPABILITIES {
-        push_cap_fault(alloc, entry, place, size, &mut judge, nos)?;
+        push_cap_fault(alloc, entry, place, size, &mut judge, &mut nos)?;
     }
-    Ok(())
+    Ok(nos)
 }

@@ -1,7 +1,8 @@
-use Rattle.ti_checker.proofs.Together.{row_again, unsendable}
+use Rattle.ti_checker.specs.Kept.{unnamed}
+use Rattle.ti_checker.proofs.OnlyMemory.{kept_memory}
+use Rattle.ti_checker.proofs.Together.{unsendable}
 use Rattle.ti_checker.proofs.resync.sent_for.Goals as goal
 
-pub returns-in-Err-clause-refused : goal.returns-in-Err-clause-refused
-returns-in-Err-clause-refused c = row_again c.args.entry.now c.args.size.rows c.args.size.cols c.at.result c.in-Some.string.now c.args.row c.in-Err.cause c.requires.fit c.requires.written c.requires.range
-    c.in-Some.ensures.checked c.in-Some.ensures.there c.at.ensures.cap c.at.ensures.params c.at.ensures.cause
+pub out_of_memory-requires : goal.out_of_memory-requires
+out_of_memory-requires c = kept_memory c.args.entry.now c.args.size.rows c.args.size.cols (unnamed c.args.left_out.now) c.args.row c.in-Some.string.now c.in-Err.cause c.requires.stand c.requires.range c.in-Some.ensures.sent c.in-Some.ensures.there
     (unsendable c.args.size.rows c.args.size.cols c.in-Some.string.now c.args.row c.in-Err.cause c.in-Err.ensures.unsent)
