@@ -1,8 +1,10 @@
 """Whole runs of the program: the words, the status, standard output and standard error."""
 
 import contextlib
+import json
 import os
 import pty
+import select
 import shutil
 import struct
 import subprocess
@@ -758,6 +760,22 @@ def judge_progress(work):
         sys.exit(f"examples: survey on a terminal showed {shown}")
 
 
+def judge_streamed(work):
+    """The line of a file's entry is written before the next file is opened: a pipe that nobody writes to until then."""
+    os.mkfifo(f"{work}/pipe")
+    for form in [], ["--all"], ["--json"]:
+        words = ["survey", *form, "2", "2", "mini", "pipe"]
+        with subprocess.Popen([f"{PROGRAM}/out/ticurses", *words], cwd=work, env={}, stdout=subprocess.PIPE) as survey:
+            is_known = select.select([survey.stdout], [], [], 60)[0]
+            subprocess.run(["sh", "-c", "cat mini >pipe"], cwd=work, check=True, timeout=60)
+            lines = survey.stdout.read().splitlines()
+        if form == ["--json"]:
+            lines = [json.loads(line)["file"] for line in lines]
+        wanted = ["mini", "pipe"] if form == ["--json"] else [b"mini yes", b"mini yes", b"total 2, yes 2"]
+        if not is_known or lines != wanted or survey.returncode:
+            sys.exit(f"examples: {words}: {survey.returncode} {lines}; a line before the pipe is opened: {bool(is_known)}")
+
+
 def read_terminal(leader):
     """All that was written to a terminal that nobody has open any longer; it may come in several pieces."""
     shown = b""
@@ -798,6 +816,7 @@ def main():
         judge_kept(work)
         judge_certificate_stored(work)
         judge_progress(work)
+        judge_streamed(work)
         judge_checks()
         judge_advice()
         judge_system()

@@ -64,9 +64,9 @@ ReportsLack height width path name why told =
 
 -- ---- the reply
 
--- the reply has the lines of each path; it fails if a path can't be read, or, if the words ask for it, if a line has a
--- verdict other than yes
-pub record AreSurveyed (held : Held) (words : SurveyWords) (reply : Reply) : Type 0 where
+-- the lines of each path are heard, and the reply has no text; it fails if a path can't be read, or, if the words ask
+-- for it, if a line has a verdict other than yes
+pub record AreSurveyed (held : Held) (words : SurveyWords) (AreHeard : List ℕ → Type 0) (reply : Reply) : Type 0 where
   pub height : ℕ
   pub width : ℕ
   pub given : SizeGiven words.rows.now words.cols.now height width
@@ -76,4 +76,5 @@ pub record AreSurveyed (held : Held) (words : SurveyWords) (reply : Reply) : Typ
       (texts_of words.paths.items) told failed
   pub strictly : EndsStrictly words.is_strict told.answers failed reply.failure
   pub places : reply.notes.items ≡ told.places
-  pub says : reply.text.items ≡ told.lines
+  pub heard : AreHeard told.lines
+  pub no_text : reply.text.items ≡ []

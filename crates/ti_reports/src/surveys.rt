@@ -3,6 +3,7 @@
 ghost use Rattle.std.specs.Prelude.{◌≡◌, IfErr, IfOk};
 ghost use Rattle.ti_commands.specs.Sizes.{LacksSize};
 ghost use Rattle.ti_reports.specs.Surveys as spec;
+ghost use Rattle.ti_surveys.specs.Heard.{Hears};
 
 use crate::asked::Asked;
 use std::alloc::Global;
@@ -12,20 +13,23 @@ use ti_surveys::{Said, Surveyed, Watcher, strict_failure, survey_paths};
 use ti_words::Remarks;
 
 /// Reports in JSON on each entry of each file that the `words` name: its first fault, or all of them if the `words` ask
-/// for that, or that it has a certificate. An entry that can't be read has its line too. If a file can't be read, the
-/// reply fails as the first such file does, and the others are surveyed all the same; else it is refused if the `words`
-/// ask for that and a verdict isn't yes. The `watcher` sees how far the survey has come.
+/// for that, or that it has a certificate. An entry that can't be read has its line too. The `watcher` passes on the
+/// lines of each entry once they are known, and sees how far the survey has come; the reply has no text. If a file can't
+/// be read, the reply fails as the first such file does, and the others are surveyed all the same; else it is refused if
+/// the `words` ask for that and a verdict isn't yes.
 ///
 /// # Errors
-/// The reason why the words give no size; out of memory.
-pub fn survey_reports<F: Files, W: Watcher + Drop>(
+/// The reason why the words give no size, before any line is known; out of memory, after the `watcher` has passed on
+/// the lines of the entries before.
+pub fn survey_reports<F: Files, W: Watcher>(
     alloc: Global,
     words: &SurveyWords<'_>,
     files: &mut F,
-    watcher: W,
+    watcher: &mut W,
     remarks: &mut Remarks,
 ) -> Result<Reply, Failure>
-    ensures reply { IfOk result (λ reply. spec.AreSurveyed (F.holds files.old) words.now reply) }
+    ensures reply { IfOk result (λ reply. spec.AreSurveyed (F.holds files.old) words.now
+        (Hears W.heard W.has_failed watcher.old watcher.new) reply) }
     ensures failure { IfErr result (λ e. LacksSize words.now.rows.now words.now.cols.now e) }
     ensures kept { F.holds files.new ≡ F.holds files.old }
 {
@@ -43,14 +47,14 @@ pub fn survey_reports<F: Files, W: Watcher + Drop>(
         remarks,
     )?;
     let Said {
-        lines,
+        lines: _lines,
         places,
         answers,
     } = said;
     let failure = strict_failure(alloc, words.is_strict, answers.as_slice(), failure)?;
     Ok(Reply {
         notes: places,
-        text: lines,
+        text: Vec::new(alloc),
         failure,
     })
 }

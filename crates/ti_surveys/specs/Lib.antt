@@ -1,5 +1,6 @@
 -- The definitions of surveys.
 pub mod Answers
+pub mod Heard
 pub mod Strict
 pub mod Surveys
 pub mod Told

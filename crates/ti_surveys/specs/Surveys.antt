@@ -56,10 +56,10 @@ abbrev pub first_failure : Option Failure → Option Failure → Option Failure
 first_failure (Some failure) later = Some failure
 first_failure None later = later
 
--- The reply has the lines of each path, and after them the number of lines with each answer; its notes are the places
--- of the faults in the lines. It fails if a path can't be read, or, if the words ask for it, if a line doesn't say yes.
+-- The lines of each path are heard, and the reply has the number of lines with each answer; its notes are the places of
+-- the faults in the lines. It fails if a path can't be read, or, if the words ask for it, if a line doesn't say yes.
 pub record IsSurveyed (certifies : Content → ℕ → ℕ → List ℕ → Type 0) (refuses : Content → ℕ → ℕ → No → Type 0)
-    (held : Held) (words : SurveyWords) (reply : Reply) : Type 0 where
+    (held : Held) (words : SurveyWords) (AreHeard : List ℕ → Type 0) (reply : Reply) : Type 0 where
   pub height : ℕ
   pub width : ℕ
   pub given : SizeGiven words.rows.now words.cols.now height width
@@ -69,4 +69,5 @@ pub record IsSurveyed (certifies : Content → ℕ → ℕ → List ℕ → Type
       held (texts_of words.paths.items) told failed
   pub strictly : EndsStrictly words.is_strict told.answers failed reply.failure
   pub places : reply.notes.items ≡ told.places
-  pub says : reply.text.items ≡ told.lines ++ answers_line told.answers
+  pub heard : AreHeard told.lines
+  pub counts : reply.text.items ≡ answers_line told.answers

@@ -1,17 +1,18 @@
 //! The statements about the entries of a file, one after another.
 
 ghost use Rattle.std.specs.Prelude.{◌≡◌, ◌≢◌, ◌<◌, IfOk, IfSome, OnOk, Some, false, length, option_map, slice_get};
-ghost use Rattle.std.specs.Prelude.{true};
+ghost use Rattle.std.specs.Prelude.{None, true};
 ghost use Rattle.std.specs.List.{AllByRecursion, range_with_len};
 ghost use Rattle.ti_source.specs.Apart.{IsApart};
 ghost use Rattle.ti_source.specs.Fitting.{FieldsFit, NamesFit};
+ghost use Rattle.ti_surveys.specs.Heard.{Hears};
 ghost use Rattle.ti_surveys.specs.Lines as spec;
 ghost use Rattle.ti_verdicts.specs.Locations.{place_if};
 ghost use Rattle.ti_surveys.specs.Told.{IsToldOfEach, told_of};
 
 use crate::said::Said;
 use crate::speakers::{FileEntry, Speaker};
-use crate::watchers::Watcher;
+use crate::watchers::{Watcher, pass_on};
 use std::alloc::{AllocError, Global};
 use ti_caps::Entry;
 use ti_commands::{CommandRefusal, refusal_words, unpacked_entry};
@@ -24,7 +25,8 @@ use ti_verdicts::{SourcePlace, first_name};
 use ti_words::Remarks;
 
 /// The statements of the `speaker` about the file at `path` with these `bytes`: a compiled one, as its first two bytes
-/// show, or a source. Hints about a source go to `remarks`, if the speaker gives them.
+/// show, or a source. The `watcher` hears the lines of each entry once they are known. Hints about a source go to
+/// `remarks`, if the speaker gives them.
 pub fn file_lines<S: Speaker, W: Watcher>(
     alloc: Global,
     speaker: &S,
@@ -33,11 +35,12 @@ pub fn file_lines<S: Speaker, W: Watcher>(
     watcher: &mut W,
     remarks: &mut Remarks,
 ) -> Result<Said, AllocError>
-    ensures { IfOk result (λ said. spec.AreLines (S.says speaker.now) (S.refuses speaker.now)
+    ensures told { IfOk result (λ said. spec.AreLines (S.says speaker.now) (S.refuses speaker.now)
         path.now bytes.now (told_of said)) }
+    ensures heard { IfOk result (λ said. Hears W.heard W.has_failed watcher.old watcher.new said.lines.items) }
 {
     if is_compiled(bytes) {
-        compiled_lines(alloc, speaker, path, bytes)
+        compiled_lines(alloc, speaker, path, bytes, watcher)
     } else {
         text_lines(alloc, speaker, path, bytes, watcher, remarks)
     }
@@ -53,8 +56,25 @@ fn is_compiled(bytes: &[u8]) -> bool
     }
 }
 
+/// The statement about the compiled file at `path` with these `bytes`, which the `watcher` hears.
+fn compiled_lines<S: Speaker, W: Watcher>(
+    alloc: Global,
+    speaker: &S,
+    path: &str,
+    bytes: &[u8],
+    watcher: &mut W,
+) -> Result<Said, AllocError>
+    ensures told { IfOk result (λ said. spec.AreLinesBy true (S.says speaker.now) (S.refuses speaker.now)
+        path.now bytes.now (told_of said)) }
+    ensures heard { IfOk result (λ said. Hears W.heard W.has_failed watcher.old watcher.new said.lines.items) }
+{
+    let said = compiled_said(alloc, speaker, path, bytes)?;
+    pass_on(watcher, &said);
+    Ok(said)
+}
+
 /// The statement about the compiled file at `path` with these `bytes`.
-fn compiled_lines<S: Speaker>(
+fn compiled_said<S: Speaker>(
     alloc: Global,
     speaker: &S,
     path: &str,
@@ -93,8 +113,9 @@ fn text_lines<S: Speaker, W: Watcher>(
     watcher: &mut W,
     remarks: &mut Remarks,
 ) -> Result<Said, AllocError>
-    ensures { IfOk result (λ said. spec.AreLinesBy false (S.says speaker.now) (S.refuses speaker.now)
+    ensures told { IfOk result (λ said. spec.AreLinesBy false (S.says speaker.now) (S.refuses speaker.now)
         path.now bytes.now (told_of said)) }
+    ensures heard { IfOk result (λ said. Hears W.heard W.has_failed watcher.old watcher.new said.lines.items) }
 {
     match read_apart(alloc, bytes) {
         Ok(apart) => {
@@ -105,9 +126,31 @@ fn text_lines<S: Speaker, W: Watcher>(
         }
         Err(fault) => {
             must_claim(fault.kind)?;
-            lack(alloc, speaker, path, None, &CommandRefusal::Source(fault))
+            unread_lines(
+                alloc,
+                speaker,
+                path,
+                &CommandRefusal::Source(fault),
+                watcher,
+            )
         }
     }
+}
+
+/// The statement that the file at `path` has no entries, with the `refusal` that says why. The `watcher` hears it.
+fn unread_lines<S: Speaker, W: Watcher>(
+    alloc: Global,
+    speaker: &S,
+    path: &str,
+    refusal: &CommandRefusal,
+    watcher: &mut W,
+) -> Result<Said, AllocError>
+    ensures told { IfOk result (λ said. spec.IsLack (S.refuses speaker.now) refusal.now path.now None (told_of said)) }
+    ensures heard { IfOk result (λ said. Hears W.heard W.has_failed watcher.old watcher.new said.lines.items) }
+{
+    let said = lack(alloc, speaker, path, None, refusal)?;
+    pass_on(watcher, &said);
+    Ok(said)
 }
 
 /// Fails if `kind`, a fault of a source, is that memory ran out, which claims nothing about the source.
@@ -137,7 +180,7 @@ struct SourceEntries<'a> {
     faults: &'a [Option<SourceFault>],
 }
 
-/// The lines of the entries `apart` of the source `text` at `path`, in order.
+/// The lines of the entries `apart` of the source `text` at `path`, in order. The `watcher` hears those of each entry.
 #[tactic(auto, using(crate::proofs::SaidFacts::faults_beside))]
 fn apart_lines<S: Speaker, W: Watcher>(
     alloc: Global,
@@ -150,8 +193,9 @@ fn apart_lines<S: Speaker, W: Watcher>(
     requires reads { IsApart text.now apart.now.raws.items apart.now.faults.items }
     requires fit { AllByRecursion FieldsFit apart.now.raws.items }
     requires names { NamesFit apart.now.raws.items apart.now.faults.items }
-    ensures { IfOk result (λ said. spec.HasEntries (S.says speaker.now) (S.refuses speaker.now)
+    ensures told { IfOk result (λ said. spec.HasEntries (S.says speaker.now) (S.refuses speaker.now)
         path.now text.now (told_of said)) }
+    ensures heard { IfOk result (λ said. Hears W.heard W.has_failed watcher.old watcher.new said.lines.items) }
 {
     let source = SourceEntries {
         path,
@@ -162,7 +206,7 @@ fn apart_lines<S: Speaker, W: Watcher>(
     source_lines(alloc, speaker, &source, watcher)
 }
 
-/// The lines of the entries of `source`, in order.
+/// The lines of the entries of `source`, in order. The `watcher` hears those of each entry once they are known.
 fn source_lines<S: Speaker, W: Watcher>(
     alloc: Global,
     speaker: &S,
@@ -172,10 +216,11 @@ fn source_lines<S: Speaker, W: Watcher>(
     requires fit { AllByRecursion FieldsFit source.now.index.raws.now }
     requires names { NamesFit source.now.index.raws.now source.now.faults.now }
     requires beside { length source.now.faults.now ≡ length source.now.index.raws.now }
-    ensures { IfOk result (λ said. IsToldOfEach
+    ensures told { IfOk result (λ said. IsToldOfEach
         (spec.IsSourcePart (S.says speaker.now) (S.refuses speaker.now) source.now.path.now source.now.text.now
         source.now.index.raws.now source.now.faults.now)
         (range_with_len 0 (length source.now.index.raws.now)) (told_of said)) }
+    ensures heard { IfOk result (λ said. Hears W.heard W.has_failed watcher.old watcher.new said.lines.items) }
 {
     let raws = source.index.raws;
     let mut said = Said::new(alloc);
@@ -183,6 +228,7 @@ fn source_lines<S: Speaker, W: Watcher>(
         let name = first_name(raw_at(raws, place).names.as_slice());
         watcher.begins(place, raws.len(), name);
         let own = source_part(alloc, speaker, source, place)?;
+        pass_on(watcher, &own);
         said.add(&own)?;
     }
     Ok(said)

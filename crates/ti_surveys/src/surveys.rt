@@ -3,6 +3,7 @@
 ghost use Rattle.std.specs.Prelude.{◌≡◌, IfErr, IfOk};
 ghost use Rattle.ti_commands.specs.Sizes.{LacksSize};
 ghost use Rattle.ti_commands.specs.Words.{texts_of};
+ghost use Rattle.ti_surveys.specs.Heard.{Hears};
 ghost use Rattle.ti_surveys.specs.Lines.{AreLines};
 ghost use Rattle.ti_surveys.specs.Surveys as spec;
 ghost use Rattle.ti_surveys.specs.Told.{told_of};
@@ -28,25 +29,27 @@ pub struct Surveyed {
     pub failure: Option<Failure>,
 }
 
-/// Surveys the files that the `words` name. For each entry of each file the reply says whether the `certifier` writes a
-/// certificate, or why not; or it lists all faults of the entry, if the `words` ask for them. An entry that can't be
-/// read has its line too, and the last line counts the answers. For each listed fault of a source's entry, the reply's
-/// notes give the place of its value. If a file can't be read, the reply has the failure of the first such file, and
-/// the others are surveyed all the same; else it is refused if the `words` ask for that and a line doesn't say yes. The
-/// `watcher` receives reports of how far the survey has come.
+/// Surveys the files that the `words` name. The `watcher` passes on the line of each entry once it is known, which says
+/// whether the `certifier` writes a certificate, or why not; or the lines of all faults of the entry, if the `words`
+/// ask for them. An entry that can't be read has its line too. The reply's text is the last line, which counts the
+/// answers. For each listed fault of a source's entry, the reply's notes give the place of its value. If a file can't
+/// be read, the reply has the failure of the first such file, and the others are surveyed all the same; else it is
+/// refused if the `words` ask for that and a line doesn't say yes. The `watcher` also receives reports of how far the
+/// survey has come.
 ///
 /// # Errors
-/// The reason why the words give no size; out of memory.
-pub fn survey_files<C: Certifier, F: Files, W: Watcher + Drop>(
+/// The reason why the words give no size, before any line is known; out of memory, after the `watcher` has passed on
+/// the lines of the entries before.
+pub fn survey_files<C: Certifier, F: Files, W: Watcher>(
     alloc: Global,
     certifier: &C,
     words: &SurveyWords<'_>,
     files: &mut F,
-    watcher: W,
+    watcher: &mut W,
     remarks: &mut Remarks,
 ) -> Result<Reply, Failure>
     ensures reply { IfOk result (λ reply. spec.IsSurveyed (C.certifies certifier.now) (C.refuses certifier.now)
-        (F.holds files.old) words.now reply) }
+        (F.holds files.old) words.now (Hears W.heard W.has_failed watcher.old watcher.new) reply) }
     ensures failure { IfErr result (λ e. LacksSize words.now.rows.now words.now.cols.now e) }
     ensures kept { F.holds files.new ≡ F.holds files.old }
 {
@@ -65,13 +68,11 @@ pub fn survey_files<C: Certifier, F: Files, W: Watcher + Drop>(
         remarks,
     )?;
     let Said {
-        lines,
+        lines: _lines,
         places,
         answers,
     } = surveyed.said;
-    let mut text = lines;
-    let counts = answers_line(alloc, answers.as_slice())?;
-    text.extend_from_slice(counts.as_slice())?;
+    let text = answers_line(alloc, answers.as_slice())?;
     let failure = strict_failure(alloc, words.is_strict, answers.as_slice(), surveyed.failure)?;
     Ok(Reply {
         notes: places,
@@ -81,26 +82,31 @@ pub fn survey_files<C: Certifier, F: Files, W: Watcher + Drop>(
 }
 
 /// The statements of the `speaker` about each entry of each file of `paths`, one after another. The failure is that of
-/// the first file that can't be read; the others are surveyed all the same. The `watcher` receives reports of how far
-/// the survey has come.
-pub fn survey_paths<S: Speaker, F: Files, W: Watcher + Drop>(
+/// the first file that can't be read; the others are surveyed all the same. The `watcher` passes on the lines of each
+/// entry once they are known, and receives reports of how far the survey has come.
+///
+/// # Errors
+/// Out of memory, after the `watcher` has passed on the lines of the entries before.
+pub fn survey_paths<S: Speaker, F: Files, W: Watcher>(
     alloc: Global,
     speaker: &S,
     paths: &[&str],
     files: &mut F,
-    mut watcher: W,
+    watcher: &mut W,
     remarks: &mut Remarks,
 ) -> Result<Surveyed, AllocError>
     ensures told { IfOk result (λ surveyed. spec.EndsPaths (AreLines (S.says speaker.now) (S.refuses speaker.now))
         (F.holds files.old) (texts_of paths.now) (told_of surveyed.said) surveyed.failure) }
+    ensures heard { IfOk result (λ surveyed. Hears W.heard W.has_failed watcher.old watcher.new
+        surveyed.said.lines.items) }
     ensures kept { F.holds files.new ≡ F.holds files.old }
 {
-    let surveyed = paths_said(alloc, speaker, paths, files, &mut watcher, remarks);
+    let surveyed = paths_said(alloc, speaker, paths, files, watcher, remarks);
     watcher.ends();
     surveyed
 }
 
-/// The statements of the `speaker` about all `paths`.
+/// The statements of the `speaker` about all `paths`, whose lines the `watcher` hears.
 fn paths_said<S: Speaker, F: Files, W: Watcher>(
     alloc: Global,
     speaker: &S,
@@ -111,6 +117,8 @@ fn paths_said<S: Speaker, F: Files, W: Watcher>(
 ) -> Result<Surveyed, AllocError>
     ensures told { IfOk result (λ surveyed. spec.EndsPaths (AreLines (S.says speaker.now) (S.refuses speaker.now))
         (F.holds files.old) (texts_of paths.now) (told_of surveyed.said) surveyed.failure) }
+    ensures heard { IfOk result (λ surveyed. Hears W.heard W.has_failed watcher.old watcher.new
+        surveyed.said.lines.items) }
     ensures kept { F.holds files.new ≡ F.holds files.old }
 {
     let mut said = Said::new(alloc);
@@ -134,7 +142,7 @@ fn first_failure(failure: Option<Failure>, later: Option<Failure>) -> Option<Fai
     }
 }
 
-/// The statements of the `speaker` about `path`; nothing if it can't be read.
+/// The statements of the `speaker` about `path`, whose lines the `watcher` hears; nothing if it can't be read.
 fn path_said<S: Speaker, F: Files, W: Watcher>(
     alloc: Global,
     speaker: &S,
@@ -145,6 +153,8 @@ fn path_said<S: Speaker, F: Files, W: Watcher>(
 ) -> Result<Surveyed, AllocError>
     ensures told { IfOk result (λ surveyed. spec.EndsPath (AreLines (S.says speaker.now) (S.refuses speaker.now))
         (F.holds files.old) path.now (told_of surveyed.said) surveyed.failure) }
+    ensures heard { IfOk result (λ surveyed. Hears W.heard W.has_failed watcher.old watcher.new
+        surveyed.said.lines.items) }
     ensures kept { F.holds files.new ≡ F.holds files.old }
 {
     match read_whole(alloc, files, path, LONGEST_FILE, remarks) {

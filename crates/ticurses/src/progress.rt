@@ -1,7 +1,10 @@
-//! The line that shows how far a survey has got.
+//! The lines of a survey as they become known, and the line that shows how far it has got.
+
+ghost use Rattle.std.specs.Prelude.{◌≡◌, Bool, List, Option, ℕ};
 
 use std::alloc::{AllocError, Global};
 use std::io::{IsTerminal, Write};
+use ti_commands::{Failure, Output, Reply};
 use ti_surveys::Watcher;
 
 /// The most bytes of the line, so that it is one row of all but the narrowest terminals.
@@ -9,7 +12,7 @@ const WIDTH: usize = 60;
 
 /// A line on standard error that is overwritten again and again, if that is a terminal.
 #[derive(Drop)]
-pub struct ProgressLine<'a, E> {
+struct ProgressLine<'a, E> {
     alloc: Global,
     err: &'a mut E,
     is_seen: bool,
@@ -17,20 +20,24 @@ pub struct ProgressLine<'a, E> {
     len: usize,
 }
 
-impl<'a, E: Write + IsTerminal> ProgressLine<'a, E> {
-    /// A line on `err`, to which nothing has been written yet.
-    pub fn new(alloc: Global, err: &'a mut E) -> ProgressLine<'a, E> {
-        let is_seen = err.is_terminal();
-        ProgressLine {
-            alloc,
-            err,
-            is_seen,
-            len: 0,
+impl<E: Write> ProgressLine<'_, E> {
+    /// Shows that `done` of `all` files or entries are done, and that the one named `name` is next.
+    fn tell(&mut self, done: usize, all: usize, name: &[u8]) {
+        if self.is_seen {
+            if let Ok(text) = text_of(self.alloc, done, all, name) {
+                let _ = self.show(text.as_slice());
+            }
         }
     }
-}
 
-impl<E: Write> ProgressLine<'_, E> {
+    /// Blanks the line, if something is on it.
+    fn clear(&mut self) {
+        if self.len > 0 {
+            let _ = self.show(b"");
+            let _ = self.err.write_all(b"\r");
+        }
+    }
+
     /// Writes `text` over the line, unless memory runs out, and blanks the rest of the line.
     fn show(&mut self, text: &[u8]) -> Result<(), AllocError> {
         let mut row = Vec::from_slice(self.alloc, b"\r")?;
@@ -44,20 +51,82 @@ impl<E: Write> ProgressLine<'_, E> {
     }
 }
 
-impl<E: Write> Watcher for ProgressLine<'_, E> {
+/// Writes the lines of a survey to an output as soon as they are known. Between them a line on standard error shows how
+/// far the survey has got, if that is a terminal.
+#[derive(Drop)]
+pub struct SurveyLines<'a, O, E> {
+    out: &'a mut O,
+    /// Whether the output has failed. Nothing more is then written to it.
+    has_failed: bool,
+    progress: ProgressLine<'a, E>,
+}
+
+impl<'a, O, E: IsTerminal> SurveyLines<'a, O, E> {
+    /// The lines of a survey on `out`, with its progress on `err`. Nothing has been written yet.
+    pub fn new(alloc: Global, out: &'a mut O, err: &'a mut E) -> SurveyLines<'a, O, E> {
+        let is_seen = err.is_terminal();
+        SurveyLines {
+            out,
+            has_failed: false,
+            progress: ProgressLine {
+                alloc,
+                err,
+                is_seen,
+                len: 0,
+            },
+        }
+    }
+}
+
+impl<O, E> SurveyLines<'_, O, E> {
+    /// The `reply` of the survey. If its output has failed, it fails too, and nothing more is to be written.
+    pub fn end(&self, alloc: Global, reply: Reply) -> Reply {
+        if !self.has_failed {
+            return reply;
+        }
+        let Reply {
+            notes,
+            text: _text,
+            failure,
+        } = reply;
+        Reply {
+            notes,
+            text: Vec::new(alloc),
+            failure: Some(unwritten(failure)),
+        }
+    }
+}
+
+/// The failure of a reply that couldn't be written: its own `failure` comes first.
+fn unwritten(failure: Option<Failure>) -> Failure {
+    match failure {
+        None => Failure::Output,
+        Some(Failure::Refused(refusal)) => Failure::RefusedUnwritten(refusal),
+        Some(other) => other,
+    }
+}
+
+impl<O: Output, E: Write> Watcher for SurveyLines<'_, O, E> {
+    ghost heard = { λ lines. O.contents lines.out.now };
+
+    ghost has_failed = { λ lines. lines.has_failed };
+
     fn begins(&mut self, done: usize, all: usize, name: &[u8]) {
-        if self.is_seen {
-            if let Ok(text) = text_of(self.alloc, done, all, name) {
-                let _ = self.show(text.as_slice());
-            }
+        self.progress.tell(done, all, name);
+    }
+
+    fn hears(&mut self, lines: &[u8]) {
+        if self.has_failed {
+            return;
+        }
+        self.progress.clear();
+        if self.out.put(lines).is_err() {
+            self.has_failed = true;
         }
     }
 
     fn ends(&mut self) {
-        if self.is_seen {
-            let _ = self.show(b"");
-            let _ = self.err.write_all(b"\r");
-        }
+        self.progress.clear();
     }
 }
 

@@ -4,7 +4,7 @@ ghost use Rattle.std.specs.Prelude.{◌≤◌};
 
 use crate::counted::Counted;
 use crate::hints::hint_path;
-use crate::progress::ProgressLine;
+use crate::progress::SurveyLines;
 use cur_commands::{play_script, show_script};
 use std::alloc::Global;
 use std::io::{IsTerminal, Write};
@@ -14,7 +14,7 @@ use ti_commands::{
     expand_string, feed_file, feed_state, print_entry, report, write_reply, write_text,
 };
 use ti_reports::{check_reports, survey_reports};
-use ti_requests::{CheckWords, Request};
+use ti_requests::{CheckWords, Request, SurveyWords};
 use ti_surveys::survey_files;
 use ti_verdicts::{Checker, check_all, check_entry, verify_certificate};
 use ti_words::Remarks;
@@ -108,8 +108,36 @@ fn check_counted<F: Files, E: IsTerminal>(
     Ok(reply)
 }
 
-/// The reply of the command that `request` names. The bytes that `play` sends go to `out` as they
-/// come, and its reply has no more.
+/// The reply of `survey` to its `words`. The lines of the entries go to `out` as they come.
+fn survey<F: Files, O: Output, E: Write + IsTerminal>(
+    alloc: Global,
+    words: &SurveyWords<'_>,
+    files: &mut F,
+    out: &mut O,
+    err: &mut E,
+    remarks: &mut Remarks,
+) -> Result<Reply, Failure> {
+    let mut lines = SurveyLines::new(alloc, out, err);
+    let reply = survey_files(alloc, &Checker, words, files, &mut lines, remarks)?;
+    Ok(lines.end(alloc, reply))
+}
+
+/// The reply of `survey --json` to its `words`. The objects go to `out` as they come.
+fn survey_json<F: Files, O: Output, E: Write + IsTerminal>(
+    alloc: Global,
+    words: &SurveyWords<'_>,
+    files: &mut F,
+    out: &mut O,
+    err: &mut E,
+    remarks: &mut Remarks,
+) -> Result<Reply, Failure> {
+    let mut lines = SurveyLines::new(alloc, out, err);
+    let reply = survey_reports(alloc, words, files, &mut lines, remarks)?;
+    Ok(lines.end(alloc, reply))
+}
+
+/// The reply of the command that `request` names. The bytes that `play` sends and the lines of a
+/// survey go to `out` as they come, and the reply has what follows them.
 fn reply_to<F: Files, O: Output, E: Write + IsTerminal>(
     alloc: Global,
     request: &Request<'_>,
@@ -134,14 +162,8 @@ fn reply_to<F: Files, O: Output, E: Write + IsTerminal>(
             Ok(Reply::of_text(alloc, Vec::new(alloc)))
         }
         Request::Show(words) => show_script(alloc, words, files, remarks),
-        Request::Survey(words) => {
-            let line = ProgressLine::new(alloc, err);
-            survey_files(alloc, &Checker, words, files, line, remarks)
-        }
-        Request::SurveyJson(words) => {
-            let line = ProgressLine::new(alloc, err);
-            survey_reports(alloc, words, files, line, remarks)
-        }
+        Request::Survey(words) => survey(alloc, words, files, out, err, remarks),
+        Request::SurveyJson(words) => survey_json(alloc, words, files, out, err, remarks),
         Request::Print { entry } => print_entry(alloc, entry, files, remarks),
         Request::Common { first, second } => {
             compare_entries(alloc, first, second, Comparison::Common, files, remarks)

@@ -25,5 +25,6 @@ returns-clause-reply g c =
           c.as_slice.ensures.value c.in_ok-said.ensures.told;
       strictly = subst (λ (answered : List Answer). EndsStrictly c.args.words.now.is_strict answered c.in_ok-said.field-0.failure c.in_ok-failure.failure) c.as_slice-2.ensures.value c.in_ok-failure.ensures;
       places = refl;
-      says = refl;
+      heard = c.in_ok-said.ensures.heard;
+      no_text = c.new.ensures.items;
     }

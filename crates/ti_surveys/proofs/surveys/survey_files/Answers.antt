@@ -1,4 +1,4 @@
-use Rattle.std.proofs.Common.{◌++◌, ◌∙◌, ℕ, List, Bor, ap, refl, subst}
+use Rattle.std.proofs.Common.{◌∙◌, ℕ, List, Bor, ap, refl, subst}
 use Rattle.ti_commands.specs.Words.{texts_of}
 use Rattle.ti_surveys.specs.Answers.{IsRefused, SaysBy}
 use Rattle.ti_verdicts.specs.Counts.{answers_line}
@@ -25,8 +25,8 @@ returns-clause-reply g c =
           (AreLines (SaysBy c.args.words.now.lists_all (g.C.Certifier.certifies c.args.certifier.now) (g.C.Certifier.refuses c.args.certifier.now) c.in_ok-size.size.rows c.in_ok-size.size.cols) IsRefused)
           (g.F.Files.holds c.args.files.now) (texts_of paths) (told_of said) c.in_ok-surveyed.surveyed.failure)
           c.as_slice.ensures.value c.in_ok-surveyed.ensures.told;
-      strictly = subst (λ (answered : List Answer). EndsStrictly c.args.words.now.is_strict answered c.in_ok-surveyed.surveyed.failure c.in_ok-failure.failure) c.as_slice-4.ensures.value c.in_ok-failure.ensures;
+      strictly = subst (λ (answered : List Answer). EndsStrictly c.args.words.now.is_strict answered c.in_ok-surveyed.surveyed.failure c.in_ok-failure.failure) c.as_slice-3.ensures.value c.in_ok-failure.ensures;
       places = refl;
-      says = c.in_ok-extend_from_slice.ensures.items
-          ∙ ap (λ (own : List ℕ). said.lines.items ++ own) (c.as_slice-3.ensures.value ∙ (c.in_ok-counts.ensures ∙ ap answers_line c.as_slice-2.ensures.value));
+      heard = c.in_ok-surveyed.ensures.heard;
+      counts = c.in_ok-text.ensures ∙ ap answers_line c.as_slice-2.ensures.value;
     }
