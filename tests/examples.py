@@ -623,11 +623,11 @@ WRITTEN = [
 
 def judge(words, told, status, out, err):
     """Ends the script where a run printed something else; None was not known before. After the known lines of standard
-    error at most one more may come, in plain words, and two after that of a file."""
+    error at most one more may come, in plain words, and two after that of a file or of an open field."""
     right = told.status == status and (out is None or told.out == out.encode())
     if err is not None:
         further = told.err.removeprefix(err.encode())
-        most = 2 if "file:" in err else 1
+        most = 2 if "file:" in err or "OpenField" in err else 1
         right = right and told.err.startswith(err.encode()) and further.count(b"\n") <= most
         right = right and not further.startswith(FIXED) and (bool(err) or not further)
         right = right and all(byte == 10 or 32 <= byte <= 126 for byte in further)

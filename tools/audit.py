@@ -37,6 +37,7 @@ PUBLISHED = [
     "ti_commands",
     "ti_verdicts",
     "ti_surveys",
+    "ti_wrapped",
     "ti_reports",
     "cur_commands",
     "ti_arguments",

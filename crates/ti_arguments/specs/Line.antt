@@ -66,22 +66,27 @@ feed_rules =
     with_rule (with_size_rules (with_plain_rule (with_case_rule (with_form_rules (new_app (codes "feed"))))))
     (positional_rule (codes "FILE"))
 
+-- fields of a source that continue on further lines
+abbrev pub with_join_rule : App → App
+with_join_rule a = with_rule a (long_switch_rule (codes "join"))
+
 abbrev pub tic_rules : App
-tic_rules = with_rule (with_rule (new_app (codes "tic")) out_rule) (positional_rule (codes "ENTRY"))
+tic_rules = with_rule (with_rule (with_join_rule (new_app (codes "tic"))) out_rule) (positional_rule (codes "ENTRY"))
 
 abbrev pub infocmp_rules : App
 infocmp_rules =
-    with_rule (with_rule (with_rule (new_app (codes "infocmp")) (switch_rule (codes "c") 99))
-    (switch_rule (codes "n") 110)) (several_rule (codes "ENTRY"))
+    with_rule (with_join_rule (with_rule (with_rule (new_app (codes "infocmp")) (switch_rule (codes "c") 99))
+    (switch_rule (codes "n") 110))) (several_rule (codes "ENTRY"))
 
 abbrev pub check_rules : App
 check_rules =
     with_size_rules
-    (with_rule (with_rule (with_report_rules (new_app (codes "check"))) out_rule) (positional_rule (codes "ENTRY")))
+    (with_rule (with_rule (with_join_rule (with_report_rules (new_app (codes "check")))) out_rule)
+    (positional_rule (codes "ENTRY")))
 
 abbrev pub verify_rules : App
 verify_rules =
-    with_rule (with_size_rules (with_rule (new_app (codes "verify")) (positional_rule (codes "ENTRY"))))
+    with_rule (with_size_rules (with_rule (with_join_rule (new_app (codes "verify"))) (positional_rule (codes "ENTRY"))))
     (positional_rule (codes "CERT"))
 
 -- the words of a run of a script
@@ -102,7 +107,7 @@ with_fail_rule a = with_rule a (long_switch_rule (codes "fail"))
 
 abbrev pub survey_rules : App
 survey_rules =
-    with_rule (with_size_rules (with_fail_rule (with_report_rules (new_app (codes "survey")))))
+    with_rule (with_size_rules (with_join_rule (with_fail_rule (with_report_rules (new_app (codes "survey"))))))
     (several_rule (codes "FILE"))
 
 -- the program alone: its own name is not among the words, and a command must follow

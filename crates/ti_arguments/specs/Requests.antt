@@ -112,13 +112,22 @@ abbrev pub Asks : Option (Text × List Row) → Request → Type 0
 Asks None request = ⊥
 Asks (Some chosen) request = AsksFor chosen.0 chosen.1 request
 
+-- the words for the chosen command have `--join`
+abbrev pub joins_of : Option (Text × List Row) → Bool
+joins_of None = false
+joins_of (Some chosen) = is_on (codes "join") chosen.1
+
+-- the request, and whether fields of a source may continue on further lines
+abbrev pub AsksWith : Option (Text × List Row) → Request → Bool → Type 0
+AsksWith chosen request joins = Asks chosen request × (joins ≡ joins_of chosen)
+
 -- the request or the text that the words ask for
 abbrev pub IsAnswer : List Text → ParsedLine → Type 0
-IsAnswer words (answers.Request request) = Asks (subcommand_of line words) request
+IsAnswer words (answers.Request request joins) = AsksWith (subcommand_of line words) request joins
 IsAnswer words (answers.Text text) =
     IsAmong kind.DisplayHelp (fault_of line words) ⊎ IsAmong kind.DisplayVersion (fault_of line words)
 
 -- the text in answer to the parser's error, if it is help or the version
 abbrev pub IsTold : ErrorKind → ParsedLine → Type 0
-IsTold told (answers.Request request) = ⊥
+IsTold told (answers.Request request joins) = ⊥
 IsTold told (answers.Text text) = (told ≡ kind.DisplayHelp) ⊎ (told ≡ kind.DisplayVersion)

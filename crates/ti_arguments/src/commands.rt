@@ -5,9 +5,9 @@ ghost use Rattle.clap.specs.Words.{app_of, rule_of, with_rule, with_subcommand};
 ghost use Rattle.clap.specs.declared.builder.command.Command.TheViews.{out-Command};
 ghost use Rattle.ti_arguments.specs.Line.{check_rules, expand_rules, feed_rules, infocmp_rules, line, long_switch_rule};
 ghost use Rattle.ti_arguments.specs.Line.{out_rule, params_rule, play_rules, positional_rule, program, several_rule};
-ghost use Rattle.ti_arguments.specs.Line.{show_rules, survey_rules, switch_rule, tic_rules, verify_rules, with_plays};
-ghost use Rattle.ti_arguments.specs.Line.{with_script_rules, with_case_rule, with_fail_rule, with_plain_rule, with_report_rules};
-ghost use Rattle.ti_arguments.specs.Line.{with_size_rules, with_verdicts};
+ghost use Rattle.ti_arguments.specs.Line.{show_rules, survey_rules, switch_rule, tic_rules, verify_rules};
+ghost use Rattle.ti_arguments.specs.Line.{with_join_rule, with_plays, with_script_rules, with_case_rule, with_fail_rule};
+ghost use Rattle.ti_arguments.specs.Line.{with_plain_rule, with_report_rules, with_size_rules, with_verdicts};
 
 use crate::help;
 use clap::{Arg, ArgAction, Command};
@@ -206,13 +206,27 @@ fn with_plain_text<'a>(alloc: Global, command: Command<'a>) -> Result<Command<'a
     ))
 }
 
+/// `command` with the switch for fields that continue on further lines.
+fn with_join<'a>(alloc: Global, command: Command<'a>) -> Result<Command<'a>, AllocError>
+    requires { (out-Command command).has_globals ≡ false }
+    ensures shape { IfOk result (λ c. app_of c ≡ with_join_rule (app_of command.entry)) }
+    ensures local { IfOk result (λ c. (out-Command c).has_globals ≡ false) }
+{
+    command.arg(long_switch(
+        alloc,
+        "join",
+        "Read a field of a source that continues on further lines as one",
+    ))
+}
+
 fn tic_command<'a>(alloc: Global) -> Result<Command<'a>, AllocError>
     ensures shape { IfOk result (λ c. app_of c ≡ tic_rules) }
     ensures local { IfOk result (λ c. (out-Command c).has_globals ≡ false) }
 {
-    Command::new(alloc, "tic")
+    let command = Command::new(alloc, "tic")
         .about(help::TIC)
-        .after_help(help::TIC_MORE)
+        .after_help(help::TIC_MORE);
+    with_join(alloc, command)?
         .arg(out_option(alloc, "Write the entry's compiled form to this file"))?
         .arg(entry(alloc))
 }
@@ -221,7 +235,7 @@ fn infocmp_command<'a>(alloc: Global) -> Result<Command<'a>, AllocError>
     ensures shape { IfOk result (λ c. app_of c ≡ infocmp_rules) }
     ensures local { IfOk result (λ c. (out-Command c).has_globals ≡ false) }
 {
-    Command::new(alloc, "infocmp")
+    let command = Command::new(alloc, "infocmp")
         .about(help::INFOCMP)
         .after_help(help::INFOCMP_MORE)
         .arg(switch(
@@ -235,12 +249,12 @@ fn infocmp_command<'a>(alloc: Global) -> Result<Command<'a>, AllocError>
             "n",
             'n',
             "List the capabilities that neither entry has",
-        ))?
-        .arg(several(
-            alloc,
-            "ENTRY",
-            "FILE:NAME of a source file, or a compiled FILE",
-        ))
+        ))?;
+    with_join(alloc, command)?.arg(several(
+        alloc,
+        "ENTRY",
+        "FILE:NAME of a source file, or a compiled FILE",
+    ))
 }
 
 fn check_command<'a>(alloc: Global) -> Result<Command<'a>, AllocError>
@@ -252,7 +266,8 @@ fn check_command<'a>(alloc: Global) -> Result<Command<'a>, AllocError>
         .after_help(help::CHECK_MORE);
     let all = "List all faults of the entry, and write no certificate";
     let json = "Report in JSON, an object a line, and write no certificate";
-    let command = with_reports(alloc, command, all, json)?
+    let command = with_reports(alloc, command, all, json)?;
+    let command = with_join(alloc, command)?
         .arg(out_option(alloc, "Write the certificate to this file"))?
         .arg(entry(alloc))?;
     with_size(alloc, command)
@@ -264,8 +279,8 @@ fn verify_command<'a>(alloc: Global) -> Result<Command<'a>, AllocError>
 {
     let command = Command::new(alloc, "verify")
         .about(help::VERIFY)
-        .after_help(help::VERIFY_MORE)
-        .arg(entry(alloc))?;
+        .after_help(help::VERIFY_MORE);
+    let command = with_join(alloc, command)?.arg(entry(alloc))?;
     with_size(alloc, command)?.arg(positional(alloc, "CERT", "The certificate"))
 }
 
@@ -328,7 +343,7 @@ fn survey_command<'a>(alloc: Global) -> Result<Command<'a>, AllocError>
     let all = "List all faults of each entry, a line for each";
     let json = "Report in JSON, an object a line";
     let command = with_reports(alloc, command, all, json)?;
-    let command = with_fail(alloc, command)?;
+    let command = with_join(alloc, with_fail(alloc, command)?)?;
     with_size(alloc, command)?.arg(several(
         alloc,
         "FILE",

@@ -108,6 +108,11 @@ is written. With --out the file is written whole or not at all.
 A source file has at most 16777216 bytes, its names and each string at most 4095. A compiled file that is read
 has at most 131072 bytes; one that is written has at most 4096, or 32768 where a number is above 32767.
 
+With --join, which check, infocmp, survey, tic and verify take, a field of a source may continue on further lines: where a
+line ends before the comma of its field, and the next one begins with a space or a tab and is neither blank nor a comment,
+the next line goes on in the field, without its leading white space. Each place is given by the lines of the file, that of
+such a field by its first line. A compiled file, and a certificate, is read as it is.
+
 Exit status: 0 done; 1 refused, with a line `refused: KIND` on standard error; 2 usage error; 3 a file could
 not be read or written, or is too long; 4 out of memory.
 
@@ -116,7 +121,7 @@ KIND is one of, for a source file (with `line N:` before it):
   WrongKind    a field has the form of another kind, as `cols=80`
   BadNumber    a number is not decimal, 0x hexadecimal or 0 octal
   NumberRange  a number is above 2147483647
-  OpenField    a line ends before the comma of its field
+  OpenField    a line ends before the comma of its field; --join lets the field go on
   BadEscape    a `\\` or `^` ends its field or line
   TooLong      the names or a string have more than 4095 bytes
 for an entry of it:

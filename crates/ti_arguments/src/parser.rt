@@ -5,8 +5,8 @@ ghost use Rattle.std.specs.String.{string_bytes};
 ghost use Rattle.clap.specs.Walk.{first_of, rows_of};
 ghost use Rattle.clap.specs.Words.{found_of, kind_of, subcommand_rows_of};
 ghost use Rattle.ti_arguments.specs.Inputs.{AnswersWithInput};
-ghost use Rattle.ti_arguments.specs.Requests.{Asks, AsksFor, HasForm, IsAnswer, IsTold, Plays, is_on, word_of};
-ghost use Rattle.ti_arguments.specs.Requests.{words_of};
+ghost use Rattle.ti_arguments.specs.Requests.{Asks, AsksFor, HasForm, IsAnswer, IsTold, Plays, is_on, joins_of};
+ghost use Rattle.ti_arguments.specs.Requests.{word_of, words_of};
 
 use crate::commands::command_line;
 use crate::inputs::judge_input;
@@ -22,7 +22,12 @@ use ti_requests::{
 #[derive(Debug, Drop)]
 pub enum ParsedLine<'a> {
     /// A command with its words.
-    Request(Request<'a>),
+    Request {
+        /// The command and its words.
+        request: Request<'a>,
+        /// Whether the line has `--join`: a field of a source may continue on further lines.
+        joins: bool,
+    },
     /// The text of `--help`, `help` or `--version`.
     Text(String),
 }
@@ -56,7 +61,8 @@ pub fn parse_line<'a>(alloc: Global, words: &'a [String]) -> Result<ParsedLine<'
         Ok(matches) => {
             let request = request_of(alloc, &matches)?;
             judge_input(alloc, &request)?;
-            Ok(ParsedLine::Request(request))
+            let joins = joins_fields(&matches);
+            Ok(ParsedLine::Request { request, joins })
         }
         Err(error) => explain(alloc, &error),
     }
@@ -92,6 +98,16 @@ fn request_of<'a>(alloc: Global, matches: &ArgMatches<'a>) -> Result<Request<'a>
         Some(("show", words)) => Ok(Request::Show(scripted(words))),
         Some(("survey", words)) => Ok(survey_request(alloc, words)?),
         _ => Err(UsageFault::Usage(String::new(alloc))),
+    }
+}
+
+/// Whether the line has `--join`.
+fn joins_fields(matches: &ArgMatches<'_>) -> bool
+    ensures { result ≡ joins_of (subcommand_rows_of matches.now) }
+{
+    match matches.subcommand() {
+        Some((_name, words)) => is_on(words, "join"),
+        None => false,
     }
 }
 

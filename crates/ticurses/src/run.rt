@@ -3,21 +3,24 @@
 ghost use Rattle.std.specs.Prelude.{◌≤◌};
 
 use crate::counted::Counted;
-use crate::hints::hint_path;
+use crate::hints::{hint_join, hint_path};
 use crate::progress::SurveyLines;
 use cur_commands::{play_script, show_script};
 use std::alloc::Global;
 use std::io::{IsTerminal, Write};
 use ti_arguments::{ParsedLine, UsageFault, parse_line};
 use ti_commands::{
-    Comparison, Failure, Files, Output, Reply, Written, compare_entries, compile_entry,
-    expand_string, feed_file, feed_state, print_entry, report, write_reply, write_text,
+    CommandRefusal, Comparison, Failure, Files, Output, Reply, Written, compare_entries,
+    compile_entry, expand_string, feed_file, feed_state, print_entry, report, write_reply,
+    write_text,
 };
 use ti_reports::{check_reports, survey_reports};
 use ti_requests::{CheckWords, Request, SurveyWords};
+use ti_source::FaultKind;
 use ti_surveys::survey_files;
 use ti_verdicts::{Checker, check_all, check_entry, verify_certificate};
 use ti_words::Remarks;
+use ti_wrapped::Wrapped;
 
 /// Carries out the `words` after the program's own name. The answer goes to `out`, notes and the
 /// lines of a failure to `err`. Returns the exit status: 0 done, 1 refused, 2 a usage error, 3 a
@@ -58,10 +61,18 @@ fn perform<F: Files, O: Output, E: Write + IsTerminal>(
     remarks: &mut Remarks,
 ) -> Result<(), Failure> {
     match parse_line(alloc, words) {
-        Ok(ParsedLine::Request(request)) => {
-            let reply = reply_to(alloc, &request, files, out, err, remarks);
+        Ok(ParsedLine::Request { request, joins }) => {
+            let reply = if joins {
+                let mut joined = Wrapped::new(alloc, files);
+                reply_to(alloc, &request, &mut joined, out, err, remarks)
+            } else {
+                reply_to(alloc, &request, files, out, err, remarks)
+            };
             if let Some(path) = failed_path(&reply) {
                 hint_path(alloc, &request, path, files, remarks);
+            }
+            if !joins && is_open_field(&reply) {
+                hint_join(&request, remarks);
             }
             let reply = reply?;
             let _ = err.write_all(reply.notes.as_slice());
@@ -85,6 +96,14 @@ fn failed_path(reply: &Result<Reply, Failure>) -> Option<&str> {
         ) => Some(path.as_str()),
         _ => None,
     }
+}
+
+/// Whether a source is refused because a field of it isn't ended on its line.
+fn is_open_field(reply: &Result<Reply, Failure>) -> bool {
+    let Err(Failure::Refused(CommandRefusal::Source(fault))) = reply else {
+        return false;
+    };
+    fault.kind == FaultKind::OpenField
 }
 
 /// The reply of `check` to its `words`. If `err` is a terminal, and the certificate goes to a file,

@@ -1,0 +1,6 @@
+-- What was read so far is what the file had in front.
+use Rattle.std.specs.Io.KnownBytes.{Consumes}
+use Rattle.ti_wrapped.proofs.fronts.read_front.Given as goal
+
+abbrev pub invariant-loop : goal.invariant-loop
+invariant-loop g l = Consumes (g.R.Read.remaining l.initial.file) (g.R.Read.remaining l.file) l.front.items

@@ -1,0 +1,23 @@
+-- What a file is read as if fields of a source text may continue on further lines.
+use Rattle.std.specs.Prelude.{ℕ, ◌==◌, ◌&&◌, ◌||◌, not, nat_eq, nat_le, Bool, false, List, ◌∷◌, codes, length}
+use Rattle.std.specs.Prelude.{if◌then◌else◌}
+use Rattle.std.specs.List.{starts_with}
+use Rattle.ti_commands.specs.Contents.{longest_file}
+use Rattle.ti_joins.specs.Joins.{joined_text}
+
+-- a compiled file begins with a magic number (term(5)): octal 432, or 1036 for numbers of 32 bits
+abbrev pub is_compiled : List ℕ → Bool
+is_compiled (a ∷ b ∷ rest) = (a == 26 && b == 1) || (a == 30 && b == 2)
+is_compiled _ = false
+
+-- a certificate begins with this word
+abbrev pub is_certificate : List ℕ → Bool
+is_certificate bytes = starts_with nat_eq bytes (codes "ticert ")
+
+-- everything else that is no longer than a source may be is taken as a source
+abbrev pub is_source : List ℕ → Bool
+is_source bytes = nat_le (length bytes) longest_file && not (is_compiled bytes) && not (is_certificate bytes)
+
+-- what the bytes of a file are read as: a source text is joined, and everything else stays as it is
+unfoldable pub read_as : List ℕ → List ℕ
+read_as bytes = if is_source bytes then joined_text bytes else bytes

@@ -1,0 +1,53 @@
+//! The files of a command, in which source texts are joined.
+
+ghost use Rattle.std.specs.Prelude.{◌≡◌, option_map};
+ghost use Rattle.ti_wrapped.specs.Wrapped.{read_as};
+
+use crate::fronts::read_front;
+use crate::texts::{read_as, reads_as_is};
+use std::alloc::Global;
+use std::io::{Chain, Cursor, Read};
+use ti_commands::{FileCause, FileFault, Files};
+
+/// The given files, in which each source text is read with each of its fields on one line. Compiled files and
+/// certificates are read as they are.
+#[derive(Drop)]
+pub struct Wrapped<'a, F> {
+    alloc: Global,
+    files: &'a mut F,
+}
+
+impl<'a, F> Wrapped<'a, F> {
+    /// The given `files`.
+    pub fn new(alloc: Global, files: &'a mut F) -> Wrapped<'a, F> {
+        Wrapped { alloc, files }
+    }
+}
+
+impl<F: Files> Files for Wrapped<'_, F> {
+    ghost holds = { λ wrapped path. option_map read_as (F.holds wrapped.files.now path) };
+
+    type File = Chain<Cursor<Vec<u8>>, F::File>;
+
+    fn reader(&mut self, path: &str) -> Result<Chain<Cursor<Vec<u8>>, F::File>, FileFault> {
+        let mut file = self.files.reader(path)?;
+        let front = read_front(self.alloc, &mut file)?;
+        let Ok(text) = read_as(self.alloc, front) else {
+            return Err(FileFault::NoMemory);
+        };
+        Ok(Cursor::new(text).chain(file))
+    }
+
+    fn length_hint(&self) -> u64 {
+        self.files.length_hint()
+    }
+
+    /// Stores only what is read as just these bytes, as a certificate, a compiled file and a joined text are.
+    fn store(&mut self, path: &str, bytes: &[u8]) -> Result<(), FileFault> {
+        match reads_as_is(self.alloc, bytes) {
+            Ok(true) => self.files.store(path, bytes),
+            Ok(false) => Err(FileFault::Failed(FileCause::Other)),
+            Err(_) => Err(FileFault::NoMemory),
+        }
+    }
+}

@@ -1,0 +1,57 @@
+//! What the bytes of a file are read as.
+
+ghost use Rattle.std.specs.Prelude.{◌≡◌, IfOk};
+ghost use Rattle.std.specs.Bool.{OnTrue};
+ghost use Rattle.ti_wrapped.specs.Wrapped as spec;
+
+use std::alloc::{AllocError, Global};
+use ti_commands::LONGEST_FILE;
+use ti_joins::joined;
+
+/// Whether the file begins as a compiled one.
+fn is_compiled(bytes: &[u8]) -> bool
+    ensures { result ≡ spec.is_compiled bytes.now }
+{
+    match bytes {
+        [first, second, ..] => (*first == 26 && *second == 1) || (*first == 30 && *second == 2),
+        [] | [_] => false,
+    }
+}
+
+/// Whether the file begins as a certificate.
+fn is_certificate(bytes: &[u8]) -> bool
+    ensures { result ≡ spec.is_certificate bytes.now }
+{
+    bytes.starts_with(b"ticert ")
+}
+
+/// Whether the file is taken as a source.
+fn is_source(bytes: &[u8]) -> bool
+    ensures { result ≡ spec.is_source bytes.now }
+{
+    bytes.len() <= LONGEST_FILE as usize && !is_compiled(bytes) && !is_certificate(bytes)
+}
+
+/// What the `bytes` of a file are read as: a source text is joined.
+#[tactic(auto, unfolding(crate::specs::Wrapped::read_as))]
+pub fn read_as(alloc: Global, bytes: Vec<u8>) -> Result<Vec<u8>, AllocError>
+    ensures { IfOk result (λ text. text.items ≡ spec.read_as bytes.items) }
+{
+    if is_source(bytes.as_slice()) {
+        joined(alloc, bytes.as_slice())
+    } else {
+        Ok(bytes)
+    }
+}
+
+/// Whether a file with these `bytes` is read as just them.
+#[tactic(auto, unfolding(crate::specs::Wrapped::read_as))]
+pub fn reads_as_is(alloc: Global, bytes: &[u8]) -> Result<bool, AllocError>
+    ensures { IfOk result (λ same. OnTrue same (spec.read_as bytes.now ≡ bytes.now)) }
+{
+    if !is_source(bytes) {
+        return Ok(true);
+    }
+    let text = joined(alloc, bytes)?;
+    Ok(text.as_slice() == bytes)
+}

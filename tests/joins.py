@@ -1,0 +1,189 @@
+"""Sources in which fields continue on further lines, read with `--join`."""
+
+import subprocess
+import sys
+import tempfile
+from pathlib import Path
+
+from faults import COLS, ROWS
+from trying import PROGRAM, Case, run_cases
+
+SIZE = [str(ROWS), str(COLS)]
+
+
+def fail(text):
+    sys.exit(f"joins: {text}")
+
+
+# a field over three lines, a field that goes on behind another one, one whose comma has a line of its own, a comment
+# between fields, an entry that uses another
+WRAPPED = rb"""# a comment that ends in an open field, el=\E[1K
+wrapped|strings over several lines,
+	clear=\E[H
+	\E[2J, cup=\E[%i
+	  %p1%d;
+ %p2%dH,
+#	a comment, el1=
+	sgr0=\E[m, el=\E[1K
+	,
+user|another entry,
+	ed=\E[
+	J, use=wrapped,
+"""
+# the same, with each field on the line on which it begins, and a blank line for each that went on in it
+JOINED = rb"""# a comment that ends in an open field, el=\E[1K
+wrapped|strings over several lines,
+	clear=\E[H\E[2J, cup=\E[%i%p1%d;%p2%dH,
+
+
+
+#	a comment, el1=
+	sgr0=\E[m, el=\E[1K,
+
+user|another entry,
+	ed=\E[J, use=wrapped,
+
+"""
+# both with the fault of `el` mended
+MENDED = JOINED.replace(rb"el=\E[1K,", rb"el=\E[K,")
+WRAPPED_MENDED = WRAPPED.replace(b"el=\\E[1K\n\t,", b"el=\\E[K\n\t,")
+# the further line of a refusal
+HINT = "with --join a field may continue on further lines\n"
+# where a field can't go on: before a comment, a blank line, a line in column one, the end
+OPEN = {
+    b"a|one,\n\tel=\\E[K\n#\n\t, bel=^G,\n": 2,
+    b"a|one,\n\tel=\\E[K\n\n\t, bel=^G,\n": 2,
+    b"a|one,\n\tel=\\E[K\nb|two,\n\tbel=^G,\n": 2,
+    b"a|one,\n\tel=\\E[K\n": 2,
+    b"a|one,\n\tel=\\E\n\t[K, ed=\\E[J\n \t\n": 2,
+}
+
+
+def commands(entry, cert="cert"):
+    """A run of each command that takes `--join`, without it."""
+    return [
+        ["check", f"text:{entry}", *SIZE],
+        ["check", "--all", f"text:{entry}", *SIZE],
+        ["check", "--json", "--all", f"text:{entry}", *SIZE],
+        ["verify", f"text:{entry}", *SIZE, cert],
+        ["survey", *SIZE, "text"],
+        ["survey", "--all", *SIZE, "text"],
+        ["survey", "--json", *SIZE, "text"],
+        ["tic", f"text:{entry}"],
+        ["infocmp", f"text:{entry}"],
+        ["infocmp", "-c", f"text:{entry}", f"text:{entry}"],
+        ["infocmp", "-n", f"text:{entry}", f"text:{entry}"],
+    ]
+
+
+def joining(words):
+    return [words[0], "--join", *words[1:]]
+
+
+def judge_same():
+    """With `--join` each command says of the wrapped text what it says of the joined one; of that, nothing else than
+    without."""
+    cert = run_cases(PROGRAM, [Case(["check", "text:wrapped", *SIZE])], {"text": MENDED})[0].out
+    if not cert.startswith(b"ticert 2 "):
+        fail(f"no certificate of the mended text: {cert[:100]}")
+    count = 0
+    for entry in ("wrapped", "user"):
+        words = commands(entry)
+        right = run_cases(PROGRAM, [Case(it) for it in words], {"text": JOINED, "cert": cert})
+        same = run_cases(PROGRAM, [Case(joining(it)) for it in words], {"text": JOINED, "cert": cert})
+        read = run_cases(PROGRAM, [Case(joining(it)) for it in words], {"text": WRAPPED, "cert": cert})
+        for it, want, other, told in zip(words, right, same, read):
+            for one in (other, told):
+                if (one.status, one.out, one.err) != (want.status, want.out, want.err):
+                    fail(f"{it} with --join: {one.status} {one.out} {one.err}, and {want.status} {want.out} {want.err}")
+            count += 1
+    words = joining(["verify", "text:wrapped", *SIZE, "cert"])
+    for text in (MENDED, WRAPPED_MENDED):
+        yes = run_cases(PROGRAM, [Case(words)], {"text": text, "cert": cert})[0]
+        if (yes.status, yes.out) != (0, b"yes\n"):
+            fail(f"verify --join: {yes}")
+    print(f"joins: {count} runs say of a wrapped text what they say of the joined one")
+
+
+def judge_places():
+    """The lines of the file as it is, also where that is standard input."""
+    told = run_cases(
+        PROGRAM,
+        [
+            Case(["check", "--join", "--all", "text:user", *SIZE]),
+            Case(["check", "--join", "--", "-:user", *SIZE], WRAPPED),
+        ],
+        {"text": WRAPPED},
+    )
+    every, given = told
+    if "no el: WrongEffect\ntext:8: el of wrapped\n" not in every.out.decode():
+        fail(f"the line of el: {every.out}")
+    if (given.status, b"refused: no el: WrongEffect\n" in given.err) != (1, True):
+        fail(f"standard input: {given.status} {given.err}")
+    print("joins: places are told by the lines of the file")
+
+
+def judge_refusals():
+    """`OpenField` without `--join` names it; with it, a field that doesn't go on is refused at its line."""
+    words = [it for it in commands("wrapped") if it[0] != "survey"]
+    told = run_cases(PROGRAM, [Case(it) for it in words], {"text": WRAPPED, "cert": b""})
+    for it, one in zip(words, told):
+        lines = one.err.decode().splitlines(keepends=True)
+        if one.status != 1 or one.out or "refused: line 3: OpenField\n" not in lines or HINT not in lines:
+            fail(f"{it}: {one.status} {one.out} {one.err}")
+    survey = run_cases(PROGRAM, [Case(["survey", *SIZE, "text"])], {"text": WRAPPED})[0]
+    if b"wrapped refused: line 3: OpenField\n" not in survey.out:
+        fail(f"survey: {survey.out}")
+    scripts = [Case([it, "text:wrapped", *SIZE, "cert", "script"]) for it in ("play", "show")]
+    for one in run_cases(PROGRAM, scripts, {"text": WRAPPED, "cert": b"", "script": b""}):
+        if one.status != 1 or b"refused: line 3: OpenField\n" not in one.err or HINT.encode() in one.err:
+            fail(f"play or show: {one.status} {one.err}")
+    for text, line in OPEN.items():
+        one = run_cases(PROGRAM, [Case(["tic", "--join", "text:a"])], {"text": text})[0]
+        if one.status != 1 or f"refused: line {line}: OpenField\n" not in one.err.decode() or HINT.encode() in one.err:
+            fail(f"{text} with --join: {one.status} {one.err}")
+    count = len(words) + len(scripts) + len(OPEN) + 1
+    print(f"joins: {count} refusals of an open field, which name the option where there is one")
+
+
+def judge_stored():
+    """Compiled files and certificates are stored and read as they are; a source is never replaced."""
+    with tempfile.TemporaryDirectory() as folder:
+
+        def run(*words):
+            return subprocess.run([f"{PROGRAM}/out/ticurses", *words], cwd=folder, capture_output=True)
+
+        def has(name, held):
+            return Path(folder, name).read_bytes() == held
+
+        Path(folder, "text").write_bytes(WRAPPED_MENDED)
+        Path(folder, "plain").write_bytes(MENDED)
+        for words in (["tic", "--out", "one", "plain:user"], ["check", "--out", "sure", "plain:user", *SIZE]):
+            told = run(*words)
+            if told.returncode:
+                fail(f"{words}: {told}")
+        for words in (["tic", "--out", "two", "text:user"], ["check", "--out", "also", "text:user", *SIZE]):
+            told = run(*joining(words))
+            if told.returncode:
+                fail(f"{words}: {told}")
+        if not has("two", Path(folder, "one").read_bytes()) or not has("also", Path(folder, "sure").read_bytes()):
+            fail("what is stored with --join differs")
+        for words in (["infocmp", "two"], ["survey", *SIZE, "two"], ["verify", "two", *SIZE, "also"], ["tic", "two"]):
+            told, plain = run(*joining(words)), run(*words)
+            if (told.returncode, told.stdout, told.stderr) != (plain.returncode, plain.stdout, plain.stderr):
+                fail(f"{words} of a compiled file: {told} {plain}")
+        told = run("check", "--join", "text:user", *SIZE, "--out", "text")
+        if told.returncode != 3 or not has("text", WRAPPED_MENDED):
+            fail(f"check --join --out of the source: {told}")
+    print("joins: compiled files and certificates are stored and read as they are")
+
+
+def main():
+    judge_same()
+    judge_places()
+    judge_refusals()
+    judge_stored()
+
+
+if __name__ == "__main__":
+    main()
