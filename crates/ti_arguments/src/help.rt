@@ -181,11 +181,11 @@ which state of the terminal it goes wrong, what was wanted there, and what happe
 
 With --all there is no certificate. The output is all that is wrong: a line `no CAP P..: CAUSE` for what the entry as a
 whole has or lacks (FlagOut, Absent, AcsByte), and one for each other capability that goes wrong, with the first of its
-parameters for which it does; then what is wrong with strings together that are right by themselves. Below each of an
-entry of a source is a line `FILE:LINE: CAP of NAME`, with the line on which its value is and the first name of the
-entry that has it, through `use=`; then come the lines that explain it, after two spaces. Where the standard's string
-would be right in that place, with all others that are named taken too, the last of them is
-`CAP=STRING would be right on T`; where clear and cup are both at fault, standard error says instead that the
+parameters for which it does; then what is wrong with strings together that are right by themselves, and may go once the
+others are mended. Below each of an entry of a source is a line `FILE:LINE: CAP of NAME`, with the line on which its
+value is and the first name of the entry that has it, through `use=`; then come the lines that explain it, after two
+spaces. Where the standard's string would be right in that place, with all others that are named taken too, the last of
+them is `CAP=STRING would be right on T`; where clear and cup are both at fault, standard error says instead that the
 entry seems to be for a terminal of another kind. The last line is the number of faults, and then how many have which
 CAUSE. Standard error has the first of them too, after `refused: `. If nothing is wrong, the output is `yes`.
 

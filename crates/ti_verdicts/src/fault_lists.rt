@@ -11,7 +11,7 @@ use crate::indents::indented;
 use crate::locations::location;
 use crate::reasons::explain_no;
 use crate::refusals::{no_failure, no_words};
-use crate::remedies::{note_another_kind, suggestion_line};
+use crate::remedies::{note_another_kind, note_left_out, suggestion_line};
 use std::alloc::{AllocError, Global};
 use ti_caps::Entry;
 use ti_checker::No;
@@ -24,7 +24,8 @@ use vt_term::Size;
 
 /// Replies with the notes on the entry that the `words` give, and with all its faults, each with its place and its
 /// explanation, and with their number; or with `yes` if there is none. The reply fails as the first of the faults does.
-/// Further lines go to `remarks`, advice on an entry without a fault among them.
+/// Further lines go to `remarks`: that the entry seems to be for a terminal of another kind, that a fault may go once
+/// others are mended, or advice on an entry without a fault.
 pub fn check_all<F: Files>(
     alloc: Global,
     words: &FaultsWords<'_>,
@@ -42,6 +43,7 @@ pub fn check_all<F: Files>(
     let nos = faults(alloc, &found.entry, size)?;
     let reply = reply_of(alloc, &found, size, notes, nos.as_slice())?;
     note_another_kind(nos.as_slice(), remarks);
+    note_left_out(nos.as_slice(), remarks);
     if nos.is_empty() {
         advise(alloc, &found.entry, size, remarks);
     }

@@ -8,10 +8,10 @@ ghost use Rattle.ti_verdicts.specs.Remedies as spec;
 
 use std::alloc::{AllocError, Global};
 use ti_caps::{Cap, Entry, name};
-use ti_checker::No;
+use ti_checker::{Cause, No};
 use ti_faults::{Mended, is_of_another_kind, suggestion};
 use ti_source::escape;
-use ti_words::{OF_ANOTHER_KIND, Remarks};
+use ti_words::{LEFT_OUT, OF_ANOTHER_KIND, Remarks};
 
 /// The string that is suggested in place of the one that `no` is about, if there is one.
 fn suggested(entry: &Entry, mended: &Mended, no: &No, nos: &[No]) -> Option<&'static [u8]>
@@ -69,5 +69,28 @@ pub fn suggestion_line(
 pub fn note_another_kind(nos: &[No], remarks: &mut Remarks) {
     if is_of_another_kind(nos) {
         remarks.add_words(OF_ANOTHER_KIND);
+    }
+}
+
+/// Adds to `remarks` that a fault may go once others are mended, if the faults `nos` have one that may be about strings
+/// judged together, and another one.
+pub fn note_left_out(nos: &[No], remarks: &mut Remarks) {
+    let count = nos.iter().filter(|no| may_be_together(no)).count();
+    if count > 0 && count < nos.len() {
+        remarks.add_words(LEFT_OUT);
+    }
+}
+
+/// Whether `no` may be about strings that are right by themselves.
+fn may_be_together(no: &No) -> bool {
+    match no.cause {
+        Cause::NoResync => true,
+        Cause::BadLook => name(no.cap) == b"acsc".as_slice(),
+        Cause::WrongEffect(_) => {
+            name(no.cap) == b"smacs".as_slice() || name(no.cap) == b"rmacs".as_slice()
+        }
+        Cause::FlagOut | Cause::Absent | Cause::AcsByte | Cause::Parm(_) => false,
+        Cause::StaticRead | Cause::Unfinished | Cause::Stuck | Cause::NotTame => false,
+        Cause::NotShown | Cause::TooLong | Cause::NoMemory => false,
     }
 }

@@ -24,7 +24,7 @@ pub use checked_strings::{
 pub use escapes::push_spelled;
 pub use numbers::push_numbers;
 pub use remarks::{Remarks, SUGGESTION_END, push_shown, write_shown};
-pub use remedies::OF_ANOTHER_KIND;
+pub use remedies::{LEFT_OUT, OF_ANOTHER_KIND};
 pub use runs::{filled_terminal, run_words};
 pub use seen::Seen;
 pub use starts::{push_after, start_words};
