@@ -776,6 +776,16 @@ def judge_streamed(work):
             sys.exit(f"examples: {words}: {survey.returncode} {lines}; a line before the pipe is opened: {bool(is_known)}")
 
 
+def judge_unread(work):
+    """Each path that can't be read is named, and the others have their lines."""
+    words = ["survey", "24", "80", "absent", "mini", ".", "gone"]
+    told = subprocess.run([f"{PROGRAM}/out/ticurses", *words], cwd=work, env={}, capture_output=True, check=False)
+    causes = ["'absent': there is no such file or folder", "'.' is a folder", "'gone': there is no such file or folder"]
+    wanted = ["file: absent", *causes, "'.' could not be read either", "'gone' could not be read either"]
+    if told.returncode != 3 or told.stdout != b"mini yes\ntotal 1, yes 1\n" or told.stderr.decode().splitlines() != wanted:
+        sys.exit(f"examples: {words}: {told.returncode} {told.stdout} {told.stderr}")
+
+
 def read_terminal(leader):
     """All that was written to a terminal that nobody has open any longer; it may come in several pieces."""
     shown = b""
@@ -817,6 +827,7 @@ def main():
         judge_certificate_stored(work)
         judge_progress(work)
         judge_streamed(work)
+        judge_unread(work)
         judge_checks()
         judge_advice()
         judge_system()

@@ -33,7 +33,7 @@ abbrev pub IsLookText : ℕ → ℕ → List ℕ → Option (List ℕ) → Type 
 IsLookText height width bytes (Some words) = SaysLook height width bytes words
 IsLookText height width bytes None = (end : State) → Runs (reset height width) bytes end → ⊥
 
--- the words for a run of these bytes, by what is to be told of it
+-- the words for a run of these bytes, by the part of it that they tell
 abbrev pub IsToldText : ℕ → ℕ → Telling → List ℕ → Option (List ℕ) → Type 0
 IsToldText height width (ChangesFrom probe) bytes words =
     IsRunText height width (settings_of probe) probe.fill bytes words

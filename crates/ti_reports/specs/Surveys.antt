@@ -66,14 +66,15 @@ ReportsLack height width path name why told =
 
 -- the lines of each path are heard, and the reply has no text; it fails if a path can't be read, or, if the words ask
 -- for it, if a line has a verdict other than yes
-pub record AreSurveyed (held : Held) (words : SurveyWords) (AreHeard : List ℕ → Type 0) (reply : Reply) : Type 0 where
+pub record AreSurveyed (held : Held) (words : SurveyWords) (remarks : List (List ℕ)) (AreHeard : List ℕ → Type 0)
+    (reply : Reply) : Type 0 where
   pub height : ℕ
   pub width : ℕ
   pub given : SizeGiven words.rows.now words.cols.now height width
   pub told : Told
   pub failed : Option Failure
   pub ends : EndsPaths (AreLines (Reports height width words.lists_all) (ReportsLack height width)) held
-      (texts_of words.paths.items) told failed
+      (texts_of words.paths.items) told failed remarks
   pub strictly : EndsStrictly words.is_strict told.answers failed reply.failure
   pub places : reply.notes.items ≡ told.places
   pub heard : AreHeard told.lines

@@ -1,5 +1,5 @@
 -- The statements about each item of a list, one after another.
-use Rattle.std.proofs.Common.{◌≡◌, ◌<◌, ℕ, zero, suc, ◌+◌, List, [], ◌∷◌, ◌++◌, length, take, get_or, Option, Some, None, Result, refl, sym, ap, subst, ◌∙◌, inl, inr, append_assoc, add-one, arith}
+use Rattle.std.proofs.Common.{◌≡◌, ◌<◌, ℕ, zero, suc, ◌+◌, List, [], ◌∷◌, ◌++◌, length, take, get_or, Option, Some, None, IfSome, Result, refl, sym, ap, subst, ◌∙◌, inl, inr, append_assoc, add-one, arith}
 use Rattle.std.specs.List.{range_with_len}
 use Rattle.std.specs.Prelude.{map, slice_get}
 use Rattle.std.proofs.lemmas.List.{append-nil}
@@ -9,12 +9,12 @@ use Rattle.ti_source.specs.declared.types.RawEntry.{RawEntry}
 use Rattle.ti_source.specs.declared.types.SourceFault.{SourceFault}
 use Rattle.ti_commands.specs.Contents.{Held}
 use Rattle.ti_commands.specs.Words.{texts_of}
-use Rattle.ti_commands.specs.declared.failure.Failure.{Failure}
 use Rattle.ti_commands.specs.declared.failure.CommandRefusal.{CommandRefusal}
 use Rattle.ti_surveys.specs.Lines.{IsSourcePart, IsTold, Refusing, ResolvesApart, Saying}
 use Rattle.ti_verdicts.specs.Locations.{first_name}
-use Rattle.ti_surveys.specs.Surveys.{EndsPath, EndsPaths, HasLines, MayHaveLines, OfFile, first_failure}
-use Rattle.ti_surveys.specs.Told.{IsToldOfEach, Told, followed_by, nothing}
+use Rattle.ti_surveys.specs.Surveys.{HasLines, OfFile}
+use Rattle.ti_surveys.specs.Told.{IsToldOfEach, IsToldOrLeft, Told, followed_by, left_if, nothing, told_if, told_of}
+use Rattle.ti_surveys.specs.declared.said.Said.{Said}
 use denote.Ref.{Bor}
 
 range_more : (from n : ℕ) → range_with_len from (suc n) ≡ range_with_len from n ++ (from + n) ∷ []
@@ -48,57 +48,49 @@ said_step P n told own more spelled h p =
 
 -- ---- paths
 
-may_have : (Are : OfFile) (held : Held) (path : List ℕ) (told : Told) (failure : Option Failure) → EndsPath Are held path told failure → MayHaveLines Are held path told
-may_have Are held path told None h = inl h
-may_have Are held path told (Some failure) h = inr h.0
+pub told_or_left_none : {X : Type 0} (P : X → Told → Type 0) (told : Told) (left : List X) → told ≡ nothing → left ≡ [] → IsToldOrLeft P [] told left
+unfolding IsToldOrLeft
+told_or_left_none P told left e f = (e, f)
 
-ends_end : (Are : OfFile) (held : Held) (paths : List (List ℕ)) (path : List ℕ) (told own : Told) (failure later : Option Failure) → EndsPaths Are held paths told failure → EndsPath Are held path own later
-    → EndsPaths Are held (paths ++ path ∷ []) (followed_by told own) (first_failure failure later)
-ends_end Are held paths path told own None None h p = said_end (HasLines Are held) paths path told own h p
-ends_end Are held paths path told own None (Some failure) h p = record {
-  front = paths;
-  path = path;
-  behind = [];
-  spelled = refl;
-  first = told;
-  before = h;
-  fails = p.1;
-  later = nothing;
-  after = said_of_none (MayHaveLines Are held) nothing refl;
-  says = ap (λ (t : Told). followed_by told t) p.0;
-}
-ends_end Are held paths path told own (Some failure) later h p = record {
-  front = h.front;
-  path = h.path;
-  behind = h.behind ++ path ∷ [];
-  spelled = ap (λ (l : List (List ℕ)). l ++ path ∷ []) h.spelled ∙ append_assoc h.front (h.path ∷ h.behind) (path ∷ []);
-  first = h.first;
-  before = h.before;
-  fails = h.fails;
-  later = followed_by h.later own;
-  after = said_end (MayHaveLines Are held) h.behind path h.later own h.after (may_have Are held path own later p);
-  says = ap (λ (t : Told). followed_by t own) h.says ∙ said_assoc h.first h.later own;
-}
+told_end : {X : Type 0} (P : X → Told → Type 0) (xs : List X) (x : X) (told own : Told) (left : List X) → IsToldOrLeft P xs told left → P x own → IsToldOrLeft P (xs ++ x ∷ []) (followed_by told own) left
+unfolding IsToldOrLeft
+told_end P [] x told own left h p = inl (own, nothing, ap (λ (t : Told). followed_by t own) h.0 ∙ sym (right_nothing own), p, (refl, h.1))
+told_end P (first ∷ xs) x told own left (inl h) p =
+    inl (h.0, followed_by h.1 own, ap (λ (t : Told). followed_by t own) h.2 ∙ said_assoc h.0 h.1 own, h.3, told_end P xs x h.1 own left h.4 p)
+told_end P (first ∷ xs) x told own left (inr h) p = inr (h.0, h.1, told_end P xs x told own h.0 h.2 p)
 
-taken_text : (words : List (Bor (List ℕ))) (n : ℕ) (d : Bor (List ℕ)) → n < length words → take (suc n) (texts_of words) ≡ take n (texts_of words) ++ (get_or words n d).now ∷ []
+left_end : {X : Type 0} (P : X → Told → Type 0) (xs : List X) (x : X) (told : Told) (left : List X) → IsToldOrLeft P xs told left → IsToldOrLeft P (xs ++ x ∷ []) told (left ++ x ∷ [])
+unfolding IsToldOrLeft
+left_end {X} P [] x told left h = inr ([], ap (λ (l : List X). l ++ x ∷ []) h.1, (h.0, refl))
+left_end P (first ∷ xs) x told left (inl h) = inl (h.0, h.1, h.2, h.3, left_end P xs x h.1 left h.4)
+left_end {X} P (first ∷ xs) x told left (inr h) = inr (h.0 ++ x ∷ [], ap (λ (l : List X). l ++ x ∷ []) h.1, left_end P xs x told h.0 h.2)
+
+path_end : (P : List ℕ → Told → Type 0) (paths : List (List ℕ)) (path : List ℕ) (told : Told) (left : List (List ℕ)) (own : Option Said) → IsToldOrLeft P paths told left → IfSome own (λ said. P path (told_of said))
+    → IsToldOrLeft P (paths ++ path ∷ []) (followed_by told (told_if own)) (left ++ left_if path own)
+path_end P paths path told left None h p = subst (λ (t : Told). IsToldOrLeft P (paths ++ path ∷ []) t (left ++ path ∷ [])) (sym (right_nothing told)) (left_end P paths path told left h)
+path_end P paths path told left (Some said) h p =
+    subst (λ (l : List (List ℕ)). IsToldOrLeft P (paths ++ path ∷ []) (followed_by told (told_of said)) l) (sym (append-nil left)) (told_end P paths path told (told_of said) left h p)
+
+pub taken_text : (words : List (Bor (List ℕ))) (n : ℕ) (d : Bor (List ℕ)) → n < length words → take (suc n) (texts_of words) ≡ take n (texts_of words) ++ (get_or words n d).now ∷ []
 taken_text [] n d h = absurd (omega (arith, h))
 taken_text (word ∷ words) zero d h = refl
 taken_text (word ∷ words) (suc n) d h = ap (λ (l : List (List ℕ)). word.now ∷ l) (taken_text words n d (omega (arith, h)))
 
-ends_more : (Are : OfFile) (held : Held) (words : List (Bor (List ℕ))) (n : ℕ) (d : Bor (List ℕ)) (told own : Told) (failure later : Option Failure) → n < length words
-    → EndsPaths Are held (take n (texts_of words)) told failure → EndsPath Are held (get_or words n d).now own later → EndsPaths Are held (take (n + 1) (texts_of words)) (followed_by told own) (first_failure failure later)
-ends_more Are held words n d told own failure later l h p =
-    subst (λ (m : ℕ). EndsPaths Are held (take m (texts_of words)) (followed_by told own) (first_failure failure later)) (sym (add-one n))
-    (subst (λ (ys : List (List ℕ)). EndsPaths Are held ys (followed_by told own) (first_failure failure later)) (sym (taken_text words n d l))
-    (ends_end Are held (take n (texts_of words)) (get_or words n d).now told own failure later h p))
+one_more : (P : List ℕ → Told → Type 0) (words : List (Bor (List ℕ))) (n : ℕ) (d : Bor (List ℕ)) (told : Told) (left : List (List ℕ)) (own : Option Said) → n < length words
+    → IsToldOrLeft P (take n (texts_of words)) told left → IfSome own (λ said. P (get_or words n d).now (told_of said)) → IsToldOrLeft P (take (n + 1) (texts_of words)) (followed_by told (told_if own)) (left ++ left_if (get_or words n d).now own)
+one_more P words n d told left own l h p =
+    subst (λ (m : ℕ). IsToldOrLeft P (take m (texts_of words)) (followed_by told (told_if own)) (left ++ left_if (get_or words n d).now own)) (sym (add-one n))
+    (subst (λ (ys : List (List ℕ)). IsToldOrLeft P ys (followed_by told (told_if own)) (left ++ left_if (get_or words n d).now own)) (sym (taken_text words n d l))
+    (path_end P (take n (texts_of words)) (get_or words n d).now told left own h p))
 
--- one more path, of files that hold what they held
-pub ends_step : (Are : OfFile) (held now : Held) (words : List (Bor (List ℕ))) (n : ℕ) (d : Bor (List ℕ)) (told own more : Told) (failure later both : Option Failure) → n < length words → now ≡ held → more ≡ followed_by told own
-    → both ≡ first_failure failure later → EndsPaths Are held (take n (texts_of words)) told failure → EndsPath Are now (get_or words n d).now own later → EndsPaths Are held (take (n + 1) (texts_of words)) more both
-ends_step Are held now words n d told own more failure later both l same spelled first h p =
-    subst (λ (b : Option Failure). EndsPaths Are held (take (n + 1) (texts_of words)) more b) (sym first)
-    (subst (λ (t : Told). EndsPaths Are held (take (n + 1) (texts_of words)) t (first_failure failure later)) (sym spelled)
-    (ends_more Are held words n d told own failure later l h (subst (λ (k : Held). EndsPath Are k (get_or words n d).now own later) same p)))
+-- one more path, of files that hold what they held: it has its statements or is left
+pub paths_step : (Are : OfFile) (held now : Held) (words : List (Bor (List ℕ))) (n : ℕ) (d : Bor (List ℕ)) (told more : Told) (left both : List (List ℕ)) (own : Option Said) → n < length words → now ≡ held → more ≡ followed_by told (told_if own)
+    → both ≡ left ++ left_if (get_or words n d).now own → IsToldOrLeft (HasLines Are held) (take n (texts_of words)) told left → IfSome own (λ said. HasLines Are now (get_or words n d).now (told_of said))
+    → IsToldOrLeft (HasLines Are held) (take (n + 1) (texts_of words)) more both
+paths_step Are held now words n d told more left both own l same spelled listed h p =
+    subst (λ (t : Told). IsToldOrLeft (HasLines Are held) (take (n + 1) (texts_of words)) t both) (sym spelled)
+    (subst (λ (b : List (List ℕ)). IsToldOrLeft (HasLines Are held) (take (n + 1) (texts_of words)) (followed_by told (told_if own)) b) (sym listed)
+    (one_more (HasLines Are held) words n d told left own l h (subst (λ (k : Held). IfSome own (λ said. HasLines Are k (get_or words n d).now (told_of said))) same p)))
 
 -- ---- lines
 

@@ -9,6 +9,7 @@ mod said;
 mod speakers;
 mod strict;
 mod surveys;
+mod unread;
 mod watchers;
 
 pub use laws::faultless_is_whole;

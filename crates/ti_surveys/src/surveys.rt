@@ -1,18 +1,19 @@
 //! The command `survey`, and the common part of all surveys.
 
-ghost use Rattle.std.specs.Prelude.{◌≡◌, IfErr, IfOk};
+ghost use Rattle.std.specs.Prelude.{◌≡◌, ◌++◌, IfErr, IfOk, IfSome, OnOk};
 ghost use Rattle.ti_commands.specs.Sizes.{LacksSize};
 ghost use Rattle.ti_commands.specs.Words.{texts_of};
 ghost use Rattle.ti_surveys.specs.Heard.{Hears};
 ghost use Rattle.ti_surveys.specs.Lines.{AreLines};
 ghost use Rattle.ti_surveys.specs.Surveys as spec;
-ghost use Rattle.ti_surveys.specs.Told.{told_of};
+ghost use Rattle.ti_surveys.specs.Told.{IsToldOrLeft, followed_by, left_if, told_if, told_of};
 
 use crate::asked::Asked;
 use crate::files::file_lines;
 use crate::said::Said;
 use crate::speakers::Speaker;
 use crate::strict::strict_failure;
+use crate::unread::named;
 use crate::watchers::Watcher;
 use std::alloc::{AllocError, Global};
 use ti_commands::{Failure, Files, LONGEST_FILE, Reply, read_whole, size_words};
@@ -32,10 +33,10 @@ pub struct Surveyed {
 /// Surveys the files that the `words` name. The `watcher` passes on the line of each entry once it is known, which says
 /// whether the `certifier` writes a certificate, or why not; or the lines of all faults of the entry, if the `words`
 /// ask for them. An entry that can't be read has its line too. The reply's text is the last line, which counts the
-/// answers. For each listed fault of a source's entry, the reply's notes give the place of its value. If a file can't
-/// be read, the reply has the failure of the first such file, and the others are surveyed all the same; else it is
-/// refused if the `words` ask for that and a line doesn't say yes. The `watcher` also receives reports of how far the
-/// survey has come.
+/// answers. For each listed fault of a source's entry, the reply's notes give the place of its value. If files can't be
+/// read, the reply has the failure of the first such file, the `remarks` name the further ones, and the others are
+/// surveyed all the same; else it is refused if the `words` ask for that and a line doesn't say yes. The `watcher` also
+/// receives reports of how far the survey has come.
 ///
 /// # Errors
 /// The reason why the words give no size, before any line is known; out of memory, after the `watcher` has passed on
@@ -49,7 +50,7 @@ pub fn survey_files<C: Certifier, F: Files, W: Watcher>(
     remarks: &mut Remarks,
 ) -> Result<Reply, Failure>
     ensures reply { IfOk result (λ reply. spec.IsSurveyed (C.certifies certifier.now) (C.refuses certifier.now)
-        (F.holds files.old) words.now (Hears W.heard W.has_failed watcher.old watcher.new) reply) }
+        (F.holds files.old) words.now remarks.new (Hears W.heard W.has_failed watcher.old watcher.new) reply) }
     ensures failure { IfErr result (λ e. LacksSize words.now.rows.now words.now.cols.now e) }
     ensures kept { F.holds files.new ≡ F.holds files.old }
 {
@@ -81,9 +82,10 @@ pub fn survey_files<C: Certifier, F: Files, W: Watcher>(
     })
 }
 
-/// The statements of the `speaker` about each entry of each file of `paths`, one after another. The failure is that of
-/// the first file that can't be read; the others are surveyed all the same. The `watcher` passes on the lines of each
-/// entry once they are known, and receives reports of how far the survey has come.
+/// The statements of the `speaker` about each entry of each file of `paths`, one after another. If files can't be read,
+/// the failure is that of the first one, the last `remarks` name the further ones, and the others are surveyed all the
+/// same. The `watcher` passes on the lines of each entry once they are known, and receives reports of how far the survey
+/// has come.
 ///
 /// # Errors
 /// Out of memory, after the `watcher` has passed on the lines of the entries before.
@@ -96,53 +98,68 @@ pub fn survey_paths<S: Speaker, F: Files, W: Watcher>(
     remarks: &mut Remarks,
 ) -> Result<Surveyed, AllocError>
     ensures told { IfOk result (λ surveyed. spec.EndsPaths (AreLines (S.says speaker.now) (S.refuses speaker.now))
-        (F.holds files.old) (texts_of paths.now) (told_of surveyed.said) surveyed.failure) }
+        (F.holds files.old) (texts_of paths.now) (told_of surveyed.said) surveyed.failure remarks.new) }
     ensures heard { IfOk result (λ surveyed. Hears W.heard W.has_failed watcher.old watcher.new
         surveyed.said.lines.items) }
     ensures kept { F.holds files.new ≡ F.holds files.old }
 {
-    let surveyed = paths_said(alloc, speaker, paths, files, watcher, remarks);
+    let parted = paths_said(alloc, speaker, paths, files, watcher, remarks);
     watcher.ends();
-    surveyed
-}
-
-/// The statements of the `speaker` about all `paths`, whose lines the `watcher` hears.
-fn paths_said<S: Speaker, F: Files, W: Watcher>(
-    alloc: Global,
-    speaker: &S,
-    paths: &[&str],
-    files: &mut F,
-    watcher: &mut W,
-    remarks: &mut Remarks,
-) -> Result<Surveyed, AllocError>
-    ensures told { IfOk result (λ surveyed. spec.EndsPaths (AreLines (S.says speaker.now) (S.refuses speaker.now))
-        (F.holds files.old) (texts_of paths.now) (told_of surveyed.said) surveyed.failure) }
-    ensures heard { IfOk result (λ surveyed. Hears W.heard W.has_failed watcher.old watcher.new
-        surveyed.said.lines.items) }
-    ensures kept { F.holds files.new ≡ F.holds files.old }
-{
-    let mut said = Said::new(alloc);
-    let mut failure = None;
-    for (done, path) in paths.iter().enumerate() {
-        watcher.begins(done, paths.len(), path.as_bytes());
-        let own = path_said(alloc, speaker, path, files, watcher, remarks)?;
-        said.add(&own.said)?;
-        failure = first_failure(failure, own.failure);
-    }
+    let Parted { said, unread } = parted?;
+    let failure = named(alloc, unread.as_slice(), remarks)?;
     Ok(Surveyed { said, failure })
 }
 
-/// The first of two failures: `failure`, or else `later`.
-fn first_failure(failure: Option<Failure>, later: Option<Failure>) -> Option<Failure>
-    ensures { result ≡ spec.first_failure failure later }
-{
-    match failure {
-        Some(failure) => Some(failure),
-        None => later,
+/// The statements about some paths, and the paths that can't be read.
+#[derive(Drop)]
+struct Parted<'a> {
+    said: Said,
+    unread: Vec<&'a str>,
+}
+
+impl<'a> Parted<'a> {
+    /// Adds `path`, which has its `own` statements or can't be read.
+    fn add(&mut self, path: &'a str, own: &Option<Said>) -> Result<(), AllocError>
+        ensures told { OnOk result (told_of self.new.said ≡ followed_by (told_of self.old.said) (told_if own.now)) }
+        ensures unread { OnOk result (texts_of self.new.unread.items
+            ≡ texts_of self.old.unread.items ++ left_if path.now own.now) }
+    {
+        match own {
+            Some(said) => self.said.add(said),
+            None => Ok(self.unread.push(path)?),
+        }
     }
 }
 
-/// The statements of the `speaker` about `path`, whose lines the `watcher` hears; nothing if it can't be read.
+/// The statements of the `speaker` about all `paths`, whose lines the `watcher` hears.
+fn paths_said<'a, S: Speaker, F: Files, W: Watcher>(
+    alloc: Global,
+    speaker: &S,
+    paths: &[&'a str],
+    files: &mut F,
+    watcher: &mut W,
+    remarks: &mut Remarks,
+) -> Result<Parted<'a>, AllocError>
+    ensures told { IfOk result (λ parted. IsToldOrLeft
+        (spec.HasLines (AreLines (S.says speaker.now) (S.refuses speaker.now)) (F.holds files.old))
+        (texts_of paths.now) (told_of parted.said) (texts_of parted.unread.items)) }
+    ensures heard { IfOk result (λ parted. Hears W.heard W.has_failed watcher.old watcher.new
+        parted.said.lines.items) }
+    ensures kept { F.holds files.new ≡ F.holds files.old }
+{
+    let mut parted = Parted {
+        said: Said::new(alloc),
+        unread: Vec::new(alloc),
+    };
+    for (done, path) in paths.iter().enumerate() {
+        watcher.begins(done, paths.len(), path.as_bytes());
+        let own = path_said(alloc, speaker, path, files, watcher, remarks)?;
+        parted.add(*path, &own)?;
+    }
+    Ok(parted)
+}
+
+/// The statements of the `speaker` about `path`, whose lines the `watcher` hears; none if it can't be read.
 fn path_said<S: Speaker, F: Files, W: Watcher>(
     alloc: Global,
     speaker: &S,
@@ -150,22 +167,24 @@ fn path_said<S: Speaker, F: Files, W: Watcher>(
     files: &mut F,
     watcher: &mut W,
     remarks: &mut Remarks,
-) -> Result<Surveyed, AllocError>
-    ensures told { IfOk result (λ surveyed. spec.EndsPath (AreLines (S.says speaker.now) (S.refuses speaker.now))
-        (F.holds files.old) path.now (told_of surveyed.said) surveyed.failure) }
-    ensures heard { IfOk result (λ surveyed. Hears W.heard W.has_failed watcher.old watcher.new
-        surveyed.said.lines.items) }
+) -> Result<Option<Said>, AllocError>
+    ensures told { IfOk result (λ own. IfSome own (λ said. spec.HasLines
+        (AreLines (S.says speaker.now) (S.refuses speaker.now)) (F.holds files.old) path.now (told_of said))) }
+    ensures heard { IfOk result (λ own. Hears W.heard W.has_failed watcher.old watcher.new (told_if own).lines) }
     ensures kept { F.holds files.new ≡ F.holds files.old }
 {
     match read_whole(alloc, files, path, LONGEST_FILE, remarks) {
-        Ok(bytes) => Ok(Surveyed {
-            said: file_lines(alloc, speaker, path, bytes.as_slice(), watcher, remarks)?,
-            failure: None,
-        }),
+        Ok(bytes) => {
+            let said = file_lines(alloc, speaker, path, bytes.as_slice(), watcher, remarks)?;
+            Ok(Some(said))
+        }
         Err(Failure::NoMemory) => Err(AllocError),
-        Err(failure) => Ok(Surveyed {
-            said: Said::new(alloc),
-            failure: Some(failure),
-        }),
+        Err(
+            Failure::Refused(_)
+            | Failure::RefusedUnwritten(_)
+            | Failure::Usage(_)
+            | Failure::File(_)
+            | Failure::Output,
+        ) => Ok(None),
     }
 }

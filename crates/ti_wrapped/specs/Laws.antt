@@ -12,7 +12,7 @@ CompiledStays = (bytes : List ℕ) → is_compiled bytes ≡ true → read_as by
 abbrev pub CertificateStays : Type 0
 CertificateStays = (bytes : List ℕ) → is_certificate bytes ≡ true → read_as bytes ≡ bytes
 
--- a source has the joined lines, as many as before, so every place in it is told by the lines of the file
+-- a source has the joined lines, as many as before, so each place in it has the line that it has in the file
 abbrev pub SourceIsJoined : Type 0
 SourceIsJoined = (bytes : List ℕ) → is_source bytes ≡ true → lines_of (read_as bytes) ≡ joined_lines (lines_of bytes)
 

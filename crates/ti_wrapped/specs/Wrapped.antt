@@ -1,4 +1,4 @@
--- What a file is read as if fields of a source text may continue on further lines.
+-- The text that a file is read as if fields of a source may continue on further lines.
 use Rattle.std.specs.Prelude.{ℕ, ◌==◌, ◌&&◌, ◌||◌, not, nat_eq, nat_le, Bool, false, List, ◌∷◌, codes, length}
 use Rattle.std.specs.Prelude.{if◌then◌else◌}
 use Rattle.std.specs.List.{starts_with}

@@ -1,4 +1,4 @@
-//! What the bytes of a file are read as.
+//! The text that the bytes of a file are read as.
 
 ghost use Rattle.std.specs.Prelude.{◌≡◌, IfOk};
 ghost use Rattle.std.specs.Bool.{OnTrue};
@@ -32,7 +32,7 @@ fn is_source(bytes: &[u8]) -> bool
     bytes.len() <= LONGEST_FILE as usize && !is_compiled(bytes) && !is_certificate(bytes)
 }
 
-/// What the `bytes` of a file are read as: a source text is joined.
+/// The text that the `bytes` of a file are read as: a source is joined.
 #[tactic(auto, unfolding(crate::specs::Wrapped::read_as))]
 pub fn read_as(alloc: Global, bytes: Vec<u8>) -> Result<Vec<u8>, AllocError>
     ensures { IfOk result (λ text. text.items ≡ spec.read_as bytes.items) }
