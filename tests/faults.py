@@ -373,6 +373,25 @@ def judge_together():
     print("faults: strings that are suggested hold together, and no fault hides what is wrong with the others together")
 
 
+# entries, each with whether its faults may depend on others: `acsc` is at fault only since `rmacs` is; the next two have
+# only faults of strings together, or only one fault
+DEPENDING = [
+    ([r"op=\E[m", r"smacs=\E(0", r"rmacs=x\017"], True),
+    ([r"op=\E[39;49m", r"smacs=\E(B", r"rmacs=\E(0"], False),
+    ([r"op=\E[39;49m", r"smacs=x\E(0", r"rmacs=\017"], False),
+]
+
+
+def judge_depending():
+    """A further line says where a fault may go once others are mended."""
+    data = {f"{i}.ti": f"e|e, {', '.join(fields)}, use=base,\n{BASE}\n".encode() for i, (fields, _) in enumerate(DEPENDING)}
+    told = run_cases(PROGRAM, [Case(["check", "--all", f"{name}:e", "3", "5"]) for name in data], data)
+    for (fields, depends), one in zip(DEPENDING, told):
+        if (b"may go once they are mended" in one.err) != depends:
+            fail(f"{fields} printed {one.err} on standard error")
+    print("faults: a further line says that a fault may go once others are mended, where that may be")
+
+
 # two entries of one name, which has a byte that isn't shown
 TWINS = rb"""tw@n|one of two,
 	clear=\E[H\E[2J, cup=\E[%i%p1%d;%p2%dH, sgr0=\E[m, el=\E[1K,
@@ -403,4 +422,5 @@ if __name__ == "__main__":
     judge_by_hand()
     judge_suggestions()
     judge_together()
+    judge_depending()
     judge_places()

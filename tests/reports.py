@@ -333,4 +333,5 @@ def main():
     print(f"reports: {count} objects of check --json say what the plain form says, and those of survey --json, {lines} with a line")
 
 
-main()
+if __name__ == "__main__":
+    main()
