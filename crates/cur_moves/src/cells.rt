@@ -11,15 +11,17 @@ use crate::reaches::reach;
 use crate::routes::is_alike;
 use crate::targets::Target;
 use cur_steps::{
-    Belief, Brush, Ink, Picture, Place, attributes_as, background_as, colors_off, erase_tail,
-    foreground_as, look_alike, print_at, same_attributes, set_as, stands, strip,
+    Belief, Brush, Ink, Picture, Place, attributes_as, attributes_at_once, background_as,
+    colors_off, erase_tail, foreground_as, look_alike, print_at, resetting_line, same_attributes,
+    set_as, stands, strip,
 };
 use cur_wires::{Wire, WireFault};
 use ti_conforms::Certificate;
 use ti_rows::{Attributes, Row};
 use vt_term::Color;
 
-/// Makes the attributes `wanted`, and the colors the default ones.
+/// Makes the attributes `wanted`, and the colors the default ones: by the string for the attributes alone if that resets
+/// the colors.
 fn plainly_as<C: Certificate, W: Wire>(
     checked: &C,
     belief: &mut Belief,
@@ -34,8 +36,13 @@ fn plainly_as<C: Certificate, W: Wire>(
         (plain_limit (C.table checked.now)) belief.old belief.new }
     ensures mode { OnOk result (belief.new.mode ≡ belief.old.mode) }
 {
-    colors_off(checked, belief, wire)?;
-    attributes_as(checked, belief, wire, wanted)
+    match resetting_line(checked, belief.brush, wanted) {
+        Some(line) => attributes_at_once(checked, line, belief, wire, wanted),
+        None => {
+            colors_off(checked, belief, wire)?;
+            attributes_as(checked, belief, wire, wanted)
+        }
+    }
 }
 
 /// Makes the colors those of `wanted`. The attributes must be those of `wanted` already, and no color may become the

@@ -9,7 +9,7 @@ use Rattle.cur_wires.proofs.Stops.{leads_line, spells_as, spells_sent, steps_sen
 use Rattle.cur_wires.proofs.Completion.{ends_sized}
 use Rattle.ti_rows.specs.declared.rows.Row.{Row}
 use Rattle.ti_conforms.specs.Certified.{Table, IsLost, IsReady, IsChecked, IsCheckedLine, IsPiece, Line, Ended, limit_of, or_nothing, text_of}
-use Rattle.cur_steps.specs.Beliefs.{Agrees, Belief, Turns}
+use Rattle.cur_steps.specs.Beliefs.{Agrees, Belief, LeadsTo, Turns}
 use Rattle.cur_steps.specs.Pieces.{IsPaint, Stroke, paints}
 use Rattle.cur_steps.specs.declared.inks.Ink.{Ink}
 
@@ -59,3 +59,14 @@ line_spelled went failures a z answer t checked row bytes is g b c turns sends =
     let short : length bytes ≤ limit_of t row = (checked.lines row bytes is).short in
     spells_as went failures a z answer bytes (text_of t row) (IsPiece t) (limit_of t row) (limit_of t row) (IsLost t) (Agrees t g b) (Agrees t g c) (sym (ap or_nothing is)) (omega arith)
     (spells_sent went failures a z answer (IsPiece t) (limit_of t row) (IsLost t) (Agrees t g b) (Agrees t g c) bytes (line_leads (IsPiece t) t checked row bytes is (Line row is) (limit_of t row) short g g b c turns) (agrees_lost t checked g c) sends)
+
+-- a line that paints, and leads from the first belief to the second
+pub line_leading : {W T E : Type 0} (went : W → W → List ℕ → Type 0) (failures : W → ℕ) (a z : W) (answer : Result T E) (t : Table) → IsChecked t → (row : Row) (bytes : List ℕ) → t.line_of row ≡ Some bytes → paints row ≡ true
+    → (n : ℕ) (g h : ℕ → ℕ → Ink) (b c : Belief) → limit_of t row ≤ n → LeadsTo t bytes g b h c → Sends went failures a z bytes answer
+    → Steps went failures a z answer (IsPaint t) n (IsLost t) (Agrees t g b) (Agrees t h c)
+line_leading went failures a z answer t checked row bytes is paint n g h b c le ends sends =
+    let line : IsCheckedLine t row bytes = checked.lines row bytes is in
+    let leads : Leads (IsPaint t) n (IsLost t) (Agrees t g b) bytes (Agrees t h c) =
+    leads_line (IsPaint t) n (IsLost t) (Agrees t g b) (Agrees t h c) bytes (Stroke row paint is) (omega (arith, line.short, le)) ends
+    (λ s k front back e. line.drives.fronts s k.ready.rest (agrees_lost t checked g b s k) front back e) in
+    steps_sent went failures a z answer (IsPaint t) n (IsLost t) (Agrees t g b) (Agrees t h c) bytes leads (agrees_lost t checked h c) sends

@@ -127,11 +127,12 @@ no_color_lines t g b none s h = no_colors t g b (h.colored.foreground none) (h.c
 -- attributes, from default colors to default colors
 either : (t : Table) (a : Attributes) (b : Brush) (s : Screen) → s.rendition ≡ rendition_of t.looks b → b.foreground ≡ None → b.background ≡ None
     → (u : Screen) → Renders (marked (shown t.looks a) s.rendition.foreground s.rendition.background) s u ⊎ Renders (marked (shown t.looks a) None None) s u
-    → Renders (marked (shown t.looks a) b.foreground b.background) s u
-either t a b s e f k u (inl h) = h ∙ ap (λ (x : Rendition). record s { rendition = marked (shown t.looks a) x.foreground x.background; charset = u.charset }) e
-either t a b s e f k u (inr h) =
-    h ∙ ap (λ (x : Option Color). record s { rendition = marked (shown t.looks a) x None; charset = u.charset }) (sym f)
-    ∙ ap (λ (x : Option Color). record s { rendition = marked (shown t.looks a) b.foreground x; charset = u.charset }) (sym k)
+    → Renders (marked (shown t.looks a) None None) s u
+either t a b s e f k u (inl h) =
+    h ∙ ap (λ (x : Rendition). record s { rendition = marked (shown t.looks a) x.foreground x.background; charset = u.charset }) e
+    ∙ ap (λ (x : Option Color). record s { rendition = marked (shown t.looks a) x b.background; charset = u.charset }) f
+    ∙ ap (λ (x : Option Color). record s { rendition = marked (shown t.looks a) None x; charset = u.charset }) k
+either t a b s e f k u (inr h) = h
 
 -- unchanged cells under another rendition, with the sets settled
 pub rendered : (t : Table) (g : ℕ → ℕ → Ink) (b : Belief) (x : Brush) → IsColored t x → (s u : State) → Agrees t g b s → IsOfSize t.rows t.cols u → u.rest ≡ [] → t.settled u.screen.charset ≡ true
@@ -149,10 +150,10 @@ rendered t g b x colored s u h sized closed settled e =
     })
 
 pub attributes_set : (t : Table) (g : ℕ → ℕ → Ink) (b : Belief) (a : Attributes) → b.brush.foreground ≡ None → b.brush.background ≡ None
-    → Turns t (Sgr a) g b g (record b { brush = record b.brush { attributes = a }; graphic = None })
+    → Turns t (Sgr a) g b g (record b { brush = record { attributes = a; foreground = None; background = None }; graphic = None })
 attributes_set t g b a f k = record {
   starts = λ s h. free_of t s h.ready;
-  ends = λ s u h sized closed w. rendered t g b (record b.brush { attributes = a }) (record { foreground = h.colored.foreground; background = h.colored.background }) s u h sized closed (w.settled refl h.ready.settled)
+  ends = λ s u h sized closed w. rendered t g b (record { attributes = a; foreground = None; background = None }) (record { foreground = λ o. refl; background = λ o. refl }) s u h sized closed (w.settled refl h.ready.settled)
       (either t a b.brush s.screen h.brush f k u.screen w.wants);
 }
 

@@ -1,6 +1,7 @@
 -- The painter's belief about the terminal, and the states that agree with it.
 use Rattle.std.specs.Prelude.{ℕ, ◌+◌, ◌-◌, ◌<◌, ◌≤◌, ◌≡◌, ◌⊎◌, ◌==◌, ◌&&◌, nat_le, min, Bool, true, false, Option, Some}
 use Rattle.std.specs.Prelude.{None, if◌then◌else◌, List, [], ◌++◌}
+use Rattle.vt_term.specs.Ends.{Ends}
 use Rattle.vt_term.specs.Grid.{look_at}
 use Rattle.vt_term.specs.Screen.{State, IsOfSize, is_graphic}
 use Rattle.ti_rows.specs.declared.rows.Row.{Row}
@@ -52,6 +53,11 @@ pub record Turns (t : Table) (row : Row) (g : ℕ → ℕ → Ink) (b : Belief) 
   pub starts : (s : State) → Agrees t g b s → Starts t.rows t.cols row s.screen
   pub ends : (s u : State) → Agrees t g b s → IsOfSize t.rows t.cols u → u.rest ≡ []
       → Ended t row s.screen u.screen → Agrees t h c u
+
+-- from each state that agrees with the first cells and belief, a run over the bytes leads to one that agrees with the
+-- second
+abbrev pub LeadsTo : Table → List ℕ → (ℕ → ℕ → Ink) → Belief → (ℕ → ℕ → Ink) → Belief → Type 0
+LeadsTo t bytes g b h c = (s : State) → Agrees t g b s → Ends s bytes (Agrees t h c)
 
 -- the number of moves to a place: none or one
 abbrev pub moves : Place → ℕ → ℕ → ℕ

@@ -20,7 +20,7 @@ pub use looks::look_alike;
 pub use modes::{is_mode, show_as};
 pub use singles::strip;
 pub use steps::{
-    attributes_as, background_as, colors_off, erase_tail, foreground_as, is_active, print_at,
-    set_as, stands,
+    attributes_as, attributes_at_once, background_as, colors_off, erase_tail, foreground_as,
+    is_active, print_at, resetting_line, set_as, stands,
 };
 pub use stretches::blank_shown;

@@ -1,9 +1,8 @@
 //! The lines of a certificate: whether there is one, and sending it.
-ghost use Rattle.std.specs.Prelude.{◌≡◌, ◌≤◌, ℕ, length, Bool, Option, Some, true};
+ghost use Rattle.std.specs.Prelude.{◌≡◌, ◌≤◌, ℕ, length, Some, true};
 ghost use Rattle.ti_conforms.specs.Certified.{IsChecked, has, limit_of, text_of};
-ghost use Rattle.cur_steps.specs.Beliefs.{Belief, Turns};
+ghost use Rattle.cur_steps.specs.Beliefs.{Belief, LeadsTo, Turns};
 ghost use Rattle.cur_steps.specs.Pieces.{paints};
-ghost use Rattle.cur_steps.specs.Sets.{LeavesSet};
 ghost use Rattle.cur_steps.specs.Steps.{Acts, KeepsBy};
 ghost use Rattle.cur_steps.specs.declared.inks.Ink.{Ink};
 
@@ -35,10 +34,9 @@ pub fn send_line<C: Certificate, W: Wire>(
     ensures step { (n : ℕ) (g h : ℕ → ℕ → Ink) (b c : Belief) → paints row ≡ true
         → limit_of (C.table checked.now) row ≤ n → Turns (C.table checked.now) row g b h c
         → Acts W.went W.failures wire.old wire.new result (C.table checked.now) n g h b c }
-    ensures set { (n : ℕ) (g h : ℕ → ℕ → Ink) (b c : Belief) (x : Option Bool) → paints row ≡ true
-        → limit_of (C.table checked.now) row ≤ n → Turns (C.table checked.now) row g b h c
-        → LeavesSet (C.table checked.now) bytes.now b.graphic x
-        → Acts W.went W.failures wire.old wire.new result (C.table checked.now) n g h b (record c { graphic = x }) }
+    ensures leads { (n : ℕ) (g h : ℕ → ℕ → Ink) (b c : Belief) → paints row ≡ true
+        → limit_of (C.table checked.now) row ≤ n → LeadsTo (C.table checked.now) bytes.now g b h c
+        → Acts W.went W.failures wire.old wire.new result (C.table checked.now) n g h b c }
     ensures text { (b c : Belief) → ((g : ℕ → ℕ → Ink) → Turns (C.table checked.now) row g b g c)
         → KeepsBy W.went W.failures wire.old wire.new result (C.table checked.now) (limit_of (C.table checked.now) row)
         (text_of (C.table checked.now) row) b c }

@@ -1,9 +1,10 @@
-//! The set that is active after a string of attributes.
-ghost use Rattle.std.specs.Prelude.{◌≡◌, true};
+//! The set that is active after a string of attributes, and whether it leads to one rendition.
+ghost use Rattle.std.specs.Prelude.{◌≡◌, IfSome, true};
 ghost use Rattle.std.specs.List.{list_all};
 ghost use Rattle.vt_term.specs.Parameters as parameters;
 ghost use Rattle.ti_conforms.specs.Certified.{IsChecked};
-ghost use Rattle.cur_steps.specs.Sets.{IsBeside, IsRendition, LeavesSet};
+ghost use Rattle.cur_steps.specs.Sets as spec;
+ghost use Rattle.cur_steps.specs.Sets.{FixesRendition, IsBeside, IsRendition, LeavesSet};
 
 use ti_conforms::Certificate;
 use ti_rows::Row;
@@ -25,41 +26,46 @@ fn are_numerals(bytes: &[u8]) -> bool
     bytes.iter().all(|byte| is_numeral(*byte))
 }
 
-/// Whether `bytes` are one control sequence SGR and no more.
-fn is_rendition(bytes: &[u8]) -> bool
-    ensures { result ≡ true → IsRendition bytes.now }
+/// The digits and semicolons of `bytes`, if they are one control sequence SGR and no more.
+fn numerals_of(bytes: &[u8]) -> Option<&[u8]>
+    ensures { IfSome result (λ numerals. IsRendition bytes.now numerals.now) }
 {
     match bytes {
-        [27, b'[', numbers @ .., b'm'] => bytes.len() <= LONGEST && are_numerals(numbers),
-        _ => false,
+        [27, b'[', numerals @ .., b'm'] if bytes.len() <= LONGEST && are_numerals(numerals) => {
+            Some(numerals)
+        }
+        _ => None,
     }
 }
 
-/// Whether `bytes` are `other` followed by one SGR.
-fn begins_with(bytes: &[u8], other: &[u8]) -> bool
-    ensures { result ≡ true → IsBeside bytes.now other.now }
+/// The digits and semicolons of the SGR behind `other`, if `bytes` are these two.
+fn numerals_behind<'a>(bytes: &'a [u8], other: &[u8]) -> Option<&'a [u8]>
+    ensures { IfSome result (λ numerals. IsBeside bytes.now other.now numerals.now) }
 {
     match bytes.strip_prefix(other) {
-        Some(rest) => is_rendition(rest),
-        None => false,
+        Some(rest) => numerals_of(rest),
+        None => None,
     }
 }
 
-/// Whether `bytes` are one SGR followed by `other`.
-fn ends_with(bytes: &[u8], other: &[u8]) -> bool
-    ensures { result ≡ true → IsBeside bytes.now other.now }
+/// The digits and semicolons of the SGR before `other`, if `bytes` are these two.
+fn numerals_before<'a>(bytes: &'a [u8], other: &[u8]) -> Option<&'a [u8]>
+    ensures { IfSome result (λ numerals. IsBeside bytes.now other.now numerals.now) }
 {
     match bytes.strip_suffix(other) {
-        Some(rest) => is_rendition(rest),
-        None => false,
+        Some(rest) => numerals_of(rest),
+        None => None,
     }
 }
 
-/// Whether `bytes` are `other` with one SGR before or after it.
-fn is_beside(bytes: &[u8], other: &[u8]) -> bool
-    ensures { result ≡ true → IsBeside bytes.now other.now }
+/// The digits and semicolons of the SGR before or behind `other`, if `bytes` are these two.
+fn numerals_beside<'a>(bytes: &'a [u8], other: &[u8]) -> Option<&'a [u8]>
+    ensures { IfSome result (λ numerals. IsBeside bytes.now other.now numerals.now) }
 {
-    begins_with(bytes, other) || ends_with(bytes, other)
+    match numerals_behind(bytes, other) {
+        Some(numerals) => Some(numerals),
+        None => numerals_before(bytes, other),
+    }
 }
 
 /// The set that is active after `bytes`, if that is known; `before` is the set known before them. One SGR changes no
@@ -72,11 +78,36 @@ pub(crate) fn set_behind<C: Certificate>(
     requires checked { IsChecked (C.table checked.now) }
     ensures behind { LeavesSet (C.table checked.now) bytes.now before result }
 {
-    if is_rendition(bytes) {
+    if numerals_of(bytes).is_some() {
         return before;
     }
     match checked.line(Row::Rmacs) {
-        Some(other) if is_beside(bytes, other) => Some(false),
+        Some(other) if numerals_beside(bytes, other).is_some() => Some(false),
         _ => None,
+    }
+}
+
+/// Whether the first number of an SGR is 0, by its `numerals`.
+fn begins_plain(numerals: &[u8]) -> bool
+    ensures { result ≡ true → spec.begins_plain (parameters.numbers numerals.now) ≡ true }
+{
+    matches!(numerals, [] | [b';', ..] | [b'0'] | [b'0', b';', ..])
+}
+
+/// Whether `bytes` are known to lead to one rendition, whatever the rendition was before: they are one SGR whose first
+/// number is 0, alone or beside the string for the plain set.
+pub(crate) fn fixes_rendition<C: Certificate>(checked: &C, bytes: &[u8]) -> bool
+    requires checked { IsChecked (C.table checked.now) }
+    ensures { result ≡ true → FixesRendition (C.table checked.now) bytes.now }
+{
+    if let Some(numerals) = numerals_of(bytes) {
+        return begins_plain(numerals);
+    }
+    match checked.line(Row::Rmacs) {
+        Some(other) => match numerals_beside(bytes, other) {
+            Some(numerals) => begins_plain(numerals),
+            None => false,
+        },
+        None => false,
     }
 }

@@ -1,12 +1,13 @@
 //! The single steps of a painter. Each sends at most one line or one character, but attributes may take several lines
 //! if the entry has no `sgr`.
-ghost use Rattle.std.specs.Prelude.{◌≡◌, ◌+◌, ◌<◌, ℕ, Bool, true, false, Option, Some, None, OnOk};
+ghost use Rattle.std.specs.Prelude.{◌≡◌, ◌+◌, ◌<◌, ℕ, Bool, true, false, Option, Some, None, IfSome, OnOk};
 ghost use Rattle.vt_term.specs.Color.{Color};
 ghost use Rattle.vt_term.specs.Look.{IsPrinted};
 ghost use Rattle.ti_rows.specs.declared.rows.Row.TheVariants.{Op, El, Sgr, Smacs};
 ghost use Rattle.ti_conforms.specs.Certified.{IsChecked, has};
 ghost use Rattle.cur_steps.specs.Inks.{put_at, tail_blank, plain_brush};
 ghost use Rattle.cur_steps.specs.Beliefs.{moves, IsNext, set_row};
+ghost use Rattle.cur_steps.specs.Sets.{EndsUncolored, FixesRendition};
 ghost use Rattle.cur_steps.specs.declared.inks.Brush.{Brush};
 ghost use Rattle.cur_steps.specs.Steps.{IsGoal, Keeps, Makes};
 
@@ -14,7 +15,7 @@ use crate::beliefs::{Belief, Place};
 use crate::inks::{Brush, Ink, same_color};
 use crate::lines::send_line;
 use crate::looks::look_alike;
-use crate::sets::set_behind;
+use crate::sets::{fixes_rendition, set_behind};
 use crate::singles::attributes_singly;
 use cur_wires::{Wire, WireFault, send_all};
 use ti_conforms::Certificate;
@@ -90,8 +91,29 @@ pub fn attributes_as<C: Certificate, W: Wire>(
     }
 }
 
-/// Makes the attributes `wanted` by one string, `line`. The colors must be the default ones, and stay so.
-fn attributes_at_once<C: Certificate, W: Wire>(
+/// The string of `sgr` for the attributes `wanted`, if it is known to make the colors the default ones, whatever they
+/// were. None if `now` looks as wanted, or has the default colors already.
+pub fn resetting_line<'a, C: Certificate>(
+    checked: &'a C,
+    now: Brush,
+    wanted: Attributes,
+) -> Option<&'a [u8]>
+    requires checked { IsChecked (C.table checked.now) }
+    ensures line { IfSome result (λ line. (C.table checked.now).line_of (Sgr wanted) ≡ Some line.now) }
+    ensures fixed { IfSome result (λ line. FixesRendition (C.table checked.now) line.now) }
+{
+    if is_uncolored(now) || look_alike(checked, now.attributes, wanted) {
+        return None;
+    }
+    match checked.line(Row::Sgr(wanted)) {
+        Some(line) if fixes_rendition(checked, line) => Some(line),
+        _ => None,
+    }
+}
+
+/// Makes the attributes `wanted` and the colors the default ones by one string, `line`. The colors must be the default
+/// ones already, or `line` must lead to one rendition.
+pub fn attributes_at_once<C: Certificate, W: Wire>(
     checked: &C,
     line: &[u8],
     belief: &mut Belief,
@@ -100,15 +122,18 @@ fn attributes_at_once<C: Certificate, W: Wire>(
 ) -> Result<(), WireFault>
     requires checked { IsChecked (C.table checked.now) }
     requires line { (C.table checked.now).line_of (Sgr wanted) ≡ Some line.now }
-    requires foreground { belief.old.brush.foreground ≡ None }
-    requires background { belief.old.brush.background ≡ None }
+    requires colors { EndsUncolored (C.table checked.now) line.now belief.old.brush }
     ensures brush { belief.new.brush ≡ record { attributes = wanted; foreground = None; background = None } }
     ensures place { belief.new.place ≡ belief.old.place }
     ensures step { Keeps W.went W.failures wire.old wire.new result (C.table checked.now)
         (C.table checked.now).longest.sgr belief.old belief.new }
     ensures mode { OnOk result (belief.new.mode ≡ belief.old.mode) }
 {
-    belief.brush.attributes = wanted;
+    belief.brush = Brush {
+        attributes: wanted,
+        foreground: None,
+        background: None,
+    };
     belief.graphic = set_behind(checked, line, belief.graphic);
     send_line(checked, Row::Sgr(wanted), line, wire)
 }
