@@ -33,6 +33,8 @@ OVERLAP = [
 # as long as a script may be
 LONGEST = ["#" * 1048554, "addstr 0 a", "refresh 0"]
 COLORS = ["init_pair 1 1 4", "color_set 0 1", "addstr 0 ab", "refresh 0"]
+# the attributes change while colors are on
+BRIGHTER = [*COLORS[:3], "attron 0 B", "addstr 0 cd", "attroff 0 B", "addstr 0 ef", "refresh 0"]
 
 
 def scrolled():
@@ -130,6 +132,7 @@ SHOWN = [
     ),
     ("xc", 2, 4, COLORS, "ab  \n    \ncursor 0 2\nlook 0 0-1 f1b4\n"),
     ("xc", 2, 4, [*COLORS, "init_pair 1 2 4", "refresh 0"], "ab  \n    \ncursor 0 2\nlook 0 0-1 f2b4\n"),
+    ("xc", 2, 8, BRIGHTER, "abcdef  \n        \ncursor 0 6\nlook 0 0-1 f1b4\nlook 0 2-3 Bf1b4\nlook 0 4-5 f1b4\n"),
     ("vt", 2, 4, COLORS, "ab  \n    \ncursor 0 2\n"),
     (
         "xc",
@@ -208,11 +211,15 @@ def judge_shown(runs, files):
 
 
 def judge_lengths(played):
-    """The output of single refreshes: nothing where all is shown, and no more than the bound; and of a screen's end."""
+    """The output of single refreshes: nothing where all is shown, and no more than the bound; no `op` where `sgr` resets
+    colors; and that of a screen's end."""
     full, more, again = (played[[run[3] for run in SHOWN].index(it)] for it in (FULL, [*FULL, "addch 0 58", "refresh 0"], [*FULL, "refresh 0"]))
     left = played[[run[3] for run in SHOWN].index(["refresh 0", "endwin"])]
     if not 0 < len(full) <= 100 or not more.startswith(full) or not 0 < len(more) - len(full) <= 20 or again != full:
         sys.exit(f"scripts: the refreshes of a full screen sent {full}, {more}, {again}")
+    brighter = played[[run[3] for run in SHOWN].index(BRIGHTER)]
+    if b"\x1b[39;49m" in brighter:
+        sys.exit(f"scripts: attributes that change while colors are on sent {brighter}")
     if not left.endswith(bytes.fromhex("1b5b6d0f0f1b5b323b3148")):
         sys.exit(f"scripts: endwin of vt sent {left}")
 
