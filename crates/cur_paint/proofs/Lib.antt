@@ -1,9 +1,11 @@
 pub mod Mixtures
+pub mod Painting
 pub mod SpanFacts
 pub mod Ranges
 pub mod LineRanges
 pub mod Bounds
 pub mod ModeFacts
+pub mod Settling
 pub mod Agreeing
 pub mod Renewals
 pub mod UpdateFacts

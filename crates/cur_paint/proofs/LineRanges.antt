@@ -2,16 +2,11 @@
 use Rattle.std.proofs.Common.{◌≡◌, ℕ, ◌<◌, ◌≤◌, inl, inr, zero, suc, refl, ap, ◌∙◌, arith}
 use Rattle.std.proofs.lemmas.Bool.Decides.{nat_tests}
 use Rattle.std.proofs.lemmas.Bool.{cases_lt}
-use Rattle.vt_term.specs.Screen.{State}
-use Rattle.ti_conforms.specs.Certified.{Table}
 use Rattle.cur_steps.specs.Inks.{mixed}
-use Rattle.cur_steps.specs.Beliefs.{Agrees}
-use Rattle.cur_steps.specs.declared.beliefs.Belief.{Belief}
 use Rattle.cur_steps.specs.declared.inks.Ink.{Ink}
 use Rattle.cur_moves.specs.declared.scrolls.Scroll.{Scroll}
 use Rattle.cur_moves.specs.Scrolls.{shifted}
 use Rattle.cur_paint.specs.Differ.{AreSameOutside, IsMoved, all_differ}
-use Rattle.cur_paint.proofs.Mixtures.{agrees_as}
 use Rattle.cur_paint.proofs.Ranges.{span_none}
 
 -- screens that differ only in some lines, with their size in other words
@@ -35,19 +30,13 @@ all_below old new cols end (suc n) le h = elim (cases_lt n end) [
   | inr ge ↦ omega (arith, all_below old new cols end n ge (λ i j a b d. h i j a (omega (arith, b)) d), span_none old new n 0 cols (λ j a b. h n j ge (omega arith) (omega (arith, b))))
 ]
 
-mixed_above : (old new : ℕ → ℕ → Ink) (r i j : ℕ) → (i < r → old i j ≡ new i j) → old i j ≡ mixed old new r 0 i j
+-- the lines above are as wanted already
+pub mixed_above : (old new : ℕ → ℕ → Ink) (r i j : ℕ) → (i < r → old i j ≡ new i j) → old i j ≡ mixed old new r 0 i j
 mixed_above old new r i j h = grind (arith, nat_tests, h)
 
-mixed_below : (old new : ℕ → ℕ → Ink) (r i j : ℕ) → (r ≤ i → old i j ≡ new i j) → mixed old new r 0 i j ≡ new i j
+-- the lines below are as wanted already
+pub mixed_below : (old new : ℕ → ℕ → Ink) (r i j : ℕ) → (r ≤ i → old i j ≡ new i j) → mixed old new r 0 i j ≡ new i j
 mixed_below old new r i j h = grind (arith, nat_tests, h)
-
--- the lines above are shown already
-pub above_shown : (t : Table) (old new : ℕ → ℕ → Ink) (r : ℕ) (b : Belief) → ((i j : ℕ) → i < r → j < t.cols → old i j ≡ new i j) → (s : State) → Agrees t old b s → Agrees t (mixed old new r 0) b s
-above_shown t old new r b e s h = agrees_as t old (mixed old new r 0) b (λ i j li lj. mixed_above old new r i j (λ lt. e i j lt lj)) s h
-
--- the lines below are shown already
-pub below_shown : (t : Table) (old new : ℕ → ℕ → Ink) (r : ℕ) (b : Belief) → ((i j : ℕ) → r ≤ i → i < t.rows → j < t.cols → old i j ≡ new i j) → (s : State) → Agrees t (mixed old new r 0) b s → Agrees t new b s
-below_shown t old new r b e s h = agrees_as t (mixed old new r 0) new b (λ i j li lj. mixed_below old new r i j (λ le. e i j le li lj)) s h
 
 shifted_above : (x : Scroll) (g : ℕ → ℕ → Ink) (i j : ℕ) → i < x.top → shifted x g i j ≡ g i j
 shifted_above x g i j lt = grind (arith, nat_tests)

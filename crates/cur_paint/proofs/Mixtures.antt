@@ -77,10 +77,6 @@ times_grows a b l le = grind arith
 pub sum_limit : (a b c l : ℕ) → c ≡ a + b → a * l + b * l ≤ c * l
 sum_limit a b c l e = let P : ℕ → Type 0 = λ n. a * l + b * l ≤ n * l in subst P (sym e) (grind arith)
 
--- a state agrees with a mixture up to an equal column in other words
-pub agrees_at : (t : Table) (old new : ℕ → ℕ → Ink) (r c d : ℕ) (b : Belief) → c ≡ d → (s : State) → Agrees t (mixed old new r c) b s → Agrees t (mixed old new r d) b s
-agrees_at t old new r c d b e s h = let P : ℕ → Type 0 = λ n. Agrees t (mixed old new r n) b s in subst P e h
-
 pub span_join : (old new : ℕ → ℕ → Ink) (i from a n : ℕ) → span old new i from a + span old new i (from + a) n ≡ span old new i from (a + n)
 span_join old new i from a zero = let same : a ≡ a + zero = omega arith in let P : ℕ → Type 0 = λ m. span old new i from a + 0 ≡ span old new i from m in subst P same (omega arith)
 span_join old new i from a (suc n) =
@@ -132,21 +128,6 @@ all_same old new cols rows e i j li lj =
     let here : differs old new i (0 + j) ≡ differs old new i j = ap (λ (n : ℕ). differs old new i n) (omega arith) in
     same_equal (old i j) (new i j) (zero_same (same (old i j) (new i j)) (sym here ∙ place))
 
-pub front_shown : (t : Table) (old new : ℕ → ℕ → Ink) (r c : ℕ) (b : Belief) → ((k : ℕ) → k < c → old r k ≡ new r k) → (s : State) → Agrees t (mixed old new r 0) b s → Agrees t (mixed old new r c) b s
-front_shown t old new r c b e s h = agrees_as t (mixed old new r 0) (mixed old new r c) b (λ i j li lj. mixed_front old new r c i j e) s h
-
-pub rest_shown : (t : Table) (old new : ℕ → ℕ → Ink) (r c : ℕ) (b : Belief) → ((k : ℕ) → c ≤ k → k < t.cols → old r k ≡ new r k) → (s : State)
-    → Agrees t (mixed old new r c) b s → Agrees t (mixed old new r t.cols) b s
-rest_shown t old new r c b e s h = agrees_as t (mixed old new r c) (mixed old new r t.cols) b (λ i j li lj. mixed_rest old new r c t.cols i j lj e) s h
-
--- a line is done
-pub row_done : (t : Table) (old new : ℕ → ℕ → Ink) (r : ℕ) (b : Belief) (s : State) → Agrees t (mixed old new r t.cols) b s → Agrees t (mixed old new (r + 1) 0) b s
-row_done t old new r b s h = agrees_as t (mixed old new r t.cols) (mixed old new (r + 1) 0) b (λ i j li lj. mixed_row old new r t.cols i j lj) s h
-
-pub tail_done : (t : Table) (old new : ℕ → ℕ → Ink) (r c : ℕ) (b : Belief) → ((k : ℕ) → c ≤ k → k < t.cols → new r k ≡ blank_ink) → (s : State)
-    → Agrees t (tail_blank r c (mixed old new r c)) b s → Agrees t (mixed old new r t.cols) b s
-tail_done t old new r c b e s h = agrees_as t (tail_blank r c (mixed old new r c)) (mixed old new r t.cols) b (λ i j li lj. mixed_blank old new r c t.cols i j lj e) s h
-
 pub some_times : (n l : ℕ) → 0 < n → l ≤ n * l
 some_times n l lt = grind arith
 
@@ -158,30 +139,21 @@ mixed_run old new r c n i j h = grind (arith, nat_tests, h j)
 pub mixed_head : (old new : ℕ → ℕ → Ink) (r c n i j : ℕ) → 0 < n → ((k : ℕ) → 0 ≤ k → k < c + n → new r k ≡ blank_ink) → erased Head r (c + n - 1) (mixed old new r c) i j ≡ mixed old new r (c + n) i j
 mixed_head old new r c n i j some h = grind (arith, nat_tests, h j, some)
 
-pub run_done : (t : Table) (old new : ℕ → ℕ → Ink) (r c n : ℕ) (b : Belief) → 0 < n → ((k : ℕ) → c ≤ k → k < c + n → new r k ≡ blank_ink) → (s : State)
-    → Agrees t (erased (Part n) r c (mixed old new r c)) b s → Agrees t (mixed old new r (c + n)) b s
-run_done t old new r c n b some e s h = agrees_as t (erased (Part n) r c (mixed old new r c)) (mixed old new r (c + n)) b (λ i j li lj. mixed_run old new r c n i j e) s h
-
-pub head_done : (t : Table) (old new : ℕ → ℕ → Ink) (r c n : ℕ) (b : Belief) → 0 < n → ((k : ℕ) → 0 ≤ k → k < c + n → new r k ≡ blank_ink) → (s : State)
-    → Agrees t (erased Head r (c + n - 1) (mixed old new r c)) b s → Agrees t (mixed old new r (c + n)) b s
-head_done t old new r c n b some e s h = agrees_as t (erased Head r (c + n - 1) (mixed old new r c)) (mixed old new r (c + n)) b (λ i j li lj. mixed_head old new r c n i j some e) s h
-
 -- the rest of a screen, erased from a place on
 pub mixed_bottom : (old new : ℕ → ℕ → Ink) (r c i j : ℕ) → (i ≡ r → c ≤ j → new i j ≡ blank_ink) → (r < i → new i j ≡ blank_ink) → erased Rest r c (mixed old new r c) i j ≡ new i j
 mixed_bottom old new r c i j h k = grind (arith, nat_tests, h, k)
 
-pub rest_done : (t : Table) (old new : ℕ → ℕ → Ink) (r c : ℕ) (b : Belief) → IsBlankFrom new t.rows t.cols r c → (s : State) → Agrees t (erased Rest r c (mixed old new r c)) b s → Agrees t new b s
-rest_done t old new r c b e s h = agrees_as t (erased Rest r c (mixed old new r c)) new b
-    (λ i j li lj. mixed_bottom old new r c i j (λ same le. (let P : ℕ → Type 0 = λ n. new n j ≡ blank_ink in subst P (sym same) (e.line j le lj))) (λ lt. e.lines i j lt li lj)) s h
+pub rest_new : (old new : ℕ → ℕ → Ink) (rows cols r c i j : ℕ) → i < rows → j < cols → IsBlankFrom new rows cols r c → erased Rest r c (mixed old new r c) i j ≡ new i j
+rest_new old new rows cols r c i j li lj e =
+    mixed_bottom old new r c i j (λ same le. (let P : ℕ → Type 0 = λ n. blank_ink ≡ new n j in sym (subst P (sym same) (sym (e.line j le lj))))) (λ lt. e.lines i j lt li lj)
 
--- a cell, and those after it
-pub span_first : (old new : ℕ → ℕ → Ink) (i from n : ℕ) → differs old new i from + span old new i (from + 1) n ≡ span old new i from (1 + n)
-span_first old new i from n =
+-- a cell that differs is counted
+pub one_differs : (old new : ℕ → ℕ → Ink) (i from : ℕ) → differs old new i from ≡ 1 → 0 < span old new i from 1
+one_differs old new i from e =
     let more : span old new i from 1 ≡ span old new i from 0 + differs old new i (from + 0) = span_more old new i from 0 in
-    let none : span old new i from 0 ≡ 0 = refl in
     let place : from + 0 ≡ from = omega arith in
     let here : differs old new i (from + 0) ≡ differs old new i from = ap (λ (j : ℕ). differs old new i j) place in
-    omega (arith, more, none, here, span_join old new i from 1 n)
+    omega (arith, more, here, e)
 
 -- like an ink, except for the character
 pub like_alike : (b : Belief) (x y : Ink) (n : ℕ) → IsAlike b y → x ≡ record y { byte = n } → IsAlike b x

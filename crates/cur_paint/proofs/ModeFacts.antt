@@ -44,7 +44,7 @@ painted_none t = record { pieces = []; made = refl; each = tt }
 -- ---- nothing goes out that wasn't asked for
 
 -- a proposition that holds also holds if a call succeeds
-so : {T E : Type 0} (answer : Result T E) (P : Type 0) → P → OnOk answer P
+pub so : {T E : Type 0} (answer : Result T E) (P : Type 0) → P → OnOk answer P
 so (Ok v) P p = p
 so (Err e) P p = tt
 

@@ -23,8 +23,8 @@ use Rattle.cur_steps.specs.declared.beliefs.Mode.{Mode}
 use Rattle.cur_steps.specs.declared.beliefs.Mode.TheVariants.{Normal}
 use Rattle.cur_steps.proofs.Turns.{free_of, by_screen, look_at-drawn, stands_at}
 use Rattle.cur_paint.specs.Cleared.{IsLeft, at_corner, at_start}
-use Rattle.cur_paint.specs.Rests.{EndsAt, IsAt, IsRested}
-use Rattle.cur_paint.specs.Limits.{fresh_limit, IsPlaced, paint_limit}
+use Rattle.cur_paint.specs.Rests.{EndsAt, IsRested, IsSet}
+use Rattle.cur_paint.specs.Limits.{fresh_limit, IsPlaced, IsWithin, paint_limit}
 use Rattle.cur_paint.specs.Modes.{OnlyPaints}
 use Rattle.cur_paint.specs.Scenes.{Sets}
 use Rattle.cur_paint.specs.Update.{Anew, Draws, IsFresh}
@@ -32,6 +32,7 @@ use Rattle.cur_paint.specs.declared.updates.Wanted.{Wanted}
 use Rattle.cur_paint.specs.declared.updates.Status.{Status}
 use Rattle.cur_paint.specs.declared.updates.Status.TheVariants.{Fresh, Known, Lost}
 use Rattle.cur_steps.proofs.Actions.{line_leads}
+use Rattle.cur_paint.proofs.Bounds.{placed_at}
 use Rattle.cur_paint.proofs.ModeFacts.{quiet_first}
 use Rattle.cur_paint.proofs.Agreeing.{blank_agrees}
 
@@ -100,59 +101,73 @@ pub clear_leads : (t : Table) → IsChecked t → (line : List ℕ) → t.line_o
 clear_leads t checked line is g b plain = line_leads (IsPiece t) t checked Clear line is (Line Clear is) (length line) (omega arith) g (λ i j. blank_ink) b (at_corner b) (all_cleared t g b plain)
 
 pub draws_fresh : {W T E : Type 0} (went : W → W → List ℕ → Type 0) (failures : W → ℕ) (a z : W) (answer : Result T E) (t : Table) (shown g : ℕ → ℕ → Ink) (w : Wanted) (status : Status) (b after : Belief) → status ≡ Fresh
-    → Anew went failures a z answer t (fresh_limit t) (IsLeft t (Some Normal)) (Agrees t g after) t.resync (Some Normal) w → OnOk answer (IsPlaced t.cols w.cursor after.place) → OnOk answer (IsAt w.cursor after.place) → OnOk answer (IsRested after) → OnOk answer (after.mode ≡ Some w.mode) → Draws went failures a z answer t shown g w status b after
-draws_fresh went failures a z answer t shown g w status b after e h there at plainly mode =
+    → Anew went failures a z answer t (fresh_limit t) (IsLeft t (Some Normal)) (Agrees t g after) t.resync (Some Normal) w → IsWithin t w.cursor → OnOk answer (IsSet w after) → Draws went failures a z answer t shown g w status b after
+draws_fresh went failures a z answer t shown g w status b after e h within set =
     let D : State → Type 0 = then_kind answer (Agrees t g after) (IsLost t) in
     let P : Status → Type 0 = λ x. Draws went failures a z answer t shown g w x b after in
     subst P (sym e) (record {
       step = record { bytes = h.step.bytes; leads = leads_wider (IsPiece t) (fresh_limit t) (fresh_limit t) (IsLost t) (IsLeft t (Some Normal)) D (IsFresh t) D h.step.bytes (omega arith) (λ s x. record { lost = x.lost; seen = x.visible }) (λ s x. x) h.step.leads; sends = h.step.sends };
       begins = h.begins;
-      there = there;
-      at = on_ok_map answer (IsAt w.cursor after.place) (EndsAt w.cursor _ after.place) (λ x. inl x) at;
-      rested = plainly;
-      mode = mode;
+      there = on_ok_map answer (IsSet w after) (IsPlaced t.cols w.cursor after.place) (λ x. placed_at t w.cursor after.place within x.at) set;
+      at = on_ok_map answer (IsSet w after) (EndsAt w.cursor _ after.place) (λ x. inl x.at) set;
+      rested = on_ok_map answer (IsSet w after) (IsRested after) (λ x. x.rested) set;
+      mode = on_ok_map answer (IsSet w after) (after.mode ≡ Some w.mode) (λ x. x.mode) set;
       quiet = h.quiet;
     })
 
 pub draws_lost : {W T E : Type 0} (went : W → W → List ℕ → Type 0) (failures : W → ℕ) (a z : W) (answer : Result T E) (t : Table) (shown g : ℕ → ℕ → Ink) (w : Wanted) (status : Status) (b after : Belief) → status ≡ Lost
-    → Anew went failures a z answer t (fresh_limit t) (IsLeft t None) (Agrees t g after) t.resync None w → OnOk answer (IsPlaced t.cols w.cursor after.place) → OnOk answer (IsAt w.cursor after.place) → OnOk answer (IsRested after) → OnOk answer (after.mode ≡ Some w.mode) → Draws went failures a z answer t shown g w status b after
-draws_lost went failures a z answer t shown g w status b after e h there at plainly mode =
+    → Anew went failures a z answer t (fresh_limit t) (IsLeft t None) (Agrees t g after) t.resync None w → IsWithin t w.cursor → OnOk answer (IsSet w after) → Draws went failures a z answer t shown g w status b after
+draws_lost went failures a z answer t shown g w status b after e h within set =
     let D : State → Type 0 = then_kind answer (Agrees t g after) (IsLost t) in
     let P : Status → Type 0 = λ x. Draws went failures a z answer t shown g w x b after in
     subst P (sym e) (record {
       step = record { bytes = h.step.bytes; leads = leads_wider (IsPiece t) (fresh_limit t) (fresh_limit t) (IsLost t) (IsLeft t None) D (IsLost t) D h.step.bytes (omega arith) (λ s x. record { lost = x; seen = tt }) (λ s x. x) h.step.leads; sends = h.step.sends };
       begins = h.begins;
-      there = there;
-      at = on_ok_map answer (IsAt w.cursor after.place) (EndsAt w.cursor _ after.place) (λ x. inl x) at;
-      rested = plainly;
-      mode = mode;
+      there = on_ok_map answer (IsSet w after) (IsPlaced t.cols w.cursor after.place) (λ x. placed_at t w.cursor after.place within x.at) set;
+      at = on_ok_map answer (IsSet w after) (EndsAt w.cursor _ after.place) (λ x. inl x.at) set;
+      rested = on_ok_map answer (IsSet w after) (IsRested after) (λ x. x.rested) set;
+      mode = on_ok_map answer (IsSet w after) (after.mode ≡ Some w.mode) (λ x. x.mode) set;
       quiet = h.quiet;
     })
 
 as_wanted : (w : Wanted) (x : Bool) → w.clear ≡ x → w ≡ record w { clear = x }
 as_wanted w x e = ap (λ (y : Bool). record w { clear = y }) e
 
-pub draws_known : {W T E : Type 0} (went : W → W → List ℕ → Type 0) (failures : W → ℕ) (a z : W) (answer : Result T E) (t : Table) (shown g : ℕ → ℕ → Ink) (w : Wanted) (status : Status) (b after : Belief) → status ≡ Known → w.clear ≡ false
+-- a known screen was mended
+pub draws_sets : {W T E : Type 0} (went : W → W → List ℕ → Type 0) (failures : W → ℕ) (a z : W) (answer : Result T E) (t : Table) (shown g : ℕ → ℕ → Ink) (w : Wanted) (b after : Belief)
     → Sets went failures a z answer t (paint_limit t shown g b w.cursor w.mode) b.mode w.cursor w.mode (Agrees t shown b) (Agrees t g after)
-    → OnOk answer (IsPlaced t.cols w.cursor after.place) → OnOk answer (EndsAt w.cursor (paint_limit t shown g b w.cursor w.mode) after.place) → OnOk answer (IsRested after) → OnOk answer (after.mode ≡ Some w.mode) → Draws went failures a z answer t shown g w status b after
-draws_known went failures a z answer t shown g w status b after e f h there at plainly mode =
+    → IsWithin t w.cursor → OnOk answer (IsSet w after) → Draws went failures a z answer t shown g (record w { clear = false }) Known b after
+draws_sets went failures a z answer t shown g w b after h within set = record {
+  step = h.step;
+  begins = tt;
+  there = on_ok_map answer (IsSet w after) (IsPlaced t.cols w.cursor after.place) (λ x. placed_at t w.cursor after.place within x.at) set;
+  at = on_ok_map answer (IsSet w after) (EndsAt w.cursor _ after.place) (λ x. inl x.at) set;
+  rested = on_ok_map answer (IsSet w after) (IsRested after) (λ x. x.rested) set;
+  mode = on_ok_map answer (IsSet w after) (after.mode ≡ Some w.mode) (λ x. x.mode) set;
+  quiet = h.quiet;
+}
+
+-- under other words for what is known and wanted
+pub draws_known : {W T E : Type 0} (went : W → W → List ℕ → Type 0) (failures : W → ℕ) (a z : W) (answer : Result T E) (t : Table) (shown g : ℕ → ℕ → Ink) (w : Wanted) (status : Status) (b after : Belief) → status ≡ Known → w.clear ≡ false
+    → Draws went failures a z answer t shown g (record w { clear = false }) Known b after → Draws went failures a z answer t shown g w status b after
+draws_known went failures a z answer t shown g w status b after e f h =
     let P : Status → Type 0 = λ x. Draws went failures a z answer t shown g w x b after in
     let Q : Wanted → Type 0 = λ x. Draws went failures a z answer t shown g x Known b after in
-    subst P (sym e) (subst Q (sym (as_wanted w false f)) (record { step = h.step; begins = tt; there = there; at = at; rested = plainly; mode = mode; quiet = h.quiet }))
+    subst P (sym e) (subst Q (sym (as_wanted w false f)) h)
 
 pub draws_clear : {W T E : Type 0} (went : W → W → List ℕ → Type 0) (failures : W → ℕ) (a z : W) (answer : Result T E) (t : Table) (shown g : ℕ → ℕ → Ink) (w : Wanted) (status : Status) (b after : Belief) → status ≡ Known → w.clear ≡ true
     → (line : List ℕ) → t.line_of Clear ≡ Some line → (n : ℕ) → n ≤ fresh_limit t → Anew went failures a z answer t n (Agrees t shown b) (Agrees t g after) line b.mode w
-    → OnOk answer (IsPlaced t.cols w.cursor after.place) → OnOk answer (IsAt w.cursor after.place) → OnOk answer (IsRested after) → OnOk answer (after.mode ≡ Some w.mode) → Draws went failures a z answer t shown g w status b after
-draws_clear went failures a z answer t shown g w status b after e f line is n le h there at plainly mode =
+    → IsWithin t w.cursor → OnOk answer (IsSet w after) → Draws went failures a z answer t shown g w status b after
+draws_clear went failures a z answer t shown g w status b after e f line is n le h within set =
     let P : Status → Type 0 = λ x. Draws went failures a z answer t shown g w x b after in
     let Q : Wanted → Type 0 = λ x. Draws went failures a z answer t shown g x Known b after in
     let D : State → Type 0 = then_kind answer (Agrees t g after) (IsLost t) in
     subst P (sym e) (subst Q (sym (as_wanted w true f)) (record {
       step = record { bytes = h.step.bytes; leads = leads_wider (IsPiece t) n (fresh_limit t) (IsLost t) (Agrees t shown b) D (Agrees t shown b) D h.step.bytes le (λ s x. x) (λ s x. x) h.step.leads; sends = h.step.sends };
       begins = record { line = line; is = is; begins = h.begins };
-      there = there;
-      at = on_ok_map answer (IsAt w.cursor after.place) (EndsAt w.cursor _ after.place) (λ x. inl x) at;
-      rested = plainly;
-      mode = mode;
+      there = on_ok_map answer (IsSet w after) (IsPlaced t.cols w.cursor after.place) (λ x. placed_at t w.cursor after.place within x.at) set;
+      at = on_ok_map answer (IsSet w after) (EndsAt w.cursor _ after.place) (λ x. inl x.at) set;
+      rested = on_ok_map answer (IsSet w after) (IsRested after) (λ x. x.rested) set;
+      mode = on_ok_map answer (IsSet w after) (after.mode ≡ Some w.mode) (λ x. x.mode) set;
       quiet = subst (λ (l : List ℕ). OnOk answer (OnlyPaints t l b.mode w.cursor w.mode h.step.bytes)) (sym (ap or_nothing is)) h.quiet;
     }))

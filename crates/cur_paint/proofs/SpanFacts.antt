@@ -1,35 +1,15 @@
--- A cell and those after it, one step after the other; and cells that go out in one piece.
-use Rattle.std.proofs.Common.{◌≡◌, ◌+◌, ◌*◌, ◌<◌, ◌≤◌, ℕ, Bool, true, false, refl, if◌then◌else◌, List, length-take, slice_index_or, take, Result, Ok, sym, ap, subst, ◌∙◌, arith}
+-- Cells that go out in one piece.
+use Rattle.std.proofs.Common.{◌≡◌, ◌+◌, ◌*◌, ◌<◌, ◌≤◌, ℕ, Bool, true, false, refl, if◌then◌else◌, List, length-take, slice_index_or, take, sym, ap, subst, ◌∙◌, arith}
 use Rattle.std.proofs.lemmas.List.{get_or-take}
-use Rattle.cur_wires.specs.Wire.{IsWire}
-use Rattle.cur_wires.proofs.Stops.{steps_next, steps_wider}
-use Rattle.ti_conforms.specs.Certified.{Table, IsLost, cell_limit}
-use Rattle.cur_steps.specs.Pieces.{IsPaint}
-use Rattle.cur_steps.specs.Inks.{mixed, same}
+use Rattle.ti_conforms.specs.Certified.{Table, cell_limit}
+use Rattle.cur_steps.specs.Inks.{same}
 use Rattle.cur_steps.specs.Stretches.{AreLike, AreShown}
 use Rattle.cur_steps.specs.declared.inks.Cells.{Cells}
-use Rattle.cur_steps.specs.Beliefs.{Agrees}
-use Rattle.cur_steps.specs.declared.beliefs.Belief.{Belief}
 use Rattle.cur_steps.specs.declared.inks.Ink.{Ink}
 use Rattle.cur_steps.proofs.Sameness.{byte_as_is}
 use Rattle.cur_paint.specs.Differ.{differs, span, IsSameBy}
-use Rattle.cur_paint.specs.Scenes.{AreInked, Mends}
-use Rattle.cur_paint.proofs.Mixtures.{span_first, span_grows, span_more, sum_limit, times_grows, agrees_at}
-
-pub first_then : {W T E U F : Type 0} (went : W → W → List ℕ → Type 0) (failures : W → ℕ) → IsWire went failures → (a b c : W) (v : U) (answer : Result T E) (t : Table) (old new : ℕ → ℕ → Ink) (row from n : ℕ) (x y z : Belief)
-    → Mends {T = U} {E = F} went failures a b (Ok v) t (differs old new row from) (mixed old new row from) (mixed old new row (from + 1)) x y
-    → Mends went failures b c answer t (span old new row (from + 1) n) (mixed old new row (from + 1)) (mixed old new row (from + 1 + n)) y z
-    → Mends went failures a c answer t (span old new row from (1 + n)) (mixed old new row from) (mixed old new row (from + (1 + n))) x z
-first_then went failures laws a b c v answer t old new row from n x y z first more =
-    let last = span old new row (from + 1) n * cell_limit t in
-    steps_next went failures laws a b c v answer (IsPaint t)
-    (differs old new row from * cell_limit t) last (span old new row from (1 + n) * cell_limit t) (IsLost t)
-    (Agrees t (mixed old new row from) x) (Agrees t (mixed old new row (from + 1)) y) (Agrees t (mixed old new row (from + (1 + n))) z)
-    (sum_limit _ _ _ (cell_limit t) (sym (span_first old new row from n))) first
-    (steps_wider went failures b c answer (IsPaint t) last last (IsLost t)
-    (Agrees t (mixed old new row (from + 1)) y) (Agrees t (mixed old new row (from + 1 + n)) z)
-    (Agrees t (mixed old new row (from + 1)) y) (Agrees t (mixed old new row (from + (1 + n))) z)
-    (omega arith) (λ s h. h) (agrees_at t old new row (from + 1 + n) (from + (1 + n)) z (omega arith)) more)
+use Rattle.cur_paint.specs.Scenes.{AreInked}
+use Rattle.cur_paint.proofs.Mixtures.{span_grows, span_more, times_grows}
 
 grows_each : (d few : ℕ) → (d + 1) * (few + 1) ≡ d * (few + 1) + (few + 1)
 grows_each d few = grind arith

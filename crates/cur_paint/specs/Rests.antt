@@ -6,6 +6,7 @@ use Rattle.cur_steps.specs.Inks.{plain_brush}
 use Rattle.cur_steps.specs.declared.beliefs.Belief.{Belief}
 use Rattle.cur_steps.specs.declared.beliefs.Place.{Place}
 use Rattle.cur_paint.specs.declared.updates.Cursor.{Cursor}
+use Rattle.cur_paint.specs.declared.updates.Wanted.{Wanted}
 
 -- the belief with which a refresh begins, from what is known of the cursor
 abbrev pub rested : Cursor → Belief
@@ -38,3 +39,9 @@ IsAt (Some p) now = now ≡ p
 -- the cursor is in the wanted place itself, or no byte may go out
 abbrev pub EndsAt : Option Place → ℕ → Place → Type 0
 EndsAt cursor limit now = IsAt cursor now ⊎ (limit ≡ 0)
+
+-- the cursor is in the wanted place itself and in the wanted mode, and all else is at rest
+pub record IsSet (w : Wanted) (b : Belief) : Type 0 where
+  pub at : IsAt w.cursor b.place
+  pub rested : IsRested b
+  pub mode : b.mode ≡ Some w.mode

@@ -1,20 +1,27 @@
 -- (Serves the code alone.) The operands of the painter's steps, and their promises.
-use Rattle.std.specs.Prelude.{ℕ, ◌+◌, ◌-◌, ◌*◌, ◌<◌, ◌≤◌, ◌≡◌, List, [], Option, Result, OnOk, slice_index_or}
+use Rattle.std.specs.Prelude.{ℕ, ◌+◌, ◌-◌, ◌*◌, ◌<◌, ◌≤◌, ◌≡◌, List, [], Option, Some, Result, OnOk, length}
+use Rattle.std.specs.Prelude.{slice_index_or}
 use Rattle.vt_term.specs.Screen.{State}
 use Rattle.cur_wires.specs.Steps.{Steps}
+use Rattle.ti_rows.specs.declared.rows.Row.TheVariants.{Clear}
 use Rattle.ti_conforms.specs.Certified.{Table, IsChecked, IsLost, IsPiece, cell_limit}
 use Rattle.cur_steps.specs.Inks.{CanShow, mixed, blank_ink}
-use Rattle.cur_steps.specs.Beliefs.{Agrees}
+use Rattle.cur_moves.specs.Scrolls.{shifted}
+use Rattle.cur_moves.specs.declared.scrolls.Scroll.{Scroll}
+use Rattle.cur_steps.specs.Beliefs.{Agrees, CanHide}
 use Rattle.cur_steps.specs.Steps.{Acts}
 use Rattle.cur_steps.specs.declared.beliefs.Belief.{Belief}
 use Rattle.cur_steps.specs.declared.beliefs.Mode.{Mode}
 use Rattle.cur_steps.specs.declared.beliefs.Place.{Place}
 use Rattle.cur_steps.specs.declared.inks.Cells.{Cells}
 use Rattle.cur_steps.specs.declared.inks.Ink.{Ink}
-use Rattle.cur_paint.specs.Differ.{differs, span, all_differ}
-use Rattle.cur_paint.specs.Limits.{paint_limit, renewal_limit}
+use Rattle.cur_paint.specs.Differ.{span, all_differ}
+use Rattle.cur_paint.specs.Limits.{IsWithin, paint_limit, renewal_limit}
 use Rattle.cur_paint.specs.Modes.{OnlyPaints}
+use Rattle.cur_paint.specs.Rests.{IsSet}
+use Rattle.cur_paint.specs.declared.painters.Painter.{Painter}
 use Rattle.cur_paint.specs.declared.screens.Screens.{Screens}
+use Rattle.cur_paint.specs.declared.updates.Wanted.{Wanted}
 
 -- a certificate's table, the cells that its terminal shows, and the wanted cells
 pub record Scene : Type 0 where
@@ -29,6 +36,10 @@ scene table old new s = record { table = table s.checked.now; old = old s.old.no
 pub record IsPaintable (s : Scene) : Type 0 where
   pub checked : IsChecked s.table
   pub drawable : CanShow s.table s.new
+
+-- the screens differ only where these changes say
+abbrev pub AreChanges : {D : Type 0} → (D → (ℕ → ℕ → Ink) → (ℕ → ℕ → Ink) → Type 0) → D → Scene → Type 0
+AreChanges between changes s = between changes s.old s.new
 
 -- the cells are on the screen
 pub record IsOn (t : Table) (cells : Cells) : Type 0 where
@@ -72,50 +83,57 @@ IsBlankPast s row col = (k : ℕ) → col ≤ k → k < s.table.cols → s.new r
 abbrev pub IsSamePast : Scene → ℕ → ℕ → Type 0
 IsSamePast s row col = (k : ℕ) → col ≤ k → k < s.table.cols → s.old row k ≡ s.new row k
 
--- a step from the cells g to the cells h that sends at most n times the bytes of a cell
-abbrev pub Mends : {W T E : Type 0} → (W → W → List ℕ → Type 0) → (W → ℕ) → W → W → Result T E → Table → ℕ
-    → (ℕ → ℕ → Ink) → (ℕ → ℕ → Ink) → Belief → Belief → Type 0
-Mends went failures before after answer t n g h b c =
-    Acts went failures before after answer t (n * cell_limit t) g h b c
+-- the painter has the screens, the belief and the wire that it had, whatever these hold now
+pub record IsSame {C O N W : Type 0} (before after : Painter C O N W) : Type 0 where
+  pub screens : after.screens ≡ before.screens
+  pub belief : after.belief.ghost_name ≡ before.belief.ghost_name
+  pub wire : after.wire.ghost_name ≡ before.wire.ghost_name
 
--- mends one cell, given that everything before it is right
-abbrev pub MendsCell : {W T E : Type 0} → (W → W → List ℕ → Type 0) → (W → ℕ) → W → W → Result T E → Scene
-    → ℕ → ℕ → Belief → Belief → Type 0
-MendsCell went failures before after answer s row col b c =
-    Mends went failures before after answer s.table (differs s.old s.new row col) (mended s row col)
-    (mended s row (col + 1)) b c
+-- A step of a painter from the cells g to the cells h of its scene, by at most n times the bytes of a cell. If nothing
+-- fails, the cursor's mode stays.
+pub record Mends {C O N W T E : Type 0} (table : C → Table) (old : O → ℕ → ℕ → Ink) (new : N → ℕ → ℕ → Ink)
+    (went : W → W → List ℕ → Type 0) (failures : W → ℕ) (before after : Painter C O N W) (answer : Result T E)
+    (n : Scene → ℕ) (g h : Scene → ℕ → ℕ → Ink) : Type 0 where
+  pub step :
+      let s = scene table old new before.screens.now in
+      Acts went failures before.wire.now after.wire.now answer s.table (n s * cell_limit s.table) (g s) (h s)
+      before.belief.now after.belief.now
+  pub mode : OnOk answer (after.belief.now.mode ≡ before.belief.now.mode)
+  pub same : IsSame before after
 
--- mends the cells, given that everything before them is right
-abbrev pub MendsCells : {W T E : Type 0} → (W → W → List ℕ → Type 0) → (W → ℕ) → W → W → Result T E → Scene
-    → Cells → Belief → Belief → Type 0
-MendsCells went failures before after answer s cells b c =
-    Mends went failures before after answer s.table (changed s cells) (mended s cells.row cells.from)
-    (mended s cells.row (cells.from + cells.count)) b c
+-- mends cells of a line, given that everything before them is right
+abbrev pub MendsCells : {C O N W T E : Type 0} → (C → Table) → (O → ℕ → ℕ → Ink) → (N → ℕ → ℕ → Ink)
+    → (W → W → List ℕ → Type 0) → (W → ℕ) → Painter C O N W → Painter C O N W → Result T E → Cells → Type 0
+MendsCells table old new went failures before after answer cells =
+    Mends table old new went failures before after answer (λ s. changed s cells)
+    (λ s. mended s cells.row cells.from) (λ s. mended s cells.row (cells.from + cells.count))
 
 -- mends a line from a column on, given that everything before that is right
-abbrev pub MendsFrom : {W T E : Type 0} → (W → W → List ℕ → Type 0) → (W → ℕ) → W → W → Result T E → Scene
-    → ℕ → ℕ → Belief → Belief → Type 0
-MendsFrom went failures before after answer s row col b c =
-    Mends went failures before after answer s.table (changed_from s row col) (mended s row col)
-    (mended s row s.table.cols) b c
+abbrev pub MendsFrom : {C O N W T E : Type 0} → (C → Table) → (O → ℕ → ℕ → Ink) → (N → ℕ → ℕ → Ink)
+    → (W → W → List ℕ → Type 0) → (W → ℕ) → Painter C O N W → Painter C O N W → Result T E → ℕ → ℕ → Type 0
+MendsFrom table old new went failures before after answer row col =
+    Mends table old new went failures before after answer (λ s. changed_from s row col)
+    (λ s. mended s row col) (λ s. mended s row s.table.cols)
 
 -- mends a line, given that all lines above it are right
-abbrev pub MendsLine : {W T E : Type 0} → (W → W → List ℕ → Type 0) → (W → ℕ) → W → W → Result T E → Scene
-    → ℕ → Belief → Belief → Type 0
-MendsLine went failures before after answer s row b c =
-    Mends went failures before after answer s.table (line_changed s row) (mended s row 0) (mended s (row + 1) 0) b c
+abbrev pub MendsLine : {C O N W T E : Type 0} → (C → Table) → (O → ℕ → ℕ → Ink) → (N → ℕ → ℕ → Ink)
+    → (W → W → List ℕ → Type 0) → (W → ℕ) → Painter C O N W → Painter C O N W → Result T E → ℕ → Type 0
+MendsLine table old new went failures before after answer row =
+    Mends table old new went failures before after answer (λ s. line_changed s row)
+    (λ s. mended s row 0) (λ s. mended s (row + 1) 0)
 
 -- mends a line and all below it, by the bytes of that line's cells, given that all lines above it are right
-abbrev pub MendsBelow : {W T E : Type 0} → (W → W → List ℕ → Type 0) → (W → ℕ) → W → W → Result T E → Scene
-    → ℕ → Belief → Belief → Type 0
-MendsBelow went failures before after answer s row b c =
-    Mends went failures before after answer s.table (line_changed s row) (mended s row 0) s.new b c
+abbrev pub MendsBelow : {C O N W T E : Type 0} → (C → Table) → (O → ℕ → ℕ → Ink) → (N → ℕ → ℕ → Ink)
+    → (W → W → List ℕ → Type 0) → (W → ℕ) → Painter C O N W → Painter C O N W → Result T E → ℕ → Type 0
+MendsBelow table old new went failures before after answer row =
+    Mends table old new went failures before after answer (λ s. line_changed s row)
+    (λ s. mended s row 0) (λ s. s.new)
 
 -- mends the whole screen
-abbrev pub MendsAll : {W T E : Type 0} → (W → W → List ℕ → Type 0) → (W → ℕ) → W → W → Result T E → Scene
-    → Belief → Belief → Type 0
-MendsAll went failures before after answer s b c =
-    Mends went failures before after answer s.table (all_changed s) s.old s.new b c
+abbrev pub MendsAll : {C O N W T E : Type 0} → (C → Table) → (O → ℕ → ℕ → Ink) → (N → ℕ → ℕ → Ink)
+    → (W → W → List ℕ → Type 0) → (W → ℕ) → Painter C O N W → Painter C O N W → Result T E → Type 0
+MendsAll table old new went failures before after answer =
+    Mends table old new went failures before after answer all_changed (λ s. s.old) (λ s. s.new)
 
 -- leads from one kind of states to another by at most a number of bytes; at the end the cursor, whose mode was `now` if
 -- that is known, gets its mode and its place
@@ -125,16 +143,35 @@ pub record Sets {W T E : Type 0} (went : W → W → List ℕ → Type 0) (failu
   pub step : Steps went failures old new answer (IsPiece t) limit (IsLost t) before after
   pub quiet : OnOk answer (OnlyPaints t [] now cursor mode step.bytes)
 
--- mends the whole screen, then makes the rendition the default one and gives the cursor its mode and its place
-abbrev pub Renews : {W T E : Type 0} → (W → W → List ℕ → Type 0) → (W → ℕ) → W → W → Result T E → Scene
-    → Option Place → Mode → Belief → Belief → Type 0
-Renews went failures before after answer s cursor mode b c =
-    Sets went failures before after answer s.table (renewal_limit s.table s.old s.new) b.mode cursor mode
-    (Agrees s.table s.old b) (Agrees s.table s.new c)
+-- the painter can mend the screen and set the cursor as wanted
+pub record CanPaint (s : Scene) (w : Wanted) : Type 0 where
+  pub scene : IsPaintable s
+  pub cursor : IsWithin s.table w.cursor
+  pub mode : CanHide s.table w.mode
 
--- mends the whole screen and sets the cursor as `Renews` does, by no byte if nothing is to be done
-abbrev pub Paints : {W T E : Type 0} → (W → W → List ℕ → Type 0) → (W → ℕ) → W → W → Result T E → Scene
-    → Option Place → Mode → Belief → Belief → Type 0
-Paints went failures before after answer s cursor mode b c =
-    Sets went failures before after answer s.table (paint_limit s.table s.old s.new b cursor mode) b.mode cursor mode
-    (Agrees s.table s.old b) (Agrees s.table s.new c)
+-- Leads a painter's terminal from the cells g of its scene to the wanted ones, in at most `limit` bytes. At the end the
+-- cursor is as wanted, and all else is at rest.
+pub record Ends {C O N W T E : Type 0} (table : C → Table) (old : O → ℕ → ℕ → Ink) (new : N → ℕ → ℕ → Ink)
+    (went : W → W → List ℕ → Type 0) (failures : W → ℕ) (before after : Painter C O N W) (answer : Result T E)
+    (limit : Scene → ℕ) (g : Scene → ℕ → ℕ → Ink) (w : Wanted) : Type 0 where
+  pub step :
+      let s = scene table old new before.screens.now in
+      Sets went failures before.wire.now after.wire.now answer s.table (limit s) before.belief.now.mode w.cursor w.mode
+      (Agrees s.table (g s) before.belief.now) (Agrees s.table s.new after.belief.now)
+  pub set : OnOk answer (IsSet w after.belief.now)
+  pub same : IsSame before after
+
+-- ---- what is weighed
+
+-- after a scroll fewer cells differ: fewer by the number of lines that it moves by, and 4 more
+abbrev pub ScrollSaves : Scene → Scroll → Type 0
+ScrollSaves s x = (x.count + 4) + all_differ (shifted x s.old) s.new s.table.cols s.table.rows ≤ all_changed s
+
+-- after `clear` fewer cells differ, and still fewer than that by the bytes of its line
+abbrev pub ClearSaves : Scene → Type 0
+ClearSaves s = (line : List ℕ) → s.table.line_of Clear ≡ Some line
+    → length line + all_differ (λ i j. blank_ink) s.new s.table.cols s.table.rows < all_changed s
+
+-- something is to be done, so that the bound of a refresh has a cell's limit once more
+abbrev pub IsDue : Scene → Belief → Wanted → Type 0
+IsDue s b w = renewal_limit s.table s.old s.new ≤ paint_limit s.table s.old s.new b w.cursor w.mode

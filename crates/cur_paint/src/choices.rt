@@ -1,12 +1,9 @@
 //! The choice of how a known screen is mended: not at all, directly, after a scroll, or after `clear`, by the number of
 //! cells that would differ.
-ghost use Rattle.std.specs.Prelude.{◌+◌, ◌<◌, ◌≡◌, ◌≤◌, IfSome, List, Some, false, length, true, ℕ};
-ghost use Rattle.cur_moves.specs.Scrolls.{CanScroll, shifted};
-ghost use Rattle.cur_paint.specs.Differ.{all_differ};
-ghost use Rattle.cur_paint.specs.Limits.{IsPlaced, last_move, paint_limit, renewal_limit};
-ghost use Rattle.cur_paint.specs.Scenes.{IsPaintable, all_changed, scene};
-ghost use Rattle.cur_steps.specs.Inks.{blank_ink};
-ghost use Rattle.ti_rows.specs.declared.rows.Row.TheVariants.{Clear};
+ghost use Rattle.std.specs.Prelude.{◌≡◌, IfSome, Some, false, true};
+ghost use Rattle.cur_moves.specs.Scrolls.{CanScroll};
+ghost use Rattle.cur_paint.specs.Limits.{IsPlaced, last_move};
+ghost use Rattle.cur_paint.specs.Scenes.{AreChanges, ClearSaves, IsDue, IsPaintable, ScrollSaves, all_changed, scene};
 
 use crate::changes::{Changes, Moved, Whole};
 use crate::clears::{may_become_blanks, saves};
@@ -31,13 +28,11 @@ pub(crate) fn is_still<C: Certificate, O: Picture, N: Picture, D: Changes>(
     wanted: Wanted,
 ) -> bool
     requires scene { IsPaintable (scene C.table O.cells N.cells screens.now) }
-    requires changes { D.between changes.now (O.cells screens.now.old.now) (N.cells screens.now.new.now) }
+    requires changes { AreChanges D.between changes.now (scene C.table O.cells N.cells screens.now) }
     ensures there { result ≡ true → IsPlaced (C.table screens.now.checked.now).cols wanted.cursor belief.place }
     ensures mode { result ≡ true → belief.mode ≡ Some wanted.mode }
     ensures same { result ≡ true → all_changed (scene C.table O.cells N.cells screens.now) ≡ 0 }
-    ensures due { result ≡ false → renewal_limit (C.table screens.now.checked.now) (O.cells screens.now.old.now)
-        (N.cells screens.now.new.now) ≤ paint_limit (C.table screens.now.checked.now) (O.cells screens.now.old.now)
-        (N.cells screens.now.new.now) belief wanted.cursor wanted.mode }
+    ensures due { result ≡ false → IsDue (scene C.table O.cells N.cells screens.now) belief wanted }
 {
     if !is_in_place(belief.place, screens.checked.cols(), wanted.cursor) {
         return false;
@@ -77,11 +72,9 @@ pub(crate) fn useful_scroll<C: Certificate, O: Picture, N: Picture, D: Changes>(
     changes: &D,
 ) -> Option<Scroll>
     requires scene { IsPaintable (scene C.table O.cells N.cells screens.now) }
-    requires changes { D.between changes.now (O.cells screens.now.old.now) (N.cells screens.now.new.now) }
+    requires changes { AreChanges D.between changes.now (scene C.table O.cells N.cells screens.now) }
     ensures can { IfSome result (λ x. CanScroll (C.table screens.now.checked.now) x) }
-    ensures fewer { IfSome result (λ x. (x.count + 4) + all_differ (shifted x (O.cells screens.now.old.now))
-        (N.cells screens.now.new.now) (C.table screens.now.checked.now).cols (C.table screens.now.checked.now).rows
-        ≤ all_changed (scene C.table O.cells N.cells screens.now)) }
+    ensures saves { IfSome result (λ x. ScrollSaves (scene C.table O.cells N.cells screens.now) x) }
 {
     useful(screens, changes, changes.scroll()?)
 }
@@ -95,11 +88,9 @@ fn useful<C: Certificate, O: Picture, N: Picture, D: Changes>(
     scroll: Scroll,
 ) -> Option<Scroll>
     requires scene { IsPaintable (scene C.table O.cells N.cells screens.now) }
-    requires changes { D.between changes.now (O.cells screens.now.old.now) (N.cells screens.now.new.now) }
+    requires changes { AreChanges D.between changes.now (scene C.table O.cells N.cells screens.now) }
     ensures can { IfSome result (λ x. CanScroll (C.table screens.now.checked.now) x) }
-    ensures fewer { IfSome result (λ x. (x.count + 4) + all_differ (shifted x (O.cells screens.now.old.now))
-        (N.cells screens.now.new.now) (C.table screens.now.checked.now).cols (C.table screens.now.checked.now).rows
-        ≤ all_changed (scene C.table O.cells N.cells screens.now)) }
+    ensures saves { IfSome result (λ x. ScrollSaves (scene C.table O.cells N.cells screens.now) x) }
 {
     if !can_scroll(screens.checked, scroll) {
         return None;
@@ -130,11 +121,8 @@ pub(crate) fn is_better_cleared<C: Certificate, O: Picture, N: Picture, D: Chang
     changes: &D,
 ) -> bool
     requires scene { IsPaintable (scene C.table O.cells N.cells screens.now) }
-    requires changes { D.between changes.now (O.cells screens.now.old.now) (N.cells screens.now.new.now) }
-    ensures fewer { result ≡ true → (line : List ℕ) → (C.table screens.now.checked.now).line_of Clear ≡ Some line
-        → length line + all_differ (λ i j. blank_ink) (N.cells screens.now.new.now)
-        (C.table screens.now.checked.now).cols (C.table screens.now.checked.now).rows
-        < all_changed (scene C.table O.cells N.cells screens.now) }
+    requires changes { AreChanges D.between changes.now (scene C.table O.cells N.cells screens.now) }
+    ensures saves { result ≡ true → ClearSaves (scene C.table O.cells N.cells screens.now) }
 {
     let rows = screens.checked.rows();
     let cols = screens.checked.cols();
@@ -149,11 +137,8 @@ fn takes_fewer_cleared<C: Certificate, O: Picture, N: Picture, D: Changes>(
     changes: &D,
 ) -> bool
     requires scene { IsPaintable (scene C.table O.cells N.cells screens.now) }
-    requires changes { D.between changes.now (O.cells screens.now.old.now) (N.cells screens.now.new.now) }
-    ensures fewer { result ≡ true → (line : List ℕ) → (C.table screens.now.checked.now).line_of Clear ≡ Some line
-        → length line + all_differ (λ i j. blank_ink) (N.cells screens.now.new.now)
-        (C.table screens.now.checked.now).cols (C.table screens.now.checked.now).rows
-        < all_changed (scene C.table O.cells N.cells screens.now) }
+    requires changes { AreChanges D.between changes.now (scene C.table O.cells N.cells screens.now) }
+    ensures saves { result ≡ true → ClearSaves (scene C.table O.cells N.cells screens.now) }
 {
     let clear = screens.checked.line(Row::Clear).unwrap().len();
     if !saves(screens.checked, &Blank, screens.old, screens.new, clear) {

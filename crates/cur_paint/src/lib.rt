@@ -11,6 +11,7 @@ mod fronts;
 mod lasting;
 mod laws;
 mod mending;
+mod painters;
 mod pieces;
 mod runs;
 mod screens;

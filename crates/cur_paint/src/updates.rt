@@ -7,21 +7,20 @@
 //!
 //! Functions that weigh one way against another send nothing: `choices.rt`, and for a line `pieces.rt`, `runs.rt` and
 //! `tails.rt`.
-ghost use Rattle.std.specs.Prelude.{◌≡◌, OnOk, Some};
+ghost use Rattle.std.specs.Prelude.{◌≡◌, false};
 ghost use Rattle.cur_paint.specs.Cleared.{at_start};
-ghost use Rattle.cur_paint.specs.Limits.{IsPlaced, IsWithin, paint_limit};
-ghost use Rattle.cur_paint.specs.Rests.{EndsAt, IsRested, cursor_of, rested};
-ghost use Rattle.cur_paint.specs.Scenes.{IsPaintable, Paints, scene};
+ghost use Rattle.cur_paint.specs.Limits.{IsWithin};
+ghost use Rattle.cur_paint.specs.Rests.{IsRested, cursor_of, rested};
+ghost use Rattle.cur_paint.specs.Scenes.{AreChanges, CanPaint, IsSame, scene};
 ghost use Rattle.cur_paint.specs.Update.{Draws, Made, Refreshes};
-ghost use Rattle.cur_paint.specs.declared.updates.Status.TheVariants.{Fresh};
+ghost use Rattle.cur_paint.specs.declared.updates.Status.TheVariants.{Fresh, Known};
 ghost use Rattle.cur_steps.specs.Beliefs.{CanHide};
 ghost use Rattle.cur_steps.specs.Inks.{CanShow};
 
 use crate::changes::Changes;
 use crate::choices::{is_better_cleared, is_still, useful_scroll};
-use crate::cursors::paint;
-use crate::fronts::{clear_first, repaint, scroll_first};
 use crate::lasting::Lasting;
+use crate::painters::Painter;
 use crate::screens::Screens;
 use cur_steps::{Belief, Brush, Mode, Picture, Place};
 use cur_wires::{Wire, WireFault};
@@ -56,7 +55,7 @@ pub fn update<C: Certificate, O: Picture, N: Picture, D: Changes, W: Wire>(
     Ok(())
 }
 
-/// Draws as `draw` does, to the end even if the wire fails: only a prefix of all the bytes goes out then.
+/// Draws to the end even if the wire fails: only a prefix of all the bytes goes out then.
 fn draw_whole<C: Certificate, O: Picture, N: Picture, D: Changes, W: Wire>(
     screens: &Screens<'_, C, O, N>,
     status: Status,
@@ -65,10 +64,8 @@ fn draw_whole<C: Certificate, O: Picture, N: Picture, D: Changes, W: Wire>(
     changes: &D,
     wanted: Wanted,
 ) -> Result<(), WireFault>
-    requires scene { IsPaintable (scene C.table O.cells N.cells screens.now) }
-    requires changes { D.between changes.now (O.cells screens.now.old.now) (N.cells screens.now.new.now) }
-    requires cursor { IsWithin (C.table screens.now.checked.now) wanted.cursor }
-    requires lines { CanHide (C.table screens.now.checked.now) wanted.mode }
+    requires can { CanPaint (scene C.table O.cells N.cells screens.now) wanted }
+    requires changes { AreChanges D.between changes.now (scene C.table O.cells N.cells screens.now) }
     requires rested { IsRested belief.old }
     ensures made { Made W.went W.failures wire.old wire.new result (C.table screens.now.checked.now)
         (O.cells screens.now.old.now) (N.cells screens.now.new.now) wanted status belief.old belief.new }
@@ -77,15 +74,15 @@ fn draw_whole<C: Certificate, O: Picture, N: Picture, D: Changes, W: Wire>(
         wire,
         failed: false,
     };
-    draw(screens, status, belief, &mut lasting, changes, wanted)?;
+    draw_on(screens, status, belief, &mut lasting, changes, wanted)?;
     if lasting.failed {
         return Err(WireFault);
     }
     Ok(())
 }
 
-/// Sends the differences if the terminal is known by `status` and isn't to be cleared, else everything.
-fn draw<C: Certificate, O: Picture, N: Picture, D: Changes, W: Wire>(
+/// Draws with a painter for this wire.
+fn draw_on<C: Certificate, O: Picture, N: Picture, D: Changes, W: Wire>(
     screens: &Screens<'_, C, O, N>,
     status: Status,
     belief: &mut Belief,
@@ -93,56 +90,68 @@ fn draw<C: Certificate, O: Picture, N: Picture, D: Changes, W: Wire>(
     changes: &D,
     wanted: Wanted,
 ) -> Result<(), WireFault>
-    requires scene { IsPaintable (scene C.table O.cells N.cells screens.now) }
-    requires changes { D.between changes.now (O.cells screens.now.old.now) (N.cells screens.now.new.now) }
-    requires cursor { IsWithin (C.table screens.now.checked.now) wanted.cursor }
-    requires lines { CanHide (C.table screens.now.checked.now) wanted.mode }
+    requires can { CanPaint (scene C.table O.cells N.cells screens.now) wanted }
+    requires changes { AreChanges D.between changes.now (scene C.table O.cells N.cells screens.now) }
     requires rested { IsRested belief.old }
     ensures draws { Draws W.went W.failures wire.old wire.new result (C.table screens.now.checked.now)
         (O.cells screens.now.old.now) (N.cells screens.now.new.now) wanted status belief.old belief.new }
 {
-    match (status, wanted.clear) {
-        (Status::Known, false) => mend(screens, belief, wire, changes, wanted),
-        (Status::Known, true) => clear_first(screens, belief, wire, wanted),
-        (Status::Fresh, _) => repaint(screens, belief, wire, Some(Mode::Normal), wanted),
-        (Status::Lost, _) => repaint(screens, belief, wire, None, wanted),
-    }
+    let mut painter = Painter {
+        screens,
+        belief,
+        wire,
+    };
+    painter.draw(status, changes, wanted)
 }
 
-/// Mends the differences from a known state; sends nothing if everything is as wanted. First the terminal scrolls, if
-/// `changes` names a scroll that leaves fewer cells to mend; or else everything is cleared and painted, if that is
-/// likely to take fewer bytes.
-fn mend<C: Certificate, O: Picture, N: Picture, D: Changes, W: Wire>(
-    screens: &Screens<'_, C, O, N>,
-    belief: &mut Belief,
-    wire: &mut W,
-    changes: &D,
-    wanted: Wanted,
-) -> Result<(), WireFault>
-    requires scene { IsPaintable (scene C.table O.cells N.cells screens.now) }
-    requires changes { D.between changes.now (O.cells screens.now.old.now) (N.cells screens.now.new.now) }
-    requires cursor { IsWithin (C.table screens.now.checked.now) wanted.cursor }
-    requires lines { CanHide (C.table screens.now.checked.now) wanted.mode }
-    requires rested { IsRested belief.old }
-    ensures there { OnOk result (IsPlaced (C.table screens.now.checked.now).cols wanted.cursor belief.new.place) }
-    ensures at { OnOk result (EndsAt wanted.cursor (paint_limit (C.table screens.now.checked.now)
-        (O.cells screens.now.old.now) (N.cells screens.now.new.now) belief.old wanted.cursor wanted.mode)
-        belief.new.place) }
-    ensures rested { OnOk result (IsRested belief.new) }
-    ensures mode { OnOk result (belief.new.mode ≡ Some wanted.mode) }
-    ensures step { Paints W.went W.failures wire.old wire.new result (scene C.table O.cells N.cells screens.now)
-        wanted.cursor wanted.mode belief.old belief.new }
-{
-    if is_still(screens, *belief, changes, wanted) {
-        return Ok(());
+impl<C: Certificate, O: Picture, N: Picture, W: Wire> Painter<'_, C, O, N, W> {
+    /// Sends the differences if the terminal is known by `status` and isn't to be cleared, else everything.
+    fn draw<D: Changes>(
+        &mut self,
+        status: Status,
+        changes: &D,
+        wanted: Wanted,
+    ) -> Result<(), WireFault>
+        requires can { CanPaint (scene C.table O.cells N.cells self.old.screens.now) wanted }
+        requires changes { AreChanges D.between changes.now (scene C.table O.cells N.cells self.old.screens.now) }
+        requires rested { IsRested self.old.belief.now }
+        ensures draws { Draws W.went W.failures self.old.wire.now self.new.wire.now result
+            (C.table self.old.screens.now.checked.now) (O.cells self.old.screens.now.old.now)
+            (N.cells self.old.screens.now.new.now) wanted status self.old.belief.now self.new.belief.now }
+        ensures same { IsSame self.old self.new }
+    {
+        match (status, wanted.clear) {
+            (Status::Known, false) => self.mend(changes, wanted),
+            (Status::Known, true) => self.clear_first(wanted),
+            (Status::Fresh, _) => self.repaint(Some(Mode::Normal), wanted),
+            (Status::Lost, _) => self.repaint(None, wanted),
+        }
     }
-    if let Some(scroll) = useful_scroll(screens, changes) {
-        return scroll_first(screens, belief, wire, changes, scroll, wanted);
+
+    /// Mends the differences from a known state; sends nothing if everything is as wanted. First the terminal scrolls,
+    /// if `changes` names a scroll that leaves fewer cells to mend; or else everything is cleared and painted, if that
+    /// is likely to take fewer bytes.
+    fn mend<D: Changes>(&mut self, changes: &D, wanted: Wanted) -> Result<(), WireFault>
+        requires can { CanPaint (scene C.table O.cells N.cells self.old.screens.now) wanted }
+        requires changes { AreChanges D.between changes.now (scene C.table O.cells N.cells self.old.screens.now) }
+        requires rested { IsRested self.old.belief.now }
+        ensures draws { Draws W.went W.failures self.old.wire.now self.new.wire.now result
+            (C.table self.old.screens.now.checked.now) (O.cells self.old.screens.now.old.now)
+            (N.cells self.old.screens.now.new.now) (record wanted { clear = false }) Known self.old.belief.now
+            self.new.belief.now }
+        ensures same { IsSame self.old self.new }
+    {
+        if is_still(self.screens, *self.belief, changes, wanted) {
+            return Ok(());
+        }
+        if let Some(scroll) = useful_scroll(self.screens, changes) {
+            return self.scroll_first(changes, scroll, wanted);
+        }
+        if is_better_cleared(self.screens, changes) {
+            return self.clear_first(wanted);
+        }
+        self.paint(changes, wanted)
     }
-    if is_better_cleared(screens, changes) {
-        return clear_first(screens, belief, wire, wanted);
-    }
-    paint(screens, belief, wire, changes, wanted)
 }
 
 /// How much is known of the terminal as a whole.

@@ -1,0 +1,60 @@
+-- The end of a refresh, after other steps of the painter.
+use Rattle.std.proofs.Common.{◌≡◌, ℕ, ◌+◌, ◌≤◌, List, Option, Some, Result, Ok, Err, subst, ap, ◌∙◌}
+use Rattle.std.specs.Prelude.{OnOk}
+use Rattle.cur_wires.specs.Wire.{IsWire}
+use Rattle.ti_conforms.specs.Certified.{Table}
+use Rattle.cur_steps.specs.Beliefs.{Agrees}
+use Rattle.cur_steps.specs.Steps.{Acts}
+use Rattle.cur_steps.specs.declared.beliefs.Belief.{Belief}
+use Rattle.cur_steps.specs.declared.beliefs.Mode.{Mode}
+use Rattle.cur_steps.specs.declared.inks.Ink.{Ink}
+use Rattle.cur_paint.specs.Rests.{IsAt, IsRested, IsSet}
+use Rattle.cur_paint.specs.Scenes.{Ends, IsSame, Scene, Sets, scene}
+use Rattle.cur_paint.specs.declared.painters.Painter.{Painter}
+use Rattle.cur_paint.specs.declared.updates.Wanted.{Wanted}
+use Rattle.cur_paint.proofs.ModeFacts.{sets_after, sets_cut}
+use Rattle.cur_paint.proofs.Painting.{same_then}
+
+-- other steps first
+pub ends_after : {C O N W T E U F : Type 0} {table : C → Table} {old : O → ℕ → ℕ → Ink} {new : N → ℕ → ℕ → Ink} {went : W → W → List ℕ → Type 0} {failures : W → ℕ} {a b c : Painter C O N W} {v : U} {answer : Result T E} {j : ℕ} {k limit : Scene → ℕ} {f g : Scene → ℕ → ℕ → Ink} {w : Wanted}
+    → IsWire went failures → (let s = scene table old new a.screens.now in Acts {T = U} {E = F} went failures a.wire.now b.wire.now (Ok v) s.table j (f s) (g s) a.belief.now b.belief.now)
+    → b.belief.now.mode ≡ a.belief.now.mode → IsSame a b → Ends table old new went failures b c answer k g w
+    → j + k (scene table old new a.screens.now) ≤ limit (scene table old new a.screens.now)
+    → Ends table old new went failures a c answer limit f w
+ends_after {table} {old} {new} {went} {failures} {a} {b} {c} {v} {answer} {j} {k} {limit} {f} {g} {w} laws first mode same last le =
+    let s : Scene = scene table old new a.screens.now in
+    let t : Table = s.table in
+    let here : Sets went failures b.wire.now c.wire.now answer t (k s) b.belief.now.mode w.cursor w.mode (Agrees t (g s) b.belief.now) (Agrees t s.new c.belief.now) =
+    subst (λ x. (let z = scene table old new x.now in Sets went failures b.wire.now c.wire.now answer z.table (k z) b.belief.now.mode w.cursor w.mode (Agrees z.table (g z) b.belief.now) (Agrees z.table z.new c.belief.now))) same.screens last.step in
+    let step : Sets went failures b.wire.now c.wire.now answer t (k s) a.belief.now.mode w.cursor w.mode (Agrees t (g s) b.belief.now) (Agrees t s.new c.belief.now) =
+    subst (λ (o : Option Mode). Sets went failures b.wire.now c.wire.now answer t (k s) o w.cursor w.mode (Agrees t (g s) b.belief.now) (Agrees t s.new c.belief.now)) mode here in
+    record {
+      step = sets_after went failures laws a.wire.now b.wire.now c.wire.now v answer t j (k s) (limit s) a.belief.now.mode w.cursor w.mode (Agrees t (f s) a.belief.now) (Agrees t (g s) b.belief.now) (Agrees t s.new c.belief.now) le first step;
+      set = last.set;
+      same = same_then a b c same last.same;
+    }
+
+-- they were cut short
+pub ends_cut : {C O N W T E F : Type 0} {table : C → Table} {old : O → ℕ → ℕ → Ink} {new : N → ℕ → ℕ → Ink} {went : W → W → List ℕ → Type 0} {failures : W → ℕ} {a b : Painter C O N W} {v : E} {u : F} {j : ℕ} {limit : Scene → ℕ} {f : Scene → ℕ → ℕ → Ink} {w : Wanted} (h : ℕ → ℕ → Ink)
+    → (let s = scene table old new a.screens.now in Acts {T = T} {E = E} went failures a.wire.now b.wire.now (Err v) s.table j (f s) h a.belief.now b.belief.now)
+    → IsSame a b → j ≤ limit (scene table old new a.screens.now) → Ends {T = T} {E = F} table old new went failures a b (Err u) limit f w
+ends_cut {table} {old} {new} {went} {failures} {a} {b} {v} {u} {j} {limit} {f} {w} h first same le =
+    let s : Scene = scene table old new a.screens.now in
+    let t : Table = s.table in
+    record {
+      step = sets_cut went failures a.wire.now b.wire.now v u t j (limit s) a.belief.now.mode w.cursor w.mode (Agrees t (f s) a.belief.now) (Agrees t h b.belief.now) (Agrees t s.new b.belief.now) le first;
+      set = tt;
+      same = same;
+    }
+
+-- at rest, and then with the cursor's mode and place
+pub now_set : {T E : Type 0} (answer : Result T E) (w : Wanted) (a b c : Belief) → IsRested a → b ≡ record a { mode = Some w.mode } → OnOk answer (IsAt w.cursor c.place) → OnOk answer (c ≡ record b { place = c.place }) → OnOk answer (IsSet w c)
+now_set (Ok v) w a b c rested shown at e = record {
+  at = at;
+  rested = record {
+    brush = ap (λ (x : Belief). x.brush) e ∙ ap (λ (x : Belief). x.brush) shown ∙ rested.brush;
+    set = ap (λ (x : Belief). x.graphic) e ∙ ap (λ (x : Belief). x.graphic) shown ∙ rested.set;
+  };
+  mode = ap (λ (x : Belief). x.mode) e ∙ ap (λ (x : Belief). x.mode) shown;
+}
+now_set (Err v) w a b c rested shown at e = tt
