@@ -1,11 +1,12 @@
 -- Steps of a painter, one after another.
-use Rattle.std.proofs.Common.{◌≡◌, ℕ, ◌+◌, ◌-◌, ◌*◌, ◌<◌, ◌≤◌, List, Result, Ok, Err, refl, ap, subst, ◌∙◌, arith}
+use Rattle.std.proofs.Common.{◌≡◌, true, ℕ, ◌+◌, ◌-◌, ◌*◌, ◌<◌, ◌≤◌, List, Result, Ok, Err, refl, ap, subst, ◌∙◌, arith}
 use Rattle.std.specs.Prelude.{OnOk}
 use Rattle.cur_wires.specs.Wire.{IsWire}
 use Rattle.cur_wires.proofs.Stops.{on_ok_map, steps_fail, steps_next, steps_nothing, steps_wider}
 use Rattle.ti_conforms.specs.Certified.{Table, IsChecked, IsLost, cell_limit}
 use Rattle.cur_steps.specs.Beliefs.{Agrees}
-use Rattle.cur_steps.specs.Inks.{mixed}
+use Rattle.cur_steps.specs.Gaps.{BeginsAs}
+use Rattle.cur_steps.specs.Inks.{mixed, same}
 use Rattle.cur_steps.specs.Pieces.{IsPaint}
 use Rattle.cur_steps.specs.Steps.{Acts}
 use Rattle.cur_steps.specs.declared.inks.Ink.{Ink}
@@ -13,7 +14,7 @@ use Rattle.cur_steps.proofs.Actions.{agrees_lost}
 use Rattle.cur_paint.specs.Differ.{span}
 use Rattle.cur_paint.specs.Scenes.{IsSame, Mends, MendsCells, MendsFrom, Scene, line_changed, mended, scene}
 use Rattle.cur_paint.specs.declared.painters.Painter.{Painter}
-use Rattle.cur_paint.proofs.Mixtures.{agrees_as, mixed_front, mixed_same, span_grows, span_join, span_parts, span_split, sum_limit, times_grows}
+use Rattle.cur_paint.proofs.Mixtures.{agrees_as, found_same, mixed_before, mixed_front, mixed_same, span_grows, some_times, span_join, span_parts, span_split, sum_limit, times_grows}
 
 -- the cells are equal on the screen
 abbrev pub AreEqual : Table → (ℕ → ℕ → Ink) → (ℕ → ℕ → Ink) → Type 0
@@ -143,14 +144,25 @@ cells_none {table} {old} {new} {a} row from laws checked =
     mends_none laws checked (at_as s.table s.old s.new row from (from + 0) (omega arith))
 
 -- cells, and one after them that doesn't differ
-pub cells_skip : {C O N W T E : Type 0} {table : C → Table} {old : O → ℕ → ℕ → Ink} {new : N → ℕ → ℕ → Ink} {went : W → W → List ℕ → Type 0} {failures : W → ℕ} {a b : Painter C O N W} {answer : Result T E} (row from n : ℕ)
-    → MendsCells table old new went failures a b answer (record { row = row; from = from; count = n }) → old b.screens.now.old.now row (from + n) ≡ new b.screens.now.new.now row (from + n)
+pub cells_skip : {C O N W T E : Type 0} {table : C → Table} {old : O → ℕ → ℕ → Ink} {new : N → ℕ → ℕ → Ink} {went : W → W → List ℕ → Type 0} {failures : W → ℕ} {a b : Painter C O N W} {answer : Result T E} (row from n : ℕ) (ink : Ink)
+    → MendsCells table old new went failures a b answer (record { row = row; from = from; count = n }) → ink ≡ new b.screens.now.new.now row (from + n) → true ≡ same (old b.screens.now.old.now row (from + n)) ink
     → MendsCells table old new went failures a b answer (record { row = row; from = from; count = n + 1 })
-cells_skip {table} {old} {new} {a} {b} row from n first e =
+cells_skip {table} {old} {new} {a} {b} row from n ink first is e =
     let s : Scene = scene table old new a.screens.now in
-    let here : s.old row (from + n) ≡ s.new row (from + n) = subst (λ x. old x.now.old.now row (from + n) ≡ new x.now.new.now row (from + n)) first.same.screens e in
+    let here : s.old row (from + n) ≡ s.new row (from + n) = subst (λ x. old x.now.old.now row (from + n) ≡ new x.now.new.now row (from + n)) first.same.screens (found_same (old b.screens.now.old.now) (new b.screens.now.new.now) row (from + n) (old b.screens.now.old.now row (from + n)) ink refl is e) in
     mends_as first (span_grows s.old s.new row from n (n + 1) (omega arith)) (itself s.table (mended s row from))
     (λ i j li lj. mixed_same s.old s.new row (from + n) i j here ∙ at_as s.table s.old s.new row (from + n + 1) (from + (n + 1)) (omega arith) i j li lj)
+
+-- a single action, whatever the cells are, of at most the bytes of one of them
+pub cells_by : {C O N W T E : Type 0} {table : C → Table} {old : O → ℕ → ℕ → Ink} {new : N → ℕ → ℕ → Ink} {went : W → W → List ℕ → Type 0} {failures : W → ℕ} {a b : Painter C O N W} {answer : Result T E} (row from n : ℕ) (h : (ℕ → ℕ → Ink) → ℕ → ℕ → Ink)
+    → ((g : ℕ → ℕ → Ink) → BeginsAs g (new a.screens.now.new.now) row from → Acts went failures a.wire.now b.wire.now answer (table a.screens.now.checked.now) (cell_limit (table a.screens.now.checked.now)) g (h g) a.belief.now b.belief.now)
+    → 0 < span (old a.screens.now.old.now) (new a.screens.now.new.now) row from n
+    → AreEqual (table a.screens.now.checked.now) (h (mixed (old a.screens.now.old.now) (new a.screens.now.new.now) row from)) (mixed (old a.screens.now.old.now) (new a.screens.now.new.now) row (from + n))
+    → OnOk answer (b.belief.now.mode ≡ a.belief.now.mode) → IsSame a b → MendsCells table old new went failures a b answer (record { row = row; from = from; count = n })
+cells_by {table} {old} {new} {a} row from n h step some e mode same =
+    let s : Scene = scene table old new a.screens.now in
+    let before = mended s row from in
+    mends_by (cell_limit s.table) (h before) (step before (mixed_before s.old s.new row from)) (some_times _ (cell_limit s.table) some) e mode same
 
 -- ---- a line
 

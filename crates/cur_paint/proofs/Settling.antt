@@ -1,5 +1,5 @@
 -- The end of a refresh, after other steps of the painter.
-use Rattle.std.proofs.Common.{◌≡◌, ℕ, ◌+◌, ◌≤◌, List, Option, Some, Result, Ok, Err, subst, ap, ◌∙◌}
+use Rattle.std.proofs.Common.{◌≡◌, false, ℕ, ◌+◌, ◌≤◌, List, Option, Some, Result, Ok, Err, subst, ap, ◌∙◌}
 use Rattle.std.specs.Prelude.{OnOk}
 use Rattle.cur_wires.specs.Wire.{IsWire}
 use Rattle.ti_conforms.specs.Certified.{Table}
@@ -11,9 +11,13 @@ use Rattle.cur_steps.specs.declared.inks.Ink.{Ink}
 use Rattle.cur_paint.specs.Rests.{IsAt, IsRested, IsSet}
 use Rattle.cur_paint.specs.Scenes.{Ends, IsSame, Scene, Sets, scene}
 use Rattle.cur_paint.specs.declared.painters.Painter.{Painter}
+use Rattle.cur_paint.specs.declared.updates.Status.TheVariants.{Known}
 use Rattle.cur_paint.specs.declared.updates.Wanted.{Wanted}
-use Rattle.cur_paint.proofs.ModeFacts.{sets_after, sets_cut}
+use Rattle.cur_paint.specs.Limits.{IsWithin, paint_limit}
+use Rattle.cur_paint.specs.Update.{Draws}
+use Rattle.cur_paint.proofs.ModeFacts.{sets_after, sets_cut, sets_wider}
 use Rattle.cur_paint.proofs.Painting.{same_then}
+use Rattle.cur_paint.proofs.Renewals.{draws_sets}
 
 -- other steps first
 pub ends_after : {C O N W T E U F : Type 0} {table : C → Table} {old : O → ℕ → ℕ → Ink} {new : N → ℕ → ℕ → Ink} {went : W → W → List ℕ → Type 0} {failures : W → ℕ} {a b c : Painter C O N W} {v : U} {answer : Result T E} {j : ℕ} {k limit : Scene → ℕ} {f g : Scene → ℕ → ℕ → Ink} {w : Wanted}
@@ -58,3 +62,15 @@ now_set (Ok v) w a b c rested shown at e = record {
   mode = ap (λ (x : Belief). x.mode) e ∙ ap (λ (x : Belief). x.mode) shown;
 }
 now_set (Err v) w a b c rested shown at e = tt
+
+-- a known screen is mended so, within the bound of a refresh
+pub draws_ends : {C O N W T E : Type 0} {table : C → Table} {old : O → ℕ → ℕ → Ink} {new : N → ℕ → ℕ → Ink} {went : W → W → List ℕ → Type 0} {failures : W → ℕ} {a c : Painter C O N W} {answer : Result T E} {limit : Scene → ℕ} {w : Wanted}
+    → Ends table old new went failures a c answer limit (λ s. s.old) w
+    → (let s = scene table old new a.screens.now in limit s ≤ paint_limit s.table s.old s.new a.belief.now w.cursor w.mode) → IsWithin (table a.screens.now.checked.now) w.cursor
+    → (let s = scene table old new a.screens.now in Draws went failures a.wire.now c.wire.now answer s.table s.old s.new (record w { clear = false }) Known a.belief.now c.belief.now)
+draws_ends {table} {old} {new} {went} {failures} {a} {c} {answer} {limit} {w} ends le within =
+    let s : Scene = scene table old new a.screens.now in
+    let t : Table = s.table in
+    let b = a.belief.now in
+    draws_sets went failures a.wire.now c.wire.now answer t s.old s.new w b c.belief.now
+    (sets_wider went failures a.wire.now c.wire.now answer t (limit s) (paint_limit t s.old s.new b w.cursor w.mode) b.mode w.cursor w.mode (Agrees t s.old b) (Agrees t s.new c.belief.now) le ends.step) within ends.set

@@ -34,7 +34,7 @@ impl<C: Certificate, O: Picture, N: Picture, W: Wire> Painter<'_, C, O, N, W> {
         for row in lines.from..lines.end {
             let columns = changes.columns(row, cols);
             let tail = tail_from(screens.new, row, columns, cols);
-            let bottom = bottom_from(screens, changes, row, columns, tail, solid);
+            let bottom = bottom_from(screens, changes, Place { row, col: tail }, columns, solid);
             solid = bottom.solid;
             match rest_line(screens.checked, bottom.col, cols) {
                 Some(line) => {

@@ -114,39 +114,36 @@ fn erasure_of<C: Certificate, N: Picture>(
     let start = from + run.start;
     let end = from + run.end;
     let part = ErasedPart::Part((end - start) as u16);
-    if pays(checked, part, row, start, end, run.differing) {
+    if pays(checked, part, Place { row, col: start }, end, run.differing) {
         return Some(part);
     }
     let last = Place { row, col: end - 1 };
     let cup = line_bytes(checked, None, last);
     let rest = run.differing.saturating_sub(cup);
-    if pays(checked, ErasedPart::Head, row, end - 1, end, rest) && are_blank(new, row, 0, start) {
+    if pays(checked, ErasedPart::Head, last, end, rest) && are_blank(new, row, 0, start) {
         return Some(ErasedPart::Head);
     }
     None
 }
 
-/// Whether the `erasure` in line `row` and column `from`, and a move from there to the column `to`, take fewer bytes
-/// than `bytes`.
+/// Whether the `erasure` at the place `at`, and a move from there to the column `to`, take fewer bytes than `bytes`.
 fn pays<C: Certificate>(
     checked: &C,
     erasure: ErasedPart,
-    row: usize,
-    from: usize,
+    at: Place,
     to: usize,
     bytes: usize,
 ) -> bool
     requires checked { IsChecked (C.table checked.now) }
-    requires row { row < (C.table checked.now).rows }
-    requires from { from < (C.table checked.now).cols }
+    requires row { at.row < (C.table checked.now).rows }
+    requires col { at.col < (C.table checked.now).cols }
     requires to { to ≤ (C.table checked.now).cols }
 {
     let last = checked.cols() - 1;
     match erasing_line(checked, erasure) {
         Some(line) => {
-            let at = Place { row, col: from };
             let after = Place {
-                row,
+                row: at.row,
                 col: to.min(last),
             };
             let on = line_bytes(checked, Some(at), after);

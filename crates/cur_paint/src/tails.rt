@@ -10,7 +10,7 @@ use crate::pieces::differs_in;
 use crate::runs::are_blank;
 use crate::screens::Screens;
 use cur_moves::{ErasedPart, erasing_line};
-use cur_steps::{Cells, Picture};
+use cur_steps::{Cells, Picture, Place};
 use ti_conforms::Certificate;
 use ti_rows::Row;
 
@@ -22,31 +22,32 @@ pub(crate) struct Bottom {
     pub solid: usize,
 }
 
-/// The column `tail` of the line `row`, if one `ed` from there on can erase the rest of the screen: everything there is
-/// to be blank, the end of the `columns` and the next line may differ, and `ed` is no longer than erasing line by line.
+/// The column of the place `tail`, if one `ed` from there on can erase the rest of the screen: everything there is to be
+/// blank, the end of the line's `columns` and the next line may differ, and `ed` is no longer than erasing line by line.
 /// The line `solid`, if it is below, isn't blank.
 #[inline(always)]
 pub(crate) fn bottom_from<C: Certificate, O: Picture, N: Picture, D: Changes>(
     screens: &Screens<'_, C, O, N>,
     changes: &D,
-    row: usize,
+    tail: Place,
     columns: Columns,
-    tail: usize,
     solid: usize,
 ) -> Bottom
     requires scene { IsPaintable (scene C.table O.cells N.cells screens.now) }
-    requires row { row < (C.table screens.now.checked.now).rows }
+    requires row { tail.row < (C.table screens.now.checked.now).rows }
     requires within { columns.end ≤ (C.table screens.now.checked.now).cols }
-    requires blank { tail < columns.end → IsBlankPast (scene C.table O.cells N.cells screens.now) row tail }
+    requires blank { tail.col < columns.end
+        → IsBlankPast (scene C.table O.cells N.cells screens.now) tail.row tail.col }
     ensures differs { result.col < (C.table screens.now.checked.now).cols
-        → 0 < changed_from (scene C.table O.cells N.cells screens.now) row result.col }
+        → 0 < changed_from (scene C.table O.cells N.cells screens.now) tail.row result.col }
     ensures blank { result.col < (C.table screens.now.checked.now).cols → IsBlankFrom (N.cells screens.now.new.now)
-        (C.table screens.now.checked.now).rows (C.table screens.now.checked.now).cols row result.col }
-    ensures tail { result.col < (C.table screens.now.checked.now).cols → result.col ≡ tail }
+        (C.table screens.now.checked.now).rows (C.table screens.now.checked.now).cols tail.row result.col }
+    ensures tail { result.col < (C.table screens.now.checked.now).cols → result.col ≡ tail.col }
 {
     let rows = screens.checked.rows();
     let cols = screens.checked.cols();
-    if tail >= columns.end || row < solid || !may_differ(changes, row + 1, rows, cols) {
+    let row = tail.row;
+    if tail.col >= columns.end || row < solid || !may_differ(changes, row + 1, rows, cols) {
         return Bottom { col: cols, solid };
     }
     if erasing_line(screens.checked, ErasedPart::Rest).is_none() {
@@ -58,16 +59,19 @@ pub(crate) fn bottom_from<C: Certificate, O: Picture, N: Picture, D: Changes>(
     let solid = first_solid(screens.new, row + 1, rows, cols);
     let end = Cells {
         row,
-        from: tail,
-        count: cols - tail,
+        from: tail.col,
+        count: cols - tail.col,
     };
     if solid < rows || !differs_in(screens.old, screens.new, end) {
         return Bottom { col: cols, solid };
     }
-    if !rest_is_short(screens, row, tail) {
+    if !rest_is_short(screens, row, tail.col) {
         return Bottom { col: cols, solid };
     }
-    Bottom { col: tail, solid }
+    Bottom {
+        col: tail.col,
+        solid,
+    }
 }
 
 /// Whether erasing everything from the line `row` and the column `tail` on takes no more bytes than erasing line by

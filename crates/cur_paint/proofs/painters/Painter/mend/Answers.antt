@@ -1,4 +1,4 @@
-use Rattle.std.proofs.Common.{◌≡◌, ℕ, ◌+◌, List, [], ◌∷◌, Some, inr, length, refl, sym}
+use Rattle.std.proofs.Common.{arith, ◌≡◌, ℕ, ◌+◌, List, [], ◌∷◌, Some, inr, length, refl, sym}
 use Rattle.std.proofs.lemmas.List.{append-nil}
 use Rattle.ti_conforms.specs.Certified.{Table}
 use Rattle.ti_rows.specs.declared.rows.Row.TheVariants.{Clear}
@@ -14,6 +14,7 @@ use Rattle.cur_paint.proofs.ModeFacts.{quiet_joined, sets_nothing, sets_wider}
 use Rattle.cur_paint.proofs.Agreeing.{IsThere, there}
 use Rattle.cur_paint.proofs.Mixtures.{agrees_as, all_same}
 use Rattle.cur_paint.proofs.Renewals.{draws_sets}
+use Rattle.cur_paint.proofs.Settling.{draws_ends}
 use Rattle.cur_paint.proofs.painters.Painter.mend.Goals as goal
 
 -- a line that paints
@@ -41,11 +42,7 @@ returns-then-is_still-clause-draws g c =
     }
 
 pub returns-in-Some-clause-draws : goal.returns-in-Some-clause-draws
-returns-in-Some-clause-draws g c =
-    let t = g.C.Certificate.table c.args.self.now.screens.now.checked.now in
-    let old = g.O.Picture.cells c.args.self.now.screens.now.old.now in
-    let new = g.N.Picture.cells c.args.self.now.screens.now.new.now in
-    draws_sets g.W.Wire.went g.W.Wire.failures c.args.self.now.wire.now c.scroll_first.new.self.wire.now c.scroll_first.result t old new c.args.wanted c.args.self.now.belief.now c.scroll_first.new.self.belief.now c.scroll_first.ensures.ends.step c.requires.can.cursor c.scroll_first.ensures.ends.set
+returns-in-Some-clause-draws g c = draws_ends c.scroll_first.ensures.ends (omega arith) c.requires.can.cursor
 
 pub returns-then-is_better_cleared-clause-draws : goal.returns-then-is_better_cleared-clause-draws
 returns-then-is_better_cleared-clause-draws g c =
@@ -64,12 +61,4 @@ returns-then-is_better_cleared-clause-draws g c =
     (record { step = anew.step; quiet = quiet_joined c.clear_first.result t k.bytes b.mode w.cursor w.mode anew.step.bytes (painted_line t k.bytes k.is) anew.quiet })) c.requires.can.cursor c.clear_first.ensures.set
 
 pub returns-clause-draws : goal.returns-clause-draws
-returns-clause-draws g c =
-    let t = g.C.Certificate.table c.args.self.now.screens.now.checked.now in
-    let old = g.O.Picture.cells c.args.self.now.screens.now.old.now in
-    let new = g.N.Picture.cells c.args.self.now.screens.now.new.now in
-    let b = c.args.self.now.belief.now in
-    let w = c.args.wanted in
-    let z = c.paint.new.self in
-    draws_sets g.W.Wire.went g.W.Wire.failures c.args.self.now.wire.now z.wire.now c.paint.result t old new w b z.belief.now
-    (sets_wider g.W.Wire.went g.W.Wire.failures c.args.self.now.wire.now z.wire.now c.paint.result t (renewal_limit t old new) (paint_limit t old new b w.cursor w.mode) b.mode w.cursor w.mode (Agrees t old b) (Agrees t new z.belief.now) (c.is_still.ensures.due c.if-is_still.false) c.paint.ensures.ends.step) c.requires.can.cursor c.paint.ensures.ends.set
+returns-clause-draws g c = draws_ends c.paint.ensures.ends (c.is_still.ensures.due c.if-is_still.false) c.requires.can.cursor

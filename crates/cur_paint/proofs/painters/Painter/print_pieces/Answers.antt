@@ -1,6 +1,6 @@
 use Rattle.std.proofs.Common.{◌+◌, refl, arith}
 use Rattle.std.proofs.lemmas.Result.{err_from_is_err_and}
-use Rattle.cur_paint.proofs.Mixtures.{found_different, found_same}
+use Rattle.cur_paint.proofs.Mixtures.{found_different}
 use Rattle.cur_paint.proofs.Painting.{cells_fail, cells_none, cells_skip, cells_then}
 use Rattle.cur_paint.proofs.painters.Painter.print_pieces.Goals as goal
 
@@ -17,18 +17,17 @@ loop-done-preserved g c =
 
 pub loop-done-preserved-then-shows : goal.loop-done-preserved-then-shows
 loop-done-preserved-then-shows g c =
-    let old = g.O.Picture.cells c.loop-done.self.screens.now.old.now in
-    let at = c.args.cells.from + c.loop-done.done in
     record {
       within = omega (arith, c.loop-done-test.true, c.loop-done.invariant.within);
-      mends = cells_skip c.args.cells.row c.args.cells.from c.loop-done.done c.loop-done.invariant.mends (found_same old (g.N.Picture.cells c.loop-done.self.screens.now.new.now) c.args.cells.row at (old c.args.cells.row at) c.at-ink.result refl c.at-ink.ensures.value c.if-shows.ensures.value);
+      mends = cells_skip c.args.cells.row c.args.cells.from c.loop-done.done c.at-ink.result c.loop-done.invariant.mends c.at-ink.ensures.value c.if-shows.ensures.value;
     }
 
 pub print_cell-requires-clause-changed : goal.print_cell-requires-clause-changed
 print_cell-requires-clause-changed g c =
-    let old = g.O.Picture.cells c.loop-done.self.screens.now.old.now in
+    let p = c.loop-done.self.screens.now in
+    let old = g.O.Picture.cells p.old.now in
     let at = c.args.cells.from + c.loop-done.done in
-    found_different old (g.N.Picture.cells c.loop-done.self.screens.now.new.now) c.args.cells.row at (old c.args.cells.row at) c.at-ink.result refl c.at-ink.ensures.value c.if-shows.ensures.value
+    found_different old (g.N.Picture.cells p.new.now) c.args.cells.row at (old c.args.cells.row at) c.at-ink.result refl c.at-ink.ensures.value c.if-shows.ensures.value
 
 pub returns-in_err-print_cell : goal.returns-in_err-print_cell
 returns-in_err-print_cell g c =
