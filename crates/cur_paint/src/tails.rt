@@ -22,9 +22,9 @@ pub(crate) struct Bottom {
     pub solid: usize,
 }
 
-/// The column of the place `tail`, if one `ed` from there on can erase the rest of the screen: everything there is to be
-/// blank, the end of the line's `columns` and the next line may differ, and `ed` is no longer than erasing line by line.
-/// The line `solid`, if it is below, isn't blank.
+/// The column of the place `tail`, if one `ed` from there on can erase the rest of the screen: everything there is to
+/// be blank, the end of the line's `columns` and the next line may differ, and `ed` is no longer than erasing line by
+/// line. The line `solid`, if it is below, isn't blank.
 #[inline(always)]
 pub(crate) fn bottom_from<C: Certificate, O: Picture, N: Picture, D: Changes>(
     screens: &Screens<'_, C, O, N>,
