@@ -163,6 +163,7 @@ int32_t ticurses_raw_open(ticurses *session, const uint8_t *entry, size_t entry_
 int32_t ticurses_raw_call(ticurses *session, const uint8_t *text, size_t len);
 int32_t ticurses_raw_failed(ticurses *session, size_t *line);
 int32_t ticurses_raw_addstr(ticurses *session, size_t window, const uint8_t *text, size_t len);
+int32_t ticurses_raw_addch(ticurses *session, size_t window, uint8_t byte, uint8_t attrs, uint8_t pair);
 int32_t ticurses_raw_make(ticurses *session, const ticurses_request *request);
 int32_t ticurses_raw_init_pair_or_default(ticurses *session, int32_t pair, int32_t foreground, int32_t background);
 int32_t ticurses_raw_noutrefresh_lines(ticurses *session, size_t window, int32_t top, int32_t bottom);

@@ -135,7 +135,7 @@ static inline int ticurses_move(ticurses *session, size_t window, int row, int c
 /* Writes a character at the cursor and advances the cursor; controls act as in ticurses_addstr. TICURSES_BAD_CELL for a
  * byte above 127, TICURSES_BAD_PAIR, TICURSES_NO_SCROLL. */
 static inline int ticurses_addch(ticurses *session, size_t window, ticurses_cell cell) {
-    return ticurses_make_cell(session, TICURSES_ADDCH, window, cell, 0);
+    return !session ? TICURSES_NULL : ticurses_raw_addch(session, window, cell.byte, cell.attrs, cell.pair);
 }
 
 /* Inserts a character at the cursor, which stays. This, and the calls that draw lines or set a background:

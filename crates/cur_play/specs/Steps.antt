@@ -1,6 +1,7 @@
 -- The step of each call, and its answer (X/Open Curses Issue 7, the reference pages of the calls).
 use Rattle.std.specs.Prelude.{ℕ, ℤ, ◌≡◌, Bool, true, false, Result, Ok, Err}
 use Rattle.ti_rows.specs.declared.rows.Row.TheVariants.{Bel}
+use Rattle.cur_drawing.specs.declared.puts.Put.{Put}
 use Rattle.cur_drawing.specs.declared.refusals.Refusal.{Refusal}
 use Rattle.cur_drawing.specs.declared.refusals.Refusal.TheVariants.{NoMemory, NoCap, IsLost}
 use Rattle.cur_windows.specs.Desks as desks
@@ -20,6 +21,7 @@ use Rattle.cur_calls.specs.declared.calls.Call.{Call}
 use Rattle.cur_calls.specs.declared.calls.Call.TheVariants.{Newwin, Newpad, Part, Dupwin, Plain, Number, Numbers, Flag}
 use Rattle.cur_calls.specs.declared.calls.Call.TheVariants.{Attributes, Cell, Addstr, Line, DrawBorder, DrawBox, Lay}
 use Rattle.cur_calls.specs.declared.calls.Call.TheVariants.{Copywin, Show, ShowPad, Screen, CursSet, InitPair}
+use Rattle.cur_calls.specs.declared.groups.CellCall.TheVariants.{Addch}
 use Rattle.cur_calls.specs.declared.groups.ShowCall.{ShowCall}
 use Rattle.cur_calls.specs.declared.groups.ShowCall.TheVariants.{Noutrefresh, Refresh}
 use Rattle.cur_calls.specs.declared.groups.PadCall.{PadCall}
@@ -96,6 +98,12 @@ abbrev pub lines_shown : {C : Type 0} → ℕ → ℤ → ℤ → Stage C → St
 lines_shown n top bottom s =
     let x = refreshes.noutrefresh_lines s.desk s.screen n top bottom in
     (record s { desk = x.0; screen = x.1 }, answer_of x.2)
+
+-- the call `addch` by itself, which sends nothing
+abbrev pub added : {C : Type 0} → ℕ → Put → Stage C → Stage C × Answer
+added n p s =
+    let x = windows.cell_step Addch s.desk n p in
+    (record s { desk = x.0 }, answer_of x.1)
 
 abbrev pub shown_window : ShowCall → Emission
 shown_window Noutrefresh = Nothing

@@ -6,13 +6,13 @@ ghost use Rattle.cur_play.specs.Deliveries.{Carries};
 ghost use Rattle.cur_play.specs.Drawings.{SameSizes};
 ghost use Rattle.cur_play.specs.Outputs.{poised};
 ghost use Rattle.cur_play.specs.Scenes.{IsStage, first, lost_stage, scene_of, stage_of};
-ghost use Rattle.cur_play.specs.Steps.{CallStep, drawn, lines_shown, output_of, recolored};
+ghost use Rattle.cur_play.specs.Steps.{CallStep, added, drawn, lines_shown, output_of, recolored};
 
 use crate::answers::{Answer, answer_of};
 use crate::drawings::draw;
 use crate::sends::{output_of, send};
 use crate::stale_marks::StaleMarks;
-use cur_calls::Call;
+use cur_calls::{Call, Put};
 use cur_screens::Virtual;
 use cur_update::{Painter, Wire, cells_bounded};
 use cur_windows::{Desk, Size};
@@ -99,6 +99,17 @@ impl<C: Certificate> Session<C> {
                 &mut self.stale.screen,
             ),
         )
+    }
+
+    /// Does the call `addch` of `put` in `window`, as `call` does it; nothing is sent. Fails with `Full` for a number above
+    /// 63, `NoWindow`, `BadCell` for a byte above 127, `BadPair`, and `NoScroll` if the window would have to scroll and may
+    /// not.
+    pub fn addch(&mut self, window: usize, put: Put) -> Answer
+        ensures added { (self.new, result) ≡ added window put self.old }
+        ensures stage { IsStage (C.table self.old.painter.checked) self.old.desk self.old.screen }
+        ensures checked { IsChecked (C.table self.old.painter.checked) }
+    {
+        answer_of(self.desk.addch_marked(window, put, &mut self.stale.window))
     }
 
     /// The session's windows.

@@ -1,6 +1,7 @@
 //! The content of an open handle: a session, and the bytes that wait to be taken.
 ghost use Rattle.std.specs.Prelude.{◌≡◌, ◌++◌, IfOk, [], drop, take};
-ghost use Rattle.cur_calls.specs.declared.calls.Call.TheVariants.{Addstr};
+ghost use Rattle.cur_calls.specs.declared.calls.Call.TheVariants.{Addstr, Cell};
+ghost use Rattle.cur_calls.specs.declared.groups.CellCall.TheVariants.{Addch};
 ghost use Rattle.cur_play.specs.Scenes.{first, scene_of};
 ghost use Rattle.ti_cert.specs.Table.{certified};
 ghost use Rattle.ti_conforms.specs.Certified.{IsChecked};
@@ -13,8 +14,10 @@ use crate::lines::line_of;
 use crate::outbox::Outbox;
 use crate::requests::{Request, call_of};
 use cur_calls::{Call, Text};
+use cur_drawing::Put;
 use cur_play::{Answer, Session};
 use cur_scripts::{ScriptFault, ScriptFaultKind, read_call, read_script};
+use cur_update::cells_bounded;
 use std::alloc::{AllocError, Global};
 use std::slice;
 use ti_cert::Checked;
@@ -73,6 +76,15 @@ impl Held {
             text: Text::new(text),
         };
         self.call(&call)
+    }
+
+    /// Does `addch` of `put` in `window`.
+    pub fn addch(&mut self, window: usize, put: Put) -> Answer
+        ensures makes { Makes self.old (Cell Addch window put) result self.new }
+        ensures failed { (self.new).failed ≡ (self.old).failed }
+    {
+        cells_bounded();
+        self.session.addch(window, put)
     }
 
     /// Does the call that `request` encodes, and gives the number of its answer; if it encodes none, that of `BadCall`.

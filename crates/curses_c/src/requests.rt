@@ -411,7 +411,7 @@ fn default_of(call: LineCall) -> Put
 
 /// The character that a caller passes.
 #[inline(always)]
-fn put_of(cell: Standing) -> Put
+pub(crate) fn put_of(cell: Standing) -> Put
     ensures { result ≡ spec.put_of cell }
 {
     Put {

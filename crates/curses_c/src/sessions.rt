@@ -1,8 +1,10 @@
 //! The calls on sessions.
 ghost use Rattle.std.specs.Prelude.{◌≡◌, None, IfErr, IfOk, length, pos};
-ghost use Rattle.cur_calls.specs.declared.calls.Call.TheVariants.{Addstr};
+ghost use Rattle.cur_calls.specs.declared.calls.Call.TheVariants.{Addstr, Cell};
+ghost use Rattle.cur_calls.specs.declared.groups.CellCall.TheVariants.{Addch};
 ghost use Rattle.curses_c.specs.Entries.{IsShown};
 ghost use Rattle.curses_c.specs.Held.{CopiesLinesAs, Does, Loses, MakesAlone, RecolorsAs, Says};
+ghost use Rattle.curses_c.specs.Requests.{put_of};
 ghost use Rattle.curses_c.specs.Sessions.{Answers, Fetches, IsOpened, IsOwnTable, IsTableFor, IsUnopened, LacksChecked};
 ghost use Rattle.curses_c.specs.Sessions.{LacksOwn, Opens, closed};
 
@@ -10,7 +12,8 @@ use crate::codes::{Failure, OK, answer_code, failure_code};
 use crate::entries::{Described, Subject, certificate_of, checked_by, describe};
 use crate::handles::Handle;
 use crate::held::Held;
-use crate::requests::Request;
+use crate::queries::Standing;
+use crate::requests::{Request, put_of};
 use std::alloc::Global;
 use ti_cert::Checked;
 
@@ -130,6 +133,29 @@ pub extern "C" fn ticurses_raw_addstr(
     };
     let mut held = held;
     let code = answer_code(held.addstr(window, text));
+    handle.put(held);
+    code
+}
+
+/// Does `addch` in `window` of the character `byte` with the attributes `attrs`, a set from 0 to 255, and the color pair
+/// `pair`. Returns the number of the answer, or of `Closed`.
+#[unsafe(no_mangle)]
+pub extern "C" fn ticurses_raw_addch(
+    alloc: Global,
+    handle: &mut Handle,
+    window: usize,
+    byte: u8,
+    attrs: u8,
+    pair: u8,
+) -> i32
+    ensures { Answers closed (MakesAlone (Cell Addch window (put_of (record { byte = byte; attrs = attrs; pair = pair }))))
+        (handle.old).slot.held result (handle.new).slot.held }
+{
+    let Some(held) = handle.take(alloc) else {
+        return failure_code(Failure::Closed);
+    };
+    let mut held = held;
+    let code = answer_code(held.addch(window, put_of(Standing { byte, attrs, pair })));
     handle.put(held);
     code
 }
