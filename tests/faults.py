@@ -251,10 +251,12 @@ def judge_suggestions():
 
 
 # Entries whose strings are right only together, each with its faults, with what is suggested, and with the faults that
-# are left once that is taken. `smacs` by SO needs an `enacs`, and what `\E(0` begins `\E(B` ends and SI doesn't. SGR 10
-# and 11 switch no set. SGR 7 alone turns nothing off. `\E(B` in `smacs` and `\E(0` in `rmacs` are exchanged: each
-# activates the other's set. SI in front of `sgr0` is the first byte that is sent in an unknown state, where an open
-# sequence takes it. Without `acsc` no program ends the set that `\E(0` in `sgr0` begins.
+# are left once that is taken. `smacs` by SO needs an `enacs`, which is suggested though none is there, and what `\E(0`
+# begins `\E(B` ends and SI doesn't. SGR 10 and 11 switch no set, and `\E(0` needs `\E(B` in place of SGR 10, which isn't
+# at fault. An `enacs` that leaves G1 active fits neither that nor its `sgr0`. SGR 7 alone turns nothing off. `\E(B` in
+# `smacs` and `\E(0` in `rmacs` are exchanged: each activates the other's set. SI in front of `sgr0` is the first byte
+# that is sent in an unknown state, where an open sequence takes it. Without `acsc` no program ends the set that `\E(0`
+# in `sgr0` begins.
 # Strings at fault are left out when the others are judged together. So without an `enacs` that prints, SO in `smacs`
 # activates no graphic set, and SI in `sgr0` is sent first; without an `rmacs` that prints, nothing ends the set that
 # `smacs` begins; and where none of the strings that lead out of an unknown state is left, nothing begins with ESC.
@@ -265,12 +267,31 @@ KEEPING = (
 )
 ATTRIBUTES = r"sgr=\E[0%?%p1%p3%|%t;7%;%?%p2%t;4%;%?%p4%t;5%;%?%p5%t;2%;%?%p6%t;1%;%?%p7%t;8%;m"
 TOGETHER = [
-    ([r"op=\E[39;49m", r"smacs=x\E(0", r"rmacs=\017"], ["no smacs: NotTame"], [], ["no smacs: NotTame"]),
+    ([r"op=\E[39;49m", r"smacs=x\E(0", r"rmacs=\017"], ["no smacs: NotTame"], [r"smacs=\016", r"enacs=\E(B\E)0"], []),
     (
         [r"op=\E[m", r"smacs=x\E(0", r"rmacs=\017"],
         ["no op: WrongEffect", "no smacs: NotTame"],
-        [r"op=\E[39;49m"],
-        ["no smacs: NotTame"],
+        [r"op=\E[39;49m", r"smacs=\016", r"enacs=\E(B\E)0"],
+        [],
+    ),
+    ([r"op=\E[39;49m", r"smacs=\016", r"rmacs=\017"], ["no smacs: WrongEffect"], [r"enacs=\E(B\E)0"], []),
+    (
+        [r"op=\E[39;49m", r"smacs=\E[11m", r"rmacs=\E[10m"],
+        ["no smacs: WrongEffect"],
+        [r"smacs=\E(0", r"rmacs=\E(B"],
+        [],
+    ),
+    (
+        [r"op=\E[39;49m", r"smacs=\E[11m", r"rmacs=\E[10m", r"enacs=\E)0\016"],
+        ["no rmacs: WrongEffect"],
+        [r"rmacs=\017", r"enacs=\E(B\E)0", r"smacs=\016"],
+        [],
+    ),
+    (
+        [r"op=\E[39;49m", r"smacs=\E(U", r"rmacs=\E(B", r"enacs=x"],
+        ["no enacs: NotTame", "no smacs: WrongEffect"],
+        [r"enacs=\E(B\E)0", r"smacs=\E(0"],
+        [],
     ),
     (
         [r"op=\E[39;49m", r"smacs=x\E(0", r"rmacs=x\017"],
@@ -287,8 +308,8 @@ TOGETHER = [
     (
         [r"op=\E[m", r"smacs=\E[11m", r"rmacs=\E[10m"],
         ["no op: WrongEffect", "no smacs: WrongEffect"],
-        [r"op=\E[39;49m"],
-        ["no smacs: WrongEffect"],
+        [r"op=\E[39;49m", r"smacs=\E(0", r"rmacs=\E(B"],
+        [],
     ),
     (
         [r"op=\E[39;49m", r"smacs=\E(B", r"rmacs=\E(0"],
@@ -305,8 +326,8 @@ TOGETHER = [
     (
         [r"op=\E[m", r"smacs=\E[11m", r"rmacs=\E[10m", r"sgr0=\017\E[m"],
         ["no op: WrongEffect", "no smacs: WrongEffect", "no clear: NoResync"],
-        [r"op=\E[39;49m"],
-        ["no smacs: WrongEffect", "no clear: NoResync"],
+        [r"op=\E[39;49m", r"smacs=\E(0", r"rmacs=\E(B"],
+        ["no clear: NoResync"],
     ),
     (
         [r"op=\E[39;49m", "acsc@", r"sgr0=\017\E(0\E[m"],

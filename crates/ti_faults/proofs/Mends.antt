@@ -1,5 +1,5 @@
 -- An entry mended step by step.
-use Rattle.std.proofs.Common.{◌≡◌, ◌<◌, ◌+◌, ℕ, false, nat_lt, List, [], ◌∷◌, ◌++◌, take, get_or, length, refl, sym, subst, ap, ◌∙◌, arith}
+use Rattle.std.proofs.Common.{◌≡◌, ◌<◌, ◌+◌, ℕ, Bool, true, false, if◌then◌else◌, nat_lt, List, [], ◌∷◌, ◌++◌, take, get_or, length, refl, sym, subst, ap, ◌∙◌, arith}
 use Rattle.std.proofs.lemmas.List.{take_more}
 use Rattle.ti_caps.specs.Entry.{Content}
 use Rattle.ti_caps.specs.Table.{kind_of}
@@ -7,7 +7,8 @@ use Rattle.ti_caps.specs.declared.types.Kind.TheVariants as kinds
 use Rattle.ti_rows.specs.declared.rows.Row.{Row}
 use Rattle.ti_rows.specs.Names.{cap_of, order, string_in_order}
 use Rattle.ti_checker.specs.declared.causes.No.{No}
-use Rattle.ti_faults.specs.Mended.{Mends, MendsAll}
+use Rattle.ti_faults.specs.Candidates.{singles}
+use Rattle.ti_faults.specs.Mended.{Mends, MendsAll, choices, switches_sets}
 use Rattle.ti_faults.specs.declared.candidates.Choice.{Choice}
 
 -- ---- a checked capability is a string
@@ -32,3 +33,12 @@ pub mends_next : (own : Content) (choice : Choice) (nos : List No) (i : ℕ) (fa
 mends_next own choice nos i fault before between after lt is h m =
     let e : take (i + 1) nos ≡ take i nos ++ fault ∷ [] = take_more nos i fault lt ∙ ap (λ (x : No). take i nos ++ x ∷ []) is in
     subst (λ (l : List No). MendsAll own choice l before after) (sym e) (mends_more own choice (take i nos) fault before between after h m)
+
+-- ---- there is a choice
+
+some_of : (b : Bool) (n : ℕ) → 0 < (if b then 1 else n + 2)
+some_of true n = omega arith
+some_of false n = omega arith
+
+pub some_choice : (entry : Content) (nos : List No) → 0 < choices entry nos
+some_choice entry nos = some_of (switches_sets nos) (singles entry)

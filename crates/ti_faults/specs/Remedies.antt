@@ -1,10 +1,11 @@
 -- Strings that would be right in place of those at fault: they were judged there, all of them together.
-use Rattle.std.specs.Prelude.{ℕ, ◌≡◌, ◌≢◌, ◌==◌, ◌&&◌, not, Bool, true, false, List, Option, Some, None}
-use Rattle.std.specs.List.{list_all}
+use Rattle.std.specs.Prelude.{ℕ, ◌≡◌, ◌≢◌, ◌==◌, ◌&&◌, not, if◌then◌else◌, Bool, true, false, List, [], ◌∷◌, Option, Some}
+use Rattle.std.specs.Prelude.{None, filter}
+use Rattle.std.specs.List.{list_all, list_any}
 use Rattle.ti_caps.specs.Entry.{Content}
 use Rattle.ti_rows.specs.declared.rows.Looks.{Looks}
 use Rattle.ti_rows.specs.declared.rows.Row.{Row}
-use Rattle.ti_rows.specs.declared.rows.Row.TheVariants.{Clear, Cup, Smacs, Rmacs}
+use Rattle.ti_rows.specs.declared.rows.Row.TheVariants.{Clear, Cup, Enacs, Smacs, Rmacs}
 use Rattle.ti_rows.specs.Lists.{IsInRange}
 use Rattle.ti_rows.specs.Names.{cap_of, order}
 use Rattle.ti_conforms.specs.Entries.{is_checked, string_of}
@@ -15,15 +16,16 @@ use Rattle.ti_faults.specs.Candidates.{candidate}
 use Rattle.ti_faults.specs.AllFaults.{AreAllFaults}
 use Rattle.ti_faults.specs.declared.mended.Mended.{Mended}
 
--- the capability that is right only together with the row's, for `smacs` and `rmacs`; or else the row's own
-abbrev pub partner_of : Row → ℕ
-partner_of Smacs = cap_of Rmacs
-partner_of Rmacs = cap_of Smacs
-partner_of row = cap_of row
+-- the capabilities whose strings switch character sets, which are right only together
+abbrev pub switching : List ℕ
+switching = cap_of Enacs ∷ cap_of Smacs ∷ cap_of Rmacs ∷ []
 
--- the fault doesn't speak against the row's string: it is about another capability, and not about the partner
+abbrev pub is_switching : ℕ → Bool
+is_switching cap = list_any (λ own. own == cap) switching
+
+-- the fault doesn't speak against the row's string: it is about another capability, and not both switch sets
 abbrev pub may_stay : Row → No → Bool
-may_stay row fault = not (fault.cap == cap_of row) && not (fault.cap == partner_of row)
+may_stay row fault = not (fault.cap == cap_of row) && not (is_switching (cap_of row) && is_switching fault.cap)
 
 -- The mended entry has the string, the capability is checked there, and none of the faults that are left there speaks
 -- against it; and `entry`, which was mended, has another string or none.
@@ -53,6 +55,17 @@ pub data IsSuggestion (entry : Content) (m : Mended) (cap : ℕ) (found : Option
   OfChecked : (row : Row) → cap_of row ≡ cap → IsIfAccepted entry m row (candidate entry m.choice row) found
       → IsSuggestion entry m cap found
   OfOther : ((row : Row) → cap_of row ≢ cap) → found ≡ None → IsSuggestion entry m cap found
+
+-- The capabilities whose suggestions are listed with the fault of a capability: its own; and with that of `smacs`, or
+-- of `rmacs` if `smacs` isn't at fault, also those that switch sets and aren't at fault themselves.
+abbrev pub host : List No → ℕ
+host faults = if names faults (cap_of Smacs) then cap_of Smacs else cap_of Rmacs
+
+abbrev pub companions : List No → List ℕ
+companions faults = filter (λ cap. not (names faults cap)) switching
+
+abbrev pub listed_with : List No → ℕ → List ℕ
+listed_with faults cap = cap ∷ (if cap == host faults then companions faults else [])
 
 -- each row of the capability sends whole bytes with a wanted end from every start of the row
 abbrev pub SendsAllRight : ℕ → ℕ → List ℕ → ℕ → Type 0

@@ -21,5 +21,5 @@ pub use claims::must_claim;
 pub use kinds::is_of_another_kind;
 pub use laws::suggestions_are_right;
 pub use mended::Mended;
-pub use remedies::{standard_string, suggestion};
+pub use remedies::{listed_with, standard_string, suggestion};
 pub use standards::{standard, where_so};

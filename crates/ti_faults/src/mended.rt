@@ -10,7 +10,7 @@ ghost use Rattle.ti_rows.specs.Names.{cap_of};
 ghost use Rattle.ti_rows.specs.declared.rows.Row as rows;
 
 use crate::all_faults::faults;
-use crate::candidates::Choice;
+use crate::candidates::{Choice, singles};
 use crate::capabilities::row_of;
 use std::alloc::{AllocError, Global};
 use ti_caps::{Cap, Entry};
@@ -26,7 +26,7 @@ pub struct Mended {
     pub entry: Entry,
     /// All its faults.
     pub left: Vec<No>,
-    /// The choice of its candidates for `smacs` and `rmacs`.
+    /// The choice of its candidates for `enacs`, `smacs` and `rmacs`.
     pub choice: Choice,
 }
 
@@ -94,6 +94,25 @@ fn mend_all(own: &Entry, choice: Choice, nos: &[No]) -> Result<Entry, AllocError
     Ok(entry)
 }
 
+/// The entry with the string that `choice` gives the row's capability together with others, if it gives one.
+fn with_grouped(entry: Entry, choice: Choice, row: Row) -> Result<Entry, AllocError>
+    ensures { IfOk result (λ changed. changed ≡ spec.with_grouped choice row entry) }
+{
+    match choice.as_one(row) {
+        Some(string) => with_string(entry, row, string),
+        None => Ok(entry),
+    }
+}
+
+/// The entry with the strings that switch character sets, if `choice` mends them as one.
+fn with_switching(entry: Entry, choice: Choice) -> Result<Entry, AllocError>
+    ensures { IfOk result (λ changed. changed ≡ spec.with_switching choice entry) }
+{
+    let enabled = with_grouped(entry, choice, Row::Enacs)?;
+    let graphic = with_grouped(enabled, choice, Row::Smacs)?;
+    with_grouped(graphic, choice, Row::Rmacs)
+}
+
 /// The entry mended by the choice with this number, and all faults that are left then.
 fn mended_by(
     alloc: Global,
@@ -102,10 +121,11 @@ fn mended_by(
     nos: &[No],
     number: u8,
 ) -> Result<Mended, AllocError>
-    ensures { IfOk result (spec.IsMended entry.now size.rows size.cols nos.now (choice_of number)) }
+    ensures { IfOk result (spec.IsMended entry.now size.rows size.cols nos.now (choice_of entry.now number)) }
 {
-    let choice = Choice::of(number);
-    let mended = mend_all(entry, choice, nos)?;
+    let choice = Choice::of(entry, number);
+    let single = mend_all(entry, choice, nos)?;
+    let mended = with_switching(single, choice)?;
     let left = faults(alloc, &mended, size)?;
     Ok(Mended {
         entry: mended,
@@ -114,28 +134,52 @@ fn mended_by(
     })
 }
 
+/// Whether none of the faults is about `smacs` or `rmacs`.
+fn switch_right(faults: &[No]) -> bool
+    ensures { result ≡ spec.switches_sets faults.now }
+{
+    !names(faults, Row::Smacs.cap()) && !names(faults, Row::Rmacs.cap())
+}
+
+/// How many choices there are to mend the faults `nos` of `entry`.
+fn choices(entry: &Entry, nos: &[No]) -> u8
+    ensures { result ≡ spec.choices entry.now nos.now }
+{
+    if switch_right(nos) {
+        1
+    } else {
+        singles(entry) + 2
+    }
+}
+
 impl Mended {
-    /// The entry with the capabilities of all the faults `nos` mended at once: by the first of four choices for `smacs`
-    /// and `rmacs` after which neither of them is at fault, or else by the first choice.
+    /// The entry with the capabilities of all the faults `nos` mended at once. If `smacs` or `rmacs` is among them,
+    /// there are six choices: four of candidates for these two alone, and two of `enacs`, `smacs` and `rmacs` as one,
+    /// by SO and SI or by designating G0. The first is taken after which neither `smacs` nor `rmacs` is at fault, or
+    /// else the first of all.
     ///
     /// # Errors
     /// Out of memory.
     pub fn new(alloc: Global, entry: &Entry, size: Size, nos: &[No]) -> Result<Mended, AllocError>
         ensures { IfOk result (spec.IsBestMended entry.now size.rows size.cols nos.now) }
     {
-        for number in 0..4 {
+        let first = mended_by(alloc, entry, size, nos, 0)?;
+        if first.switches_sets() {
+            return Ok(first);
+        }
+        for number in 1..choices(entry, nos) {
             let mended = mended_by(alloc, entry, size, nos, number)?;
             if mended.switches_sets() {
                 return Ok(mended);
             }
         }
-        mended_by(alloc, entry, size, nos, 0)
+        Ok(first)
     }
 
     /// Whether neither `smacs` nor `rmacs` is at fault.
     fn switches_sets(&self) -> bool
         ensures { result ≡ spec.switches_sets self.now.left.items }
     {
-        !names(&self.left, Row::Smacs.cap()) && !names(&self.left, Row::Rmacs.cap())
+        switch_right(&self.left)
     }
 }

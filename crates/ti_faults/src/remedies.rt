@@ -1,6 +1,6 @@
 //! A string that was judged right in place of the entry's own.
 
-ghost use Rattle.std.specs.Prelude.{◌≡◌, IfSome, IsTrue, Some, true, false};
+ghost use Rattle.std.specs.Prelude.{◌≡◌, IfOk, IfSome, IsTrue, Some, true, false};
 ghost use Rattle.std.specs.List.{list_all};
 ghost use Rattle.std.specs.Option.{option_copied};
 ghost use Rattle.ti_caps.specs.Fits.{string_fits};
@@ -11,8 +11,9 @@ ghost use Rattle.ti_faults.specs.Standard as standards;
 use crate::capabilities::row_of;
 use crate::mended::Mended;
 use crate::standards::{standard, where_so};
+use std::alloc::{AllocError, Global};
 use ti_caps::{Cap, Entry};
-use ti_checker::No;
+use ti_checker::{No, names};
 use ti_conforms::is_checked;
 use ti_rows::Row;
 
@@ -27,22 +28,25 @@ pub fn standard_string(cap: Cap) -> Option<&'static [u8]>
     }
 }
 
-/// The capability that is right only together with the row's, or the row's own.
-fn partner(row: Row) -> Cap
-    ensures { result ≡ spec.partner_of row }
+/// The capabilities whose strings switch character sets.
+fn switching() -> [Cap; 3]
+    ensures { result ≡ spec.switching }
 {
-    match row {
-        Row::Smacs => Row::Rmacs.cap(),
-        Row::Rmacs => Row::Smacs.cap(),
-        _ => row.cap(),
-    }
+    [Row::Enacs.cap(), Row::Smacs.cap(), Row::Rmacs.cap()]
+}
+
+/// Whether the string of `cap` switches character sets.
+fn is_switching(cap: Cap) -> bool
+    ensures { result ≡ spec.is_switching cap }
+{
+    switching().iter().any(|own| *own == cap)
 }
 
 /// Whether the fault `no` doesn't speak against the string of `row`.
 fn may_stay(no: &No, row: Row) -> bool
     ensures { result ≡ spec.may_stay row no.now }
 {
-    no.cap != row.cap() && no.cap != partner(row)
+    no.cap != row.cap() && !(is_switching(row.cap()) && is_switching(no.cap))
 }
 
 /// Whether none of the faults `left` speaks against the string of `row`.
@@ -98,10 +102,10 @@ fn accepted(
     }
 }
 
-/// The string that is suggested for `cap`, one of the capabilities at fault in `entry`, from which `mended` was made:
-/// the candidate for it, if `entry` has another string, the mended entry has this one, and no fault that is left there
-/// speaks against it. So all suggestions by one mended entry are right together. `None` otherwise, also if there is no
-/// candidate, or if `cap` isn't a checked capability.
+/// The string that is suggested for `cap` in `entry`, from which `mended` was made: the candidate for it, if `entry` has
+/// another string or none, the mended entry has this one, and no fault that is left there speaks against it. So all
+/// suggestions by one mended entry are right together. `cap` is at fault, or it is one of `enacs`, `smacs` and `rmacs`,
+/// which may be mended as one. `None` otherwise, also if there is no candidate, or if `cap` isn't a checked capability.
 pub fn suggestion(entry: &Entry, mended: &Mended, cap: Cap) -> Option<&'static [u8]>
     ensures found { spec.IsSuggestion entry.now mended.now cap (option_copied result) }
     ensures fits { IfSome result (λ bytes. IsTrue (string_fits bytes.now)) }
@@ -110,4 +114,43 @@ pub fn suggestion(entry: &Entry, mended: &Mended, cap: Cap) -> Option<&'static [
         Some(row) => accepted(entry, mended, row, mended.choice.candidate(entry, row)),
         None => None,
     }
+}
+
+/// The capability with whose fault the suggestions for those that switch sets are listed.
+fn host(faults: &[No]) -> Cap
+    ensures { result ≡ spec.host faults.now }
+{
+    if names(faults, Row::Smacs.cap()) {
+        Row::Smacs.cap()
+    } else {
+        Row::Rmacs.cap()
+    }
+}
+
+/// The capabilities that switch sets and that none of the `faults` is about.
+fn companions(alloc: Global, faults: &[No]) -> Result<Vec<Cap>, AllocError>
+    ensures { IfOk result (λ caps. caps.items ≡ spec.companions faults.now) }
+{
+    Vec::from_array(alloc, switching())?
+        .into_iter()
+        .filter(|cap| !names(faults, *cap))
+        .collect(alloc)
+}
+
+/// The capabilities whose suggestions are listed with the fault of `cap`, one of the `faults` of an entry: `cap`
+/// itself; and with `smacs`, or with `rmacs` if `smacs` isn't at fault, those of `enacs`, `smacs` and `rmacs` that
+/// aren't at fault themselves, since these are mended as one.
+///
+/// # Errors
+/// Out of memory.
+pub fn listed_with(alloc: Global, faults: &[No], cap: Cap) -> Result<Vec<Cap>, AllocError>
+    ensures { IfOk result (λ caps. caps.items ≡ spec.listed_with faults.now cap) }
+{
+    let mut caps = Vec::new(alloc);
+    caps.push(cap)?;
+    if cap == host(faults) {
+        let mut others = companions(alloc, faults)?;
+        caps.append(&mut others)?;
+    }
+    Ok(caps)
 }

@@ -84,7 +84,7 @@ fn has_byte(string: Option<&[u8]>, byte: u8) -> bool
 
 /// Whether the entry changes between ASCII and the line drawing characters by SO and SI: its `smacs` has an SO, or its
 /// `rmacs` an SI.
-fn shifts(entry: &Entry) -> bool
+pub(crate) fn shifts(entry: &Entry) -> bool
     ensures { result ≡ spec.shifts entry.now }
 {
     has_byte(entry.get_string(Row::Smacs.cap()), 14)

@@ -18,7 +18,7 @@ use Rattle.ti_verdicts.specs.Checks.{HasText, TellsNotes}
 use Rattle.ti_verdicts.specs.Counts.{answers_line}
 use Rattle.ti_verdicts.specs.Parts.{HasParts}
 use Rattle.ti_verdicts.specs.Locations.{IsLocation}
-use Rattle.ti_verdicts.specs.Remedies.{HasRemedy}
+use Rattle.ti_verdicts.specs.Remedies.{HasRemedies}
 use Rattle.ti_verdicts.specs.Refusals.{TellsNo, no_text}
 use Rattle.ti_words.specs.Remarks.{IsRemark}
 
@@ -35,12 +35,12 @@ pub record AreIndented (lines : List ℕ) : Type 0 where
   pub says : lines ≡ flat_map indented each
 
 -- The line of a fault; below it the place of its value in the source, further lines in free words, each after two
--- spaces, and the line of the string that would be right.
+-- spaces, and the lines of the strings that would be right.
 abbrev pub HasFaultLines : Content → Option SourceText → Mended → List No → No → List ℕ → Type 0
 HasFaultLines entry source mended nos refusal lines =
-    (line : List ℕ) × (further : List ℕ) × (remedy : List ℕ) × IsLocation source refusal.cap line
-    × AreIndented further × HasRemedy entry mended nos refusal.cap remedy
-    × (lines ≡ no_text refusal ++ 10 ∷ (line ++ (further ++ remedy)))
+    (line : List ℕ) × (further : List ℕ) × (remedies : List ℕ) × IsLocation source refusal.cap line
+    × AreIndented further × HasRemedies entry mended nos refusal.cap remedies
+    × (lines ≡ no_text refusal ++ 10 ∷ (line ++ (further ++ remedies)))
 
 -- ---- counts
 

@@ -4,9 +4,10 @@ use Rattle.ti_caps.specs.Entry.{Content}
 use Rattle.ti_caps.specs.Table.{name_at}
 use Rattle.ti_checker.specs.declared.causes.No.{No}
 use Rattle.ti_faults.specs.declared.mended.Mended.{Mended}
-use Rattle.ti_faults.specs.Remedies.{IsSuggestion, is_of_another_kind}
+use Rattle.ti_faults.specs.Remedies.{IsSuggestion, listed_with, is_of_another_kind}
 use Rattle.ti_source.specs.Escapes.{unescaped}
 use Rattle.ti_source.specs.Prints.{string_text}
+use Rattle.ti_verdicts.specs.Parts.{HasParts}
 
 -- the spelling of a string in a source text, which is printable and is read as exactly these bytes
 pub record IsSpelled (string spelled : List ℕ) : Type 0 where
@@ -31,3 +32,7 @@ pub record HasRemedy (entry : Content) (mended : Mended) (nos : List No) (cap : 
   pub found : Option (List ℕ)
   pub judged : IsSuggestedBy (is_of_another_kind nos) entry mended cap found
   pub says : TellsRemedy cap found line
+
+-- the lines of the capability of a fault, and of those that are mended as one with it
+abbrev pub HasRemedies : Content → Mended → List No → ℕ → List ℕ → Type 0
+HasRemedies entry mended nos cap lines = HasParts (HasRemedy entry mended nos) (listed_with nos cap) lines

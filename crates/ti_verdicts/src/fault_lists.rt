@@ -11,7 +11,7 @@ use crate::indents::indented;
 use crate::locations::location;
 use crate::reasons::explain_no;
 use crate::refusals::{no_failure, no_words};
-use crate::remedies::{note_another_kind, note_left_out, suggestion_line};
+use crate::remedies::{note_another_kind, note_left_out, suggestion_lines};
 use std::alloc::{AllocError, Global};
 use ti_caps::Entry;
 use ti_checker::No;
@@ -123,7 +123,7 @@ fn fault_lines(
 }
 
 /// The line of `no`, one of the faults `nos` of the entry `found`, which is `mended`; then the place of its value in
-/// the source, its explanation, and the string that would be right.
+/// the source, its explanation, and the strings that would be right.
 fn own_lines(
     alloc: Global,
     found: &Sourced<'_>,
@@ -141,8 +141,8 @@ fn own_lines(
     lines.extend_from_slice(place.as_slice())?;
     let further = explanation(alloc, &found.entry, size, no)?;
     lines.extend_from_slice(further.as_slice())?;
-    let remedy = suggestion_line(alloc, &found.entry, mended, no, nos)?;
-    lines.extend_from_slice(remedy.as_slice())?;
+    let remedies = suggestion_lines(alloc, &found.entry, mended, no.cap, nos)?;
+    lines.extend_from_slice(remedies.as_slice())?;
     Ok(lines)
 }
 

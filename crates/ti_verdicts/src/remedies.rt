@@ -4,25 +4,26 @@ ghost use Rattle.std.specs.Prelude.{◌≡◌, IfOk, IfSome, IsTrue, Some};
 ghost use Rattle.std.specs.Option.{option_copied};
 ghost use Rattle.ti_caps.specs.Fits.{string_fits};
 ghost use Rattle.ti_faults.specs.Remedies as remedies;
+ghost use Rattle.ti_verdicts.specs.Parts.{HasParts};
 ghost use Rattle.ti_verdicts.specs.Remedies as spec;
 
 use std::alloc::{AllocError, Global};
 use ti_caps::{Cap, Entry, name};
 use ti_checker::{Cause, No};
-use ti_faults::{Mended, is_of_another_kind, suggestion};
+use ti_faults::{Mended, is_of_another_kind, listed_with, suggestion};
 use ti_source::escape;
 use ti_words::{LEFT_OUT, OF_ANOTHER_KIND, Remarks};
 
-/// The string that is suggested in place of the one that `no` is about, if there is one.
-fn suggested(entry: &Entry, mended: &Mended, no: &No, nos: &[No]) -> Option<&'static [u8]>
-    ensures judged { spec.IsSuggestedBy (remedies.is_of_another_kind nos.now) entry.now mended.now no.now.cap
+/// The string that is suggested for `cap`, if there is one.
+fn suggested(entry: &Entry, mended: &Mended, cap: Cap, nos: &[No]) -> Option<&'static [u8]>
+    ensures judged { spec.IsSuggestedBy (remedies.is_of_another_kind nos.now) entry.now mended.now cap
         (option_copied result) }
     ensures fits { IfSome result (λ bytes. IsTrue (string_fits bytes.now)) }
 {
     if is_of_another_kind(nos) {
         None
     } else {
-        suggestion(entry, mended, no.cap)
+        suggestion(entry, mended, cap)
     }
 }
 
@@ -47,22 +48,55 @@ fn remedy_line(alloc: Global, cap: Cap, string: &[u8]) -> Result<Vec<u8>, AllocE
     spelled_line(alloc, cap, spelled.as_slice())
 }
 
-/// The line with the string that would be right in place of the one that `no` is about; empty if there is no such
-/// string. `nos` are all faults of `entry`, and `mended` is the entry with all of them mended, in which each suggested
-/// string is right beside the others. If the faults show a terminal of another kind, nothing is suggested.
-pub fn suggestion_line(
+/// The line with the string that would be right for `cap`; empty if there is no such string.
+fn suggestion_line(
     alloc: Global,
     entry: &Entry,
     mended: &Mended,
-    no: &No,
+    cap: Cap,
     nos: &[No],
 ) -> Result<Vec<u8>, AllocError>
-    ensures { IfOk result (λ line. spec.HasRemedy entry.now mended.now nos.now no.now.cap line.items) }
+    ensures { IfOk result (λ line. spec.HasRemedy entry.now mended.now nos.now cap line.items) }
 {
-    match suggested(entry, mended, no, nos) {
-        Some(string) => remedy_line(alloc, no.cap, string),
+    match suggested(entry, mended, cap, nos) {
+        Some(string) => remedy_line(alloc, cap, string),
         None => Ok(Vec::new(alloc)),
     }
+}
+
+/// The lines with the strings that would be right for each of `caps`.
+fn lines_of(
+    alloc: Global,
+    entry: &Entry,
+    mended: &Mended,
+    caps: &[Cap],
+    nos: &[No],
+) -> Result<Vec<u8>, AllocError>
+    ensures { IfOk result (λ lines. HasParts (spec.HasRemedy entry.now mended.now nos.now) caps.now lines.items) }
+{
+    let mut lines = Vec::new(alloc);
+    for cap in caps {
+        let line = suggestion_line(alloc, entry, mended, *cap, nos)?;
+        lines.extend_from_slice(line.as_slice())?;
+    }
+    Ok(lines)
+}
+
+/// The lines with the strings that would be right, for `cap` and, where strings are mended as one, for those with it;
+/// none for a capability without such a string. `nos` are all faults of `entry`, and `mended` is the entry with all of
+/// them mended, in which each suggested string is right beside the others. If the faults show a terminal of another
+/// kind, nothing is suggested.
+pub fn suggestion_lines(
+    alloc: Global,
+    entry: &Entry,
+    mended: &Mended,
+    cap: Cap,
+    nos: &[No],
+) -> Result<Vec<u8>, AllocError>
+    ensures { IfOk result (λ lines. spec.HasRemedies entry.now mended.now nos.now cap lines.items) }
+{
+    let caps = listed_with(alloc, nos, cap)?;
+    lines_of(alloc, entry, mended, caps.as_slice(), nos)
 }
 
 /// Adds to `remarks` that the entry seems to be for a terminal of another kind, if its faults `nos` show that.
