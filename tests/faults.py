@@ -252,11 +252,11 @@ def judge_suggestions():
 
 # Entries whose strings are right only together, each with its faults, with what is suggested, and with the faults that
 # are left once that is taken. `smacs` by SO needs an `enacs`, which is suggested though none is there, and what `\E(0`
-# begins `\E(B` ends and SI doesn't. SGR 10 and 11 switch no set, and `\E(0` needs `\E(B` in place of SGR 10, which isn't
-# at fault. An `enacs` that leaves G1 active fits neither that nor its `sgr0`. SGR 7 alone turns nothing off. `\E(B` in
-# `smacs` and `\E(0` in `rmacs` are exchanged: each activates the other's set. SI in front of `sgr0` is the first byte
-# that is sent in an unknown state, where an open sequence takes it. Without `acsc` no program ends the set that `\E(0`
-# in `sgr0` begins.
+# begins `\E(B` ends and SI doesn't. SGR 10 and 11 switch no set, and `\E(0` needs `\E(B` in place of SGR 10, which
+# isn't at fault. An `enacs` that leaves G1 active fits neither that nor its `sgr0`. SGR 7 alone turns nothing off.
+# `\E(B` in `smacs` and `\E(0` in `rmacs` are exchanged: each activates the other's set. SI in front of `sgr0` is the
+# first byte that is sent in an unknown state, where an open sequence takes it. Without `acsc` no program ends the set
+# that `\E(0` in `sgr0` begins.
 # Strings at fault are left out when the others are judged together. So without an `enacs` that prints, SO in `smacs`
 # activates no graphic set, and SI in `sgr0` is sent first; without an `rmacs` that prints, nothing ends the set that
 # `smacs` begins; and where none of the strings that lead out of an unknown state is left, nothing begins with ESC.
