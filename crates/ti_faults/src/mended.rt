@@ -154,9 +154,9 @@ fn choices(entry: &Entry, nos: &[No]) -> u8
 
 impl Mended {
     /// The entry with the capabilities of all the faults `nos` mended at once. If `smacs` or `rmacs` is among them,
-    /// there are six choices: four of candidates for these two alone, and two of `enacs`, `smacs` and `rmacs` as one,
-    /// by SO and SI or by designating G0. The first is taken after which neither `smacs` nor `rmacs` is at fault, or
-    /// else the first of all.
+    /// there are choices: to mend only what is at fault, in four ways if the strings of `entry` shift between sets, or
+    /// else in one; then `enacs`, `smacs` and `rmacs` as one, by SO and SI or by designating G0. The first is taken
+    /// after which neither `smacs` nor `rmacs` is at fault, or else the first of all.
     ///
     /// # Errors
     /// Out of memory.
