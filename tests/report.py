@@ -105,7 +105,7 @@ def judge(name, data):
         fail(f"{name}: status {ran.returncode} {ran.stderr}")
     page, ones = Page(ran.stdout), [json.loads(line) for line in data.splitlines()]
     noes = [it for it in ones if it["verdict"] == "no"]
-    of_entry = {(it["file"], it["entry"]): it["verdict"] for it in ones}
+    of_entry = {(it["file"], it["entry"]): it["verdict"] for it in ones if it["verdict"] != "advice"}
     verdicts = collections.Counter(of_entry.values())
     if page.tiles != verdicts or collections.Counter(kind for kind, _ in page.rows) != verdicts:
         fail(f"{name}: the page counts {page.tiles}, and the JSON has {verdicts}")
@@ -162,7 +162,7 @@ def refused(right):
     """Input that isn't such JSON, or can't be read or written, gives a line and a status, and no file."""
     one = json.loads(right.splitlines()[0])
     inputs = [b"", b"{}\n", b"yes\n", b"\xff\n", b"[" * 100000, json.dumps([one]).encode(), right + b"total 3\n"]
-    wrongs = [("verdict", "maybe"), ("size", {}), ("size", {"rows": 2, "cols": 5}), ("line", -1), ("line", True), ("advice", None), ("bytes", "5")]
+    wrongs = [("verdict", "maybe"), ("size", {}), ("size", {"rows": 2, "cols": 5}), ("line", -1), ("line", True), ("explanation", None), ("bytes", "5")]
     inputs += [right.splitlines()[-1] + b"\n" + json.dumps({**one, key: value}).encode() for key, value in wrongs]
     with tempfile.TemporaryDirectory() as room:
         for given in inputs:

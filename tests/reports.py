@@ -14,12 +14,19 @@ from faults import COLS, FIVE, MENDED, ROWS, TOGETHER, all_entries, together_sou
 from trying import PROGRAM, TOP, Case, run_cases
 
 # the members of an object, and what each may be
-TEXT, NUMBER = (str, type(None)), (int, type(None))
+TEXT, NUMBER, TRUTH = (str, type(None)), (int, type(None)), (bool, type(None))
 MEMBERS = {
-    "advice": (list,), "bytes": TEXT, "capability": TEXT, "cause": TEXT, "entry": TEXT, "file": (str,), "line": NUMBER, "parameters": (list,),
-    "seen": TEXT, "size": (dict,), "start": TEXT, "verdict": (str,), "wanted": TEXT,
+    "aliases": (list,), "aliases_hex": (list,), "another_kind": TRUTH, "bytes": TEXT, "capability": TEXT, "cause": TEXT, "entry": TEXT,
+    "entry_hex": TEXT, "explanation": (list,), "file": (str,), "judged": TRUTH, "line": NUMBER, "parameters": (list,), "rule": TEXT, "seen": TEXT, "size": (dict,),
+    "source_entry": TEXT, "source_entry_hex": TEXT, "start": TEXT, "string": TEXT, "string_hex": TEXT, "suggestion": TEXT, "suggestion_hex": TEXT, "verdict": (str,),
+    "version": (int,), "wanted": TEXT,
 }  # fmt: skip
-OF_FAULTS = ["bytes", "capability", "cause", "line", "seen", "start", "wanted"]
+OF_FAULTS = [
+    "another_kind", "bytes", "capability", "judged", "line", "seen", "source_entry", "source_entry_hex", "start", "string", "string_hex",
+    "suggestion", "suggestion_hex", "wanted",
+]  # fmt: skip
+# with these the string may be right
+UNJUDGED = ("NotShown", "NotTame", "TooLong")
 SIZE = [str(ROWS), str(COLS)]
 
 # names with what JSON escapes, with characters beyond ASCII, and with bytes that are no text
@@ -29,8 +36,23 @@ größe|written in UTF-8,
 	clear=\\E[2J, sgr0=\\E[m,
 lost|uses what isn't there,
 	use=nobody,
-""".encode() + b"lat\xeen\x7f|written in Latin-1,\n\tclear=\\E[H\\E[2J, sgr0=\\E[m,\n"
-NAMES_SHOWN = ['quoted"name\\', "größe", "lost", "lat\\356n\\177"]
+""".encode() + b"lat\xeen\x7f|a|written in Latin-1,\n\tclear=\\E[H\\E[2J\\356, sgr0=\\E[m,\n"
+NAMES += b"lat\\356n\\177|spelled as the one before is shown,\n\tclear=\\E[H\\E[2J\\\\356, sgr0=\\E[m,\n"
+NAMES_SHOWN = ['quoted"name\\', "größe", "lost", "lat\\356n\\177", "lat\\356n\\177"]
+ALIASES = [['a "right" one'], ["written in UTF-8"], [], ["a", "written in Latin-1"], ["spelled as the one before is shown"]]
+
+# a no that the schema accepts, by what differs from a yes
+ABSENT = {"verdict": "no", "capability": "cup", "cause": "Absent", "rule": "Absent", "judged": True, "another_kind": False}
+ABSENT["explanation"] = ["cup is missing"]
+# and advice
+ADVICE = {"verdict": "advice", "rule": "Advice", "capability": "sgr", "explanation": ["bold is never shown"]}
+
+# strings with a byte above 127, and with the characters that spell it
+SPELLING = rb"""one|the byte,
+	clear=\E[2J\356, cup=\E[%i%p1%d;%p2%dH, sgr0=\E[m,
+other|a backslash and digits,
+	clear=\E[2J\\356, cup=\E[%i%p1%d;%p2%dH, sgr0=\E[m,
+"""
 
 # attributes whose strings turn on another one's rendition, and what these strings make
 LOOKS = rb"""looks|bold where it isn't asked for,
@@ -41,20 +63,32 @@ LOOKS_SEEN = {
     "rev": "sent after a reset, it makes the rendition bold reverse",
 }
 
+
 # objects that the schema has to refuse, each by what differs from a yes
 REFUSED_BY_SCHEMA = [
     {"cause": "WrongEffect"},
     {"line": 0},
     {"other": None},
     {"verdict": "no"},
-    {"verdict": "no", "capability": "cup", "cause": "Unheard"},
-    {"verdict": "no", "capability": "cup", "cause": "WrongEffect"},
-    {"verdict": "no", "capability": "cup", "cause": "Absent", "seen": "nothing changes"},
-    {"verdict": "refused", "cause": "NoSuchEntry a", "advice": ["sgr: never"]},
+    {**ABSENT, "cause": "Unheard", "rule": "Unheard"},
+    {**ABSENT, "cause": "WrongEffect", "rule": "WrongEffect"},
+    {**ABSENT, "seen": "nothing changes"},
+    {**ABSENT, "suggestion": "\\E[m"},
+    {**ABSENT, "suggestion": "\\E[m", "suggestion_hex": "1b5b6d", "another_kind": True},
+    {**ABSENT, "judged": False},
+    {**ABSENT, "line": 5},
+    {"verdict": "refused", "cause": "NoSuchEntry a", "rule": "Refused", "explanation": ["never"]},
+    {"verdict": "advice", "rule": "Advice", "capability": "sgr"},
+    {"verdict": "advice", "rule": None, "capability": "sgr", "explanation": ["never"]},
+    {"verdict": "advice", "rule": "Advice", "explanation": ["never"]},
+    {**ABSENT, "explanation": []},
+    {"verdict": "refused", "cause": "NoSuchEntry a", "rule": None},
+    {"version": 2},
+    {"entry_hex": "6"},
     {"size": {"cols": 80, "rows": 1}},
 ]
 
-LETTERS = {"E": 27, "n": 10, "r": 13, "t": 9, "b": 8, "f": 12}
+LETTERS = {"E": 27, "n": 10, "r": 13, "t": 9, "b": 8, "f": 12, "s": 32}
 
 
 def fail(text):
@@ -78,10 +112,11 @@ SCHEMA = schema()
 
 def judge_schema():
     """The schema accepts a yes, and refuses objects that no report may be."""
-    yes = {**{key: [] if list in kinds else None for key, kinds in MEMBERS.items()}, "entry": "a", "file": "a.ti"}
-    yes |= {"size": {"cols": COLS, "rows": ROWS}, "verdict": "yes"}
-    if not SCHEMA.is_valid(yes):
-        fail(f"the schema refuses {yes}")
+    yes = {**{key: [] if list in kinds else None for key, kinds in MEMBERS.items()}, "entry": "a", "entry_hex": "61", "file": "a.ti"}
+    yes |= {"size": {"cols": COLS, "rows": ROWS}, "verdict": "yes", "version": 1}
+    for right in (yes, {**yes, **ABSENT}, {**yes, **ADVICE}):
+        if not SCHEMA.is_valid(right):
+            fail(f"the schema refuses {right}")
     for other in REFUSED_BY_SCHEMA:
         if SCHEMA.is_valid({**yes, **other}):
             fail(f"the schema accepts {yes} with {other}")
@@ -101,12 +136,47 @@ def objects(told, size=(ROWS, COLS)):
             fail(f"not as docs/report.schema.json says: {line}: {error.message}")
         if one["size"] != {"cols": size[1], "rows": size[0]}:
             fail(f"not the size that was given: {line}")
-        if one["verdict"] != "no" and any(one[key] is not None for key in OF_FAULTS if key != "cause"):
+        if one["verdict"] != "no" and any(one[key] is not None for key in OF_FAULTS if (one["verdict"], key) != ("advice", "capability")):
             fail(f"a fault of an entry without one: {line}")
-        if one["verdict"] != "yes" and one["advice"]:
-            fail(f"advice on an entry without a certificate: {line}")
+        judge_forms(one)
         found.append(one)
     return found
+
+
+def parted(ones):
+    """The objects about verdicts, and the advice in the others as the plain form prints it."""
+    advice = [f"advice {it['capability']}: {it['explanation'][0]}" for it in ones if it["verdict"] == "advice"]
+    return [it for it in ones if it["verdict"] != "advice"], advice
+
+
+def advised(told):
+    """The advice of a plain form."""
+    return [line for line in told.err.decode().splitlines() if line.startswith("advice ")]
+
+
+def as_text(held):
+    """Bytes as a report has them in a text."""
+    try:
+        return held.decode()
+    except UnicodeDecodeError:
+        return shown(held.decode("latin-1"))
+
+
+def judge_forms(one):
+    """What an object says twice is the same, and what follows from its cause."""
+    for key in ("entry", "source_entry"):
+        digits = one[f"{key}_hex"]
+        if one[key] != (None if digits is None else as_text(bytes.fromhex(digits))):
+            fail(f"{key} isn't {key}_hex: {one}")
+    if one["aliases"] != [as_text(bytes.fromhex(digits)) for digits in one["aliases_hex"]]:
+        fail(f"aliases aren't aliases_hex: {one}")
+    for key in ("string", "suggestion"):
+        if one[f"{key}_hex"] != (None if one[key] is None else value_bytes(one[key]).hex()):
+            fail(f"{key} isn't {key}_hex: {one}")
+    rule = {"yes": None, "no": one["cause"], "refused": "Refused", "advice": "Advice"}[one["verdict"]]
+    judged = one["cause"] not in UNJUDGED if one["verdict"] == "no" else None
+    if (one["rule"], one["judged"], one["version"]) != (rule, judged, 1):
+        fail(f"not the rule and the judgement of the cause: {one}")
 
 
 def said(one):
@@ -118,14 +188,21 @@ def said(one):
     return f"no {one['capability']}{''.join(f' {it}' for it in one['parameters'])}: {one['cause']}"
 
 
+def value_bytes(value):
+    """The bytes that a string of a source text means: of three octal digits, of a letter, or of a caret."""
+    pieces = re.finditer(r"\\([0-7]{3})|\\(.)|\^(.)|(.)", value, flags=re.S)
+    return bytes(
+        int(octal, 8) if octal else LETTERS.get(letter, ord(letter)) if letter else ord(caret) % 32 if caret else ord(plain)
+        for octal, letter, caret, plain in (it.groups() for it in pieces)
+    )
+
+
 def sent(line):
     """The bytes that a line says a string sends, in hexadecimal; None where it is cut, or no string is sent."""
     found = re.search(r" sends '(.*)'$", line)
     if not found or found[1].endswith(" .."):
         return None
-    escapes = re.sub(r"\\([0-7]{3})", lambda it: chr(int(it[1], 8)), found[1])
-    text = re.sub(r"\\(.)", lambda it: chr(LETTERS.get(it[1], ord(it[1]))), escapes, flags=re.S)
-    return text.encode("latin-1").hex()
+    return value_bytes(found[1]).hex()
 
 
 def blocks(text):
@@ -145,20 +222,51 @@ def judge_lines(one, lines, path):
         plain = [line.removeprefix(f"{key}: ") for line in lines if line.startswith(f"{key}: ")]
         if [one[key]] != (plain or [None]):
             fail(f"{key} of {one} is not that of {lines}")
-    places = [line for line in lines if line.startswith(f"{path}:")]
-    wanted = [f"{path}:{one['line']}: {one['capability']} of "] if one["line"] else []
-    if len(places) != len(wanted) or not all(map(str.startswith, places, wanted)):
-        fail(f"the line of {one} is not that of {lines}")
+    places = [line for line in lines if path and line.startswith(f"{path}:")]
+    if places != ([f"{path}:{one['line']}: {one['capability']} of {one['source_entry']}"] if one["line"] else []):
+        fail(f"the place of {one} is not that of {lines}")
+    right = [line for line in lines if line.endswith(" would be right on T")]
+    if right != ([f"{one['capability']}={one['suggestion']} would be right on T"] if one["suggestion"] is not None else []):
+        fail(f"the suggestion of {one} is not that of {lines}")
     for line in lines:
         # what is sent first in an unknown state may be another string than `clear`, which the object is about
         if one["cause"] != "NoResync" and sent(line) not in (None, one["bytes"]):
             fail(f"the bytes of {one} are not those of {line}")
     if one["bytes"] is not None and not any(" sends '" in line for line in lines):
         fail(f"the bytes of {one} stand in none of {lines}")
+    own = [line for line in lines if line not in places + right]
+    if path and one["explanation"] != (own or [NO_RESYNC]):
+        fail(f"{one} doesn't explain all that {lines} do")
 
 
-def judge_entries(path, held, names):
-    """`check --json` and `check --all --json` of entries beside the plain forms."""
+# what the plain form doesn't say of an entry that has no string to begin with
+NO_RESYNC = (
+    "smcup, enacs, sgr0, rmacs, csr of the whole screen and clear, sent one after another, are to lead a terminal out of any state, so they"
+    " have to begin with ESC: a sequence that was cut off would take any other first byte as part of it"
+)
+
+OF_ANOTHER_KIND = b"clear and cup are both at fault: this entry seems to be for a terminal of another kind, and no string is suggested\n"
+
+
+def judge_kind(ones, one, err):
+    """With all faults, each object says whether the entry seems to be for a terminal of another kind, as the plain form does."""
+    kind = {"clear", "cup"} <= {it["capability"] for it in ones}
+    if any(it["verdict"] == "no" and it["another_kind"] is not kind for it in ones) or (OF_ANOTHER_KIND in err) != kind:
+        fail(f"not whether {ones} are of another kind: {err}")
+    if one["another_kind"] is not None or one["suggestion"] is not None:
+        fail(f"the first fault alone shows no kind of terminal, and no suggestion: {one}")
+
+
+def judge_planted(ones, faults):
+    """The objects of an entry have the strings that were planted, and the entries in which these are."""
+    for one, ((field, _, cause), owner) in zip(ones, faults):
+        string = value_bytes(field.split("=", 1)[1]).hex() if "=" in field else None
+        if (one["string_hex"], one["source_entry"]) != (string, None if cause == "Absent" else owner) or one["aliases"] != ["an entry"]:
+            fail(f"{one} is not about {field} of {owner}")
+
+
+def judge_entries(path, held, names, planted=None):
+    """`check --json` and `check --all --json` of entries beside the plain forms, and beside what was `planted` in them."""
     forms = [["--all"], ["--all", "--json"], [], ["--json"]]
     cases = [Case(["check", *form, "--", f"{path}:{name}", *SIZE]) for name in names for form in forms]
     told = run_cases(PROGRAM, cases, {path: held})
@@ -166,7 +274,7 @@ def judge_entries(path, held, names):
     for at, name in enumerate(names):
         every, every_json, first, first_json = told[4 * at : 4 * at + 4]
         found = blocks(every.out.decode())
-        ones, one = objects(every_json), objects(first_json)
+        (ones, all_advice), (one, advice) = (parted(objects(it)) for it in (every_json, first_json))
         if [said(it) for it in ones] != ([line for line, _ in found] or ["yes"]):
             fail(f"check --all --json of {name} reported {ones}, and --all printed {found}")
         if len(one) != 1 or first.status != int(said(one[0]) != "yes"):
@@ -175,14 +283,18 @@ def judge_entries(path, held, names):
             fail(f"check --json of {name} reported {one}, and check printed {first.err}")
         for it, (_, lines) in zip(ones, found):
             judge_lines(it, lines, path)
+        judge_kind(ones, one[0], every.err)
+        judge_planted(ones, planted[name] if planted else [])
         if one[0]["verdict"] == "no":
-            judge_lines({**one[0], "line": None}, first.err.decode().splitlines(), "no path")
+            judge_lines({**one[0], "line": None}, first.err.decode().splitlines(), "")
+        for it in ones:
+            if said(it) == said(one[0]) and any(it[key] != one[0][key] for key in ("line", "source_entry", "string", "entry_hex")):
+                fail(f"check --json of {name} reported {one}, and with --all {it}")
         if {(it["entry"], it["file"]) for it in [*ones, *one]} != {(name, path)}:
             fail(f"not entry and file of {name}: {ones} {one}")
-        advice = [line for line in first.err.splitlines(keepends=True) if line.startswith(b"advice ")]
-        if [f"advice {it}\n".encode() for it in one[0]["advice"]] != advice or ones[0]["advice"] != one[0]["advice"]:
-            fail(f"check --json of {name} advised {one[0]['advice']}, and check {advice}")
-        plain_err = b"".join(line for line in first.err.splitlines(keepends=True) if line not in advice)
+        if (advice, all_advice) != (advised(first), advised(every)):
+            fail(f"check --json of {name} advised {advice}, and with --all {all_advice}")
+        plain_err = b"".join(line for line in first.err.splitlines(keepends=True) if not line.startswith(b"advice "))
         if (first.status, plain_err) != (first_json.status, first_json.err) or every.status != every_json.status:
             fail(f"check --json of {name} ended with {first_json.status} {first_json.err} and check with {first.status} {first.err}")
         count += len(ones)
@@ -195,8 +307,8 @@ def judge_places(path, ones, places):
     if len(placed) != len(places):
         fail(f"{len(placed)} objects of {path} have a line, and survey --all printed {places}")
     for one, place in zip(placed, places):
-        front, name = f"{path}:{one['line']}: {one['capability']} of ", shown(one["entry"].encode().decode("latin-1"))
-        if not place.startswith(front) or not place.endswith(f": {name} {said(one)}"):
+        name, holder = (shown(one[key].encode().decode("latin-1")) for key in ("entry", "source_entry"))
+        if place != f"{path}:{one['line']}: {one['capability']} of {holder}: {name} {said(one)}":
             fail(f"the line of {one} is not that of {place}")
     return len(placed)
 
@@ -207,10 +319,10 @@ def judge_survey(path, held):
     told = run_cases(PROGRAM, [Case(["survey", *form, *SIZE, path]) for form in forms], {path: held})
     lines_of, count = {}, 0
     for form, plain, reported in zip(forms[::2], told[::2], told[1::2]):
-        ones = objects(reported)
+        ones, _ = parted(objects(reported))
         for it in ones:
-            if lines_of.setdefault((it["entry"], it["capability"]), it["line"]) != it["line"]:
-                fail(f"survey --json reported the line of {it}, and with --all {lines_of[it['entry'], it['capability']]}")
+            if lines_of.setdefault((it["entry_hex"], it["capability"]), it["line"]) != it["line"]:
+                fail(f"survey --json reported the line of {it}, and with --all {lines_of[it['entry_hex'], it['capability']]}")
         if form:
             hints, places = [], []
             for line in plain.err.splitlines(keepends=True):
@@ -239,20 +351,28 @@ def shown(line):
 def judge_looks():
     """The rendition that is seen in place of an attribute's own."""
     (told,) = run_cases(PROGRAM, [Case(["check", "--all", "--json", "--", "looks:looks", *SIZE])], {"looks": LOOKS})
-    found = {it["capability"]: (it["cause"], it["seen"]) for it in objects(told)}
+    found = {it["capability"]: (it["cause"], it["seen"]) for it in parted(objects(told))[0]}
     if found != {cap: ("BadLook", seen) for cap, seen in LOOKS_SEEN.items()}:
         fail(f"what is seen of {LOOKS}: {found}")
 
 
 def judge_names():
     """Names with quotes and backslashes, in UTF-8, and of bytes that are no text."""
-    cases = [Case(["survey", "--json", *SIZE, "names"]), Case(["survey", "--json", *SIZE, "faulty"])]
-    told, faulty = run_cases(PROGRAM, cases, {"names": NAMES, "faulty": b" x\n"})
-    ones = objects(told)
+    files = {"names": NAMES, "faulty": b" x\n", "spelling": SPELLING}
+    told, faulty, spelling = run_cases(PROGRAM, [Case(["survey", "--json", *SIZE, name]) for name in files], files)
+    ones, _ = parted(objects(told))
     if [it["entry"] for it in ones] != NAMES_SHOWN:
         fail(f"names: {ones}")
-    if [it["verdict"] for it in ones] != ["yes", "no", "refused", "no"] or ones[2]["cause"] != "NoSuchEntry nobody":
+    if [it["verdict"] for it in ones] != ["yes", "no", "refused", "no", "no"] or ones[2]["cause"] != "NoSuchEntry nobody":
         fail(f"verdicts: {ones}")
+    if [it["aliases"] for it in ones] != ALIASES:
+        fail(f"aliases: {ones}")
+    # a byte above 127, and the characters with which it is shown
+    if [it["entry_hex"] for it in ones[3:]] != [b"lat\xeen\x7f".hex(), b"lat\\356n\\177".hex()]:
+        fail(f"two names with one text: {ones}")
+    spelled = [(it["string"], it["string_hex"]) for it in parted(objects(spelling))[0]]
+    if spelled != [(r"\E[2J\356", "1b5b324aee"), (r"\E[2J\\356", "1b5b324a5c333536")]:
+        fail(f"a byte above 127, and its spelling: {spelled}")
     (one,) = objects(faulty)
     if (one["entry"], one["file"], one["verdict"]) != (None, "faulty", "refused") or faulty.status:
         fail(f"a file without entries: {one} {faulty.status}")
@@ -271,7 +391,7 @@ def judge_twins():
     """An entry of a survey has the lines of its own place, whatever other entries have its name."""
     forms = [["--json"], ["--all", "--json"]]
     for told in run_cases(PROGRAM, [Case(["survey", *form, *SIZE, "twins"]) for form in forms], {"twins": TWINS}):
-        ones = [(it["entry"], it["capability"], it["line"]) for it in objects(told)]
+        ones = [(it["entry"], it["capability"], it["line"]) for it in parted(objects(told))[0]]
         if ones != [("twin", "clear", 2), ("twin", "clear", 5)]:
             fail(f"the lines of two entries of one name: {ones}")
 
@@ -293,18 +413,24 @@ NO_OUT = b"error: check writes a certificate, or with --json reports on the entr
 
 
 def judge_refused():
-    """An entry that can't be reported on is refused as in the plain form."""
-    refused = [["five.ti:six", *SIZE], ["six.ti:six", *SIZE], ["five.ti:five", "1", "6"], ["five.ti:five", "x", "6"]]
+    """An entry that can't be had is refused as in the plain form, with an object; a wrong size has none."""
+    lacking = ["five.ti:six", "six.ti:six", "names:lost", "faulty:a", "five.ti", "six"]
+    refused = [*([word, *SIZE] for word in lacking), ["five.ti:five", "1", "6"], ["five.ti:five", "x", "6"]]
     cases = [Case(["check", *form, *words]) for words in refused for form in ([], ["--json"])]
     cases += [Case(["check", "--json", "--out", "cert", "five.ti:five", *SIZE])]
     cases += [Case(["survey", *form, *SIZE, "six.ti", "five.ti"]) for form in ([], ["--json"])]
-    *told, both, plain, survey = run_cases(PROGRAM, cases, {"five.ti": FIVE})
-    for one, other in zip(told[::2], told[1::2]):
-        if (one.status, one.out, one.err) != (other.status, other.out, other.err) or not one.status:
+    *told, both, plain, survey = run_cases(PROGRAM, cases, {"five.ti": FIVE, "names": NAMES, "faulty": b" x\n"})
+    for words, one, other in zip(refused, told[::2], told[1::2]):
+        path, _, name = words[0].partition(":")
+        why = one.err.decode().splitlines()[0].removeprefix("refused: ")
+        ones = [(it["verdict"], it["file"], it["entry"], it["cause"]) for it in objects(other)]
+        if ones != ([("refused", path, name or None, why)] if words[0] in lacking else []):
+            fail(f"check --json of {words}: {other.out}, and check said {one.err}")
+        if (one.status, one.out, one.err) != (other.status, b"", other.err) or not one.status:
             fail(f"a refusal of check --json: {other.status} {other.out} {other.err}, and of check {one.err}")
     if both.status != 2 or not both.err.startswith(NO_OUT) or both.out:
         fail(f"--json beside --out: {both.status} {both.err}")
-    if (plain.status, plain.err) != (survey.status, survey.err) or plain.status != 3 or len(objects(survey)) != 2:
+    if (plain.status, plain.err) != (survey.status, survey.err) or plain.status != 3 or len(parted(objects(survey))[0]) != 2:
         fail(f"a survey without one of its files: {survey.status} {survey.out} {survey.err}")
 
 
@@ -314,7 +440,7 @@ def main():
     else:
         print("reports: Python's jsonschema is missing, so docs/report.schema.json is not compared", file=sys.stderr)
     source, wanted = all_entries()
-    count = judge_entries("planted", source.text(), list(wanted))
+    count = judge_entries("planted", source.text(), list(wanted), wanted)
     with open(f"{TOP}/examples/terminals.ti", "rb") as file:
         samples = file.read()
     names = [line.split("|")[0].rstrip(",") for line in samples.decode().splitlines() if line and line[0] not in "# \t"]

@@ -2,8 +2,8 @@
 
 import json
 
-VERDICTS = ("yes", "no", "refused")
-TEXTS = ("bytes", "capability", "cause", "entry", "seen", "start", "wanted")
+VERDICTS = ("yes", "no", "refused", "advice")
+TEXTS = ("bytes", "capability", "cause", "entry", "seen", "source_entry", "start", "string", "suggestion", "wanted")
 # what is said of a fault
 OF_FAULT = ("capability", "parameters", "cause", "bytes", "start", "wanted", "seen")
 
@@ -17,10 +17,10 @@ class Fault:
 
     def __init__(self, one):
         self.capability, self.parameters, self.cause = one["capability"], one["parameters"], one["cause"]
-        self.bytes, self.size, self.advice = one["bytes"], one["size"], one["advice"]
+        self.bytes, self.size, self.explanation = one["bytes"], one["size"], one["explanation"]
         self.start, self.wanted, self.seen = one["start"], one["wanted"], one["seen"]
-        # what newer programs say too
-        self.string, self.suggestion = one.get("string"), one.get("suggestion")
+        self.string, self.suggestion, self.source_entry = one["string"], one["suggestion"], one["source_entry"]
+        self.judged, self.another_kind = one["judged"], one["another_kind"]
         self.places, self.entries = [], []
 
     def add(self, one, entry):
@@ -42,7 +42,7 @@ class Entry:
     def __init__(self, one):
         self.name, self.file, self.verdict = one["entry"], one["file"], one["verdict"]
         self.reason = one["cause"] if self.verdict == "refused" else None
-        self.advice, self.faults = one["advice"], []
+        self.advice, self.faults = [], []
 
     def shown(self):
         return self.file if self.name is None else self.name
@@ -50,8 +50,11 @@ class Entry:
     def goes_on(self, one, fault):
         """Whether an object is the next fault of this entry: a survey reports them one after another, and none twice. An entry
         of the same name may follow."""
-        is_here = (self.file, self.name) == (one["file"], one["entry"])
-        return self.verdict == one["verdict"] == "no" and is_here and fault not in self.faults
+        return self.verdict == one["verdict"] == "no" and self.is_of(one) and fault not in self.faults
+
+    def is_of(self, one):
+        """Whether an object names this entry."""
+        return (self.file, self.name) == (one["file"], one["entry"])
 
 
 class Found:
@@ -85,12 +88,14 @@ def is_report(one):
     if not isinstance(one, dict) or one.get("verdict") not in VERDICTS or not isinstance(one.get("file"), str):
         return False
     texts = all(one.get(name, 0) is None or isinstance(one.get(name), str) for name in TEXTS)
-    lists = all(isinstance(one.get(name), list) for name in ("advice", "parameters"))
+    lists = all(isinstance(one.get(name), list) for name in ("explanation", "parameters"))
     size = one.get("size")
     sizes = isinstance(size, dict) and all(type(size.get(name)) is int and size[name] > 0 for name in ("rows", "cols"))
     line = one.get("line", 0) is None or type(one["line"]) is int and one["line"] > 0
-    named = one["verdict"] != "no" or all(one.get(name) is not None for name in ("capability", "cause", "entry"))
-    return texts and lists and sizes and line and named and is_hexadecimal(one["bytes"])
+    truths = all(one.get(name, 0) is None or isinstance(one.get(name), bool) for name in ("another_kind", "judged"))
+    needed = {"no": ("capability", "cause", "entry"), "advice": ("capability", "entry")}.get(one["verdict"], ())
+    named = all(one.get(name) is not None for name in needed)
+    return texts and truths and lists and sizes and line and named and is_hexadecimal(one["bytes"])
 
 
 def is_hexadecimal(text):
@@ -122,6 +127,13 @@ def objects(data):
         yield number, one
 
 
+def add_advice(found, one, number):
+    """Advice on the entry whose objects came before."""
+    if not (found.entries and found.entries[-1].is_of(one)):
+        raise NoReport(f"line {number} is advice on another entry than the object before it")
+    found.entries[-1].advice.append(f"{one['capability']}: {' '.join(map(str, one['explanation']))}")
+
+
 def found_in(data):
     """The findings that the bytes of the input list."""
     found, faults = Found(), {}
@@ -129,6 +141,9 @@ def found_in(data):
         if found.size not in (None, one["size"]):
             raise NoReport(f"line {number} is of another size than those before it")
         found.size = one["size"]
+        if one["verdict"] == "advice":
+            add_advice(found, one, number)
+            continue
         key = key_of(one)
         if not (found.entries and found.entries[-1].goes_on(one, faults.get(key))):
             found.entries.append(Entry(one))

@@ -107,15 +107,24 @@ def states_table(fault, symbols):
 
 
 def strings(fault):
-    """The bytes that the string sends, and the string that would be right."""
+    """The field, the bytes that its string sends, the string that would be right, and what is known of the fault."""
     parts = []
+    if isinstance(fault.string, str):
+        parts.append(f'<samp>{shown(f"{fault.capability}={cut(fault.string)}")}</samp>')
     if fault.bytes is not None:
         sent = shown(cut(source_form(fault.bytes)))
         parts.append(f'sends <samp>{sent or "nothing"}</samp>')
     if isinstance(fault.suggestion, str):
-        parts.append(f'<kbd>{shown(cut(fault.suggestion))}</kbd> would be right on T')
+        parts.append(f'<kbd>{shown(f"{fault.capability}={cut(fault.suggestion)}")}</kbd> would be right on T')
+    if fault.judged is False:
+        parts.append("not judged: the string may be right")
+    if fault.another_kind:
+        parts.append("<code>clear</code> and <code>cup</code> are both at fault: the entry seems to be for another terminal")
     if fault.wanted:
         parts.append(f'wanted: {shown(fault.wanted)}')
+    if fault.start is None:
+        # the other lines say what the parts above do
+        parts += [shown(it) for it in fault.explanation if " sends '" not in it and not it.startswith("wanted: ")]
     return "".join(f"<p>{it}</p>" for it in parts)
 
 
@@ -128,7 +137,8 @@ def who(fault):
 def places(fault):
     """Where it stands: at one place of a source, or in the compiled files of its entries."""
     if len(fault.places) == 1:
-        return f"<code>{shown(fault.places[0])}</code>"
+        holder = f" of {shown(fault.source_entry)}" if isinstance(fault.source_entry, str) else ""
+        return f"<code>{shown(fault.places[0])}</code>{holder}"
     return f"{len(fault.places):,} compiled files"
 
 
@@ -174,9 +184,9 @@ def verdict(entry, of_fault):
     """An entry's verdict, and where its faults are."""
     if entry.verdict == "refused":
         return f"can't be read: {shown(entry.reason or '')}"
-    if entry.verdict == "yes":
-        return "; ".join(shown(it) for it in entry.advice)
-    return " ".join(f'<a href="#f{of_fault[id(it)]}">{shown(it.capability)}</a>' for it in entry.faults)
+    faults = " ".join(f'<a href="#f{of_fault[id(it)]}">{shown(it.capability)}</a>' for it in entry.faults)
+    advice = "; ".join(shown(it) for it in entry.advice)
+    return "; ".join(it for it in (faults, advice) if it)
 
 
 def entries(found, of_fault):

@@ -1,12 +1,15 @@
 -- No part of a report's JSON is a number with a fraction, so that its text is exact.
-use Rattle.std.proofs.Common.{◌≡◌, ℕ, List, [], ◌∷◌, Option, Some, None, String, false, map, refl}
+use Rattle.std.proofs.Common.{◌≡◌, ℕ, Bool, List, [], ◌∷◌, Option, Some, None, String, false, map, refl}
 use Rattle.std.specs.Prelude.{string_bytes}
 use Rattle.std.specs.declared.alloc.Global.{Global}
 use Rattle.serde_json.specs.Data.{number, string, unsigned}
 use Rattle.serde_json.specs.View.{items_of}
 use Rattle.serde_json.specs.Written.{has_float, items_have_float}
-use Rattle.ti_reports.specs.Reports.{number_data, report_data, text_data}
+use Rattle.ti_reports.specs.Reports.{hex_data, number_data, report_data, rule_data, text_data, truth_data, written_data}
+use Rattle.ti_reports.specs.declared.forms.Written.{Written}
 use Rattle.ti_reports.specs.declared.reports.Report.{Report}
+use Rattle.ti_reports.specs.declared.reports.Verdict.{Verdict}
+use Rattle.ti_reports.specs.declared.reports.Verdict.TheVariants.{Yes, No, Refused, Advice}
 
 text_whole : (text : Option (String Global)) → has_float (text_data text) ≡ false
 text_whole (Some text) = refl
@@ -16,9 +19,35 @@ number_whole : (n : Option ℕ) → has_float (number_data n) ≡ false
 number_whole (Some n) = refl
 number_whole None = refl
 
+truth_whole : (b : Option Bool) → has_float (truth_data b) ≡ false
+truth_whole (Some b) = refl
+truth_whole None = refl
+
+written_whole : (written : Option Written) → has_float (written_data written) ≡ false
+written_whole (Some written) = refl
+written_whole None = refl
+
+hex_whole : (written : Option Written) → has_float (hex_data written) ≡ false
+hex_whole (Some written) = refl
+hex_whole None = refl
+
+rule_whole : (verdict : Verdict) (cause : Option (String Global)) → has_float (rule_data verdict cause) ≡ false
+rule_whole Yes cause = refl
+rule_whole No cause = text_whole cause
+rule_whole Refused cause = refl
+rule_whole Advice cause = refl
+
 numbers_whole : (ns : List ℕ) → items_have_float (items_of (map (λ n. number (unsigned n)) ns)) ≡ false
 numbers_whole [] = refl
 numbers_whole (n ∷ ns) = numbers_whole ns
+
+names_whole : (names : List Written) → items_have_float (items_of (map (λ name. string (string_bytes name.text)) names)) ≡ false
+names_whole [] = refl
+names_whole (name ∷ names) = names_whole names
+
+digits_whole : (names : List Written) → items_have_float (items_of (map (λ name. string (string_bytes name.hex)) names)) ≡ false
+digits_whole [] = refl
+digits_whole (name ∷ names) = digits_whole names
 
 texts_whole : (texts : List (String Global)) → items_have_float (items_of (map (λ text. string (string_bytes text)) texts)) ≡ false
 texts_whole [] = refl
@@ -26,4 +55,5 @@ texts_whole (text ∷ texts) = texts_whole texts
 
 pub report_whole : (report : Report) → has_float (report_data report) ≡ false
 report_whole report =
-    rw (text_whole report.bytes, text_whole report.capability, text_whole report.cause, text_whole report.entry, number_whole report.line, numbers_whole report.parameters.items, texts_whole report.advice.items, text_whole report.seen, text_whole report.start, text_whole report.wanted) refl
+    let finding = report.finding in
+    rw (names_whole report.aliases.items, digits_whole report.aliases.items, truth_whole finding.another_kind, text_whole finding.bytes, text_whole finding.capability, text_whole report.cause, written_whole report.entry, hex_whole report.entry, texts_whole finding.explanation.items, truth_whole finding.judged, number_whole finding.place.line, numbers_whole finding.parameters.items, rule_whole report.verdict report.cause, text_whole finding.run.seen, written_whole finding.place.entry, hex_whole finding.place.entry, text_whole finding.run.start, written_whole finding.string, hex_whole finding.string, written_whole finding.suggestion, hex_whole finding.suggestion, text_whole finding.run.wanted) refl

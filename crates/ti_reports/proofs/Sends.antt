@@ -1,5 +1,5 @@
 -- A string for which there is a fault sends nothing.
-use Rattle.std.proofs.Common.{◌≡◌, ◌≢◌, ℕ, List, Ok, Err, refl, sym, ap, ◌∙◌}
+use Rattle.std.proofs.Common.{◌≡◌, ◌≢◌, ℕ, List, Ok, Err, refl}
 use Rattle.ti_conforms.specs.Sends.{IsUnsent, Sends}
 use Rattle.ti_conforms.specs.declared.sends.SendFault.{SendFault}
 use Rattle.ti_conforms.specs.declared.sends.SendFault.TheVariants.{Fault, StaticRead, NoMemory}

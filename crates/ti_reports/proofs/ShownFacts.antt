@@ -15,7 +15,7 @@ octal_then b rest l a =
     (IsAscii-cons (48 + b / 64) two (omega arith)
     (IsAscii-cons (48 + b / 8 % 8) ((48 + b % 8) ∷ rest) (omega arith) (IsAscii-cons (48 + b % 8) rest (omega arith) a)))
 
-part_then : (is_printable : Bool) (b : ℕ) (rest : List ℕ) → (is_printable ≡ true → b < 127) → b < 256 → IsAscii rest → IsAscii ((if is_printable then b ∷ [] else octal b) ++ rest)
+pub part_then : (is_printable : Bool) (b : ℕ) (rest : List ℕ) → (is_printable ≡ true → b < 127) → b < 256 → IsAscii rest → IsAscii ((if is_printable then b ∷ [] else octal b) ++ rest)
 part_then true b rest small l a = let s = small refl in IsAscii-cons b rest (omega arith) a
 part_then false b rest small l a = octal_then b rest l a
 

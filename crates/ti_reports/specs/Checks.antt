@@ -1,8 +1,9 @@
 -- The answer of `check --json`, by the contents of its files.
-use Rattle.std.specs.Prelude.{◌≡◌, ℕ, Bool, List, [], ◌∷◌, Option, Some, None}
+use Rattle.std.specs.Prelude.{◌≡◌, ◌⊎◌, ℕ, Bool, List, [], ◌∷◌, Option, Some, None}
 use Rattle.ti_caps.specs.Entry.{Content}
 use Rattle.ti_checker.specs.declared.causes.No.{No}
 use Rattle.ti_commands.specs.Contents.{Held}
+use Rattle.ti_commands.specs.Findings.{LacksEntry}
 use Rattle.ti_commands.specs.Sizes.{SizeGiven}
 use Rattle.ti_commands.specs.Sources.{IsSourced}
 use Rattle.ti_commands.specs.declared.failure.Failure.{Failure}
@@ -10,6 +11,7 @@ use Rattle.ti_commands.specs.declared.failure.Reply.{Reply}
 use Rattle.ti_commands.specs.declared.sources.SourceText.{SourceText}
 use Rattle.ti_reports.specs.Faults.{AreFoundLines}
 use Rattle.ti_reports.specs.Findings.{AreFaults}
+use Rattle.ti_reports.specs.Lacks.{ReportsLackOf}
 use Rattle.ti_reports.specs.Sources.{Whereabouts, by_name}
 use Rattle.ti_requests.specs.declared.request.FaultsWords.{FaultsWords}
 use Rattle.ti_verdicts.specs.Checks.{TellsNotes}
@@ -26,13 +28,31 @@ EndsAsFirst [] failure = failure ≡ None
 EndsAsFirst (first ∷ others) failure = EndsAsNo first failure
 
 -- the reply reports these faults, and fails as the first one does
-pub record TellsFound (entry : Content) (height width : ℕ) (file : List ℕ) (stands : Whereabouts) (nos : List No)
-    (reply : Reply) : Type 0 where
-  pub lines : AreFoundLines entry height width file stands nos reply.text.items
+pub record TellsFound (entry : Content) (height width : ℕ) (all : Bool) (file : List ℕ) (stands : Whereabouts)
+    (nos : List No) (reply : Reply) : Type 0 where
+  pub lines : AreFoundLines entry height width all file stands nos reply.text.items
   pub ends : EndsAsFirst nos reply.failure
 
--- The entry that the word gives, at the size that the words give: the reply has its notes, and reports its first fault,
--- or all of them, or that there is none.
+-- The word gives no entry: the reply reports that, for this size, and fails for the reason.
+pub record ReportsMissing (held : Held) (words : FaultsWords) (reply : Reply) : Type 0 where
+  pub height : ℕ
+  pub width : ℕ
+  pub given : SizeGiven words.rows.now words.cols.now height width
+  pub failure : Failure
+  pub lacks : LacksEntry held words.entry.now failure
+  pub tells : ReportsLackOf height width words.entry.now failure reply
+
+-- The reply has the notes of this entry, and reports its first fault, or all of them, or that there is none.
+pub record ReportsEntry (entry : Content) (source : Option SourceText) (height width : ℕ) (lists_all : Bool)
+    (word : List ℕ) (reply : Reply) : Type 0 where
+  pub file : List ℕ
+  pub stands : file ≡ file_of source word
+  pub notes : TellsNotes entry reply.notes.items
+  pub nos : List No
+  pub found : AreFaults lists_all entry height width nos
+  pub tells : TellsFound entry height width lists_all file (by_name source) nos reply
+
+-- the reply reports on the entry that the word gives, at the size that the words give
 pub record ReportsOn (held : Held) (lists_all : Bool) (words : FaultsWords) (reply : Reply) : Type 0 where
   pub height : ℕ
   pub width : ℕ
@@ -40,9 +60,8 @@ pub record ReportsOn (held : Held) (lists_all : Bool) (words : FaultsWords) (rep
   pub entry : Content
   pub source : Option SourceText
   pub gives : IsSourced held words.entry.now entry source
-  pub file : List ℕ
-  pub stands : file ≡ file_of source words.entry.now
-  pub notes : TellsNotes entry reply.notes.items
-  pub nos : List No
-  pub found : AreFaults lists_all entry height width nos
-  pub tells : TellsFound entry height width file (by_name source) nos reply
+  pub tells : ReportsEntry entry source height width lists_all words.entry.now reply
+
+-- a report on the entry, or that there is none
+abbrev pub Replies : Held → Bool → FaultsWords → Reply → Type 0
+Replies held lists_all words reply = ReportsOn held lists_all words reply ⊎ ReportsMissing held words reply

@@ -11,6 +11,7 @@ use Rattle.ti_rows.specs.declared.rows.Row.{Row}
 use Rattle.ti_reports.specs.Ran.{IsRunOf}
 use Rattle.ti_reports.specs.Sent.{IsRowFor}
 use Rattle.ti_reports.specs.Texts.{IsShownAs}
+use Rattle.ti_reports.specs.declared.explanations.Explanation.{Explanation}
 use Rattle.ti_reports.specs.declared.ran.Telling.TheVariants.{ChangesFrom, LookAfterReset}
 use Rattle.ti_verdicts.specs.Starts.{settings_of}
 use Rattle.ti_words.specs.Starts.{start_text}
@@ -86,8 +87,7 @@ IsSeen NoMemory entry height width refusal seen = seen ≡ None
 
 -- Where a state shows the fault, it is the cause's own. The wanted effect is that of the row. The effect that is seen
 -- is that of the entry's string.
-pub record IsExplained (entry : Content) (height width : ℕ) (refusal : No) (start wanted seen : Option (String Global))
-    : Type 0 where
-  pub start_is : HasStart height refusal.cause start
-  pub wanted_is : IsWanted refusal.cause refusal wanted
-  pub seen_is : IsSeen refusal.cause entry height width refusal seen
+pub record IsExplained (entry : Content) (height width : ℕ) (refusal : No) (run : Explanation) : Type 0 where
+  pub start_is : HasStart height refusal.cause run.start
+  pub wanted_is : IsWanted refusal.cause refusal run.wanted
+  pub seen_is : IsSeen refusal.cause entry height width refusal run.seen

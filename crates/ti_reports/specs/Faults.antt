@@ -1,14 +1,20 @@
 -- The report on an entry: that it has a certificate, or each of its faults.
-use Rattle.std.specs.Prelude.{◌≡◌, ℕ, List, [], ◌∷◌, Option, Some, None, String, string_bytes}
+use Rattle.std.specs.Prelude.{◌≡◌, ℕ, Bool, List, [], ◌∷◌, ◌++◌, Option, Some, None, String, string_bytes}
 use Rattle.std.specs.declared.alloc.Global.{Global}
-use Rattle.ti_caps.specs.Entry.{Content}
+use Rattle.ti_caps.specs.Entry.{Content, string_at}
 use Rattle.ti_caps.specs.Table.{name_at}
 use Rattle.ti_checker.specs.declared.causes.No.{No}
+use Rattle.ti_faults.specs.declared.mended.Mended.{Mended}
 use Rattle.ti_reports.specs.Explanations.{IsExplained}
-use Rattle.ti_reports.specs.Reports.{report_line}
+use Rattle.ti_reports.specs.Names.{AreAliases, HasName}
+use Rattle.ti_reports.specs.Reports.{IsNothing, report_line}
 use Rattle.ti_reports.specs.Sent.{IsSentText}
-use Rattle.ti_reports.specs.Sources.{IsValueLine, Whereabouts}
+use Rattle.ti_reports.specs.Sources.{IsValuePlace, Whereabouts, whereabouts_of}
+use Rattle.ti_reports.specs.Spellings.{IsSpelling}
+use Rattle.ti_reports.specs.Suggestions.{IsMendedFor, IsSuggested, is_judged, other_kind}
 use Rattle.ti_reports.specs.Texts.{IsShownAs}
+use Rattle.ti_reports.specs.declared.faults.Subject.{Subject}
+use Rattle.ti_reports.specs.declared.reports.Finding.{Finding}
 use Rattle.ti_reports.specs.declared.reports.Report.{Report}
 use Rattle.ti_reports.specs.declared.reports.Verdict.TheVariants as verdicts
 use Rattle.ti_verdicts.specs.Parts.{HasParts}
@@ -22,51 +28,115 @@ HasWords bytes None = ⊥
 
 -- the report is about this entry, for this size, in this file
 pub record Concerns (entry : Content) (height width : ℕ) (file : List ℕ) (report : Report) : Type 0 where
-  pub name : HasWords (first_name entry.names) report.entry
+  pub name : HasName (first_name entry.names) report.entry
+  pub aliases : AreAliases entry.names report.aliases.items
   pub rows : report.rows ≡ height
   pub cols : report.cols ≡ width
   pub path : string_bytes report.file ≡ file
-
--- it says nothing of a fault
-pub record IsFaultless (report : Report) : Type 0 where
-  pub capability : report.capability ≡ None
-  pub parameters : report.parameters.items ≡ []
-  pub bytes : report.bytes ≡ None
-  pub start : report.start ≡ None
-  pub wanted : report.wanted ≡ None
-  pub seen : report.seen ≡ None
-  pub line : report.line ≡ None
 
 -- the entry has a certificate
 pub record ReportsYes (entry : Content) (height width : ℕ) (file : List ℕ) (report : Report) : Type 0 where
   pub about : Concerns entry height width file report
   pub verdict : report.verdict ≡ verdicts.Yes
   pub cause : report.cause ≡ None
-  pub faultless : IsFaultless report
+  pub faultless : IsNothing report.finding
 
--- it has this fault
-pub record ReportsFault (entry : Content) (height width : ℕ) (file : List ℕ) (stands : Whereabouts) (refusal : No)
-    (report : Report) : Type 0 where
-  pub about : Concerns entry height width file report
+-- The subject of the reports on an entry's faults: the entry, the terminal's size, the origin of the entry, the faults
+-- that are reported, and the entry in which they are mended, if they are all of its faults.
+pub record OfFaults : Type 0 where
+  pub entry : Content
+  pub height : ℕ
+  pub width : ℕ
+  pub stands : Whereabouts
+  pub nos : List No
+  pub mended : Option Mended
+
+abbrev pub of_faults : Content → ℕ → ℕ → Whereabouts → List No → Option Mended → OfFaults
+of_faults entry height width stands nos mended = record {
+  entry = entry;
+  height = height;
+  width = width;
+  stands = stands;
+  nos = nos;
+  mended = mended;
+}
+
+-- what is found of this fault
+pub record Finds (of : OfFaults) (refusal : No) (finding : Finding) : Type 0 where
+  pub capability : HasWords (name_at refusal.cap) finding.capability
+  pub parameters : finding.parameters.items ≡ refusal.params.items
+  pub bytes : IsSentText of.entry refusal finding.bytes
+  pub place : IsValuePlace of.stands refusal.cap finding.place
+  pub string_is : IsSpelling (string_at of.entry refusal.cap) finding.string
+  pub suggestion : IsSuggested of.entry of.mended of.nos refusal.cap finding.suggestion
+  pub run : IsExplained of.entry of.height of.width refusal finding.run
+  pub judged : finding.judged ≡ Some (is_judged refusal.cause)
+  pub another_kind : finding.another_kind ≡ other_kind of.mended of.nos
+
+-- the entry has this fault
+pub record ReportsFault (of : OfFaults) (file : List ℕ) (refusal : No) (report : Report) : Type 0 where
+  pub about : Concerns of.entry of.height of.width file report
   pub verdict : report.verdict ≡ verdicts.No
-  pub capability : HasWords (name_at refusal.cap) report.capability
-  pub parameters : report.parameters.items ≡ refusal.params.items
   pub cause : HasWords (cause_name refusal.cause) report.cause
-  pub bytes : IsSentText entry refusal report.bytes
-  pub run : IsExplained entry height width refusal report.start report.wanted report.seen
-  pub line : IsValueLine stands refusal.cap report.line
-  pub no_advice : report.advice.items ≡ []
+  pub finds : Finds of refusal report.finding
 
 -- the line of a report of which this holds
 abbrev pub IsReportLine : (Report → Type 0) → List ℕ → Type 0
 IsReportLine P line = (report : Report) × P report × (line ≡ report_line report)
 
-abbrev pub IsFaultLine : Content → ℕ → ℕ → List ℕ → Whereabouts → No → List ℕ → Type 0
-IsFaultLine entry height width file stands refusal line =
-    IsReportLine (ReportsFault entry height width file stands refusal) line
+abbrev pub IsFaultLine : OfFaults → List ℕ → No → List ℕ → Type 0
+IsFaultLine of file refusal line = IsReportLine (ReportsFault of file refusal) line
 
--- a line for each fault, in their order, or one that there is none
-abbrev pub AreFoundLines : Content → ℕ → ℕ → List ℕ → Whereabouts → List No → List ℕ → Type 0
-AreFoundLines entry height width file stands [] lines = IsReportLine (ReportsYes entry height width file) lines
-AreFoundLines entry height width file stands (first ∷ others) lines =
-    HasParts (IsFaultLine entry height width file stands) (first ∷ others) lines
+-- a line for each fault, in their order; with all faults of the entry, they are mended for the suggestions
+pub record AreFaultLines (entry : Content) (height width : ℕ) (all : Bool) (file : List ℕ) (stands : Whereabouts)
+    (nos : List No) (lines : List ℕ) : Type 0 where
+  pub mended : Option Mended
+  pub mends : IsMendedFor all entry height width nos mended
+  pub each : HasParts (IsFaultLine (of_faults entry height width stands nos mended) file) nos lines
+
+-- a line for each fault, or one that there is none
+abbrev pub AreVerdictLines : Content → ℕ → ℕ → Bool → List ℕ → Whereabouts → List No → List ℕ → Type 0
+AreVerdictLines entry height width all file stands [] lines = IsReportLine (ReportsYes entry height width file) lines
+AreVerdictLines entry height width all file stands (first ∷ others) lines =
+    AreFaultLines entry height width all file stands (first ∷ others) lines
+
+-- nothing is said but the capability and the words
+pub record IsAdvice (finding : Finding) : Type 0 where
+  pub parameters : finding.parameters.items ≡ []
+  pub bytes : finding.bytes ≡ None
+  pub line : finding.place.line ≡ None
+  pub source_entry : finding.place.entry ≡ None
+  pub string_is : finding.string ≡ None
+  pub suggestion : finding.suggestion ≡ None
+  pub start : finding.run.start ≡ None
+  pub wanted : finding.run.wanted ≡ None
+  pub seen : finding.run.seen ≡ None
+  pub judged : finding.judged ≡ None
+  pub another_kind : finding.another_kind ≡ None
+
+-- there is advice on the entry, whatever it is
+pub record ReportsAdvice (entry : Content) (height width : ℕ) (file : List ℕ) (report : Report) : Type 0 where
+  pub about : Concerns entry height width file report
+  pub verdict : report.verdict ≡ verdicts.Advice
+  pub cause : report.cause ≡ None
+  pub advises : IsAdvice report.finding
+
+-- any number of lines of such reports
+pub data AreLinesOf (P : Report → Type 0) : List ℕ → Type 0 where
+  NoLine : (lines : List ℕ) → lines ≡ [] → AreLinesOf P lines
+  OneMore : (front own lines : List ℕ) → lines ≡ front ++ own → AreLinesOf P front → IsReportLine P own
+      → AreLinesOf P lines
+
+-- the verdict or the faults, and then advice
+pub record AreFoundLines (entry : Content) (height width : ℕ) (all : Bool) (file : List ℕ) (stands : Whereabouts)
+    (nos : List No) (lines : List ℕ) : Type 0 where
+  pub verdicts : List ℕ
+  pub advice : List ℕ
+  pub whole : lines ≡ verdicts ++ advice
+  pub judged : AreVerdictLines entry height width all file stands nos verdicts
+  pub advises : AreLinesOf (ReportsAdvice entry height width file) advice
+
+-- (Serves the code alone.) the subject without its memory
+abbrev pub of_subject : Subject → List No → Option Mended → OfFaults
+of_subject subject nos mended =
+    of_faults subject.entry.now subject.size.rows subject.size.cols (whereabouts_of subject.stands) nos mended

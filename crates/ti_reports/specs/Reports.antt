@@ -1,18 +1,40 @@
--- A report and its JSON: an object that always has the same thirteen members, null where one doesn't apply.
-use Rattle.std.specs.Prelude.{ℕ, List, [], ◌∷◌, ◌++◌, Option, Some, None, String, codes, map, string_bytes}
+-- A report and its JSON: an object that always has the same twenty-six members, null where one doesn't apply.
+use Rattle.std.specs.Prelude.{◌≡◌, ℕ, Bool, List, [], ◌∷◌, ◌++◌, Option, Some, None, String, codes, map, string_bytes}
 use Rattle.std.specs.declared.alloc.Global.{Global}
-use Rattle.serde_json.specs.Data.{Data, Members, no_members, member, array, null, number, object, put, string, unsigned}
+use Rattle.serde_json.specs.Data.{Data, Members, no_members, member, array, boolean, null, number, object, put, string}
+use Rattle.serde_json.specs.Data.{unsigned}
 use Rattle.serde_json.specs.View.{items_of}
 use Rattle.serde_json.specs.Written.{compact_text}
 use Rattle.ti_reports.specs.Escapes.{printable_json}
+use Rattle.ti_reports.specs.declared.reports.Finding.{Finding}
 use Rattle.ti_reports.specs.declared.reports.Report.{Report}
 use Rattle.ti_reports.specs.declared.reports.Verdict.{Verdict}
-use Rattle.ti_reports.specs.declared.reports.Verdict.TheVariants.{Yes, No, Refused}
+use Rattle.ti_reports.specs.declared.reports.Verdict.TheVariants.{Yes, No, Refused, Advice}
+use Rattle.ti_reports.specs.declared.forms.Written.{Written}
 
 abbrev pub word_of : Verdict → List ℕ
 word_of Yes = codes "yes"
 word_of No = codes "no"
 word_of Refused = codes "refused"
+word_of Advice = codes "advice"
+
+-- nothing is said of a fault
+pub record IsNothing (finding : Finding) : Type 0 where
+  pub capability : finding.capability ≡ None
+  pub parameters : finding.parameters.items ≡ []
+  pub bytes : finding.bytes ≡ None
+  pub line : finding.place.line ≡ None
+  pub source_entry : finding.place.entry ≡ None
+  pub string : finding.string ≡ None
+  pub suggestion : finding.suggestion ≡ None
+  pub start : finding.run.start ≡ None
+  pub wanted : finding.run.wanted ≡ None
+  pub seen : finding.run.seen ≡ None
+  pub judged : finding.judged ≡ None
+  pub another_kind : finding.another_kind ≡ None
+  pub explanation : finding.explanation.items ≡ []
+
+-- ---- the JSON
 
 abbrev pub text_data : Option (String Global) → Data
 text_data (Some text) = string (string_bytes text)
@@ -22,31 +44,75 @@ abbrev pub number_data : Option ℕ → Data
 number_data (Some n) = number (unsigned n)
 number_data None = null
 
+abbrev pub truth_data : Option Bool → Data
+truth_data (Some b) = boolean b
+truth_data None = null
+
+-- bytes as text, and their digits
+abbrev pub written_data : Option Written → Data
+written_data (Some written) = string (string_bytes written.text)
+written_data None = null
+
+abbrev pub hex_data : Option Written → Data
+hex_data (Some written) = string (string_bytes written.hex)
+hex_data None = null
+
 abbrev pub numbers_data : List ℕ → Data
 numbers_data ns = array (items_of (map (λ n. number (unsigned n)) ns))
 
 abbrev pub texts_data : List (String Global) → Data
 texts_data texts = array (items_of (map (λ text. string (string_bytes text)) texts))
 
+-- names as text, and their digits
+abbrev pub names_data : List Written → Data
+names_data names = array (items_of (map (λ name. string (string_bytes name.text)) names))
+
+abbrev pub names_hex_data : List Written → Data
+names_hex_data names = array (items_of (map (λ name. string (string_bytes name.hex)) names))
+
 abbrev pub size_data : ℕ → ℕ → Data
 size_data height width = object (member (codes "cols") (number (unsigned width)) (member (codes "rows") (number (unsigned height)) no_members))
+
+-- the name of the kind of finding: the cause of a no, one for all that can't be read, and one for advice
+abbrev pub rule_data : Verdict → Option (String Global) → Data
+rule_data Yes cause = null
+rule_data No cause = text_data cause
+rule_data Refused cause = string (codes "Refused")
+rule_data Advice cause = string (codes "Advice")
+
+-- the version of this form
+abbrev pub version : Data
+version = number (unsigned 1)
 
 -- the members are in the order of their names
 abbrev pub report_data : Report → Data
 report_data report = object (
-    member (codes "advice") (texts_data report.advice.items)
-    (member (codes "bytes") (text_data report.bytes)
-    (member (codes "capability") (text_data report.capability)
+    member (codes "aliases") (names_data report.aliases.items)
+    (member (codes "aliases_hex") (names_hex_data report.aliases.items)
+    (member (codes "another_kind") (truth_data report.finding.another_kind)
+    (member (codes "bytes") (text_data report.finding.bytes)
+    (member (codes "capability") (text_data report.finding.capability)
     (member (codes "cause") (text_data report.cause)
-    (member (codes "entry") (text_data report.entry)
+    (member (codes "entry") (written_data report.entry)
+    (member (codes "entry_hex") (hex_data report.entry)
+    (member (codes "explanation") (texts_data report.finding.explanation.items)
     (member (codes "file") (string (string_bytes report.file))
-    (member (codes "line") (number_data report.line)
-    (member (codes "parameters") (numbers_data report.parameters.items)
-    (member (codes "seen") (text_data report.seen)
+    (member (codes "judged") (truth_data report.finding.judged)
+    (member (codes "line") (number_data report.finding.place.line)
+    (member (codes "parameters") (numbers_data report.finding.parameters.items)
+    (member (codes "rule") (rule_data report.verdict report.cause)
+    (member (codes "seen") (text_data report.finding.run.seen)
     (member (codes "size") (size_data report.rows report.cols)
-    (member (codes "start") (text_data report.start)
+    (member (codes "source_entry") (written_data report.finding.place.entry)
+    (member (codes "source_entry_hex") (hex_data report.finding.place.entry)
+    (member (codes "start") (text_data report.finding.run.start)
+    (member (codes "string") (written_data report.finding.string)
+    (member (codes "string_hex") (hex_data report.finding.string)
+    (member (codes "suggestion") (written_data report.finding.suggestion)
+    (member (codes "suggestion_hex") (hex_data report.finding.suggestion)
     (member (codes "verdict") (string (word_of report.verdict))
-    (member (codes "wanted") (text_data report.wanted) no_members)))))))))))))
+    (member (codes "version") version
+    (member (codes "wanted") (text_data report.finding.run.wanted) no_members))))))))))))))))))))))))))
 
 -- the object without a space, in characters that can be printed, and the end of the line
 abbrev pub report_line : Report → List ℕ
@@ -56,22 +122,41 @@ report_line report = printable_json (compact_text (report_data report)) ++ 10 �
 
 abbrev pub with_entry : Report → Members → Members
 with_entry report ms =
-    put (codes "verdict") (string (word_of report.verdict))
-    (put (codes "size") (size_data report.rows report.cols)
+    put (codes "size") (size_data report.rows report.cols)
     (put (codes "file") (string (string_bytes report.file))
-    (put (codes "entry") (text_data report.entry) ms)))
+    (put (codes "aliases_hex") (names_hex_data report.aliases.items)
+    (put (codes "aliases") (names_data report.aliases.items)
+    (put (codes "entry_hex") (hex_data report.entry)
+    (put (codes "entry") (written_data report.entry) ms)))))
 
-abbrev pub with_string : Report → Members → Members
-with_string report ms =
-    put (codes "bytes") (text_data report.bytes)
-    (put (codes "cause") (text_data report.cause)
-    (put (codes "parameters") (numbers_data report.parameters.items)
-    (put (codes "capability") (text_data report.capability) ms)))
+abbrev pub with_verdict : Report → Members → Members
+with_verdict report ms =
+    put (codes "cause") (text_data report.cause)
+    (put (codes "rule") (rule_data report.verdict report.cause)
+    (put (codes "verdict") (string (word_of report.verdict))
+    (put (codes "version") version ms)))
 
-abbrev pub with_run : Report → Members → Members
-with_run report ms =
-    put (codes "advice") (texts_data report.advice.items)
-    (put (codes "line") (number_data report.line)
-    (put (codes "seen") (text_data report.seen)
-    (put (codes "wanted") (text_data report.wanted)
-    (put (codes "start") (text_data report.start) ms))))
+abbrev pub with_value : Finding → Members → Members
+with_value finding ms =
+    put (codes "source_entry_hex") (hex_data finding.place.entry)
+    (put (codes "source_entry") (written_data finding.place.entry)
+    (put (codes "line") (number_data finding.place.line)
+    (put (codes "bytes") (text_data finding.bytes)
+    (put (codes "parameters") (numbers_data finding.parameters.items)
+    (put (codes "capability") (text_data finding.capability) ms)))))
+
+abbrev pub with_strings : Finding → Members → Members
+with_strings finding ms =
+    put (codes "suggestion_hex") (hex_data finding.suggestion)
+    (put (codes "suggestion") (written_data finding.suggestion)
+    (put (codes "string_hex") (hex_data finding.string)
+    (put (codes "string") (written_data finding.string) ms)))
+
+abbrev pub with_run : Finding → Members → Members
+with_run finding ms =
+    put (codes "explanation") (texts_data finding.explanation.items)
+    (put (codes "another_kind") (truth_data finding.another_kind)
+    (put (codes "judged") (truth_data finding.judged)
+    (put (codes "seen") (text_data finding.run.seen)
+    (put (codes "wanted") (text_data finding.run.wanted)
+    (put (codes "start") (text_data finding.run.start) ms)))))

@@ -1,11 +1,16 @@
--- The line of a source text that has a value.
-use Rattle.std.specs.Prelude.{◌≡◌, ◌<◌, ⊤, ℕ, Option, Some, None, length, option_map}
+-- The place of a value in a source text.
+use Rattle.std.specs.Prelude.{◌≡◌, ◌<◌, ⊤, ℕ, List, Option, Some, None, length, option_map}
 use Rattle.ti_commands.specs.declared.sources.SourceText.{SourceText}
+use Rattle.ti_reports.specs.Names.{HasName}
+use Rattle.ti_reports.specs.declared.forms.Written.{Written}
 use Rattle.ti_reports.specs.declared.lines.Standing.{Standing}
 use Rattle.ti_reports.specs.declared.lines.Standing.TheVariants.{Unsourced, Named, Placed}
+use Rattle.ti_reports.specs.declared.lines.ValuePlace.{ValuePlace}
 use Rattle.ti_resolve.specs.Origins.{IsOrigin, IsOriginAt}
+use Rattle.ti_resolve.specs.Uses.{names_at}
 use Rattle.ti_resolve.specs.declared.origins.Origin.{Origin}
-use Rattle.ti_verdicts.specs.Locations.{PlaceInSource, line_of_field, place_in}
+use Rattle.ti_source.specs.declared.types.RawEntry.{RawEntry}
+use Rattle.ti_verdicts.specs.Locations.{PlaceInSource, first_name, line_of_field, place_in}
 
 -- the origin of an entry: no source, a source that gives it by its name, or a place of a source
 pub data Whereabouts : Type 0 where
@@ -23,22 +28,36 @@ abbrev pub by_place : Option PlaceInSource → Whereabouts
 by_place None = Nowhere
 by_place (Some stands) = ByPlace stands
 
--- the line of the first field about the capability, among the entry's own and those that it uses, if there is a value
-pub record IsLineIn (source : SourceText) (cap : ℕ) (line : Option ℕ) : Type 0 where
+-- the first name of the entry that has the field at this origin
+abbrev pub HasHolder : List RawEntry → Option Origin → Option Written → Type 0
+HasHolder raws (Some origin) name = HasName (first_name (names_at raws origin.entry)) name
+HasHolder raws None name = name ≡ None
+
+-- the line of the field at this origin, in a text with these entries, and the entry that has it
+pub record IsFieldPlace (text : List ℕ) (raws : List RawEntry) (origin : Option Origin) (place : ValuePlace)
+    : Type 0 where
+  pub line : place.line ≡ option_map (line_of_field text) origin
+  pub holder : HasHolder raws origin place.entry
+
+-- the place of the first field about the capability, among the entry's own and those that it uses, if there is a value
+pub record IsPlaceIn (source : SourceText) (cap : ℕ) (place : ValuePlace) : Type 0 where
   pub origin : Option Origin
   pub first : IsOrigin source.raws.items source.name.now cap origin
-  pub says : line ≡ option_map (line_of_field source.text.items) origin
+  pub says : IsFieldPlace source.text.items source.raws.items origin place
 
--- the line for the entry at a place, whatever other entries have its names
-pub record IsLineAt (stands : PlaceInSource) (cap : ℕ) (line : Option ℕ) : Type 0 where
+-- the place for the entry at a place of the source, whatever other entries have its names
+pub record IsPlaceAt (stands : PlaceInSource) (cap : ℕ) (place : ValuePlace) : Type 0 where
   pub origin : Option Origin
   pub first : IsOriginAt stands.raws stands.place cap origin
-  pub says : line ≡ option_map (line_of_field stands.text) origin
+  pub says : IsFieldPlace stands.text stands.raws origin place
 
-abbrev pub IsValueLine : Whereabouts → ℕ → Option ℕ → Type 0
-IsValueLine Nowhere cap line = line ≡ None
-IsValueLine (ByName source) cap line = IsLineIn source cap line
-IsValueLine (ByPlace stands) cap line = IsLineAt stands cap line
+abbrev pub IsNowhere : ValuePlace → Type 0
+IsNowhere place = (place.line ≡ None) × (place.entry ≡ None)
+
+abbrev pub IsValuePlace : Whereabouts → ℕ → ValuePlace → Type 0
+IsValuePlace Nowhere cap place = IsNowhere place
+IsValuePlace (ByName source) cap place = IsPlaceIn source cap place
+IsValuePlace (ByPlace stands) cap place = IsPlaceAt stands cap place
 
 -- ---- for private clauses: the origin without its memory, and an entry at the place
 

@@ -1,6 +1,5 @@
 -- The answer of `survey --json`, by the contents of its files.
-use Rattle.std.specs.Prelude.{◌≡◌, ℕ, Bool, List, [], ◌∷◌, Option, Some, None, String, string_bytes}
-use Rattle.std.specs.declared.alloc.Global.{Global}
+use Rattle.std.specs.Prelude.{◌≡◌, ℕ, Bool, List, [], ◌∷◌, Option, string_bytes}
 use Rattle.ti_caps.specs.Entry.{Content}
 use Rattle.ti_checker.specs.declared.causes.No.{No}
 use Rattle.ti_commands.specs.Contents.{Held}
@@ -8,8 +7,10 @@ use Rattle.ti_commands.specs.Sizes.{SizeGiven}
 use Rattle.ti_commands.specs.Words.{texts_of}
 use Rattle.ti_commands.specs.declared.failure.Failure.{Failure}
 use Rattle.ti_commands.specs.declared.failure.Reply.{Reply}
-use Rattle.ti_reports.specs.Faults.{AreFoundLines, HasWords, IsFaultless, IsReportLine}
+use Rattle.ti_reports.specs.Faults.{AreFoundLines, HasWords, IsReportLine}
 use Rattle.ti_reports.specs.Findings.{AreFaults}
+use Rattle.ti_reports.specs.Names.{IsNameIf}
+use Rattle.ti_reports.specs.Reports.{IsNothing}
 use Rattle.ti_reports.specs.Sources.{Whereabouts, by_place}
 use Rattle.ti_reports.specs.declared.reports.Report.{Report}
 use Rattle.ti_reports.specs.declared.reports.Verdict.TheVariants as verdicts
@@ -24,22 +25,17 @@ use Rattle.ti_verdicts.specs.declared.answers.Answer.TheVariants as answers
 
 -- ---- an entry
 
--- the text of these bytes, if there are any
-abbrev pub IsTextIf : Option (List ℕ) → Option (String Global) → Type 0
-IsTextIf (Some bytes) text = HasWords bytes text
-IsTextIf None text = text ≡ None
-
 -- the report that no entry of this name, or of the whole file, can be read, with the reason
 pub record ReportsRefused (height width : ℕ) (path : List ℕ) (name : Option (List ℕ)) (why : List ℕ) (report : Report)
     : Type 0 where
-  pub entry : IsTextIf name report.entry
+  pub entry : IsNameIf name report.entry
+  pub no_aliases : report.aliases.items ≡ []
   pub rows : report.rows ≡ height
   pub cols : report.cols ≡ width
   pub file : string_bytes report.file ≡ path
   pub verdict : report.verdict ≡ verdicts.Refused
   pub cause : HasWords why report.cause
-  pub faultless : IsFaultless report
-  pub no_advice : report.advice.items ≡ []
+  pub faultless : IsNothing report.finding
 
 abbrev pub IsRefusedReport : ℕ → ℕ → List ℕ → Option (List ℕ) → List ℕ → List ℕ → Type 0
 IsRefusedReport height width path name why line = IsReportLine (ReportsRefused height width path name why) line
@@ -49,7 +45,7 @@ pub record AreOfEntry (height width : ℕ) (all : Bool) (path : List ℕ) (stand
     (lines : List ℕ) (answered : List Answer) : Type 0 where
   pub nos : List No
   pub found : AreFaults all entry height width nos
-  pub tells : AreFoundLines entry height width path stands nos lines
+  pub tells : AreFoundLines entry height width all path stands nos lines
   pub each : answered ≡ fault_answers nos
 
 -- the reports on an entry, and nothing beside them

@@ -3,23 +3,25 @@
 ghost use Rattle.std.specs.Prelude.{◌≡◌, IfErr, IfOk};
 ghost use Rattle.ti_reports.specs.Checks as spec;
 ghost use Rattle.ti_reports.specs.Sources.{IsThere, by_name, whereabouts_of};
-ghost use Rattle.ti_verdicts.specs.Checks.{FailsForEntry};
+ghost use Rattle.ti_commands.specs.Sizes.{LacksSize};
 
+use crate::asked::Asked;
 use crate::faults::{Subject, found_lines};
 use crate::findings::found_faults;
+use crate::lacks::lack_reply;
 use crate::lines::Standing;
 use std::alloc::{AllocError, Global};
 use ti_caps::Entry;
 use ti_checker::No;
-use ti_commands::{Failure, Files, Reply, SourceText, size_words, sourced_entry};
+use ti_commands::{Failure, Files, Reply, SourceText, Sourced, size_words, sourced_entry};
 use ti_requests::FaultsWords;
 use ti_verdicts::{explain_no, no_failure, notes_on};
 use ti_words::Remarks;
 use vt_term::Size;
 
 /// Replies with the notes on the entry that the `words` give and, in JSON, with its faults: the first one, or all of
-/// them if `lists_all`; or with the report that it has a certificate. The reply fails as the first fault does. Further
-/// lines go to `remarks`.
+/// them if `lists_all`; or with the report that it has a certificate. The reply fails as the first fault does. If the
+/// `words` give no entry, it reports that, and fails so. Further lines go to `remarks`.
 pub fn check_reports<F: Files>(
     alloc: Global,
     lists_all: bool,
@@ -27,44 +29,61 @@ pub fn check_reports<F: Files>(
     files: &mut F,
     remarks: &mut Remarks,
 ) -> Result<Reply, Failure>
-    ensures reply { IfOk result (λ reply. spec.ReportsOn (F.holds files.old) lists_all words.now reply) }
-    ensures failure { IfErr result (λ e. FailsForEntry (F.holds files.old) words.now.rows.now words.now.cols.now
-        words.now.entry.now e) }
+    ensures reply { IfOk result (λ reply. spec.Replies (F.holds files.old) lists_all words.now reply) }
+    ensures failure { IfErr result (λ e. LacksSize words.now.rows.now words.now.cols.now e) }
     ensures kept { F.holds files.new ≡ F.holds files.old }
 {
     let size = size_words(alloc, words.rows, words.cols, remarks)?;
-    let found = sourced_entry(alloc, files, words.entry, remarks)?;
-    let notes = notes_on(alloc, &found.entry, size)?;
-    let nos = found_faults(alloc, &found.entry, size, lists_all)?;
+    let asked = Asked { size, lists_all };
+    match sourced_entry(alloc, files, words.entry, remarks) {
+        Ok(found) => Ok(entry_reply(alloc, asked, words.entry, &found, remarks)?),
+        Err(failure) => lack_reply(alloc, asked, words.entry, failure),
+    }
+}
+
+/// The reply on the entry that was `found` by the ENTRY `word`, as it is `asked` for.
+fn entry_reply(
+    alloc: Global,
+    asked: Asked,
+    word: &str,
+    found: &Sourced<'_>,
+    remarks: &mut Remarks,
+) -> Result<Reply, AllocError>
+    ensures { IfOk result (λ reply. spec.ReportsEntry found.now.entry found.now.source asked.size.rows asked.size.cols
+        asked.lists_all word.now reply) }
+{
+    let notes = notes_on(alloc, &found.entry, asked.size)?;
+    let nos = found_faults(alloc, &found.entry, asked.size, asked.lists_all)?;
     let subject = Subject {
         entry: &found.entry,
-        size,
-        file: file_of(&found.source, words.entry),
+        size: asked.size,
+        file: file_of(&found.source, word),
         stands: standing_of(&found.source),
     };
-    let reply = reply_of(alloc, &subject, notes, nos.as_slice())?;
-    if !lists_all {
-        explain_first(alloc, &found.entry, size, nos.as_slice(), remarks);
+    let reply = reply_of(alloc, &subject, asked.lists_all, notes, nos.as_slice())?;
+    if !asked.lists_all {
+        explain_first(alloc, &found.entry, asked.size, nos.as_slice(), remarks);
     }
     Ok(reply)
 }
 
-/// The reply with `notes` that says that `nos` are the faults of the `subject`.
+/// The reply with `notes` that says that `nos` are the faults of the `subject`, all of them if `lists_all`.
 fn reply_of(
     alloc: Global,
     subject: &Subject<'_>,
+    lists_all: bool,
     notes: Vec<u8>,
     nos: &[No],
 ) -> Result<Reply, AllocError>
     requires { IsThere subject.now.stands }
     ensures noted { IfOk result (λ reply. reply.notes ≡ notes) }
     ensures told { IfOk result (λ reply. spec.TellsFound subject.now.entry.now
-        subject.now.size.rows subject.now.size.cols subject.now.file.now
+        subject.now.size.rows subject.now.size.cols lists_all subject.now.file.now
         (whereabouts_of subject.now.stands) nos.now reply) }
 {
     Ok(Reply {
         notes,
-        text: found_lines(alloc, subject, nos)?,
+        text: found_lines(alloc, subject, lists_all, nos)?,
         failure: failure_of(alloc, nos),
     })
 }

@@ -60,7 +60,7 @@ fn entry_said(
         file: path,
         stands,
     };
-    let lines = found_lines(alloc, &subject, nos.as_slice())?;
+    let lines = found_lines(alloc, &subject, asked.lists_all, nos.as_slice())?;
     let answers = answers_of(alloc, nos.as_slice())?;
     Ok(Said {
         lines,

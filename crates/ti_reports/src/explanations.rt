@@ -1,6 +1,6 @@
 //! A run in words, as the lines for people have them.
 
-ghost use Rattle.std.specs.Prelude.{◌≡◌, IfOk, string_bytes};
+ghost use Rattle.std.specs.Prelude.{◌≡◌, IfOk, None, string_bytes};
 ghost use Rattle.ti_reports.specs.Explanations as spec;
 ghost use Rattle.ti_reports.specs.Texts.{IsShownAs};
 ghost use Rattle.ti_words.specs.Wanted as told;
@@ -17,7 +17,7 @@ use ti_words::wanted_words;
 use vt_term::Size;
 
 /// The run that shows a no, in words.
-#[derive(Drop)]
+#[derive(Debug, Drop)]
 pub struct Explanation {
     /// The state of the terminal from which it goes wrong.
     pub start: Option<String>,
@@ -27,6 +27,21 @@ pub struct Explanation {
     pub seen: Option<String>,
 }
 
+impl Explanation {
+    /// No run.
+    pub fn none() -> Explanation
+        ensures start { result.start ≡ None }
+        ensures wanted { result.wanted ≡ None }
+        ensures seen { result.seen ≡ None }
+    {
+        Explanation {
+            start: None,
+            wanted: None,
+            seen: None,
+        }
+    }
+}
+
 /// The words about the run that shows the `no` of `entry`.
 pub fn explained(
     alloc: Global,
@@ -34,7 +49,7 @@ pub fn explained(
     size: Size,
     no: &No,
 ) -> Result<Explanation, AllocError>
-    ensures { IfOk result (λ it. spec.IsExplained entry.now size.rows size.cols no.now it.start it.wanted it.seen) }
+    ensures { IfOk result (λ it. spec.IsExplained entry.now size.rows size.cols no.now it) }
 {
     Ok(Explanation {
         start: start_of(alloc, size, no.cause)?,

@@ -6,19 +6,23 @@ ghost use Rattle.ti_reports.specs.Faults as spec;
 ghost use Rattle.ti_reports.specs.Sources.{IsThere, whereabouts_of};
 ghost use Rattle.ti_reports.specs.Texts.{IsShownAs};
 ghost use Rattle.ti_verdicts.specs.Parts.{HasParts};
-ghost use Rattle.ti_verdicts.specs.Locations.{first_name};
 ghost use Rattle.ti_verdicts.specs.Refusals.{cause_name};
 
+use crate::advice::advice_lines;
 use crate::explanations::explained;
-use crate::lines::{Standing, value_line};
-use crate::reports::{Report, Verdict, report_line};
+use crate::lines::{Standing, value_place};
+use crate::names::{entry_aliases, entry_name};
+use crate::reports::{Finding, Report, Verdict, report_line};
 use crate::sent::sent_text;
+use crate::spellings::own_string;
+use crate::suggestions::{is_judged, mended_if, other_kind, suggested};
 use crate::texts::text_of;
 use std::alloc::{AllocError, Global};
 use ti_caps::{Cap, Entry, name};
 use ti_checker::{Cause, No};
-use ti_hints::advice_on;
-use ti_verdicts::{cause_name, first_name};
+use ti_faults::Mended;
+use ti_verdicts::{cause_name, explain_no};
+use ti_words::{NO_RESYNC, Remarks};
 use vt_term::Size;
 
 /// An entry that is reported on.
@@ -34,42 +38,93 @@ pub struct Subject<'a> {
     pub stands: Standing<'a>,
 }
 
-/// The lines of the faults `nos` of the `subject`, or the line that it has a certificate if there are none.
-pub fn found_lines(alloc: Global, subject: &Subject<'_>, nos: &[No]) -> Result<Vec<u8>, AllocError>
+/// The lines of the faults `nos` of the `subject`, or the line that it has a certificate if there are none; and then
+/// those of the advice on it. If `lists_all`, they must be all faults of the entry, and what is suggested is right with
+/// all of them mended.
+pub fn found_lines(
+    alloc: Global,
+    subject: &Subject<'_>,
+    lists_all: bool,
+    nos: &[No],
+) -> Result<Vec<u8>, AllocError>
     requires { IsThere subject.now.stands }
     ensures { IfOk result (λ lines. spec.AreFoundLines subject.now.entry.now
-        subject.now.size.rows subject.now.size.cols subject.now.file.now
+        subject.now.size.rows subject.now.size.cols lists_all subject.now.file.now
+        (whereabouts_of subject.now.stands) nos.now lines.items) }
+{
+    let mut lines = verdict_lines(alloc, subject, lists_all, nos)?;
+    let advice = advice_lines(alloc, subject, nos)?;
+    lines.extend_from_slice(advice.as_slice())?;
+    Ok(lines)
+}
+
+/// The lines of the faults `nos` of the `subject`, or the line that it has a certificate if there are none.
+fn verdict_lines(
+    alloc: Global,
+    subject: &Subject<'_>,
+    lists_all: bool,
+    nos: &[No],
+) -> Result<Vec<u8>, AllocError>
+    requires { IsThere subject.now.stands }
+    ensures { IfOk result (λ lines. spec.AreVerdictLines subject.now.entry.now
+        subject.now.size.rows subject.now.size.cols lists_all subject.now.file.now
         (whereabouts_of subject.now.stands) nos.now lines.items) }
 {
     match nos {
         [] => yes_line(alloc, subject),
-        [_, ..] => fault_lines(alloc, subject, nos),
+        [_, ..] => lines_of(alloc, subject, lists_all, nos),
     }
 }
 
-/// A line for each of the faults `nos` of the `subject`, in their order.
-fn fault_lines(alloc: Global, subject: &Subject<'_>, nos: &[No]) -> Result<Vec<u8>, AllocError>
+/// A line for each of the faults `nos` of the `subject`, which are all that it has if `lists_all`.
+fn lines_of(
+    alloc: Global,
+    subject: &Subject<'_>,
+    lists_all: bool,
+    nos: &[No],
+) -> Result<Vec<u8>, AllocError>
     requires { IsThere subject.now.stands }
-    ensures { IfOk result (λ lines. HasParts (spec.IsFaultLine subject.now.entry.now
-        subject.now.size.rows subject.now.size.cols subject.now.file.now
-        (whereabouts_of subject.now.stands)) nos.now lines.items) }
+    ensures { IfOk result (λ lines. spec.AreFaultLines subject.now.entry.now
+        subject.now.size.rows subject.now.size.cols lists_all subject.now.file.now
+        (whereabouts_of subject.now.stands) nos.now lines.items) }
+{
+    let mended = mended_if(alloc, lists_all, subject.entry, subject.size, nos)?;
+    let lines = fault_lines(alloc, subject, &mended, nos)?;
+    Ok(lines)
+}
+
+/// A line for each of the faults `nos` of the `subject`, which is `mended`, in their order.
+fn fault_lines(
+    alloc: Global,
+    subject: &Subject<'_>,
+    mended: &Option<Mended>,
+    nos: &[No],
+) -> Result<Vec<u8>, AllocError>
+    requires { IsThere subject.now.stands }
+    ensures { IfOk result (λ lines. HasParts
+        (spec.IsFaultLine (spec.of_subject subject.now nos.now mended.now) subject.now.file.now) nos.now lines.items) }
 {
     let mut lines = Vec::new(alloc);
     for no in nos {
-        let own = fault_line(alloc, subject, no)?;
+        let own = fault_line(alloc, subject, mended, nos, no)?;
         lines.extend_from_slice(own.as_slice())?;
     }
     Ok(lines)
 }
 
-/// The line of the fault `no` of the `subject`.
-fn fault_line(alloc: Global, subject: &Subject<'_>, no: &No) -> Result<Vec<u8>, AllocError>
+/// The line of `no`, one of the faults `nos` of the `subject`, which is `mended`.
+fn fault_line(
+    alloc: Global,
+    subject: &Subject<'_>,
+    mended: &Option<Mended>,
+    nos: &[No],
+    no: &No,
+) -> Result<Vec<u8>, AllocError>
     requires { IsThere subject.now.stands }
-    ensures { IfOk result (λ line. spec.IsFaultLine subject.now.entry.now
-        subject.now.size.rows subject.now.size.cols subject.now.file.now
-        (whereabouts_of subject.now.stands) no.now line.items) }
+    ensures { IfOk result (λ line. spec.IsFaultLine (spec.of_subject subject.now nos.now mended.now)
+        subject.now.file.now no.now line.items) }
 {
-    let report = fault_report(alloc, subject, no)?;
+    let report = fault_report(alloc, subject, mended, nos, no)?;
     report_line(alloc, &report)
 }
 
@@ -88,63 +143,85 @@ fn yes_report(alloc: Global, subject: &Subject<'_>) -> Result<Report, AllocError
         subject.now.size.rows subject.now.size.cols subject.now.file.now report) }
 {
     Ok(Report {
-        entry: Some(name_text(alloc, subject.entry)?),
+        entry: Some(entry_name(alloc, subject.entry)?),
+        aliases: entry_aliases(alloc, subject.entry)?,
         rows: subject.size.rows,
         cols: subject.size.cols,
-        verdict: Verdict::Yes,
-        capability: None,
-        parameters: Vec::new(alloc),
-        cause: None,
-        bytes: None,
-        start: None,
-        wanted: None,
-        seen: None,
         file: String::from_str(alloc, subject.file)?,
-        line: None,
-        advice: advice_texts(alloc, subject.entry, subject.size)?,
+        verdict: Verdict::Yes,
+        cause: None,
+        finding: Finding::none(alloc),
     })
 }
 
-/// The report of the fault `no` of the `subject`.
-fn fault_report(alloc: Global, subject: &Subject<'_>, no: &No) -> Result<Report, AllocError>
+/// The report of `no`, one of the faults `nos` of the `subject`, which is `mended`.
+fn fault_report(
+    alloc: Global,
+    subject: &Subject<'_>,
+    mended: &Option<Mended>,
+    nos: &[No],
+    no: &No,
+) -> Result<Report, AllocError>
     requires { IsThere subject.now.stands }
-    ensures { IfOk result (λ report. spec.ReportsFault subject.now.entry.now
-        subject.now.size.rows subject.now.size.cols subject.now.file.now
-        (whereabouts_of subject.now.stands) no.now report) }
+    ensures { IfOk result (λ report. spec.ReportsFault (spec.of_subject subject.now nos.now mended.now)
+        subject.now.file.now no.now report) }
 {
-    let explanation = explained(alloc, subject.entry, subject.size, no)?;
     Ok(Report {
-        entry: Some(name_text(alloc, subject.entry)?),
+        entry: Some(entry_name(alloc, subject.entry)?),
+        aliases: entry_aliases(alloc, subject.entry)?,
         rows: subject.size.rows,
         cols: subject.size.cols,
+        file: String::from_str(alloc, subject.file)?,
         verdict: Verdict::No,
+        cause: Some(cause_text(alloc, no.cause)?),
+        finding: finding_of(alloc, subject, mended, nos, no)?,
+    })
+}
+
+/// What is found of `no`, one of the faults `nos` of the `subject`, which is `mended`.
+fn finding_of(
+    alloc: Global,
+    subject: &Subject<'_>,
+    mended: &Option<Mended>,
+    nos: &[No],
+    no: &No,
+) -> Result<Finding, AllocError>
+    requires { IsThere subject.now.stands }
+    ensures { IfOk result (λ finding. spec.Finds (spec.of_subject subject.now nos.now mended.now) no.now finding) }
+{
+    let entry = subject.entry;
+    Ok(Finding {
         capability: Some(cap_text(alloc, no.cap)?),
         parameters: Vec::from_slice(alloc, no.params.as_slice())?,
-        cause: Some(cause_text(alloc, no.cause)?),
-        bytes: sent_text(alloc, subject.entry, no)?,
-        start: explanation.start,
-        wanted: explanation.wanted,
-        seen: explanation.seen,
-        file: String::from_str(alloc, subject.file)?,
-        line: value_line(alloc, &subject.stands, no.cap)?,
-        advice: Vec::new(alloc),
+        bytes: sent_text(alloc, entry, no)?,
+        place: value_place(alloc, &subject.stands, no.cap)?,
+        string: own_string(alloc, entry, no.cap)?,
+        suggestion: suggested(alloc, entry, mended, nos, no.cap)?,
+        run: explained(alloc, entry, subject.size, no)?,
+        judged: Some(is_judged(no.cause)),
+        another_kind: other_kind(mended, nos),
+        explanation: explanation_of(alloc, entry, subject.size, no)?,
     })
 }
 
-/// The advice on `entry`, which has a certificate.
-fn advice_texts(alloc: Global, entry: &Entry, size: Size) -> Result<Vec<String>, AllocError> {
+/// The lines with which the plain form explains `no`, a fault of `entry`. Where no string begins what is sent first in
+/// an unknown state, it has none, and the line says what is wanted there.
+fn explanation_of(
+    alloc: Global,
+    entry: &Entry,
+    size: Size,
+    no: &No,
+) -> Result<Vec<String>, AllocError> {
+    let mut remarks = Remarks::new(alloc);
+    explain_no(alloc, entry, size, no, &mut remarks);
+    if remarks.lines().is_empty() && no.cause == Cause::NoResync {
+        remarks.add_words(NO_RESYNC);
+    }
     let mut texts = Vec::new(alloc);
-    for words in &advice_on(alloc, entry, size)? {
-        texts.push(text_of(alloc, words.as_slice())?)?;
+    for line in remarks.lines() {
+        texts.push(text_of(alloc, line.as_slice())?)?;
     }
     Ok(texts)
-}
-
-/// The first name of `entry`.
-fn name_text(alloc: Global, entry: &Entry) -> Result<String, AllocError>
-    ensures { IfOk result (λ text. IsShownAs (first_name entry.now.names) (string_bytes text)) }
-{
-    text_of(alloc, first_name(entry.names()))
 }
 
 /// The name of `cap`.

@@ -1,6 +1,7 @@
 //! The program's reports to other programs: one JSON object on a line for each entry, or for each of its faults.
 #![tactic(auto)]
 
+mod advice;
 mod asked;
 mod checks;
 mod entries;
@@ -8,12 +9,17 @@ mod escapes;
 mod explanations;
 mod faults;
 mod findings;
+mod forms;
+mod lacks;
 mod lines;
 mod looks;
+mod names;
 mod ran;
 mod refusals;
 mod reports;
 mod sent;
+mod spellings;
+mod suggestions;
 mod surveys;
 mod texts;
 

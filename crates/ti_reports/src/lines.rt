@@ -1,14 +1,19 @@
-//! The line of a source text that has a value.
+//! The place of a value in a source text.
 
 ghost use Rattle.std.specs.Prelude.{◌≡◌, ◌<◌, IfOk, IfSome, length};
+ghost use Rattle.ti_reports.specs.Names.{IsNameOf};
 ghost use Rattle.ti_reports.specs.Sources as spec;
-ghost use Rattle.ti_verdicts.specs.Locations.{place_if, place_in};
+ghost use Rattle.ti_resolve.specs.Uses.{names_at};
+ghost use Rattle.ti_verdicts.specs.Locations.{first_name, place_if, place_in};
 
+use crate::forms::Written;
+use crate::names::name_of;
 use std::alloc::{AllocError, Global};
 use ti_caps::Cap;
 use ti_commands::SourceText;
-use ti_resolve::{origin, origin_at};
-use ti_verdicts::{SourcePlace, line_of_field};
+use ti_resolve::{Origin, origin, origin_at};
+use ti_source::RawEntry;
+use ti_verdicts::{SourcePlace, first_name, line_of_field};
 
 /// The origin of an entry.
 #[derive(Drop)]
@@ -19,6 +24,27 @@ pub enum Standing<'a> {
     Named(&'a SourceText<'a>),
     /// The entry is in a source, at a place.
     Placed(&'a SourcePlace<'a>),
+}
+
+/// The place of a capability's value in a source text.
+#[derive(Debug, Drop)]
+pub struct ValuePlace {
+    /// The line of the field that gives the value; `None` if there is no source or no value.
+    pub line: Option<usize>,
+    /// The first name of the entry that has this field.
+    pub entry: Option<Written>,
+}
+
+impl ValuePlace {
+    /// No place.
+    pub fn nowhere() -> ValuePlace
+        ensures { spec.IsNowhere result }
+    {
+        ValuePlace {
+            line: None,
+            entry: None,
+        }
+    }
 }
 
 /// The origin of an entry at the place `stands` of a source, or in no source.
@@ -33,44 +59,75 @@ pub fn placed<'a>(stands: &'a Option<SourcePlace<'a>>) -> Standing<'a>
     }
 }
 
-/// The line that has the value of `cap`, in the source of the entry whose origin is `stands`; `None` if there is no
-/// source or no value.
-pub fn value_line(
-    alloc: Global,
-    stands: &Standing<'_>,
-    cap: Cap,
-) -> Result<Option<usize>, AllocError>
+/// The place of the value of `cap` in the source of the entry whose origin is `stands`; nowhere if there is no source
+/// or no value.
+pub fn value_place(alloc: Global, stands: &Standing<'_>, cap: Cap) -> Result<ValuePlace, AllocError>
     requires { spec.IsThere stands.now }
-    ensures { IfOk result (λ line. spec.IsValueLine (spec.whereabouts_of stands.now) cap line) }
+    ensures { IfOk result (λ place. spec.IsValuePlace (spec.whereabouts_of stands.now) cap place) }
 {
     match stands {
-        Standing::Unsourced => Ok(None),
-        Standing::Named(source) => line_in(alloc, source, cap),
-        Standing::Placed(there) => line_at(alloc, there, cap),
+        Standing::Unsourced => Ok(ValuePlace::nowhere()),
+        Standing::Named(source) => place_in(alloc, source, cap),
+        Standing::Placed(there) => place_at(alloc, there, cap),
     }
 }
 
-/// The line of `source` that has the value of `cap`.
-fn line_in(alloc: Global, source: &SourceText<'_>, cap: Cap) -> Result<Option<usize>, AllocError>
-    ensures { IfOk result (λ line. spec.IsLineIn source.now cap line) }
+/// The place of the value of `cap` in `source`.
+fn place_in(alloc: Global, source: &SourceText<'_>, cap: Cap) -> Result<ValuePlace, AllocError>
+    ensures { IfOk result (λ place. spec.IsPlaceIn source.now cap place) }
 {
+    let raws = source.raws.as_slice();
     // the name was resolved before, so memory ran out
-    match origin(alloc, source.raws.as_slice(), source.name.as_bytes(), cap) {
-        Ok(None) => Ok(None),
-        Ok(Some(origin)) => Ok(Some(line_of_field(alloc, source.text.as_slice(), origin)?)),
+    match origin(alloc, raws, source.name.as_bytes(), cap) {
+        Ok(origin) => Ok(field_place(alloc, source.text.as_slice(), raws, origin)?),
         Err(_) => Err(AllocError),
     }
 }
 
-/// The line that has the value of `cap` of the entry at `there`.
-fn line_at(alloc: Global, there: &SourcePlace<'_>, cap: Cap) -> Result<Option<usize>, AllocError>
+/// The place of the value of `cap` of the entry at `there`.
+fn place_at(alloc: Global, there: &SourcePlace<'_>, cap: Cap) -> Result<ValuePlace, AllocError>
     requires { there.now.place < length there.now.raws.now }
-    ensures { IfOk result (λ line. spec.IsLineAt (place_in there.now) cap line) }
+    ensures { IfOk result (λ place. spec.IsPlaceAt (place_in there.now) cap place) }
 {
     // the entry was resolved before, so memory ran out
     match origin_at(alloc, there.raws, there.place, cap) {
-        Ok(None) => Ok(None),
-        Ok(Some(origin)) => Ok(Some(line_of_field(alloc, there.text, origin)?)),
+        Ok(origin) => Ok(field_place(alloc, there.text, there.raws, origin)?),
         Err(_) => Err(AllocError),
+    }
+}
+
+/// The place of the field at `origin`, in the `text` with the entries `raws`; nowhere if there is no origin.
+fn field_place(
+    alloc: Global,
+    text: &[u8],
+    raws: &[RawEntry],
+    origin: Option<Origin>,
+) -> Result<ValuePlace, AllocError>
+    ensures { IfOk result (λ place. spec.IsFieldPlace text.now raws.now origin place) }
+{
+    match origin {
+        Some(origin) => Ok(ValuePlace {
+            line: Some(line_of_field(alloc, text, origin)?),
+            entry: Some(holder(alloc, raws, origin)?),
+        }),
+        None => Ok(ValuePlace::nowhere()),
+    }
+}
+
+/// The first name of the entry of `raws` that has the field at `origin`.
+fn holder(alloc: Global, raws: &[RawEntry], origin: Origin) -> Result<Written, AllocError>
+    ensures { IfOk result (λ name. IsNameOf (first_name (names_at raws.now origin.entry)) name) }
+{
+    name_of(alloc, first_name(names_of(raws, origin.entry)))
+}
+
+/// The names of the entry at `place`.
+#[tactic(auto, unfolding(ti_resolve::specs::Uses::names_at))]
+fn names_of(raws: &[RawEntry], place: usize) -> &[u8]
+    ensures { result.now ≡ names_at raws.now place }
+{
+    match raws.get(place) {
+        Some(raw) => raw.names.as_slice(),
+        None => &[],
     }
 }

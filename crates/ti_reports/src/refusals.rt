@@ -4,7 +4,8 @@ ghost use Rattle.std.specs.Prelude.{◌≡◌, IfOk, option_map};
 ghost use Rattle.ti_reports.specs.Surveys as spec;
 
 use crate::asked::Asked;
-use crate::reports::{Report, Verdict, report_line};
+use crate::names::name_if;
+use crate::reports::{Finding, Report, Verdict, report_line};
 use crate::texts::text_of;
 use std::alloc::{AllocError, Global};
 
@@ -35,29 +36,13 @@ fn refused_report(
         path.now (option_map (λ n. n.now) name.entry) why.now report) }
 {
     Ok(Report {
-        entry: text_if(alloc, name)?,
+        entry: name_if(alloc, name)?,
+        aliases: Vec::new(alloc),
         rows: asked.size.rows,
         cols: asked.size.cols,
-        verdict: Verdict::Refused,
-        capability: None,
-        parameters: Vec::new(alloc),
-        cause: Some(text_of(alloc, why)?),
-        bytes: None,
-        start: None,
-        wanted: None,
-        seen: None,
         file: String::from_str(alloc, path)?,
-        line: None,
-        advice: Vec::new(alloc),
+        verdict: Verdict::Refused,
+        cause: Some(text_of(alloc, why)?),
+        finding: Finding::none(alloc),
     })
-}
-
-/// The text of `bytes`, if there are any.
-fn text_if(alloc: Global, bytes: Option<&[u8]>) -> Result<Option<String>, AllocError>
-    ensures { IfOk result (λ text. spec.IsTextIf (option_map (λ b. b.now) bytes.entry) text) }
-{
-    match bytes {
-        Some(bytes) => Ok(Some(text_of(alloc, bytes)?)),
-        None => Ok(None),
-    }
 }

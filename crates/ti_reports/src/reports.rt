@@ -5,8 +5,14 @@ ghost use Rattle.serde_json.specs.View.{members_view, view};
 ghost use Rattle.ti_reports.specs.Reports as spec;
 
 use crate::escapes::printable_json;
+use crate::explanations::Explanation;
+use crate::forms::Written;
+use crate::lines::ValuePlace;
 use serde_json::{Map, Value, json, put};
 use std::alloc::{AllocError, Global};
+
+/// The version of the form of a report.
+const VERSION: u32 = 1;
 
 /// The verdict on an entry.
 #[derive(Clone, Copy, Debug, PartialEq, Eq)]
@@ -17,6 +23,8 @@ pub enum Verdict {
     No,
     /// The entry can't be read.
     Refused,
+    /// Advice on the entry, beside its verdict.
+    Advice,
 }
 
 impl Verdict {
@@ -28,41 +36,75 @@ impl Verdict {
             Verdict::Yes => "yes",
             Verdict::No => "no",
             Verdict::Refused => "refused",
+            Verdict::Advice => "advice",
         }
     }
 }
 
-/// The contents of one object, about an entry or one of its faults. A field that doesn't apply is `None`.
+/// The contents of one object, about an entry or one of its faults. A field that doesn't apply is `None` or empty.
 #[derive(Debug, Drop)]
 pub struct Report {
     /// The entry's first name; `None` for a file that has no entries.
-    pub entry: Option<String>,
+    pub entry: Option<Written>,
+    /// The entry's other names, the description last.
+    pub aliases: Vec<Written>,
     /// The terminal's rows.
     pub rows: usize,
     /// The terminal's columns.
     pub cols: usize,
+    /// The path of the file that has the entry.
+    pub file: String,
     /// The verdict on the entry.
     pub verdict: Verdict,
+    /// The kind of the fault, or the reason why the entry can't be read.
+    pub cause: Option<String>,
+    /// The fault, or the advice.
+    pub finding: Finding,
+}
+
+/// The contents of a report about a fault. A field that doesn't apply is `None` or empty.
+#[derive(Debug, Drop)]
+pub struct Finding {
     /// The capability at fault.
     pub capability: Option<String>,
     /// The parameters of the capability.
     pub parameters: Vec<u16>,
-    /// The fault of the capability for these parameters.
-    pub cause: Option<String>,
     /// The bytes that its string sends for these parameters, in hexadecimal.
     pub bytes: Option<String>,
-    /// A state of the terminal from which the string goes wrong.
-    pub start: Option<String>,
-    /// The wanted effect of the string.
-    pub wanted: Option<String>,
-    /// The effect of the string from that state.
-    pub seen: Option<String>,
-    /// The path of the file that has the entry.
-    pub file: String,
-    /// The line of that file that has the capability's value.
-    pub line: Option<usize>,
-    /// Advice for users of an entry that has a certificate.
-    pub advice: Vec<String>,
+    /// The place of the capability's value.
+    pub place: ValuePlace,
+    /// The capability's string.
+    pub string: Option<Written>,
+    /// The string that would be right.
+    pub suggestion: Option<Written>,
+    /// The run that shows the fault.
+    pub run: Explanation,
+    /// Whether the fault was shown; `false` if the string may be right.
+    pub judged: Option<bool>,
+    /// Whether the entry seems to be for a terminal of another kind.
+    pub another_kind: Option<bool>,
+    /// Lines that explain the fault, or the advice, to people.
+    pub explanation: Vec<String>,
+}
+
+impl Finding {
+    /// No fault.
+    pub fn none(alloc: Global) -> Finding
+        ensures { spec.IsNothing result }
+    {
+        Finding {
+            capability: None,
+            parameters: Vec::new(alloc),
+            bytes: None,
+            place: ValuePlace::nowhere(),
+            string: None,
+            suggestion: None,
+            run: Explanation::none(),
+            judged: None,
+            another_kind: None,
+            explanation: Vec::new(alloc),
+        }
+    }
 }
 
 /// The line of `report`: its JSON object, in bytes of 32 to 126, and LF.
@@ -84,12 +126,14 @@ fn value_of(alloc: Global, report: &Report) -> Result<Value, AllocError>
 {
     let mut members = Map::new(alloc);
     put_entry(alloc, report, &mut members)?;
-    put_string(alloc, report, &mut members)?;
-    put_run(alloc, report, &mut members)?;
+    put_verdict(alloc, report, &mut members)?;
+    put_value(alloc, &report.finding, &mut members)?;
+    put_strings(alloc, &report.finding, &mut members)?;
+    put_run(alloc, &report.finding, &mut members)?;
     Ok(Value::Object(members))
 }
 
-/// Puts the entry of `report`, the size and the verdict into `members`.
+/// Puts the names of the entry of `report`, its file and the size into `members`.
 fn put_entry(
     alloc: Global,
     report: &Report,
@@ -98,57 +142,112 @@ fn put_entry(
     ensures { OnOk result (members_view members.new.entries
         ≡ spec.with_entry report.now (members_view members.old.entries)) }
 {
-    let entry = text_value(alloc, &report.entry)?;
+    let entry = written_value(alloc, &report.entry)?;
+    let entry_hex = hex_value(alloc, &report.entry)?;
+    let aliases = names_value(alloc, report.aliases.as_slice())?;
+    let aliases_hex = names_hex_value(alloc, report.aliases.as_slice())?;
     let file = Value::try_from_str(alloc, report.file.as_str())?;
-    let verdict = Value::try_from_str(alloc, report.verdict.word())?;
     let size = size_value(alloc, report.rows, report.cols)?;
     put(members, alloc, "entry", entry)?;
+    put(members, alloc, "entry_hex", entry_hex)?;
+    put(members, alloc, "aliases", aliases)?;
+    put(members, alloc, "aliases_hex", aliases_hex)?;
     put(members, alloc, "file", file)?;
-    put(members, alloc, "size", size)?;
-    put(members, alloc, "verdict", verdict)
+    put(members, alloc, "size", size)
 }
 
-/// Puts the string at fault of `report`, and its fault, into `members`.
-fn put_string(
+/// Puts the version of this form, the verdict of `report`, and its reason into `members`.
+fn put_verdict(
     alloc: Global,
     report: &Report,
     members: &mut Map<String, Value>,
 ) -> Result<(), AllocError>
     ensures { OnOk result (members_view members.new.entries
-        ≡ spec.with_string report.now (members_view members.old.entries)) }
+        ≡ spec.with_verdict report.now (members_view members.old.entries)) }
 {
-    let capability = text_value(alloc, &report.capability)?;
-    let parameters = numbers_value(alloc, report.parameters.as_slice())?;
+    let verdict = Value::try_from_str(alloc, report.verdict.word())?;
+    let rule = rule_value(alloc, report.verdict, &report.cause)?;
     let cause = text_value(alloc, &report.cause)?;
-    let bytes = text_value(alloc, &report.bytes)?;
+    put(members, alloc, "version", Value::from(VERSION))?;
+    put(members, alloc, "verdict", verdict)?;
+    put(members, alloc, "rule", rule)?;
+    put(members, alloc, "cause", cause)
+}
+
+/// Puts the capability of `finding`, its parameters, what it sends, and the place of its value into `members`.
+fn put_value(
+    alloc: Global,
+    finding: &Finding,
+    members: &mut Map<String, Value>,
+) -> Result<(), AllocError>
+    ensures { OnOk result (members_view members.new.entries
+        ≡ spec.with_value finding.now (members_view members.old.entries)) }
+{
+    let capability = text_value(alloc, &finding.capability)?;
+    let parameters = numbers_value(alloc, finding.parameters.as_slice())?;
+    let bytes = text_value(alloc, &finding.bytes)?;
+    let holder = written_value(alloc, &finding.place.entry)?;
+    let holder_hex = hex_value(alloc, &finding.place.entry)?;
     put(members, alloc, "capability", capability)?;
     put(members, alloc, "parameters", parameters)?;
-    put(members, alloc, "cause", cause)?;
-    put(members, alloc, "bytes", bytes)
+    put(members, alloc, "bytes", bytes)?;
+    put(members, alloc, "line", number_value(finding.place.line))?;
+    put(members, alloc, "source_entry", holder)?;
+    put(members, alloc, "source_entry_hex", holder_hex)
 }
 
-/// Puts the parts of `report` about a run of that string, the string's line, and the advice, into `members`.
-fn put_run(
+/// Puts the string of `finding`, and the one that would be right, into `members`.
+fn put_strings(
     alloc: Global,
-    report: &Report,
+    finding: &Finding,
     members: &mut Map<String, Value>,
 ) -> Result<(), AllocError>
     ensures { OnOk result (members_view members.new.entries
-        ≡ spec.with_run report.now (members_view members.old.entries)) }
+        ≡ spec.with_strings finding.now (members_view members.old.entries)) }
 {
-    let start = text_value(alloc, &report.start)?;
-    let wanted = text_value(alloc, &report.wanted)?;
-    let seen = text_value(alloc, &report.seen)?;
+    let string = written_value(alloc, &finding.string)?;
+    let string_hex = hex_value(alloc, &finding.string)?;
+    let suggestion = written_value(alloc, &finding.suggestion)?;
+    let suggestion_hex = hex_value(alloc, &finding.suggestion)?;
+    put(members, alloc, "string", string)?;
+    put(members, alloc, "string_hex", string_hex)?;
+    put(members, alloc, "suggestion", suggestion)?;
+    put(members, alloc, "suggestion_hex", suggestion_hex)
+}
+
+/// Puts the run that shows `finding`, what is known of it, and its explanation into `members`.
+fn put_run(
+    alloc: Global,
+    finding: &Finding,
+    members: &mut Map<String, Value>,
+) -> Result<(), AllocError>
+    ensures { OnOk result (members_view members.new.entries
+        ≡ spec.with_run finding.now (members_view members.old.entries)) }
+{
+    let start = text_value(alloc, &finding.run.start)?;
+    let wanted = text_value(alloc, &finding.run.wanted)?;
+    let seen = text_value(alloc, &finding.run.seen)?;
+    let explanation = texts_value(alloc, finding.explanation.as_slice())?;
     put(members, alloc, "start", start)?;
     put(members, alloc, "wanted", wanted)?;
     put(members, alloc, "seen", seen)?;
-    put(members, alloc, "line", number_value(report.line))?;
-    put(
-        members,
-        alloc,
-        "advice",
-        texts_value(alloc, report.advice.as_slice())?,
-    )
+    put(members, alloc, "judged", truth_value(finding.judged))?;
+    let another_kind = truth_value(finding.another_kind);
+    put(members, alloc, "another_kind", another_kind)?;
+    put(members, alloc, "explanation", explanation)
+}
+
+/// The JSON text with the name of the kind of finding, or null for a yes: the `cause` of a no, one name for all that
+/// can't be read, and one for advice.
+fn rule_value(alloc: Global, verdict: Verdict, cause: &Option<String>) -> Result<Value, AllocError>
+    ensures { IfOk result (λ value. view value ≡ spec.rule_data verdict cause.now) }
+{
+    match verdict {
+        Verdict::Yes => Ok(Value::Null),
+        Verdict::No => text_value(alloc, cause),
+        Verdict::Refused => Value::try_from_str(alloc, "Refused"),
+        Verdict::Advice => Value::try_from_str(alloc, "Advice"),
+    }
 }
 
 /// The JSON object of a terminal's size.
@@ -168,6 +267,48 @@ fn text_value(alloc: Global, text: &Option<String>) -> Result<Value, AllocError>
     }
 }
 
+/// The JSON text of bytes as text, or null.
+fn written_value(alloc: Global, written: &Option<Written>) -> Result<Value, AllocError>
+    ensures { IfOk result (λ value. view value ≡ spec.written_data written.now) }
+{
+    match written {
+        Some(written) => Value::try_from_str(alloc, written.text.as_str()),
+        None => Ok(Value::Null),
+    }
+}
+
+/// The JSON text of bytes in hexadecimal, or null.
+fn hex_value(alloc: Global, written: &Option<Written>) -> Result<Value, AllocError>
+    ensures { IfOk result (λ value. view value ≡ spec.hex_data written.now) }
+{
+    match written {
+        Some(written) => Value::try_from_str(alloc, written.hex.as_str()),
+        None => Ok(Value::Null),
+    }
+}
+
+/// The JSON array of `names` as text.
+fn names_value(alloc: Global, names: &[Written]) -> Result<Value, AllocError>
+    ensures { IfOk result (λ value. view value ≡ spec.names_data names.now) }
+{
+    let mut items = Vec::new(alloc);
+    for name in names {
+        items.push(Value::try_from_str(alloc, name.text.as_str())?)?;
+    }
+    Ok(Value::Array(items))
+}
+
+/// The JSON array of `names` in hexadecimal.
+fn names_hex_value(alloc: Global, names: &[Written]) -> Result<Value, AllocError>
+    ensures { IfOk result (λ value. view value ≡ spec.names_hex_data names.now) }
+{
+    let mut items = Vec::new(alloc);
+    for name in names {
+        items.push(Value::try_from_str(alloc, name.hex.as_str())?)?;
+    }
+    Ok(Value::Array(items))
+}
+
 /// The JSON array of `texts`.
 fn texts_value(alloc: Global, texts: &[String]) -> Result<Value, AllocError>
     ensures { IfOk result (λ value. view value ≡ spec.texts_data texts.now) }
@@ -185,6 +326,16 @@ fn number_value(number: Option<usize>) -> Value
 {
     match number {
         Some(number) => Value::from(number),
+        None => Value::Null,
+    }
+}
+
+/// JSON's true or false, or null.
+fn truth_value(truth: Option<bool>) -> Value
+    ensures { view result ≡ spec.truth_data truth }
+{
+    match truth {
+        Some(truth) => Value::Bool(truth),
         None => Value::Null,
     }
 }

@@ -29,7 +29,7 @@ fn shown(alloc: Global, bytes: &[u8]) -> Result<String, AllocError>
 }
 
 /// The range of a byte's type, read at each: nothing of the loop is left in the program.
-fn are_bytes(bytes: &[u8])
+pub fn are_bytes(bytes: &[u8])
     ensures { AllByRecursion (λ b. b < 256) bytes.now }
 {
     for byte in bytes {

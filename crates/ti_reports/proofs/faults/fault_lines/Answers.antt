@@ -1,6 +1,5 @@
 use Rattle.std.proofs.Common.{◌<◌, ◌++◌, ◌∙◌, ℕ, List, length, ap, arith}
-use Rattle.ti_reports.specs.Faults.{IsFaultLine}
-use Rattle.ti_reports.specs.Sources.{whereabouts_of}
+use Rattle.ti_reports.specs.Faults.{IsFaultLine, of_subject}
 use Rattle.ti_verdicts.specs.Parts.{HasParts}
 use Rattle.ti_verdicts.proofs.Parts.{parts_next}
 use Rattle.ti_reports.proofs.faults.fault_lines.Goals as goal
@@ -13,5 +12,5 @@ loop-no-init c = c.new-lines.ensures.items
 pub loop-no-preserved : goal.loop-no-preserved
 loop-no-preserved c =
     let here : c.loop-no.no-index < length c.args.nos.now = omega arith in
-    parts_next (IsFaultLine c.args.subject.now.entry.now c.args.subject.now.size.rows c.args.subject.now.size.cols c.args.subject.now.file.now (whereabouts_of c.args.subject.now.stands)) c.args.nos.now c.loop-no.no-index c.no-item.result c.loop-no.lines.items c.in_ok-own.own.items c.extend_from_slice.new.self.items here c.no-item.is
+    parts_next (IsFaultLine (of_subject c.args.subject.now c.args.nos.now c.args.mended.now) c.args.subject.now.file.now) c.args.nos.now c.loop-no.no-index c.no-item.result c.loop-no.lines.items c.in_ok-own.own.items c.extend_from_slice.new.self.items here c.no-item.is
     (c.in_ok-extend_from_slice.ensures.items ∙ ap (λ (own : List ℕ). c.loop-no.lines.items ++ own) c.as_slice.ensures.value) c.loop-no.invariant c.in_ok-own.ensures

@@ -1,6 +1,5 @@
-use Rattle.std.proofs.Common.{List, ℕ, Option, Some, String, subst}
-use Rattle.std.specs.declared.alloc.Global.{Global}
-use Rattle.ti_reports.specs.Ran.{IsRunBy, Sent, ShowsRun}
+use Rattle.std.proofs.Common.{List, ℕ, subst}
+use Rattle.ti_reports.specs.Ran.{Sent, ShowsRun}
 use Rattle.ti_reports.proofs.ran.ran_by.Goals as goal
 
 -- the bytes that are sent, and their effect
