@@ -150,6 +150,20 @@ one|op alone,
 lines|a table of characters without the strings that switch,
 	acsc=qqxx, smacs=\E(0, civis=\E[?25l, use=base,
 """,
+    "unchecked": BASE
+    + rb"""good|strings that aren't checked do what their names say,
+	am, xenl, smul=\E[4m, rmul=\E[24m, smso=\E[7m, rmso=\E[27m, smir=\E[4h, rmir=\E[4l,
+	ich1=\E[@, ich=\E[%p1%d@, dch1=\E[P, dch=\E[%p1%dP, il1=\E[L, il=\E[%p1%dL,
+	dl1=\E[M, dl=\E[%p1%dM, indn=\E[%p1%dS, rin=\E[%p1%dT, kbs=^H, kf1=\EOP, use=base,
+bad|they do something else,
+	cols#4, am, smul=\E[4m, rmul=\E[27m, smso=\E[7m, rmso=\E[24m, smir=\E[4h, rmir=\E[4h,
+	ich1=\E[P, dch1=\E[2P, il1=\E[2L, dl1=\E[2K, indn=\E[%p1%dT, rin=\n, op=\E[m, use=base,
+unwrapped|a whole terminal's entry that says nothing of its wrap,
+	cols#4, use=base,
+odd|T ignores them in part or they can't be run,
+	am, xenl, ich1=\E[@\E[3m, dch1=\E[38;5;1m\E[P, il1=\E[?3h, dl1=%gA%d, indn=%, rin=\E]x, sitm=\E[3m,
+	rep=%p1%c\E[%p2%db, use=base,
+""",
     "hints": BASE
     + rb"""a|names that no capability has,
 	rmasc=^O, ell=\E[K, use=b, use=c,
@@ -494,12 +508,46 @@ DULL = [
     "advice sgr: bold=\\E[1m shows bold, sgr never does",
 ]
 
+WRAP = "advice am: missing, but T goes on in the next line after the last column"
+WAIT = "advice xenl: missing, but T stays in the last column until the next character comes"
+UNUSED = "advice colors: missing beside op, so programs use no colors"
+BAD = [
+    "advice op: setaf and setab are missing, so colors are never shown",
+    r"advice dch1: dch1=\E[2P doesn't delete a cell on T",
+    r"advice dl1: dl1=\E[2K doesn't delete a line on T",
+    r"advice rmir: rmir=\E[4h doesn't end smir on T",
+    r"advice rmso: rmso=\E[24m doesn't end smso on T",
+    r"advice rmul: rmul=\E[27m doesn't end smul on T",
+    r"advice ich1: ich1=\E[P doesn't insert a blank on T",
+    r"advice il1: il1=\E[2L doesn't insert a line on T",
+    r"advice indn: indn=\E[%p1%dT doesn't scroll up by 2 lines on T",
+    r"advice rin: rin=\n doesn't scroll down by 2 lines on T",
+    WAIT,
+    UNUSED,
+]
+
+
+def counted(checked, right=0, advised=0, keys=0, unseen=""):
+    """The line about the strings of an entry."""
+    names = f": {unseen}" if unseen else ""
+    return (
+        f"strings: {checked} checked, {right} others right in one run, {advised} with advice, {keys} of keys,"
+        f" {len(unseen.split())} not looked at{names}"
+    )
+
+
 # the words, the status, and the lines of standard error that advise or hint
 ADVISED = [
-    *((["check", *form, f"{path}:{name}", "24", "80"], 0, [])
-      for form in ([], ["--all"]) for path, name in (("samples", "mini"), ("samples", "vt"), ("samples", "xt"), ("samples", "xc"))),
+    *((["check", f"samples:{name}", "24", "80"], 0, []) for name in ("mini", "vt", "xt", "xc")),
+    *((["check", "--all", f"samples:{name}", "24", "80"], 0, lines)
+      for name, lines in (("mini", [counted(3)]), ("vt", [counted(21)]), ("xt", [counted(15)]), ("xc", [counted(18)]))),
+    (["check", "--all", "unchecked:good", "2", "4"], 0, [counted(5, 13, 0, 2, "smir")]),
+    (["check", "unchecked:bad", "2", "4"], 0, BAD[:1]),
+    (["check", "--all", "unchecked:bad", "2", "4"], 0, [*BAD, counted(5, 0, 9, 0, "smir op")]),
+    (["check", "--all", "unchecked:unwrapped", "2", "4"], 0, [WRAP, counted(3)]),
+    (["check", "--all", "unchecked:odd", "2", "4"], 0, [counted(3, 0, 0, 0, "dch1 dl1 ich1 il1 indn rin rep sitm")]),
     (["check", "advice:dull", "2", "4"], 0, DULL),
-    (["check", "--all", "advice:dull", "2", "4"], 0, DULL),
+    (["check", "--all", "advice:dull", "2", "4"], 0, [*DULL, counted(4, 0, 0, 0, "bold smso smul")]),
     (["check", "--json", "advice:dull", "2", "4"], 0, []),
     (["check", "advice:odd", "2", "4"], 0, []),
     (["check", "advice:half", "2", "4"], 0, ["advice setaf: op is missing, so colors are never shown"]),
@@ -509,7 +557,7 @@ ADVISED = [
         "advice civis: cnorm is missing, so the cursor is never hidden",
     ]),
     (["check", "hints:a", "2", "4"], 0, HINTS),
-    (["check", "--all", "hints:a", "2", "4"], 0, HINTS),
+    (["check", "--all", "hints:a", "2", "4"], 0, [*HINTS, counted(4, 0, 0, 0, "setb")]),
     (["check", "hints:d", "2", "4"], 1, OTHERS),
     (["check", "hints:base", "2", "4"], 0, []),
     (["survey", "2", "4", "hints"], 0, []),
@@ -719,7 +767,7 @@ def judge_advice():
     """The advice and the hints of a run: exactly these lines, and no verdict or status changes for them."""
     cases = [Case(words) for words, _, _ in ADVISED]
     for (words, status, wanted), told in zip(ADVISED, run_cases(f"{TOP}/crates/ticurses", cases, FILES)):
-        lines = [line for line in told.err.decode().splitlines() if line.startswith(("advice ", "hint "))]
+        lines = [line for line in told.err.decode().splitlines() if line.startswith(("advice ", "hint ", "strings: "))]
         if lines != wanted or told.status != status:
             sys.exit(f"examples: {words}: status {told.status}, {lines}")
     print(f"examples: {len(ADVISED)} runs advise and hint as they should")

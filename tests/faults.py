@@ -223,7 +223,8 @@ def judge_by_hand():
     shown = [line for line in listed.out.decode().splitlines() if not line.startswith("  ")]
     if shown != FIVE_FAULTS.splitlines() or listed.status != 1:
         fail(f"the entry with the faults printed {listed.out.decode()}")
-    if (mended.status, mended.out, mended.err) != (0, b"yes\n", b""):
+    others = [line for line in mended.err.splitlines() if not line.startswith((b"advice ", b"strings: "))]
+    if (mended.status, mended.out, others) != (0, b"yes\n", []):
         fail(f"the mended entry: {mended.status} {mended.out} {mended.err}")
     if both.status != 2 or not both.err.startswith(NO_ENTRY) or both.out:
         fail(f"--all beside --out: {both.status} {both.err}")

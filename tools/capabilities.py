@@ -142,7 +142,9 @@ LOOKS = (
     "certificate allows an `sgr` that never turns bold on; bold text is then plain. Where the entry has a string for "
     "a feature that is never shown, `check` says so after the certificate (`advice`): an attribute that `sgr` never "
     "shows, colors where one of `setaf`, `setab` and `op` is missing, `acsc` without `smacs` or `rmacs`, `civis` "
-    "without `cnorm`."
+    "without `cnorm`. `check --all` also runs some strings that aren't checked once on T (`ich`, `dch`, `il`, `dl`, "
+    "`indn`, `rin`, `ich1`, `dch1`, `il1`, `dl1`, `rmul`, `rmso`, `rmir`), and advises against one that doesn't do what "
+    "its name says; one that T ignores in part is not looked at. A last line counts the strings of the entry."
 )
 
 TOGETHER = (

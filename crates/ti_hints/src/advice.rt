@@ -18,7 +18,12 @@ pub fn advise(alloc: Global, entry: &Entry, size: Size, remarks: &mut Remarks) {
     }
 }
 
-fn add_advice(alloc: Global, text: &[u8], remarks: &mut Remarks) -> Result<(), AllocError> {
+/// Adds the line of the advice `text` to `remarks`.
+pub(crate) fn add_advice(
+    alloc: Global,
+    text: &[u8],
+    remarks: &mut Remarks,
+) -> Result<(), AllocError> {
     let mut words = Vec::from_slice(alloc, b"advice ")?;
     words.extend_from_slice(text)?;
     remarks.add_words(words.as_slice());

@@ -3,12 +3,16 @@
 #![tactic(auto)]
 
 mod advice;
+mod counts;
 mod fields;
+mod functions;
 mod hints;
 mod names;
 mod sources;
+mod trials;
 
 pub use advice::{advice_on, advise};
+pub use counts::{advise_unchecked, unchecked_advice};
 pub use hints::{hint_carets, hint_entries, hint_entry};
 pub use names::unknown_names;
 pub use sources::{explain_large, explain_packed, explain_resolving, explain_source};

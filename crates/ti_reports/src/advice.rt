@@ -11,15 +11,20 @@ use crate::reports::{Finding, Report, Verdict, report_line};
 use crate::texts::text_of;
 use std::alloc::{AllocError, Global};
 use ti_checker::No;
-use ti_hints::advice_on;
+use ti_hints::{advice_on, unchecked_advice};
 
 /// A line for each piece of advice on the `subject`, which has the faults `nos`: on what is never seen, if there are
-/// none.
-pub fn advice_lines(alloc: Global, subject: &Subject<'_>, nos: &[No]) -> Result<Vec<u8>, AllocError>
+/// none; and on strings that aren't checked, if `lists_all`.
+pub fn advice_lines(
+    alloc: Global,
+    subject: &Subject<'_>,
+    lists_all: bool,
+    nos: &[No],
+) -> Result<Vec<u8>, AllocError>
     ensures { IfOk result (λ lines. spec.AreLinesOf (spec.ReportsAdvice subject.now.entry.now
         subject.now.size.rows subject.now.size.cols subject.now.file.now) lines.items) }
 {
-    let texts = advice_texts(alloc, subject, nos)?;
+    let texts = advice_texts(alloc, subject, lists_all, nos)?;
     let mut lines = Vec::new(alloc);
     for text in &texts {
         let own = advice_line(alloc, subject, text.as_slice())?;
@@ -32,13 +37,20 @@ pub fn advice_lines(alloc: Global, subject: &Subject<'_>, nos: &[No]) -> Result<
 fn advice_texts(
     alloc: Global,
     subject: &Subject<'_>,
+    lists_all: bool,
     nos: &[No],
 ) -> Result<Vec<Vec<u8>>, AllocError> {
-    if nos.is_empty() {
-        advice_on(alloc, subject.entry, subject.size)
+    let mut texts = if nos.is_empty() {
+        advice_on(alloc, subject.entry, subject.size)?
     } else {
-        Ok(Vec::new(alloc))
+        Vec::new(alloc)
+    };
+    if lists_all {
+        for text in unchecked_advice(alloc, subject.entry)? {
+            texts.push(text)?;
+        }
     }
+    Ok(texts)
 }
 
 /// The line of the advice `text` on the `subject`.

@@ -53,7 +53,7 @@ pub fn found_lines(
         (whereabouts_of subject.now.stands) nos.now lines.items) }
 {
     let mut lines = verdict_lines(alloc, subject, lists_all, nos)?;
-    let advice = advice_lines(alloc, subject, nos)?;
+    let advice = advice_lines(alloc, subject, lists_all, nos)?;
     lines.extend_from_slice(advice.as_slice())?;
     Ok(lines)
 }

@@ -17,7 +17,7 @@ use ti_caps::Entry;
 use ti_checker::No;
 use ti_commands::{Failure, Files, Reply, Sourced, size_words, sourced_entry};
 use ti_faults::{Mended, faults};
-use ti_hints::advise;
+use ti_hints::{advise, advise_unchecked};
 use ti_requests::FaultsWords;
 use ti_words::Remarks;
 use vt_term::Size;
@@ -25,7 +25,7 @@ use vt_term::Size;
 /// Replies with the notes on the entry that the `words` give, and with all its faults, each with its place and its
 /// explanation, and with their number; or with `yes` if there is none. The reply fails as the first of the faults does.
 /// Further lines go to `remarks`: that the entry seems to be for a terminal of another kind, that a fault may go once
-/// others are mended, or advice on an entry without a fault.
+/// others are mended, advice on an entry without a fault, and advice on strings that aren't checked, with their number.
 pub fn check_all<F: Files>(
     alloc: Global,
     words: &FaultsWords<'_>,
@@ -47,6 +47,7 @@ pub fn check_all<F: Files>(
     if nos.is_empty() {
         advise(alloc, &found.entry, size, remarks);
     }
+    advise_unchecked(alloc, &found.entry, remarks);
     Ok(reply)
 }
 
