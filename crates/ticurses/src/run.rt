@@ -100,10 +100,16 @@ fn failed_path(reply: &Result<Reply, Failure>) -> Option<&str> {
 
 /// Whether a source is refused because a field of it isn't ended on its line.
 fn is_open_field(reply: &Result<Reply, Failure>) -> bool {
-    let Err(Failure::Refused(CommandRefusal::Source(fault))) = reply else {
-        return false;
-    };
-    fault.kind == FaultKind::OpenField
+    match reply {
+        Err(Failure::Refused(CommandRefusal::Source(fault)))
+        | Ok(
+            Reply {
+                failure: Some(Failure::Refused(CommandRefusal::Source(fault))),
+                ..
+            },
+        ) => fault.kind == FaultKind::OpenField,
+        _ => false,
+    }
 }
 
 /// The reply of `check` to its `words`. If `err` is a terminal, and the certificate goes to a file,
