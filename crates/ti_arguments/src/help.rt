@@ -185,16 +185,25 @@ parameters for which it does; then what is wrong with strings together that are 
 others are mended. Below each of an entry of a source is a line `FILE:LINE: CAP of NAME`, with the line on which its
 value is and the first name of the entry that has it, through `use=`; then come the lines that explain it, after two
 spaces. Where the standard's string would be right in that place, with all others that are named taken too, the last of
-them is `CAP=STRING would be right on T`; where clear and cup are both at fault, standard error says instead that the
-entry seems to be for a terminal of another kind. The last line is the number of faults, and then how many have which
-CAUSE. Standard error has the first of them too, after `refused: `. If nothing is wrong, the output is `yes`.
+them is `CAP=STRING would be right on T`; below the fault of smacs or rmacs there may be one for each of enacs, smacs and
+rmacs, which are right only together. Where clear and cup are both at fault, standard error says instead that the entry
+seems to be for a terminal of another kind. The last line is the number of faults, and then how many have which CAUSE.
+Standard error has the first of them too, after `refused: `. If nothing is wrong, the output is `yes`. Standard error also
+gets advice on strings that aren't checked but don't do on T what their names say, and a line `strings: ..` that counts
+those that were checked and those that were not looked at.
 
 With --json there is no certificate either. The output is a JSON object on a line of its own: what is wrong first, or with
---all one for each fault, or one with the verdict `yes`. Each has the members entry (the first name), size (rows and cols),
-verdict (`yes` or `no`), capability, parameters, cause, bytes (what the string sends, in hexadecimal), start, wanted and
-seen (the words of the lines that begin so), file (its path), line (on which the value stands) and advice (what follows
-`advice ` in those lines, a list); what doesn't apply is null. Characters outside 32 to 126 are escapes of JSON. The notes,
-the line `refused: ` and the exit status are those of the form without --json.
+--all one for each fault, or one with the verdict `yes`; and behind it one with the verdict `advice` for each advice. An
+entry that can't be obtained has one with the verdict `refused`. Each has the members version (1), verdict, rule (a name
+for each kind of answer), entry (the first name), aliases (the others), size (rows and cols), capability, parameters,
+cause, bytes (what the string sends, in hexadecimal), start, wanted and seen (the words of the lines that begin so),
+explanation (the lines below the fault, or the words of the advice), file (its path), line (on which the value stands),
+source_entry (the first name of the entry that has the value), string and, with --all, suggestion (the string at fault and
+the one that would be right, as a source has them), judged (whether the string could be judged) and, with --all,
+another_kind (whether the entry seems to be for a terminal of another kind). entry_hex, aliases_hex, source_entry_hex,
+string_hex and suggestion_hex have the bytes in hexadecimal. Where a member doesn't apply, it is null, or an empty list.
+Characters outside 32 to 126 are escapes of JSON. The notes, the line `refused: ` and the exit status are those of the
+form without --json.
 
 A certificate has at most 67108864 bytes. The limits of a source file and of a compiled file are those of
 `ticurses tic --help`.
@@ -411,8 +420,8 @@ With --all an entry that has no certificate has a line `NAME no CAP P..: CAUSE` 
 `ticurses check`, each with `, in FILE` at its end.
 
 With --json the output is a JSON object on a line of its own for each of these lines but the last, with the members of
-`ticurses check --json`. In place of KIND the verdict is `refused`, and cause has the KIND; entry is null where a FILE has a
-fault of its own.
+`ticurses check --json`, and one for each advice. In place of KIND the verdict is `refused`, and cause has the KIND; entry
+is null where a FILE has a fault of its own.
 
 With --fail the status is 1 if an answer isn't yes, with the line `refused: Faulty` on standard error. The output is the same.
 
