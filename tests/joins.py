@@ -1,5 +1,6 @@
 """Sources in which fields continue on further lines, read with `--join`."""
 
+import json
 import subprocess
 import sys
 import tempfile
@@ -123,13 +124,21 @@ def judge_places():
     print("joins: places are told by the lines of the file")
 
 
+def is_refused(words, out):
+    """The output of a refusal: nothing, or with `--json` the object that says so."""
+    if "--json" not in words:
+        return not out
+    one = json.loads(out)
+    return (one["verdict"], one["entry"], one["cause"]) == ("refused", "wrapped", "line 3: OpenField")
+
+
 def judge_refusals():
     """`OpenField` without `--join` names it; with it, a field that doesn't go on is refused at its line."""
     words = [it for it in commands("wrapped") if it[0] != "survey"]
     told = run_cases(PROGRAM, [Case(it) for it in words], {"text": WRAPPED, "cert": b""})
     for it, one in zip(words, told):
         lines = one.err.decode().splitlines(keepends=True)
-        if one.status != 1 or one.out or "refused: line 3: OpenField\n" not in lines or HINT not in lines:
+        if one.status != 1 or not is_refused(it, one.out) or "refused: line 3: OpenField\n" not in lines or HINT not in lines:
             fail(f"{it}: {one.status} {one.out} {one.err}")
     survey = run_cases(PROGRAM, [Case(["survey", *SIZE, "text"])], {"text": WRAPPED})[0]
     if b"wrapped refused: line 3: OpenField\n" not in survey.out:

@@ -225,7 +225,11 @@ def judge_lines(one, lines, path):
     places = [line for line in lines if path and line.startswith(f"{path}:")]
     if places != ([f"{path}:{one['line']}: {one['capability']} of {one['source_entry']}"] if one["line"] else []):
         fail(f"the place of {one} is not that of {lines}")
-    right = [line for line in lines if line.endswith(" would be right on T")]
+    suggested = [line for line in lines if line.endswith(" would be right on T")]
+    # what switches sets is mended as one: the plain form names the others too
+    right = [line for line in suggested if line.startswith(f"{one['capability']}=")]
+    if len(suggested) > len(right) and one["capability"] not in ("smacs", "rmacs"):
+        fail(f"{one} has the suggestions {suggested}")
     if right != ([f"{one['capability']}={one['suggestion']} would be right on T"] if one["suggestion"] is not None else []):
         fail(f"the suggestion of {one} is not that of {lines}")
     for line in lines:
@@ -234,7 +238,7 @@ def judge_lines(one, lines, path):
             fail(f"the bytes of {one} are not those of {line}")
     if one["bytes"] is not None and not any(" sends '" in line for line in lines):
         fail(f"the bytes of {one} stand in none of {lines}")
-    own = [line for line in lines if line not in places + right]
+    own = [line for line in lines if line not in places + suggested]
     if path and one["explanation"] != (own or [NO_RESYNC]):
         fail(f"{one} doesn't explain all that {lines} do")
 
