@@ -1,10 +1,12 @@
 -- Every ink of a virtual screen can be shown.
-use Rattle.std.proofs.Common.{◌≡◌, ℕ, ◌<◌, ◌&&◌, ◌==◌, Bool, true, false, nat_lt, nat_le, cond, List, [], ◌∷◌, Option, Some, None, refl, sym, ap, subst, arith}
+use Rattle.std.proofs.Common.{◌≡◌, ℕ, ◌+◌, ◌-◌, ◌<◌, ◌&&◌, ◌==◌, Bool, true, false, nat_lt, nat_le, cond, if◌then◌else◌, slice_index_or, List, [], ◌∷◌, Option, Some, None, refl, sym, ap, subst, ◌∙◌, arith}
 use Rattle.std.proofs.lemmas.Bool.{ltb-true, leb-true}
+use Rattle.std.proofs.lemmas.List.FromFn.{get_or-map-range_with_len}
 use Rattle.vt_term.specs.Color.{Color, color}
 use Rattle.vt_term.specs.Look.{IsPrinted}
 use Rattle.ti_rows.specs.declared.rows.Row.TheVariants.{Op, Smacs}
 use Rattle.ti_conforms.specs.Alternates.{Plain, letters, found, or_letter, is_printed, shown, in_plain_set}
+use Rattle.ti_conforms.specs.declared.partners.Character.{Character as KnownCharacter}
 use Rattle.cur_drawing.specs.Cells.{Content, IsCell}
 use Rattle.cur_screens.specs.VirtualScreen.{Screen, colors_at}
 use Rattle.cur_screens.specs.declared.virtual_screen.Colors.{Colors}
@@ -12,7 +14,7 @@ use Rattle.ti_conforms.specs.Certified.{Table, has}
 use Rattle.cur_steps.specs.Inks.{IsInk, CanShow, blank_ink}
 use Rattle.cur_steps.specs.declared.inks.Ink.{Ink}
 use Rattle.cur_update.specs.declared.inks.Means.{Means}
-use Rattle.cur_update.specs.Inks.{has_bit, color_of, partner_in, character_of, means_of, ink_of, ink_at, ink_at_with, content_at}
+use Rattle.cur_update.specs.Inks.{has_bit, alternate_of, alternates_of, brush_of, color_of, partner_in, character_of, means_of, ink_of, ink_at, ink_at_with, content_at, known_as, printed_cell}
 
 both : (a b : Bool) → (a && b) ≡ true → (a ≡ true) × (b ≡ true)
 both true b h = (refl, h)
@@ -88,6 +90,31 @@ can_show t partners v cells i j = decide (nat_lt i v.rows && nat_lt j v.cols) re
         can_ink t partners (colors_at v (content_at v i j).pair) (content_at v i j) (cells i j (ltb-true i v.rows q.0) (ltb-true j v.cols q.1)).printed
     decide false e = blank_can t
 
--- a screen as it is printed by the means of the certificate's entry
-pub as_table : (m : Means) (t : Table) (partners : ℕ → Option ℕ) (v : Screen) → m ≡ means_of t → ink_at_with m partners v ≡ ink_at t partners v
-as_table m t partners v e = ap (λ (x : Means). ink_at_with x partners v) e
+-- what was looked up is so of each letter
+character_found : (g : Bool) (partners : ℕ → Option ℕ) (c : Content) → IsPrinted c.byte → (on : Bool)
+    → (if on then slice_index_or (alternates_of g partners) (c.byte - 32) (known_as (in_plain_set 32)) else known_as (in_plain_set c.byte))
+    ≡ known_as (if on then shown (partner_in g (partners c.byte)) c.byte else in_plain_set c.byte)
+character_found g partners c (least, most) true =
+    let letter : 32 + (c.byte - 32) ≡ c.byte = omega (arith, least) in
+    get_or-map-range_with_len (alternate_of g partners) 0 95 (c.byte - 32) (c.byte - 32) (known_as (in_plain_set 32)) (omega (arith, least, most)) (omega arith)
+    ∙ ap (λ (n : ℕ). known_as (shown (partner_in g (partners n)) n)) letter
+character_found g partners c h false = refl
+
+-- a screen as it is printed, by what was looked up of the certificate's entry
+pub as_table : (m : Means) (t : Table) (partners : ℕ → Option ℕ) (v : Screen) → m ≡ means_of t partners → ((i j : ℕ) → i < v.rows → j < v.cols → IsCell (content_at v i j))
+    → ink_at_with m v ≡ ink_at t partners v
+as_table m t partners v e cells = ap (λ (x : Means). ink_at_with x v) e ∙ (λ k i j. looked_up i j k)
+  where
+    looked_up : (i j : ℕ) → ink_at_with (means_of t partners) v i j ≡ ink_at t partners v i j
+    looked_up i j = decide (nat_lt i v.rows && nat_lt j v.cols) refl
+      where
+        c : Content
+        c = content_at v i j
+
+        decide : (b : Bool) → (nat_lt i v.rows && nat_lt j v.cols) ≡ b
+            → cond b (printed_cell (means_of t partners) v c) blank_ink ≡ cond b (ink_of t partners (colors_at v c.pair) c) blank_ink
+        decide true e =
+            let q = both (nat_lt i v.rows) (nat_lt j v.cols) e in
+            ap (λ (x : KnownCharacter). record { byte = x.byte; graphic = x.graphic; brush = brush_of (has t Op) (colors_at v c.pair) c })
+            (character_found (has t Smacs) partners c (cells i j (ltb-true i v.rows q.0) (ltb-true j v.cols q.1)).printed (has_bit c.attrs 128))
+        decide false e = refl

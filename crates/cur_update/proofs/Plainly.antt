@@ -1,33 +1,34 @@
 -- Cells without attributes, in default colors.
-use Rattle.std.proofs.Common.{◌≡◌, ◌==◌, ◌&&◌, ℕ, Bool, true, false, not, if◌then◌else◌, Option, None, refl, sym, ap, subst, ◌∙◌}
+use Rattle.std.proofs.Common.{◌≡◌, ◌==◌, ◌&&◌, ◌-◌, ℕ, Bool, true, false, not, if◌then◌else◌, Option, None, slice_index_or, refl, sym, ap, subst, ◌∙◌}
 use Rattle.cur_drawing.specs.Cells.{Content}
 use Rattle.cur_screens.specs.declared.virtual_screen.Colors.{Colors}
 use Rattle.cur_screens.specs.VirtualScreen.{Screen, colors_at}
 use Rattle.cur_steps.specs.Inks.{alike, same, same_brush, blank_ink}
 use Rattle.cur_steps.specs.declared.inks.Ink.{Ink}
 use Rattle.cur_update.specs.declared.inks.Means.{Means}
-use Rattle.ti_conforms.specs.Alternates.{Character, in_plain_set, shown}
-use Rattle.cur_update.specs.Inks.{IsBare, brush_of, has_bit, ink_with, is_other, partner_in, plain_ink, printed_cell}
+use Rattle.ti_conforms.specs.Alternates.{in_plain_set}
+use Rattle.ti_conforms.specs.declared.partners.Character.{Character as KnownCharacter}
+use Rattle.cur_update.specs.Inks.{IsBare, brush_of, has_bit, ink_with, is_other, known_as, plain_ink, printed_cell}
 
-pub plain_is : (m : Means) (partners : ℕ → Option ℕ) (f b : Option ℕ) (c : Content) → c.attrs ≡ 0 → f ≡ None → b ≡ None
-    → ink_with m partners (record { foreground = f; background = b }) c ≡ plain_ink c.byte
-plain_is m partners f b c attrs no_f no_b =
-    let ink : Option ℕ → Option ℕ → ℕ → Ink = λ f b a. ink_with m partners (record { foreground = f; background = b }) (record { byte = c.byte; attrs = a; pair = c.pair }) in
+pub plain_is : (m : Means) (f b : Option ℕ) (c : Content) → c.attrs ≡ 0 → f ≡ None → b ≡ None
+    → ink_with m (record { foreground = f; background = b }) c ≡ plain_ink c.byte
+plain_is m f b c attrs no_f no_b =
+    let ink : Option ℕ → Option ℕ → ℕ → Ink = λ f b a. ink_with m (record { foreground = f; background = b }) (record { byte = c.byte; attrs = a; pair = c.pair }) in
     ap (ink f b) attrs ∙ ap (λ (x : Option ℕ). ink x b 0) no_f ∙ ap (λ (x : Option ℕ). ink None x 0) no_b
 
-pub space_told : (m : Means) (partners : ℕ → Option ℕ) (p : Colors) (c : Content) → ink_with m partners p c ≡ plain_ink c.byte → (c.byte == 32) ≡ same (ink_with m partners p c) blank_ink
-space_told m partners p c e = subst (λ (x : Ink). (c.byte == 32) ≡ same x blank_ink) (sym e) (decide (c.byte == 32))
+pub space_told : (m : Means) (p : Colors) (c : Content) → ink_with m p c ≡ plain_ink c.byte → (c.byte == 32) ≡ same (ink_with m p c) blank_ink
+space_told m p c e = subst (λ (x : Ink). (c.byte == 32) ≡ same x blank_ink) (sym e) (decide (c.byte == 32))
   where
     decide : (b : Bool) → b ≡ (b && same (plain_ink 32) blank_ink)
     decide true = refl
     decide false = refl
 
 -- a cell of the plain set with another character is printed differently
-pub other_told : (m : Means) (partners : ℕ → Option ℕ) (p : Colors) (c : Content) (byte : ℕ) (ink : Ink) → is_other c byte ≡ true → same (ink_with m partners p c) (record ink { byte = byte }) ≡ false
-other_told m partners p c byte ink is = by_set (has_bit c.attrs 128) refl is
+pub other_told : (m : Means) (p : Colors) (c : Content) (byte : ℕ) (ink : Ink) → is_other c byte ≡ true → same (ink_with m p c) (record ink { byte = byte }) ≡ false
+other_told m p c byte ink is = by_set (has_bit c.attrs 128) refl is
   where
-    character : Bool → Character
-    character a = if a then shown (partner_in m.graphic (partners c.byte)) c.byte else in_plain_set c.byte
+    character : Bool → KnownCharacter
+    character a = if a then slice_index_or m.alternates (c.byte - 32) (known_as (in_plain_set 32)) else known_as (in_plain_set c.byte)
 
     others : Bool → Bool
     others a = alike (character a).graphic ink.graphic && same_brush (brush_of m.colored p c) ink.brush
@@ -36,7 +37,7 @@ other_told m partners p c byte ink is = by_set (has_bit c.attrs 128) refl is
     by_byte true e off = absurd (cc)
     by_byte false e told = ap (λ (b : Bool). b && others false) e
 
-    by_set : (a : Bool) → has_bit c.attrs 128 ≡ a → (not a && not (c.byte == byte)) ≡ true → same (ink_with m partners p c) (record ink { byte = byte }) ≡ false
+    by_set : (a : Bool) → has_bit c.attrs 128 ≡ a → (not a && not (c.byte == byte)) ≡ true → same (ink_with m p c) (record ink { byte = byte }) ≡ false
     by_set true e off = absurd (cc)
     by_set false e told = ap (λ (a : Bool). ((character a).byte == byte) && others a) e ∙ by_byte (c.byte == byte) refl told
 
@@ -49,10 +50,10 @@ off_told true e = refl
 off_told false e = absurd (cc)
 
 -- a cell without attributes, of pair 0, which has default colors
-pub bare_told : (m : Means) (partners : ℕ → Option ℕ) (v : Screen) (c : Content) (byte : ℕ) (ink : Ink) → (colors_at v 0).foreground ≡ None → (colors_at v 0).background ≡ None
-    → same blank_ink (record ink { byte = 32 }) ≡ true → IsBare c → is_other c byte ≡ false → same (printed_cell m partners v c) (record ink { byte = byte }) ≡ true
-bare_told m partners v c byte ink no_f no_b plain (attrs, pair) told =
+pub bare_told : (m : Means) (v : Screen) (c : Content) (byte : ℕ) (ink : Ink) → (colors_at v 0).foreground ≡ None → (colors_at v 0).background ≡ None
+    → same blank_ink (record ink { byte = 32 }) ≡ true → IsBare c → is_other c byte ≡ false → same (printed_cell m v c) (record ink { byte = byte }) ≡ true
+bare_told m v c byte ink no_f no_b plain (attrs, pair) told =
     let has = off_told (c.byte == byte) (sym (ap (λ (a : ℕ). not (has_bit a 128) && not (c.byte == byte)) attrs) ∙ told) in
-    ap (λ (n : ℕ). same (ink_with m partners (colors_at v n) c) (record ink { byte = byte })) pair
-    ∙ (ap (λ (x : Ink). same x (record ink { byte = byte })) (plain_is m partners (colors_at v 0).foreground (colors_at v 0).background c attrs no_f no_b)
+    ap (λ (n : ℕ). same (ink_with m (colors_at v n) c) (record ink { byte = byte })) pair
+    ∙ (ap (λ (x : Ink). same x (record ink { byte = byte })) (plain_is m (colors_at v 0).foreground (colors_at v 0).background c attrs no_f no_b)
     ∙ (ap (λ (t : Bool). t && (alike blank_ink.graphic ink.graphic && same_brush blank_ink.brush ink.brush)) has ∙ plain))

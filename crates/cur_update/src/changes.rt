@@ -177,7 +177,6 @@ impl<'a, C: Certificate> Changes for Found<'a, C> {
         }
     }
 
-    #[inline(always)]
     fn scroll(&self) -> Option<Scroll> {
         if let Some(hint) = self.shift.screen.hint() {
             return scroll_of(hint);

@@ -1,7 +1,8 @@
 //! How cells of the virtual screen are printed.
 //!
-//! `ink_of` says how a cell is printed, and `shows_ink` whether it is printed like a given ink. All other functions that
-//! ask this are short cuts (`shortcuts.rt`): they decide by the cell's own numbers, and leave the rest to these two.
+//! What an entry has for that is looked up once (`Means`). `ink_of` says how a cell is printed, and `shows_ink` whether
+//! it is printed like a given ink. All other functions that ask this are short cuts (`shortcuts.rt`): they decide by the
+//! cell's own numbers, and leave the rest to these two.
 ghost use Rattle.std.specs.Prelude.{◌≡◌, ℕ, Option};
 ghost use Rattle.ti_rows.specs.declared.rows.Row.TheVariants.{Smacs, Op};
 ghost use Rattle.cur_steps.specs.Inks.{same, blank_ink};
@@ -9,28 +10,44 @@ ghost use Rattle.cur_update.specs.Inks as spec;
 
 use crate::shortcuts::is_plain;
 use cur_drawing::{Attrs, Cell};
-use cur_steps::{Brush, Ink, has_line, is_same};
+use cur_steps::{Brush, Ink, has_line, is_same, same_brush};
 use ti_conforms::{Certificate, Character, shown};
 use ti_rows::{Attributes, Row};
 use vt_term::{Color, color_of as color};
 
-/// Which strings an entry has for printing cells.
+/// The number of letters: a cell has a character from 32 to 126.
+const LETTERS: usize = 95;
+
+/// What an entry has for printing cells, looked up once.
 #[derive(Clone, Copy)]
 pub(crate) struct Means {
-    /// Whether it has the strings for the graphic set.
-    pub graphic: bool,
     /// Whether it has the strings for colors.
     pub colored: bool,
+    /// What each letter of the alternate set shows, from 32 on.
+    pub alternates: [Character; LETTERS],
 }
 
-/// Which strings the entry of `checked` has for printing cells.
+/// What the entry of `checked` has for printing cells.
 pub(crate) fn means_of<C: Certificate>(checked: &C) -> Means
-    ensures { result ≡ spec.means_of (C.table checked.now) }
+    ensures { result ≡ spec.means_of (C.table checked.now) (C.partners checked.now) }
 {
     Means {
-        graphic: has_line(checked, Row::Smacs),
         colored: has_line(checked, Row::Op),
+        alternates: alternates_of(checked, has_line(checked, Row::Smacs)),
     }
+}
+
+/// What each letter of the alternate set shows, from 32 on, if the entry has the strings for the graphic set
+/// (`graphic`).
+fn alternates_of<C: Certificate>(checked: &C, graphic: bool) -> [Character; LETTERS]
+    ensures { result ≡ spec.alternates_of graphic (C.partners checked.now) }
+{
+    let mut characters = [shown(None, b' '); LETTERS];
+    for k in 0..LETTERS {
+        let letter = (32 + k) as u8;
+        characters[k] = shown(partner_in(graphic, checked.partner(letter)), letter);
+    }
+    characters
 }
 
 /// The attributes `attrs` of a cell, without the alternate set.
@@ -69,15 +86,12 @@ fn partner_in(graphic: bool, partner: Option<u8>) -> Option<u8>
 }
 
 /// The character that `cell` shows.
-#[inline(always)]
-fn character_of<C: Certificate>(checked: &C, graphic: bool, cell: Cell) -> Character
-    ensures byte { result.byte ≡ (spec.character_of graphic (C.partners checked.now) cell).byte }
-    ensures graphic { result.graphic ≡ (spec.character_of graphic (C.partners checked.now) cell).graphic }
+pub(crate) fn character_of(means: &Means, cell: Cell) -> Character
+    ensures { result ≡ spec.character_in means.now cell }
 {
     let letter = cell.byte();
     if cell.attrs().has(Attrs::ALTCHARSET) {
-        let partner = partner_in(graphic, checked.partner(letter));
-        return shown(partner, letter);
+        return means.alternates[(letter - 32) as usize];
     }
     Character {
         byte: letter,
@@ -86,7 +100,6 @@ fn character_of<C: Certificate>(checked: &C, graphic: bool, cell: Cell) -> Chara
 }
 
 /// The character `byte` without attributes, in the default colors.
-#[inline(always)]
 fn plain_ink(byte: u8) -> Ink
     ensures { result ≡ spec.plain_ink byte }
 {
@@ -97,7 +110,7 @@ fn plain_ink(byte: u8) -> Ink
 }
 
 /// The attributes of `cell`, and the `colors` of its pair if the entry has colors (`colored`).
-fn brush_of(colored: bool, colors: (Option<u8>, Option<u8>), cell: Cell) -> Brush
+pub(crate) fn brush_of(colored: bool, colors: (Option<u8>, Option<u8>), cell: Cell) -> Brush
     ensures { result ≡ spec.brush_of colored (spec.pair_colors colors) cell }
 {
     Brush {
@@ -108,32 +121,13 @@ fn brush_of(colored: bool, colors: (Option<u8>, Option<u8>), cell: Cell) -> Brus
 }
 
 /// How `cell` is printed, given the `colors` of its pair.
-#[inline(always)]
-pub(crate) fn ink_of<C: Certificate>(
-    checked: &C,
-    means: Means,
-    colors: (Option<u8>, Option<u8>),
-    cell: Cell,
-) -> Ink
-    ensures { result ≡ spec.ink_with means (C.partners checked.now) (spec.pair_colors colors) cell }
+pub(crate) fn ink_of(means: &Means, colors: (Option<u8>, Option<u8>), cell: Cell) -> Ink
+    ensures { result ≡ spec.ink_with means.now (spec.pair_colors colors) cell }
 {
     if is_plain(cell, colors) {
         return plain_ink(cell.byte());
     }
-    styled_ink(checked, means, colors, cell)
-}
-
-/// The ink of any `cell`, given the `colors` of its pair. `ink_of` and `shows_ink` don't call it for a plain one.
-#[inline(never)]
-fn styled_ink<C: Certificate>(
-    checked: &C,
-    means: Means,
-    colors: (Option<u8>, Option<u8>),
-    cell: Cell,
-) -> Ink
-    ensures { result ≡ spec.ink_with means (C.partners checked.now) (spec.pair_colors colors) cell }
-{
-    let character = character_of(checked, means.graphic, cell);
+    let character = character_of(means, cell);
     Ink {
         byte: character.byte,
         graphic: character.graphic,
@@ -142,44 +136,31 @@ fn styled_ink<C: Certificate>(
 }
 
 /// Whether `cell` is printed like `ink`, given the `colors` of its pair.
-#[inline(never)]
-pub(crate) fn shows_ink<C: Certificate>(
-    checked: &C,
-    means: Means,
+pub(crate) fn shows_ink(
+    means: &Means,
     colors: (Option<u8>, Option<u8>),
     cell: Cell,
     ink: Ink,
 ) -> bool
-    ensures { result ≡ same (spec.ink_with means (C.partners checked.now) (spec.pair_colors colors) cell) ink }
+    ensures { result ≡ same (spec.ink_with means.now (spec.pair_colors colors) cell) ink }
 {
     if is_plain(cell, colors) {
         return is_same(plain_ink(cell.byte()), ink);
     }
-    let character = character_of(checked, means.graphic, cell);
-    if character.byte != ink.byte {
+    let character = character_of(means, cell);
+    if character.byte != ink.byte || character.graphic != ink.graphic {
         return false;
     }
-    let cell_ink = Ink {
-        byte: character.byte,
-        graphic: character.graphic,
-        brush: brush_of(means.colored, colors, cell),
-    };
-    is_same(cell_ink, ink)
+    same_brush(brush_of(means.colored, colors, cell), ink.brush)
 }
 
 /// Whether `cell` is printed as a blank, given the `colors` of its pair.
-#[inline(always)]
 #[tactic(auto, using(crate::proofs::Plainly::space_told))]
-pub(crate) fn is_blank_ink<C: Certificate>(
-    checked: &C,
-    means: Means,
-    colors: (Option<u8>, Option<u8>),
-    cell: Cell,
-) -> bool
-    ensures { result ≡ same (spec.ink_with means (C.partners checked.now) (spec.pair_colors colors) cell) blank_ink }
+pub(crate) fn is_blank_ink(means: &Means, colors: (Option<u8>, Option<u8>), cell: Cell) -> bool
+    ensures { result ≡ same (spec.ink_with means.now (spec.pair_colors colors) cell) blank_ink }
 {
     if is_plain(cell, colors) {
         return cell.byte() == b' ';
     }
-    shows_ink(checked, means, colors, cell, Ink::blank())
+    shows_ink(means, colors, cell, Ink::blank())
 }

@@ -13,7 +13,7 @@ ghost use Rattle.cur_update.specs.Beep.{Rings};
 use crate::bells::{Unsent, ring};
 use crate::changes::{Found, Shift};
 use crate::inks::{Means, means_of};
-use crate::screens::{PrintedScreen, all_cells};
+use crate::screens::{PrintedScreen, cells_hold};
 use cur_drawing::{Refusal, place_below};
 use cur_paint::{Columns, Knowledge, Screens, Status, Wanted};
 use cur_screens::{Marks, Virtual};
@@ -44,13 +44,14 @@ struct Shown {
     columns: Vec<Columns>,
 }
 
-/// The screen to show, the marks outside of which it has the cells of the screen that was shown last, and which strings
-/// the entry has for printing cells.
+/// The screen to show, the marks outside of which it has the cells of the screen that was shown last, what the entry
+/// has for printing cells, and the wanted state of the terminal beside the cells.
 #[derive(Drop)]
 struct Frame<'a> {
     screen: &'a Virtual,
     marks: &'a Marks,
-    means: Means,
+    means: &'a Means,
+    wanted: Wanted,
 }
 
 impl<C: Certificate> Model for Painter<C> {
@@ -63,7 +64,7 @@ impl<C: Certificate> Model for Painter<C> {
     ghost view = { λ p. record { checked = p.checked; shown = p.shown.screen; session = p.session; mode = p.mode } };
 
     ghost invariant = { λ p. IsPainter (C.table p.checked) p.shown.screen p.mode
-        × (p.means ≡ means_of (C.table p.checked)) };
+        × (p.means ≡ means_of (C.table p.checked) (C.partners p.checked)) };
 }
 
 impl<C: Certificate> Painter<C> {
@@ -131,11 +132,11 @@ impl<C: Certificate> Painter<C> {
         ensures certificate { self.new.checked ≡ self.old.checked }
         ensures mode { self.new.mode ≡ self.old.mode }
     {
-        let wanted = wanted_of(screen, self.mode);
         let frame = Frame {
             screen,
             marks,
-            means: self.means,
+            means: &self.means,
+            wanted: wanted_of(screen, self.mode),
         };
         refresh(
             &self.checked,
@@ -143,7 +144,6 @@ impl<C: Certificate> Painter<C> {
             &mut self.session,
             wire,
             &frame,
-            wanted,
         )
     }
 
@@ -231,17 +231,17 @@ fn refresh<C: Certificate, W: Wire>(
     session: &mut Knowledge,
     wire: &mut W,
     frame: &Frame<'_>,
-    wanted: Wanted,
 ) -> Result<(), WireFault>
     requires rows { (frame.now.screen.now).rows ≡ (C.table checked.now).rows }
     requires cols { (frame.now.screen.now).cols ≡ (C.table checked.now).cols }
-    requires shown { IsPainter (C.table checked.now) shown.old.screen wanted.mode }
-    requires wanted { wanted ≡ wanted_of frame.now.screen.now wanted.mode }
-    requires means { frame.now.means ≡ means_of (C.table checked.now) }
+    requires shown { IsPainter (C.table checked.now) shown.old.screen frame.now.wanted.mode }
+    requires wanted { frame.now.wanted ≡ wanted_of frame.now.screen.now frame.now.wanted.mode }
+    requires means { frame.now.means.now ≡ means_of (C.table checked.now) (C.partners checked.now) }
     requires marked { AreSame frame.now.marks.now (shown.old.screen).grid (frame.now.screen.now).grid }
     ensures refreshes { Refreshes W.went W.failures wire.old wire.new result (C.table checked.now)
         (ink_at (C.table checked.now) (C.partners checked.now) shown.old.screen)
-        (ink_at (C.table checked.now) (C.partners checked.now) frame.now.screen.now) wanted session.old session.new }
+        (ink_at (C.table checked.now) (C.partners checked.now) frame.now.screen.now) frame.now.wanted session.old
+        session.new }
     ensures shown { OnOk result (shown.new.screen ≡ frame.now.screen.now) }
     ensures kept { OnErr result (shown.new.screen ≡ shown.old.screen) }
 {
@@ -249,7 +249,7 @@ fn refresh<C: Certificate, W: Wire>(
     // cursor is on the screen
     let _ = checked.rows();
     let screen = frame.screen;
-    all_cells(screen);
+    cells_hold(&shown.screen, screen);
     let _ = screen.row(0);
     let shift = Shift {
         shown: &shown.screen,
@@ -268,20 +268,15 @@ fn refresh<C: Certificate, W: Wire>(
     let means = frame.means;
     let old = PrintedScreen {
         screen: &shown.screen,
-        checked,
         means,
     };
-    let new = PrintedScreen {
-        screen,
-        checked,
-        means,
-    };
+    let new = PrintedScreen { screen, means };
     let screens = Screens {
         checked,
         old: &old,
         new: &new,
     };
-    cur_paint::update(&screens, session, wire, &found, wanted)?;
+    cur_paint::update(&screens, session, wire, &found, frame.wanted)?;
     shown.screen.copy_marked(screen, frame.marks);
     Ok(())
 }

@@ -1,32 +1,34 @@
 //! The virtual screen as a painter sees it.
-ghost use Rattle.std.specs.Prelude.{◌≡◌, ◌+◌, ◌<◌, ◌≤◌, ℕ, false, true, length, slice_index_or};
-ghost use Rattle.cur_drawing.specs.Cells.{Content, IsCell, space};
-ghost use Rattle.cur_steps.specs.Inks.{blank_ink, same};
-ghost use Rattle.cur_steps.specs.Stretches.{AreLike};
-ghost use Rattle.cur_update.specs.Inks.{IsBare, content_at, ink_at_with, is_other, printed_cell};
+ghost use Rattle.std.specs.Prelude.{◌≡◌, ◌+◌, ◌<◌, ◌≤◌, ℕ, false, true, length};
+ghost use Rattle.cur_drawing.specs.Cells.{Content, IsCell};
+ghost use Rattle.cur_steps.specs.Inks.{byte_as, same, same_brush};
+ghost use Rattle.cur_steps.specs.Stretches.{IsTextLike};
+ghost use Rattle.cur_update.specs.Inks.{AreCellsShown, IsBare, IsLineText, content_at, ink_at_with, is_other};
+ghost use Rattle.cur_update.specs.Inks.{printed_cell};
 
-use crate::inks::{Means, ink_of, is_blank_ink, shows_ink};
-use crate::shortcuts::{is_other, is_plain, note_alike, plain_byte, plain_text};
+use crate::inks::{Means, brush_of, character_of, ink_of, is_blank_ink, shows_ink};
+use crate::shortcuts::{is_other, is_plain_like, note_alike};
 use cur_drawing::Cell;
 use cur_screens::Virtual;
-use cur_steps::{Cells, Ink, Picture, byte_as, is_plain_ink, is_same};
-use ti_conforms::Certificate;
+use cur_steps::{Cells, Ink, Picture, is_plain_ink, is_same, same_brush};
 
-/// A virtual screen with the certificate that says how its cells are printed.
+/// The fewest cells for which it pays to compare all characters first.
+const LONG: usize = 32;
+
+/// A virtual screen, and what the entry has for printing its cells.
 #[derive(Drop)]
-pub(crate) struct PrintedScreen<'a, C> {
+pub(crate) struct PrintedScreen<'a> {
     pub screen: &'a Virtual,
-    pub checked: &'a C,
-    pub means: Means,
+    pub means: &'a Means,
 }
 
-impl<'a, C: Certificate> Picture for PrintedScreen<'a, C> {
+impl<'a> Picture for PrintedScreen<'a> {
     ghost use Rattle.cur_update.specs.Inks.{ink_at_with};
 
-    ghost cells = { λ s. ink_at_with s.means (C.partners s.checked.now) s.screen.now };
+    ghost cells = { λ s. ink_at_with s.means.now s.screen.now };
 
     fn at(&self, row: usize, col: usize) -> Ink
-        ensures value { result ≡ ink_at_with self.now.means (C.partners self.now.checked.now)
+        ensures value { result ≡ ink_at_with self.now.means.now
             self.now.screen.now row col }
     {
         let (rows, cols) = self.screen.size();
@@ -34,26 +36,15 @@ impl<'a, C: Certificate> Picture for PrintedScreen<'a, C> {
             return Ink::blank();
         }
         let cell = self.screen.row(row as u16)[col];
-        ink_of(
-            self.checked,
-            self.means,
-            self.screen.pair(cell.pair()),
-            cell,
-        )
+        ink_of(self.means, self.screen.pair(cell.pair()), cell)
     }
 
-    #[inline(always)]
     fn shows(&self, row: usize, col: usize, ink: Ink) -> bool {
         let (rows, cols) = self.screen.size();
         if row >= rows as usize || col >= cols as usize {
             return is_same(Ink::blank(), ink);
         }
-        let cell = self.screen.row(row as u16)[col];
-        if is_other(cell, ink.byte) {
-            return false;
-        }
-        let colors = self.screen.pair(cell.pair());
-        shows_ink(self.checked, self.means, colors, cell, ink)
+        self.shows_cell(self.screen.row(row as u16)[col], ink)
     }
 
     fn is_blank(&self, row: usize, col: usize) -> bool {
@@ -65,36 +56,17 @@ impl<'a, C: Certificate> Picture for PrintedScreen<'a, C> {
         if is_other(cell, b' ') {
             return false;
         }
-        is_blank_ink(
-            self.checked,
-            self.means,
-            self.screen.pair(cell.pair()),
-            cell,
-        )
-    }
-
-    #[inline(always)]
-    fn byte_like(&self, row: usize, col: usize, like: usize) -> Option<u8> {
-        let (rows, cols) = self.screen.size();
-        if row < rows as usize && col < cols as usize && like < cols as usize {
-            let cells = self.screen.row(row as u16);
-            if let Some(byte) = plain_byte(cells, col, like) {
-                return Some(byte);
-            }
-        }
-        byte_as(self.at(row, col), self.at(row, like))
+        is_blank_ink(self.means, self.screen.pair(cell.pair()), cell)
     }
 
     fn text_like(&self, stretch: Cells, like: usize, text: &mut [u8]) -> usize {
-        let mut n = self.plain_start(stretch, like, text);
-        while n < stretch.count && n < text.len() {
-            match self.byte_like(stretch.row, stretch.from + n, like) {
-                Some(byte) => text[n] = byte,
-                None => return n,
-            }
-            n += 1;
+        let (rows, cols) = self.screen.size();
+        let end = stretch.from + stretch.count;
+        if stretch.row >= rows as usize || end > cols as usize || like >= cols as usize {
+            return self.text_beyond(stretch, like, text);
         }
-        n
+        let cells = self.screen.row(stretch.row as u16);
+        self.line_text(&cells[stretch.from..end], cells[like], text)
     }
 
     fn shows_text(&self, stretch: Cells, ink: Ink, text: &[u8], shown: &mut [bool]) {
@@ -112,49 +84,97 @@ impl<'a, C: Certificate> Picture for PrintedScreen<'a, C> {
     }
 }
 
-impl<'a, C: Certificate> PrintedScreen<'a, C> {
-    /// Counts the cells of `stretch` that are known by their numbers to come before the first one that isn't printed in
-    /// the set and the brush of the column `like`, and writes their characters to `text`.
-    fn plain_start(&self, stretch: Cells, like: usize, text: &mut [u8]) -> usize
-        requires within { stretch.from + stretch.count ≤ 1000 }
-        ensures within { result ≤ stretch.count }
-        ensures room { result ≤ length text.new }
-        ensures length { length text.new ≡ length text.old }
-        ensures known { AreLike (ink_at_with self.now.means (C.partners self.now.checked.now) self.now.screen.now)
-            stretch like result text.new }
+impl<'a> PrintedScreen<'a> {
+    /// The character of the screen's `cell`, if it is printed in the set and the brush of `other`.
+    #[inline(always)]
+    fn byte_of(&self, cell: Cell, other: Cell) -> Option<u8>
+        ensures { result ≡ byte_as (printed_cell self.now.means.now self.now.screen.now cell)
+            (printed_cell self.now.means.now self.now.screen.now other) }
     {
-        let (rows, cols) = self.screen.size();
-        let end = stretch.from + stretch.count;
-        if stretch.row >= rows as usize || end > cols as usize || like >= cols as usize {
-            return 0;
+        if is_plain_like(cell, other) {
+            return Some(cell.byte());
         }
-        plain_text(self.screen.row(stretch.row as u16), stretch, like, text)
+        self.styled_byte_of(cell, other)
     }
 
-    /// Whether `cell` is printed like `ink` with the character `byte`. `is_plain_ink` must say whether `ink` is of the
-    /// plain set, without attributes and in the default colors.
-    #[inline(always)]
-    fn shows_cell(&self, cell: Cell, byte: u8, ink: Ink, is_plain_ink: bool) -> bool
-        requires { is_plain_ink ≡ same blank_ink (record ink { byte = 32 }) }
-        ensures { result ≡ same (printed_cell self.now.means (C.partners self.now.checked.now) self.now.screen.now cell)
-            (record ink { byte = byte }) }
+    /// Slow path of `byte_of`, for cells that aren't alike by their numbers.
+    #[inline(never)]
+    fn styled_byte_of(&self, cell: Cell, other: Cell) -> Option<u8>
+        ensures { result ≡ byte_as (printed_cell self.now.means.now self.now.screen.now cell)
+            (printed_cell self.now.means.now self.now.screen.now other) }
     {
-        if is_other(cell, byte) {
+        let character = character_of(self.means, cell);
+        let is_like = character.graphic == character_of(self.means, other).graphic
+            && self.has_brush_of(cell, other);
+        is_like.then_some(character.byte)
+    }
+
+    /// Whether the screen's `cell` is printed in the brush of `other`.
+    fn has_brush_of(&self, cell: Cell, other: Cell) -> bool
+        ensures { result ≡ same_brush (printed_cell self.now.means.now self.now.screen.now cell).brush
+            (printed_cell self.now.means.now self.now.screen.now other).brush }
+    {
+        if cell.is_styled_like(other) {
+            return true;
+        }
+        let colored = self.means.colored;
+        let brush = brush_of(colored, self.screen.pair(cell.pair()), cell);
+        same_brush(
+            brush,
+            brush_of(colored, self.screen.pair(other.pair()), other),
+        )
+    }
+
+    /// Counts the cells of the screen in `line` before the first one that isn't printed in the set and the brush of
+    /// `other`, and writes their characters to `text`. It counts no more than `text` has room for.
+    fn line_text(&self, line: &[Cell], other: Cell, text: &mut [u8]) -> usize
+        ensures room { length text.new ≡ length text.old }
+        ensures found { IsLineText self.now.means.now self.now.screen.now line.now other result text.new }
+    {
+        let mut n = 0;
+        while n < line.len() && n < text.len() {
+            match self.byte_of(line[n], other) {
+                Some(byte) => text[n] = byte,
+                None => return n,
+            }
+            n += 1;
+        }
+        n
+    }
+
+    /// `text_like` of cells that aren't all on the screen.
+    #[inline(never)]
+    fn text_beyond(&self, stretch: Cells, like: usize, text: &mut [u8]) -> usize
+        requires within { stretch.from + stretch.count ≤ 1000 }
+        ensures room { length text.new ≡ length text.old }
+        ensures found { IsTextLike (ink_at_with self.now.means.now self.now.screen.now) stretch like result text.new }
+    {
+        let mut n = 0;
+        while n < stretch.count && n < text.len() {
+            match self.byte_like(stretch.row, stretch.from + n, like) {
+                Some(byte) => text[n] = byte,
+                None => return n,
+            }
+            n += 1;
+        }
+        n
+    }
+
+    /// Whether the screen's `cell` is printed like `ink`.
+    fn shows_cell(&self, cell: Cell, ink: Ink) -> bool
+        ensures { result ≡ same (printed_cell self.now.means.now self.now.screen.now cell) ink }
+    {
+        if is_other(cell, ink.byte) {
             return false;
         }
-        let colors = self.screen.pair(cell.pair());
-        if cell.byte() == byte && is_plain(cell, colors) {
-            return is_plain_ink;
-        }
-        shows_ink(self.checked, self.means, colors, cell, Ink { byte, ..ink })
+        shows_ink(self.means, self.screen.pair(cell.pair()), cell, ink)
     }
 
     /// Whether each cell without attributes and of pair 0 is surely printed in the set and the brush of `ink`.
     #[tactic(auto, using(crate::proofs::Plainly::bare_told))]
     fn shows_bare(&self, ink: Ink) -> bool
         ensures { result ≡ true → (cell : Content) (byte : ℕ) → IsBare cell → is_other cell byte ≡ false
-            → same (printed_cell self.now.means (C.partners self.now.checked.now) self.now.screen.now cell)
-            (record ink { byte = byte }) ≡ true }
+            → same (printed_cell self.now.means.now self.now.screen.now cell) (record ink { byte = byte }) ≡ true }
     {
         let colors = self.screen.pair(0);
         is_plain_ink(ink) && colors.0.is_none() && colors.1.is_none()
@@ -166,26 +186,50 @@ impl<'a, C: Certificate> PrintedScreen<'a, C> {
         requires text { length line.now ≤ length text.now }
         requires room { length line.now ≤ length shown.old }
         ensures room { length shown.new ≡ length shown.old }
-        ensures found { (k : ℕ) → k < length line.now → slice_index_or shown.new k false
-            ≡ same (printed_cell self.now.means (C.partners self.now.checked.now) self.now.screen.now
-            (slice_index_or line.now k space)) (record ink { byte = slice_index_or text.now k 0 }) }
+        ensures found { AreCellsShown self.now.means.now self.now.screen.now line.now ink text.now shown.new }
     {
+        if line.len() < LONG {
+            self.cells_show(line, ink, text, shown);
+            return;
+        }
         let are_bare = note_alike(line, text, shown);
         if are_bare && self.shows_bare(ink) {
             return;
         }
-        let is_plain_ink = is_plain_ink(ink);
         for n in 0..line.len() {
             if !shown[n] {
                 continue;
             }
-            shown[n] = self.shows_cell(line[n], text[n], ink, is_plain_ink);
+            let byte = text[n];
+            shown[n] = self.shows_cell(line[n], Ink { byte, ..ink });
+        }
+    }
+
+    /// `line_shows` of a short line, cell by cell.
+    fn cells_show(&self, line: &[Cell], ink: Ink, text: &[u8], shown: &mut [bool])
+        requires text { length line.now ≤ length text.now }
+        requires room { length line.now ≤ length shown.old }
+        ensures room { length shown.new ≡ length shown.old }
+        ensures found { AreCellsShown self.now.means.now self.now.screen.now line.now ink text.now shown.new }
+    {
+        for n in 0..line.len() {
+            let byte = text[n];
+            shown[n] = self.shows_cell(line[n], Ink { byte, ..ink });
         }
     }
 }
 
+/// Shows the prover that each cell of both screens holds a character from 32 to 126 and a pair below 64.
+pub(crate) fn cells_hold(old: &Virtual, new: &Virtual)
+    ensures old { (i j : ℕ) → i < (old.now).rows → j < (old.now).cols → IsCell (content_at old.now i j) }
+    ensures new { (i j : ℕ) → i < (new.now).rows → j < (new.now).cols → IsCell (content_at new.now i j) }
+{
+    all_cells(old);
+    all_cells(new);
+}
+
 /// Shows the prover that each cell of `screen` holds a character from 32 to 126 and a pair below 64.
-pub(crate) fn all_cells(screen: &Virtual)
+fn all_cells(screen: &Virtual)
     ensures { (i j : ℕ) → i < (screen.now).rows → j < (screen.now).cols → IsCell (content_at screen.now i j) }
 {
     for row in 0..screen.size().0 {

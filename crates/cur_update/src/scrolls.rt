@@ -97,7 +97,6 @@ fn differ_much(found: &Findings<'_>, rows: u16) -> bool
 
 /// A scroll that may turn much of the screen `old` into the screen `new`, judged by a few of their lines; `found` has
 /// the lines that may differ. None is sought if at most a quarter of the lines may differ.
-#[inline(always)]
 pub(crate) fn found_scroll(old: &Virtual, new: &Virtual, found: &Findings<'_>) -> Option<Scroll> {
     let lines = found.lines.end.saturating_sub(found.lines.from);
     if lines <= usize::from(new.size().0 / 4) {

@@ -6,9 +6,9 @@ use Rattle.cur_update.specs.Inks.{is_other, printed_cell}
 use Rattle.cur_update.proofs.screens.PrintedScreen.line_shows.Given as goal
 
 abbrev pub invariant-loop-n : goal.invariant-loop-n
-invariant-loop-n g l = record {
+invariant-loop-n l = record {
   size : length l.shown ≡ length l.fn.shown;
   found : (k : ℕ) → k < l.n → slice_index_or l.shown k false
-      ≡ same (printed_cell l.self.means (g.C.Certificate.partners l.self.checked.now) l.self.screen.now (slice_index_or l.line k space)) (record l.ink { byte = slice_index_or l.text k 0 });
+      ≡ same (printed_cell l.self.means.now l.self.screen.now (slice_index_or l.line k space)) (record l.ink { byte = slice_index_or l.text k 0 });
   rest : (k : ℕ) → l.n ≤ k → k < length l.line → slice_index_or l.shown k false ≡ not (is_other (slice_index_or l.line k space) (slice_index_or l.text k 0));
 }

@@ -6,8 +6,8 @@ use Rattle.cur_update.specs.Inks.{ink_at_with}
 use Rattle.cur_update.proofs.screens.PrintedScreenPicture.shows_text.Goals as goal
 
 pub loop-n-preserved : goal.loop-n-preserved
-loop-n-preserved g c =
-    let cells = ink_at_with c.args.self.now.means (g.C.Certificate.partners c.args.self.now.checked.now) c.args.self.now.screen.now in
+loop-n-preserved c =
+    let cells = ink_at_with c.args.self.now.means.now c.args.self.now.screen.now in
     let s = c.args.stretch in
     let n = c.loop-n.n in
     let one = c.shows.result in

@@ -1,19 +1,23 @@
-use Rattle.std.proofs.Common.{◌≡◌, ◌+◌, ℕ, Some, Option, ◌∙◌, subst, arith}
-use Rattle.std.proofs.lemmas.List.{length-set}
-use Rattle.cur_steps.specs.Inks.{byte_as}
-use Rattle.cur_steps.proofs.StretchFacts.{one_more}
-use Rattle.cur_update.specs.Inks.{ink_at_with}
+use Rattle.std.proofs.Common.{◌≡◌, ◌+◌, ℕ, ap, arith, length, refl, subst, ◌∙◌}
+use Rattle.std.specs.List.{slice_range}
+use Rattle.std.proofs.lemmas.List.{get_or_read_under}
+use Rattle.cur_drawing.specs.Cells.{Content, space}
+use Rattle.cur_update.specs.Inks.{IsLineText}
+use Rattle.cur_update.proofs.Likeness.{text_found}
+use Rattle.cur_update.proofs.MarkedLines.{part_long}
 use Rattle.cur_update.proofs.screens.PrintedScreenPicture.text_like.Goals as goal
 
-pub loop-n-preserved : goal.loop-n-preserved
-loop-n-preserved g c =
-    let cells = ink_at_with c.args.self.now.means (g.C.Certificate.partners c.args.self.now.checked.now) c.args.self.now.screen.now in
+pub returns-clause-found : goal.returns-clause-found
+returns-clause-found c =
+    let m = c.args.self.now.means.now in
+    let v = c.args.self.now.screen.now in
     let s = c.args.stretch in
-    let n = c.loop-n.n in
-    let b = c.in-Some.byte in
-    record {
-      within = omega (arith, c.loop-n-test.true);
-      room = omega (arith, c.if-n-text.true, length-set c.loop-n.text n b);
-      length = length-set c.loop-n.text n b ∙ c.loop-n.invariant.length;
-      known = one_more (λ k a. byte_as (cells s.row (s.from + k)) (cells s.row c.args.like) ≡ Some a) c.loop-n.text n b 0 (omega (arith, c.if-n-text.true)) c.loop-n.invariant.known (subst (λ (o : Option ℕ). o ≡ Some b) c.byte_like.ensures.value c.in-Some.is);
-    }
+    let cells = c.row-cells.result.now in
+    let rows = ap (λ (p : ℕ × ℕ). p.0) c.size-rows.ensures in
+    let cols = ap (λ (p : ℕ × ℕ). p.1) c.size-rows.ensures in
+    let legal = c.row-cells.ensures.legal in
+    let long : length cells ≡ v.cols = ap length c.row-cells.ensures.value ∙ legal.columns s.row (omega (arith, rows, c.if-stretch-rows.false, legal.lines)) in
+    let line = slice_range cells s.from (s.from + s.count) in
+    let other = get_or_read_under cells c.args.like (length cells) c.index-cells-like.result space c.index-cells-like.is (omega (arith, cols, c.if-like-cols.false, long)) refl in
+    text_found m v s c.args.like c.line_text.result c.line_text.new.text cells (omega (arith, rows, c.if-stretch-rows.false)) (omega (arith, cols, c.if-end-cols.false)) (omega (arith, cols, c.if-like-cols.false)) c.row-cells.ensures.value
+    (part_long cells s.from s.count (omega (arith, cols, c.if-end-cols.false, long))) (subst (λ (x : Content). IsLineText m v line x c.line_text.result c.line_text.new.text) other c.line_text.ensures.found)
