@@ -7,7 +7,7 @@ ghost use Rattle.cur_paint.specs.Scenes.{AreChanges, ClearSaves, IsDue, IsPainta
 
 use crate::changes::{Changes, Moved, Whole};
 use crate::clears::{may_become_blanks, saves};
-use crate::counts::{count_cells, differ_in_more};
+use crate::counts::{count_cells, differ_in_more, first_differs};
 use crate::screens::Screens;
 use crate::updates::Wanted;
 use cur_moves::{Scroll, Shifted, can_scroll};
@@ -40,6 +40,9 @@ pub(crate) fn is_still<C: Certificate, O: Picture, N: Picture, D: Changes>(
     if !is_mode(belief.mode, wanted.mode) {
         return false;
     }
+    if first_differs(screens, changes) {
+        return false;
+    }
     !differ_in_more(screens, changes, 0)
 }
 
@@ -66,7 +69,6 @@ fn is_seen(now: Place, cols: usize, at: Place) -> bool
 
 /// The scroll that `changes` names, if the terminal can do it, and it leaves fewer cells to mend: fewer by the number
 /// of lines that it moves by, and 4 more.
-#[inline(always)]
 pub(crate) fn useful_scroll<C: Certificate, O: Picture, N: Picture, D: Changes>(
     screens: &Screens<'_, C, O, N>,
     changes: &D,
@@ -115,7 +117,6 @@ fn useful<C: Certificate, O: Picture, N: Picture, D: Changes>(
 
 /// Whether clearing and painting everything is likely to take fewer bytes than mending the differences, and also keeps
 /// within the bound.
-#[inline(always)]
 pub(crate) fn is_better_cleared<C: Certificate, O: Picture, N: Picture, D: Changes>(
     screens: &Screens<'_, C, O, N>,
     changes: &D,

@@ -133,7 +133,6 @@ fn may_become_blank<N: Picture, D: Changes>(
 
 /// Whether two of three lines become blank, so that all lines are worth a look. It is false if no more than a quarter
 /// of the lines may differ.
-#[inline(always)]
 pub(crate) fn may_become_blanks<N: Picture, D: Changes>(
     new: &N,
     changes: &D,

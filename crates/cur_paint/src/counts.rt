@@ -4,8 +4,9 @@ ghost use Rattle.cur_paint.specs.Differ.{differs, span};
 ghost use Rattle.cur_paint.specs.Scenes.{IsPaintable, all_changed, scene};
 
 use crate::changes::{Changes, Columns};
+use crate::pieces::differs_in;
 use crate::screens::Screens;
-use cur_steps::Picture;
+use cur_steps::{Cells, Picture};
 use ti_conforms::Certificate;
 
 /// 1 if the place in line `row` and column `col` differs, else 0.
@@ -70,6 +71,29 @@ pub(crate) fn count_cells<C: Certificate, O: Picture, N: Picture, D: Changes>(
         count += count_line(screens.old, screens.new, changes, row, cols);
     }
     count
+}
+
+/// Whether the first line that may differ does so: a cheap look before all cells are compared.
+pub(crate) fn first_differs<C: Certificate, O: Picture, N: Picture, D: Changes>(
+    screens: &Screens<'_, C, O, N>,
+    changes: &D,
+) -> bool
+    requires scene { IsPaintable (scene C.table O.cells N.cells screens.now) }
+    requires changes { D.between changes.now (O.cells screens.now.old.now) (N.cells screens.now.new.now) }
+    ensures { result ≡ true → 0 < all_changed (scene C.table O.cells N.cells screens.now) }
+{
+    let cols = screens.checked.cols();
+    let lines = changes.lines(screens.checked.rows(), cols);
+    if lines.from == lines.end {
+        return false;
+    }
+    let columns = changes.columns(lines.from, cols);
+    let cells = Cells {
+        row: lines.from,
+        from: columns.from,
+        count: columns.end - columns.from,
+    };
+    differs_in(screens.old, screens.new, cells)
 }
 
 /// Whether the screens differ in more than `least` cells. Lines are compared until that is known.

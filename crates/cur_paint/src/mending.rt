@@ -157,7 +157,6 @@ impl<C: Certificate, O: Picture, N: Picture, W: Wire> Painter<'_, C, O, N, W> {
     }
 
     /// Mends the `cells`, and erases runs of blanks if that takes fewer bytes.
-    #[inline(always)]
     fn mend_parts(&mut self, cells: Cells) -> Result<(), WireFault>
         requires scene { IsPaintable (scene C.table O.cells N.cells self.old.screens.now) }
         requires cells { IsOn (C.table self.old.screens.now.checked.now) cells }
@@ -263,7 +262,6 @@ impl<C: Certificate, O: Picture, N: Picture, W: Wire> Painter<'_, C, O, N, W> {
 
     /// Prints those of the `cells` that differ. Cells that are printed alike go out in one piece, with the few
     /// unchanged ones between them.
-    #[inline(always)]
     fn mend_span(&mut self, cells: Cells) -> Result<(), WireFault>
         requires scene { IsPaintable (scene C.table O.cells N.cells self.old.screens.now) }
         requires cells { IsOn (C.table self.old.screens.now.checked.now) cells }
@@ -282,6 +280,7 @@ impl<C: Certificate, O: Picture, N: Picture, W: Wire> Painter<'_, C, O, N, W> {
         ensures mends { MendsCells C.table O.cells N.cells W.went W.failures self.old self.new result cells }
     {
         let mut text = [0; TEXT];
+        let mut same = [false; TEXT];
         let mut done = 0;
         while done < cells.count {
             let first = cells.from + done;
@@ -292,14 +291,15 @@ impl<C: Certificate, O: Picture, N: Picture, W: Wire> Painter<'_, C, O, N, W> {
             }
             let rest = Cells {
                 row: cells.row,
-                from: first + 1,
-                count: cells.count - done - 1,
+                from: first,
+                count: cells.count - done,
             };
-            let more = piece_of(self.screens, rest, first, ink, &mut text);
+            let more = piece_of(self.screens, rest, ink, &mut text, &mut same);
             self.print_cell(cells.row, first, ink)?;
             let alike = Cells {
+                row: cells.row,
+                from: first + 1,
                 count: more,
-                ..rest
             };
             self.print_alike(alike, ink, &text)?;
             done += 1 + more;

@@ -4,6 +4,7 @@ ghost use Rattle.cur_paint.specs.Differ.{IsSameBy, span};
 ghost use Rattle.cur_paint.specs.Scenes.{AreInked, IsOn, IsPaintable, IsShort, scene};
 ghost use Rattle.cur_steps.specs.Gaps.{IsAlike};
 ghost use Rattle.cur_steps.specs.declared.inks.Ink.{Ink};
+ghost use Rattle.ti_conforms.specs.Certified.{cell_limit};
 
 use crate::screens::Screens;
 use cur_moves::{goes_on, line_bytes};
@@ -16,39 +17,64 @@ pub(crate) const TEXT: usize = 512;
 /// The fewest bytes of a move by a count or to a column.
 const FEW: usize = 3;
 
-/// The number of `cells` to print in one piece, from the first one on. They have the set and the brush of `ink`, which
-/// must be the ink of their line in the column `like`, and between two that differ there are no more unchanged ones
-/// than a move over them has bytes. `text` gets their characters.
+/// The number of cells to print in one piece after the first one of `cells`, which has the ink `ink`. They have the set
+/// and the brush of `ink`, and between two that differ there are no more unchanged ones than a move over them has
+/// bytes. `text` gets their characters, and `same` whether each is unchanged.
 pub(crate) fn piece_of<C: Certificate, O: Picture, N: Picture>(
     screens: &Screens<'_, C, O, N>,
     cells: Cells,
-    like: usize,
     ink: Ink,
     text: &mut [u8],
+    same: &mut [bool],
 ) -> usize
     requires scene { IsPaintable (scene C.table O.cells N.cells screens.now) }
     requires cells { IsOn (C.table screens.now.checked.now) cells }
-    requires ink { ink ≡ N.cells screens.now.new.now cells.row like }
+    requires some { 0 < cells.count }
+    requires ink { ink ≡ N.cells screens.now.new.now cells.row cells.from }
     requires room { length text.old ≤ 512 }
-    ensures within { result ≤ cells.count }
+    requires marks { length text.old ≤ length same.old }
+    ensures within { result < cells.count }
     ensures room { result ≤ length text.new }
-    ensures cells { AreInked (N.cells screens.now.new.now) cells ink result text.new }
-    ensures bytes { IsShort (scene C.table O.cells N.cells screens.now) (record cells { count = result }) }
+    ensures cells { AreInked (N.cells screens.now.new.now) (record cells { from = cells.from + 1 }) ink result text.new }
+    ensures bytes { IsShort (scene C.table O.cells N.cells screens.now)
+        (record cells { from = cells.from + 1; count = result }) }
 {
-    if cells.count == 0 {
+    let rest = Cells {
+        row: cells.row,
+        from: cells.from + 1,
+        count: cells.count - 1,
+    };
+    if rest.count == 0 {
         return 0;
     }
-    let count = screens.new.text_like(cells, like, text);
-    let mut same = [false; TEXT];
+    let count = screens.new.text_like(rest, cells.from, text);
     screens
         .old
-        .shows_text(Cells { count, ..cells }, ink, text, &mut same);
+        .shows_text(Cells { count, ..rest }, ink, text, same);
     let at = Place {
-        row: cells.row,
-        col: cells.from,
+        row: rest.row,
+        col: rest.from,
     };
-    let few = line_bytes(screens.checked, None, at).min(FEW);
-    piece_end(&same[..count], few)
+    piece_length(screens.checked, at, &same[..count])
+}
+
+/// The length of the piece to print in one write from `at` on, given whether each cell is unchanged (`same`): between
+/// two that differ there are no more unchanged ones than a move to `at` has bytes.
+fn piece_length<C: Certificate>(checked: &C, at: Place, same: &[bool]) -> usize
+    requires row { at.row < (C.table checked.now).rows }
+    requires col { at.col < (C.table checked.now).cols }
+    requires short { length same.now ≤ 512 }
+    ensures within { result ≤ length same.now }
+    ensures bytes { (old new : ℕ → ℕ → Ink) (row from : ℕ) → IsSameBy old new row from same.now
+        → result ≤ span old new row from result * cell_limit (C.table checked.now) }
+{
+    // mostly all of them differ, and no gap has to be weighed
+    let end = piece_end(same, 0);
+    if end == same.len() {
+        return end;
+    }
+    let few = line_bytes(checked, None, at).min(FEW);
+    piece_end(same, few)
 }
 
 /// The length of the piece to print in one write, given whether each cell is unchanged (`same`). The piece ends with a
@@ -71,7 +97,6 @@ fn piece_end(same: &[bool], few: usize) -> usize
 }
 
 /// The `end` of a piece after its cell `k`, which is unchanged if `is_same`. There is no branch.
-#[inline(always)]
 fn end_after(end: usize, k: usize, is_same: bool) -> usize
     requires { k < 512 }
     ensures same { is_same ≡ true → result ≡ end }

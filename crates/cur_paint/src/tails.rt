@@ -25,7 +25,6 @@ pub(crate) struct Bottom {
 /// The column of the place `tail`, if one `ed` from there on can erase the rest of the screen: everything there is to
 /// be blank, the end of the line's `columns` and the next line may differ, and `ed` is no longer than erasing line by
 /// line. The line `solid`, if it is below, isn't blank.
-#[inline(always)]
 pub(crate) fn bottom_from<C: Certificate, O: Picture, N: Picture, D: Changes>(
     screens: &Screens<'_, C, O, N>,
     changes: &D,
@@ -164,7 +163,6 @@ pub(crate) fn short_tail<C: Certificate>(checked: &C, count: usize) -> Option<&[
 
 /// The column from which on the line `row` of `cols` columns is blank, if the last of `columns` is blank; else their
 /// end.
-#[inline(always)]
 pub(crate) fn tail_from<N: Picture>(new: &N, row: usize, columns: Columns, cols: usize) -> usize
     requires order { columns.from ≤ columns.end }
     requires within { columns.end ≤ cols }

@@ -34,3 +34,10 @@ returns-then-not-is_in_place-clause-due g c e =
     let new = g.N.Picture.cells c.args.screens.now.new.now in
     let seen = rw c.cols.ensures.value at c.is_in_place.ensures in
     due_moved t old new c.args.belief c.args.wanted.cursor c.args.wanted.mode (seen.counted c.if-not-is_in_place.true)
+
+pub returns-then-first_differs-clause-due : goal.returns-then-first_differs-clause-due
+returns-then-first_differs-clause-due g c e =
+    let t = g.C.Certificate.table c.args.screens.now.checked.now in
+    let old = g.O.Picture.cells c.args.screens.now.old.now in
+    let new = g.N.Picture.cells c.args.screens.now.new.now in
+    due_changed t old new c.args.belief c.args.wanted.cursor c.args.wanted.mode (c.first_differs.ensures c.if-first_differs.true)
