@@ -127,6 +127,14 @@ pub(crate) fn ink_of(means: &Means, colors: (Option<u8>, Option<u8>), cell: Cell
     if is_plain(cell, colors) {
         return plain_ink(cell.byte());
     }
+    styled_ink(means, colors, cell)
+}
+
+/// The ink of any `cell`, given the `colors` of its pair. `ink_of` doesn't call it for a plain one.
+#[inline(never)]
+fn styled_ink(means: &Means, colors: (Option<u8>, Option<u8>), cell: Cell) -> Ink
+    ensures { result ≡ spec.ink_with means.now (spec.pair_colors colors) cell }
+{
     let character = character_of(means, cell);
     Ink {
         byte: character.byte,
