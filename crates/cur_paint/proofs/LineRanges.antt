@@ -1,5 +1,5 @@
 -- Screens that differ only within some of their lines.
-use Rattle.std.proofs.Common.{◌≡◌, ℕ, ◌<◌, ◌≤◌, inl, inr, zero, suc, refl, ap, ◌∙◌, arith}
+use Rattle.std.proofs.Common.{◌≡◌, ℕ, ◌<◌, ◌≤◌, inl, inr, zero, suc, refl, sym, ap, ◌∙◌, arith}
 use Rattle.std.proofs.lemmas.Bool.Decides.{nat_tests}
 use Rattle.std.proofs.lemmas.Bool.{cases_lt}
 use Rattle.cur_steps.specs.Inks.{mixed}
@@ -7,6 +7,7 @@ use Rattle.cur_steps.specs.declared.inks.Ink.{Ink}
 use Rattle.cur_moves.specs.declared.scrolls.Scroll.{Scroll}
 use Rattle.cur_moves.specs.Scrolls.{shifted}
 use Rattle.cur_paint.specs.Differ.{AreSameOutside, IsMoved, all_differ}
+use Rattle.cur_paint.specs.declared.changes.LineRange.{LineRange}
 use Rattle.cur_paint.proofs.Ranges.{span_none}
 
 -- screens that differ only in some lines, with their size in other words
@@ -29,6 +30,19 @@ all_below old new cols end (suc n) le h = elim (cases_lt n end) [
   | inl lt ↦ (let same : suc n ≡ end = omega (arith, le, lt) in ap (λ (k : ℕ). all_differ old new cols k) same)
   | inr ge ↦ omega (arith, all_below old new cols end n ge (λ i j a b d. h i j a (omega (arith, b)) d), span_none old new n 0 cols (λ j a b. h n j ge (omega arith) (omega (arith, b))))
 ]
+
+-- the lines before those that may differ add nothing to the count, whose size is told in other words
+pub none_before : (old new : ℕ → ℕ → Ink) (lines : LineRange) (rows cols n m : ℕ) → AreSameOutside old new lines.from lines.end rows cols → rows ≡ n → cols ≡ m → 0 ≡ all_differ old new m lines.from
+none_before old new lines rows cols n m h e f =
+    let same = sized_as old new lines.from lines.end rows cols n m h e f in
+    sym (all_above old new m lines.from same.above)
+
+-- the lines from the last of them on add nothing to the count
+pub none_past : (old new : ℕ → ℕ → Ink) (lines : LineRange) (row rows cols n m : ℕ) → AreSameOutside old new lines.from lines.end rows cols → lines.end ≤ rows → row ≡ lines.end → rows ≡ n → cols ≡ m
+    → all_differ old new m row ≡ all_differ old new m n
+none_past old new lines row rows cols n m h le end e f =
+    let same = sized_as old new lines.from lines.end rows cols n m h e f in
+    ap (λ (k : ℕ). all_differ old new m k) end ∙ sym (all_below old new m lines.end n (omega (arith, le, e)) same.below)
 
 -- the lines above are as wanted already
 pub mixed_above : (old new : ℕ → ℕ → Ink) (r i j : ℕ) → (i < r → old i j ≡ new i j) → old i j ≡ mixed old new r 0 i j

@@ -1,6 +1,5 @@
-use Rattle.std.proofs.Common.{◌≡◌, sym, ◌∙◌, ap, arith}
-use Rattle.cur_paint.specs.Differ.{all_differ}
-use Rattle.cur_paint.proofs.LineRanges.{all_above, all_below, sized_as}
+use Rattle.std.proofs.Common.{◌∙◌, arith}
+use Rattle.cur_paint.proofs.LineRanges.{none_before, none_past}
 use Rattle.cur_paint.proofs.counts.count_cells.Goals as goal
 
 pub loop-row-init : goal.loop-row-init
@@ -8,16 +7,12 @@ loop-row-init g c =
     let t = g.C.Certificate.table c.args.screens.now.checked.now in
     let old = g.O.Picture.cells c.args.screens.now.old.now in
     let new = g.N.Picture.cells c.args.screens.now.new.now in
-    let x = c.lines-lines.result in
-    let same = sized_as old new x.from x.end c.rows-rows.result c.cols-cols.result t.rows t.cols (c.lines-lines.ensures.same old new c.requires.changes) c.rows-rows.ensures.value c.cols-cols.ensures.value in
-    record { count = sym (all_above old new t.cols x.from same.above); few = omega arith }
+    record { count = none_before old new c.lines-lines.result c.rows-rows.result c.cols-cols.result t.rows t.cols (c.lines-lines.ensures.same old new c.requires.changes) c.rows-rows.ensures.value c.cols-cols.ensures.value; few = omega arith }
 
 pub returns-clause-value : goal.returns-clause-value
 returns-clause-value g c =
     let t = g.C.Certificate.table c.args.screens.now.checked.now in
     let old = g.O.Picture.cells c.args.screens.now.old.now in
     let new = g.N.Picture.cells c.args.screens.now.new.now in
-    let x = c.lines-lines.result in
-    let same = sized_as old new x.from x.end c.rows-rows.result c.cols-cols.result t.rows t.cols (c.lines-lines.ensures.same old new c.requires.changes) c.rows-rows.ensures.value c.cols-cols.ensures.value in
-    let all : c.loop-row.row ≡ x.end = omega (arith, c.lines-lines.ensures.order) in
-    c.loop-row.invariant.count ∙ ap (λ (n : _). all_differ old new t.cols n) all ∙ sym (all_below old new t.cols x.end t.rows (omega (arith, c.lines-lines.ensures.within, c.rows-rows.ensures.value)) same.below)
+    c.loop-row.invariant.count ∙ none_past old new c.lines-lines.result c.loop-row.row c.rows-rows.result c.cols-cols.result t.rows t.cols (c.lines-lines.ensures.same old new c.requires.changes) c.lines-lines.ensures.within
+    (omega (arith, c.lines-lines.ensures.order)) c.rows-rows.ensures.value c.cols-cols.ensures.value

@@ -1,6 +1,5 @@
-use Rattle.std.proofs.Common.{◌≡◌, ◌+◌, sym, ◌∙◌, ap, arith}
-use Rattle.cur_paint.specs.Differ.{all_differ}
-use Rattle.cur_paint.proofs.LineRanges.{all_above, all_below, sized_as}
+use Rattle.std.proofs.Common.{◌+◌, arith}
+use Rattle.cur_paint.proofs.LineRanges.{none_before, none_past}
 use Rattle.cur_paint.proofs.Mixtures.{all_grows, all_more}
 use Rattle.cur_paint.proofs.counts.differ_in_more.Goals as goal
 
@@ -9,9 +8,7 @@ loop-row-init g c =
     let t = g.C.Certificate.table c.args.screens.now.checked.now in
     let old = g.O.Picture.cells c.args.screens.now.old.now in
     let new = g.N.Picture.cells c.args.screens.now.new.now in
-    let x = c.lines-lines.result in
-    let same = sized_as old new x.from x.end c.rows-rows.result c.cols-cols.result t.rows t.cols (c.lines-lines.ensures.same old new c.requires.changes) c.rows-rows.ensures.value c.cols-cols.ensures.value in
-    record { count = sym (all_above old new t.cols x.from same.above); within = omega arith; few = omega arith }
+    record { count = none_before old new c.lines-lines.result c.rows-rows.result c.cols-cols.result t.rows t.cols (c.lines-lines.ensures.same old new c.requires.changes) c.rows-rows.ensures.value c.cols-cols.ensures.value; within = omega arith; few = omega arith }
 
 pub returns-then-count-least-clause-more : goal.returns-then-count-least-clause-more
 returns-then-count-least-clause-more g c e =
@@ -28,8 +25,6 @@ returns-clause-within g c e =
     let t = g.C.Certificate.table c.args.screens.now.checked.now in
     let old = g.O.Picture.cells c.args.screens.now.old.now in
     let new = g.N.Picture.cells c.args.screens.now.new.now in
-    let x = c.lines-lines.result in
-    let same = sized_as old new x.from x.end c.rows-rows.result c.cols-cols.result t.rows t.cols (c.lines-lines.ensures.same old new c.requires.changes) c.rows-rows.ensures.value c.cols-cols.ensures.value in
-    let all : c.loop-row.row ≡ x.end = omega (arith, c.lines-lines.ensures.order) in
-    let whole = c.loop-row.invariant.count ∙ ap (λ (n : _). all_differ old new t.cols n) all ∙ sym (all_below old new t.cols x.end t.rows (omega (arith, c.lines-lines.ensures.within, c.rows-rows.ensures.value)) same.below) in
-    omega (arith, whole, c.loop-row.invariant.within)
+    let past = none_past old new c.lines-lines.result c.loop-row.row c.rows-rows.result c.cols-cols.result t.rows t.cols (c.lines-lines.ensures.same old new c.requires.changes) c.lines-lines.ensures.within
+    (omega (arith, c.lines-lines.ensures.order)) c.rows-rows.ensures.value c.cols-cols.ensures.value in
+    omega (arith, c.loop-row.invariant.count, past, c.loop-row.invariant.within)
