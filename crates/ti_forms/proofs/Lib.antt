@@ -1,0 +1,4 @@
+mod Digits
+mod MoveEffects
+pub mod MoveRuns
+mod MoveSends
