@@ -1,4 +1,5 @@
 mod Digits
+mod LineTexts
 mod MoveEffects
 pub mod MoveRuns
 mod MoveSends

@@ -16,7 +16,7 @@ use vt_effects::{Effect, Move, effect_of_text};
 use vt_term::{Scanner, Size, TextFault};
 
 /// The effect of a move to a place.
-fn placed(row: u16, col: u16) -> Effect
+pub(crate) fn placed(row: u16, col: u16) -> Effect
     ensures { result ≡ placed_at row col }
 {
     Effect {

@@ -8,13 +8,13 @@ ghost use Rattle.vt_term.specs.Moves.{cursor_to};
 
 use arrayvec::ArrayVec;
 
-/// The most bytes of a move.
-pub(crate) const MOST: usize = 10;
+/// Room for a move and for the line about it.
+pub(crate) const ROOM: usize = 64;
 
 /// Appends a digit.
-fn push_digit(digit: u16, bytes: &mut ArrayVec<u8, MOST>)
+fn push_digit(digit: u16, bytes: &mut ArrayVec<u8, ROOM>)
     requires digit { digit < 10 }
-    requires room { array_vec_len bytes.old + 1 ≤ 10 }
+    requires room { array_vec_len bytes.old + 1 ≤ 64 }
     ensures items { bytes.new.items ≡ bytes.old.items ++ decimal digit }
     ensures len { array_vec_len bytes.new ≤ array_vec_len bytes.old + 1 }
 {
@@ -22,9 +22,9 @@ fn push_digit(digit: u16, bytes: &mut ArrayVec<u8, MOST>)
 }
 
 /// Appends a number below 100.
-fn push_short(number: u16, bytes: &mut ArrayVec<u8, MOST>)
+fn push_short(number: u16, bytes: &mut ArrayVec<u8, ROOM>)
     requires small { number < 100 }
-    requires room { array_vec_len bytes.old + 2 ≤ 10 }
+    requires room { array_vec_len bytes.old + 2 ≤ 64 }
     ensures items { bytes.new.items ≡ bytes.old.items ++ decimal number }
     ensures len { array_vec_len bytes.new ≤ array_vec_len bytes.old + 2 }
 {
@@ -37,9 +37,9 @@ fn push_short(number: u16, bytes: &mut ArrayVec<u8, MOST>)
 }
 
 /// Appends a number below 1000.
-fn push_number(number: u16, bytes: &mut ArrayVec<u8, MOST>)
+pub(crate) fn push_number(number: u16, bytes: &mut ArrayVec<u8, ROOM>)
     requires small { number < 1000 }
-    requires room { array_vec_len bytes.old + 3 ≤ 10 }
+    requires room { array_vec_len bytes.old + 3 ≤ 64 }
     ensures items { bytes.new.items ≡ bytes.old.items ++ decimal number }
     ensures len { array_vec_len bytes.new ≤ array_vec_len bytes.old + 3 }
 {
@@ -52,7 +52,7 @@ fn push_number(number: u16, bytes: &mut ArrayVec<u8, MOST>)
 }
 
 /// The bytes that move the cursor to a place, which must be one that a screen can have.
-pub(crate) fn move_to(row: u16, col: u16) -> ArrayVec<u8, MOST>
+pub(crate) fn move_to(row: u16, col: u16) -> ArrayVec<u8, ROOM>
     requires row { row ≤ 500 }
     requires col { col ≤ 500 }
     ensures { result.items ≡ cursor_to row col }

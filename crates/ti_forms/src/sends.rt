@@ -18,7 +18,7 @@ fn is_standard(string: &[u8]) -> bool
 }
 
 /// Replaces the content of `bytes` by a move to a place, which must be one that a screen can have.
-fn move_into(row: u16, col: u16, bytes: &mut Vec<u8>) -> Result<(), AllocError>
+pub(crate) fn move_into(row: u16, col: u16, bytes: &mut Vec<u8>) -> Result<(), AllocError>
     requires row { row ≤ 500 }
     requires col { col ≤ 500 }
     ensures { OnOk result (bytes.new.items ≡ cursor_to row col) }

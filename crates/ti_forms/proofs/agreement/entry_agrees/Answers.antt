@@ -1,0 +1,24 @@
+use Rattle.std.proofs.Common.{◌≡◌, ◌<◌, ℕ, sym, ◌∙◌, subst, below_more, arith, refl}
+use Rattle.ti_rows.specs.Names.{order, first_in_order}
+use Rattle.ti_rows.proofs.NameFacts.{firsts_in_order, orders_small}
+use Rattle.ti_rows.proofs.ListFacts.{firsts_in_range}
+use Rattle.ti_conforms.specs.Entries.{CapAgrees}
+use Rattle.ti_conforms.proofs.Matches.{first_is}
+use Rattle.ti_forms.proofs.agreement.entry_agrees.Goals as goal
+use Rattle.ti_forms.proofs.agreement.entry_agrees.Goals.{in-Some+in_ok-cap_agrees, in_default}
+
+pub cap_agrees-requires : goal.cap_agrees-requires
+cap_agrees-requires g c = firsts_in_range c.args.size.rows c.args.size.cols c.loop-order.order c.in-Some.first c.args.size.limits (sym c.in-Some.ensures)
+
+pub loop-order-preserved : goal.loop-order-preserved
+loop-order-preserved g c = below_more (CapAgrees c.args.size.rows c.args.size.cols c.args.entry.now (g.L.LinesByRow.line_of c.args.lines.now)) c.loop-order.order c.loop-order.invariant
+    (let f = firsts_in_order c.loop-order.order c.loop-order-test.true in
+    elim c.match-first.branch [
+      | in-Some+in_ok-cap_agrees w ↦
+          let same : order w.in-Some.first ≡ c.loop-order.order = first_is w.in-Some.first f.row c.loop-order.order (first_in_order c.loop-order.order) w.in-Some.ensures f.is_first f.ordered in
+          subst (λ (n : ℕ). CapAgrees c.args.size.rows c.args.size.cols c.args.entry.now (g.L.LinesByRow.line_of c.args.lines.now) n) same w.in_ok-cap_agrees.ensures.agrees
+      | in_default w ↦ absurd (w.in_default.not-Some f.row (c.first.ensures ∙ f.is_first))
+    ])
+
+pub returns-clause-agrees : goal.returns-clause-agrees
+returns-clause-agrees g c = λ row range. let lt : order row < c.loop-order.order = omega (arith, orders_small row) in c.loop-order.invariant (order row) lt row refl range
