@@ -12,7 +12,8 @@ use crate::faults::AgreeFault;
 use crate::table::Table;
 use std::alloc::Global;
 use ti_caps::{Cap, Entry};
-use ti_conforms::{Disagreement, acsc, entry_agrees, first_unfit};
+use ti_conforms::{Disagreement, acsc, first_unfit};
+use ti_forms::entry_agrees;
 use ti_rows::{Params, Row};
 
 /// Whether the table has the pairs of alternate characters that the entry has.

@@ -22,9 +22,9 @@ use std::alloc::{AllocError, Global};
 use std::mem;
 use ti_caps::Bytes;
 use ti_conforms::Charsets;
+use ti_forms::read_row_line;
 use ti_lines::{
-    Judge, LineFault, Reader, RowLine, is_end_line, judge_lines, read_acsc_line, read_row_line,
-    read_size_line,
+    Judge, LineFault, Reader, RowLine, is_end_line, judge_lines, read_acsc_line, read_size_line,
 };
 use ti_rows::CAPABILITIES;
 use vt_term::{Scanner, Size};
@@ -151,8 +151,9 @@ impl Progress {
         if is_end_line(text) {
             return self.judge_end(alloc);
         }
+        let expected = self.place.next(self.size);
         let room = mem::replace(&mut self.room, Bytes::from_vec(Vec::new(alloc)));
-        match read_row_line(text, room.into_vec())? {
+        match read_row_line(text, room.into_vec(), expected)? {
             Some(line) => self.judge_row(line),
             None => Err(misplaced(alloc, text)),
         }

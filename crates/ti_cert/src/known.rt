@@ -16,6 +16,7 @@ use crate::tokens::not_whole;
 use std::alloc::{AllocError, Global};
 use std::marker::Model;
 use ti_conforms::{NO_LOOKS, Reach, is_alone, is_some_look, settles};
+use ti_forms::learn_row;
 use ti_rows::{Looks, NO_ATTRIBUTES, Row};
 use vt_effects::{Effect, Sets};
 use vt_term::{Scanner, Size};
@@ -150,7 +151,7 @@ impl Known {
     {
         self.strings.push(row, bytes)?;
         push_change(&mut self.changes, row, effect.charset)?;
-        match self.reach.learn_text(scanner, bytes) {
+        match learn_row(&mut self.reach, scanner, bytes, row) {
             Ok(()) => {
                 self.looks = looks;
                 Ok(())

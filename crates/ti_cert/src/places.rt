@@ -1,6 +1,6 @@
 //! The order of the lines about capabilities.
 
-ghost use Rattle.std.specs.Prelude.{◌≡◌, ◌<◌, OnOk, IfErr, None, Some, length, true};
+ghost use Rattle.std.specs.Prelude.{◌≡◌, ◌<◌, OnOk, IfErr, None, Some, length, option_and_then, true};
 ghost use Rattle.ti_cert.specs.Places as spec;
 ghost use Rattle.ti_cert.specs.Strings.{allows, group_at};
 ghost use Rattle.ti_rows.specs.Lists.{rank};
@@ -74,6 +74,16 @@ impl Place {
         ensures { result.last ≡ None }
     {
         Place { last: None }
+    }
+
+    /// The row that follows the last line among the lines of its capability.
+    pub fn next(&self, size: Size) -> Option<Row>
+        ensures { result ≡ option_and_then (λ row. spec.next_within size.rows size.cols row) self.now.last }
+    {
+        match self.last {
+            Some(last) => next_of(last, size),
+            None => None,
+        }
     }
 
     /// The place after the line of `row`.

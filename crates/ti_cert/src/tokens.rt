@@ -8,7 +8,7 @@ ghost use Rattle.ti_cert.specs.Audits.{IsTokenFault};
 
 use crate::faults::CertFaultKind;
 use ti_rows::Row;
-use vt_effects::{Effect, effect_of_text};
+use vt_effects::Effect;
 use vt_term::{Scanner, Size, TextFault, TextFaultKind};
 
 /// The fault of a line whose bytes aren't whole control functions.
@@ -31,7 +31,7 @@ pub(crate) fn row_effect(
     ensures record { IfOk result (IsRecordOf size.rows size.cols (start_of size.rows size.cols row) bytes.now) }
     ensures fails { IfErr result (IsTokenFault bytes.now) }
 {
-    match effect_of_text(scanner, bytes, size, &row.start(size)) {
+    match ti_forms::row_effect(scanner, bytes, row, size) {
         Ok(effect) => Ok(effect),
         Err(fault) => Err(not_whole(fault)),
     }
