@@ -28,7 +28,8 @@ use crate::switches::Seen;
 use std::alloc::{AllocError, Global};
 use ti_caps::Entry;
 use ti_conforms::{NO_LOOKS, acsc};
-use ti_lines::{push_hex, push_row_line};
+use ti_forms::push_row_line;
+use ti_lines::push_hex;
 use ti_rows::{CAPABILITIES, Looks, Row};
 use vt_effects::Effect;
 use vt_term::Size;
@@ -114,7 +115,7 @@ impl Draft {
             ≡ with_change (settles row) self.old.seen.changes.items effect.now.charset) }
         ensures fault { IfErr result (spec.IsNotWhole self.old.judge.bytes.items) }
     {
-        self.judge.add_marks(&mut self.seen.reach)?;
+        self.judge.add_marks(row, &mut self.seen.reach)?;
         match self.seen.add_change(row, effect.charset) {
             Ok(()) => Ok(()),
             Err(_) => Err(Cause::NoMemory),

@@ -18,8 +18,9 @@ use crate::sends::sent_into;
 use crate::trials::probe_for;
 use std::alloc::{AllocError, Global};
 use ti_conforms::Reach;
+use ti_forms::learn_row;
 use ti_rows::{Looks, Row};
-use vt_effects::{Effect, effect_of_text};
+use vt_effects::Effect;
 use vt_term::{Scanner, Size, TextFault, TextFaultKind, Token, TokenFault, TokenFaultKind, tokens};
 
 /// The fault of `effect`, which must not be the one that is asked for. `taught` has the looks that the rows before
@@ -80,7 +81,7 @@ fn row_effect(
     ensures record { IfOk result (IsRecordOf size.rows size.cols (start_of size.rows size.cols row) bytes.now) }
     ensures fault { IfErr result (spec.IsNotWhole bytes.now) }
 {
-    match effect_of_text(scanner, bytes, size, &row.start(size)) {
+    match ti_forms::row_effect(scanner, bytes, row, size) {
         Ok(effect) => Ok(effect),
         Err(fault) => Err(not_whole(fault)),
     }
@@ -132,14 +133,14 @@ impl Judge {
         self.bytes.as_slice()
     }
 
-    /// Adds to `reach` the marks of the sets that the tokens of the row judged last turn on.
-    pub(crate) fn add_marks(&mut self, reach: &mut Reach) -> Result<(), Cause>
+    /// Adds to `reach` the marks of the sets that the tokens of `row`, the row judged last, turn on.
+    pub(crate) fn add_marks(&mut self, row: Row, reach: &mut Reach) -> Result<(), Cause>
         ensures bytes { self.new.bytes.items ≡ self.old.bytes.items }
         ensures learned { OnOk result ((tokens : List (List ℕ)) → Splits self.old.bytes.items tokens []
             → reach.new ≡ joined reach.old (reach_of tokens)) }
         ensures fault { IfErr result (spec.IsNotWhole self.old.bytes.items) }
     {
-        match reach.learn_text(&mut self.scanner, &self.bytes) {
+        match learn_row(reach, &mut self.scanner, &self.bytes, row) {
             Ok(()) => Ok(()),
             Err(fault) => Err(not_whole(fault)),
         }

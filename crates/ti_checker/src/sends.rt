@@ -8,7 +8,8 @@ ghost use Rattle.ti_conforms.specs.Sends as sends;
 use crate::causes::Cause;
 use std::alloc::Global;
 use ti_caps::Entry;
-use ti_conforms::{SendFault, is_checked, send_into};
+use ti_conforms::{SendFault, is_checked};
+use ti_forms::send_into;
 use ti_rows::Row;
 
 /// The entry's string for `row`, if the entry has it and it is checked.
