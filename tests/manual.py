@@ -75,7 +75,7 @@ def read_calls():
         reads = re.findall(r"words\s*\.(\w+)\(|(?<=\W)(sides|corners)\(", body)
         forms[name] = [method or child for method, child in reads if method != "end"]
     flat = {name: "".join(READS.get(it) or "".join(READS[each] for each in forms[it]) for it in reads) for name, reads in forms.items()}
-    table = re.findall(r'after\(b"(\w+)", text\) \{\s*hand_on\((\w+)\(', source("cur_scripts/src/table.rt"))
+    table = re.findall(r'b"(\w+)" => (\w+)\(', source("cur_scripts/src/table.rt"))
     return {call: flat[reader] for call, reader in table}
 
 

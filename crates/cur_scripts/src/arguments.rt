@@ -1,8 +1,8 @@
 //! The arguments of each call: for each form of them, a function takes the words of a line after
 //! the name, and no more.
 //!
-//! Each function is inlined where its call is passed on: a `Call` is a large value, which is then
-//! made in its final place.
+//! A `Call` is a large value. The functions of the calls that programs make most often are inlined
+//! where the call is passed on, so that it is made in its final place.
 ghost use Rattle.std.specs.Prelude.{◌≡◌};
 ghost use Rattle.cur_scripts.specs.Arguments as spec;
 
@@ -14,7 +14,6 @@ use cur_calls::{
 use cur_drawing::{Border, Put};
 
 /// `newwin n l c y x`
-#[inline(always)]
 pub(crate) fn newwin<'a>(words: Words<'a>) -> Option<Call<'a>>
     ensures { result ≡ spec.newwin words.entry }
 {
@@ -31,7 +30,6 @@ pub(crate) fn newwin<'a>(words: Words<'a>) -> Option<Call<'a>>
 }
 
 /// `newpad n l c`
-#[inline(always)]
 pub(crate) fn newpad<'a>(words: Words<'a>) -> Option<Call<'a>>
     ensures { result ≡ spec.newpad words.entry }
 {
@@ -46,7 +44,6 @@ pub(crate) fn newpad<'a>(words: Words<'a>) -> Option<Call<'a>>
 }
 
 /// `subwin n w l c y x`
-#[inline(always)]
 pub(crate) fn part<'a>(call: PartCall, words: Words<'a>) -> Option<Call<'a>>
     ensures { result ≡ spec.part call words.entry }
 {
@@ -65,7 +62,6 @@ pub(crate) fn part<'a>(call: PartCall, words: Words<'a>) -> Option<Call<'a>>
 }
 
 /// `dupwin n w`
-#[inline(always)]
 pub(crate) fn dupwin<'a>(words: Words<'a>) -> Option<Call<'a>>
     ensures { result ≡ spec.dupwin words.entry }
 {
@@ -75,7 +71,6 @@ pub(crate) fn dupwin<'a>(words: Words<'a>) -> Option<Call<'a>>
 }
 
 /// `erase w`
-#[inline(always)]
 pub(crate) fn plain<'a>(call: PlainCall, words: Words<'a>) -> Option<Call<'a>>
     ensures { result ≡ spec.plain call words.entry }
 {
@@ -116,7 +111,6 @@ pub(crate) fn numbers<'a>(call: NumbersCall, words: Words<'a>) -> Option<Call<'a
 }
 
 /// `scrollok w f`
-#[inline(always)]
 pub(crate) fn flag<'a>(call: FlagCall, words: Words<'a>) -> Option<Call<'a>>
     ensures { result ≡ spec.flag call words.entry }
 {
@@ -165,7 +159,6 @@ pub(crate) fn addstr<'a>(words: Words<'a>) -> Option<Call<'a>>
 }
 
 /// `hline w cell n`
-#[inline(always)]
 pub(crate) fn line<'a>(call: LineCall, words: Words<'a>) -> Option<Call<'a>>
     ensures { result ≡ spec.line call words.entry }
 {
@@ -191,7 +184,6 @@ fn default_of(call: LineCall) -> Put
 }
 
 /// `border w ls rs ts bs tl tr bl br`
-#[inline(always)]
 pub(crate) fn draw_border<'a>(words: Words<'a>) -> Option<Call<'a>>
     ensures { result ≡ spec.draw_border words.entry }
 {
@@ -240,7 +232,6 @@ fn corners<'a>(border: Border, words: Words<'a>) -> Option<(Border, Words<'a>)>
 }
 
 /// `box w v h`
-#[inline(always)]
 pub(crate) fn draw_box<'a>(words: Words<'a>) -> Option<Call<'a>>
     ensures { result ≡ spec.draw_box words.entry }
 {
@@ -256,7 +247,6 @@ pub(crate) fn draw_box<'a>(words: Words<'a>) -> Option<Call<'a>>
 }
 
 /// `overlay s d`
-#[inline(always)]
 pub(crate) fn lay<'a>(call: LayCall, words: Words<'a>) -> Option<Call<'a>>
     ensures { result ≡ spec.lay call words.entry }
 {
@@ -270,7 +260,6 @@ pub(crate) fn lay<'a>(call: LayCall, words: Words<'a>) -> Option<Call<'a>>
 }
 
 /// `copywin s d sr sc dr dc er ec f`
-#[inline(always)]
 pub(crate) fn copywin<'a>(words: Words<'a>) -> Option<Call<'a>>
     ensures { result ≡ spec.copywin words.entry }
 {
@@ -303,7 +292,6 @@ pub(crate) fn show<'a>(call: ShowCall, words: Words<'a>) -> Option<Call<'a>>
 }
 
 /// `prefresh w pr pc sr sc er ec`
-#[inline(always)]
 pub(crate) fn show_pad<'a>(call: PadCall, words: Words<'a>) -> Option<Call<'a>>
     ensures { result ≡ spec.show_pad call words.entry }
 {
@@ -324,7 +312,6 @@ pub(crate) fn show_pad<'a>(call: PadCall, words: Words<'a>) -> Option<Call<'a>>
 }
 
 /// `beep 0`
-#[inline(always)]
 pub(crate) fn beep<'a>(words: Words<'a>) -> Option<Call<'a>>
     ensures { result ≡ spec.beep words.entry }
 {
@@ -334,7 +321,6 @@ pub(crate) fn beep<'a>(words: Words<'a>) -> Option<Call<'a>>
 }
 
 /// `curs_set n`
-#[inline(always)]
 pub(crate) fn curs_set<'a>(words: Words<'a>) -> Option<Call<'a>>
     ensures { result ≡ spec.curs_set words.entry }
 {
@@ -344,7 +330,6 @@ pub(crate) fn curs_set<'a>(words: Words<'a>) -> Option<Call<'a>>
 }
 
 /// `init_pair p f b`
-#[inline(always)]
 pub(crate) fn init_pair<'a>(words: Words<'a>) -> Option<Call<'a>>
     ensures { result ≡ spec.init_pair words.entry }
 {
@@ -359,7 +344,6 @@ pub(crate) fn init_pair<'a>(words: Words<'a>) -> Option<Call<'a>>
 }
 
 /// `doupdate`
-#[inline(always)]
 pub(crate) fn bare<'a>(call: ScreenCall, words: Words<'a>) -> Option<Call<'a>>
     ensures { result ≡ spec.bare call words.entry }
 {

@@ -7,7 +7,6 @@ use crate::numbers::natural;
 use cur_drawing::{Attrs, Put};
 
 /// A cell: its byte in hexadecimal, its attributes after a slash, its pair after a colon.
-#[inline(always)]
 pub(crate) fn cell_in(word: &[u8]) -> Option<Put>
     ensures { result ≡ spec.cell_in word.now }
 {

@@ -19,7 +19,6 @@ pub(crate) fn cut(byte: u8, text: &[u8]) -> Option<(&[u8], &[u8])>
 }
 
 /// The first of the parts of `text` between the bytes `byte`, and the text after that part, if any.
-#[inline(always)]
 #[tactic(auto, using(crate::proofs::CutFacts::part_first, crate::proofs::CutFacts::part_alone))]
 pub(crate) fn first_part(byte: u8, text: &[u8]) -> (&[u8], Option<&[u8]>)
     ensures parts { parts_of byte text.now ≡ result.0.now ∷ parts_left byte (option_map (λ rest. rest.now) result.1) }
@@ -32,7 +31,6 @@ pub(crate) fn first_part(byte: u8, text: &[u8]) -> (&[u8], Option<&[u8]>)
 }
 
 // The place of the first `byte` in `text`.
-#[inline(always)]
 fn place_of(byte: u8, text: &[u8]) -> Option<usize>
     ensures value { result ≡ position (λ b. b == byte) text.now }
     ensures range { IfSome result (λ at. at < length text.now) }
@@ -40,7 +38,6 @@ fn place_of(byte: u8, text: &[u8]) -> Option<usize>
     memchr(byte, text)
 }
 
-#[inline(always)]
 #[tactic(auto, using(std::proofs::lemmas::List::take_rest))]
 fn before_and_behind(bytes: &[u8], at: usize) -> (&[u8], &[u8])
     requires { at < length bytes.now }

@@ -11,7 +11,6 @@ use cur_calls::Call;
 
 /// Adds the call of `line` to `calls`, if the line isn't skipped. Fails with `BadLine` at `number`
 /// if it isn't a call, or with `NoMemory`.
-#[inline(always)]
 #[tactic(auto, unfolding(crate::specs::Takers::HandsOn))]
 pub(crate) fn read_line<'a>(
     number: u32,
@@ -33,7 +32,6 @@ pub(crate) fn read_line<'a>(
 }
 
 /// Whether the line is empty or begins with `#`.
-#[inline(always)]
 pub(crate) fn is_skipped(line: &[u8]) -> bool
     ensures { result ≡ is_skipped line.now }
 {

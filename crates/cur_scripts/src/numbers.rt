@@ -23,7 +23,6 @@ fn digit_in(byte: u8) -> Option<u32>
 
 /// The number below 1,000,000,000 that the first word of `text` spells without a sign, and the text
 /// after that word.
-#[inline(always)]
 #[tactic(auto, using(crate::proofs::WordsLeft::divided, std::proofs::lemmas::List::take_rest))]
 pub(crate) fn short_number(text: &[u8]) -> Option<(u32, &[u8])>
     ensures value { IfSome result (λ x. window_in (front_word text.now) ≡ Some x.0) }
@@ -36,7 +35,6 @@ pub(crate) fn short_number(text: &[u8]) -> Option<(u32, &[u8])>
 
 // The number below 1,000,000,000 that the first word of `text` spells without a sign, and the
 // number of its digits.
-#[inline(always)]
 fn short_digits(text: &[u8]) -> Option<(u32, usize)>
     ensures value { IfSome result (λ x. window_in (front_word text.now) ≡ Some x.0) }
     ensures digits { IfSome result (λ x. length (front_word text.now) ≡ x.1) }

@@ -1,5 +1,5 @@
-//! The table of calls: the name of each, and the function that reads its arguments. For each
-//! letter, a function has the names that begin with it.
+//! The table of calls: the name of each, and the function that reads its arguments. For some
+//! letters each, a function has the names that begin with them.
 ghost use Rattle.cur_scripts.specs.Table as spec;
 ghost use Rattle.cur_scripts.specs.Takers.{HandsOn};
 
@@ -14,6 +14,14 @@ use cur_calls::{
     AttrsCall, CellCall, FlagCall, LayCall, LineCall, NumberCall, NumbersCall, PadCall, PartCall,
     PlainCall, ScreenCall, ShowCall,
 };
+
+// Passes on to `$to` what is read for the first of these names that is the first word of `$text`, where `$words` are the
+// words after it; no call if none of them is.
+macro_rules! named {
+    ($text:ident, $to:ident, $words:ident; $($name:literal => $read:expr,)*) => {
+        $(if let Some($words) = Words::after($name, $text) { hand_on($read, $to) } else)* { hand_on(None, $to) }
+    };
+}
 
 /// Passes the call of the line `text` on to `to`, by the line's first word. `BadLine` if the line
 /// isn't a call, `NoMemory` if the call isn't taken.
@@ -30,276 +38,148 @@ pub(crate) fn hand_on_named<'a, T: Taker<'a>>(
         [b'b', ..] => under_b(text, to),
         [b'c', ..] => under_c(text, to),
         [b'd', ..] => under_d(text, to),
-        [b'e', ..] => under_e(text, to),
-        [b'h', ..] => under_h(text, to),
-        [b'i', ..] => under_i(text, to),
-        [b'l', ..] => under_l(text, to),
-        [b'm', ..] => under_m(text, to),
-        [b'n', ..] => under_n(text, to),
-        [b'o', ..] => under_o(text, to),
-        [b'p', ..] => under_p(text, to),
+        [b'e', ..] => under_e_to_i(text, to),
+        [b'h', ..] => under_e_to_i(text, to),
+        [b'i', ..] => under_e_to_i(text, to),
+        [b'l', ..] => under_l_to_n(text, to),
+        [b'm', ..] => under_l_to_n(text, to),
+        [b'n', ..] => under_l_to_n(text, to),
+        [b'o', ..] => under_o_to_p(text, to),
+        [b'p', ..] => under_o_to_p(text, to),
         [b'r', ..] => under_r(text, to),
-        [b's', ..] => under_s(text, to),
-        [b't', ..] => under_t(text, to),
-        [b'v', ..] => under_v(text, to),
+        [b's', ..] => under_s_to_v(text, to),
+        [b't', ..] => under_s_to_v(text, to),
+        [b'v', ..] => under_s_to_v(text, to),
         _ => hand_on(None, to),
     }
 }
 
 #[inline(never)]
 fn under_a<'a, T: Taker<'a>>(text: &'a [u8], to: &mut T) -> Result<(), ScriptFaultKind>
-    ensures { HandsOn (T.calls to.old) (T.has_room to.old) (spec.call_under spec.rows_a text.now)
-        (T.calls to.new) result }
+    ensures { HandsOn (T.calls to.old) (T.has_room to.old)
+        (spec.call_under (spec.under 97 97) text.now) (T.calls to.new) result }
 {
-    if let Some(words) = Words::after(b"addch", text) {
-        hand_on(cell(CellCall::Addch, words), to)
-    } else if let Some(words) = Words::after(b"addstr", text) {
-        hand_on(addstr(words), to)
-    } else if let Some(words) = Words::after(b"attroff", text) {
-        hand_on(attributes(AttrsCall::Attroff, words), to)
-    } else if let Some(words) = Words::after(b"attron", text) {
-        hand_on(attributes(AttrsCall::Attron, words), to)
-    } else if let Some(words) = Words::after(b"attrset", text) {
-        hand_on(attributes(AttrsCall::Attrset, words), to)
-    } else {
-        hand_on(None, to)
+    named! { text, to, words;
+        b"addch" => cell(CellCall::Addch, words),
+        b"addstr" => addstr(words),
+        b"attroff" => attributes(AttrsCall::Attroff, words),
+        b"attron" => attributes(AttrsCall::Attron, words),
+        b"attrset" => attributes(AttrsCall::Attrset, words),
     }
 }
 
 #[inline(never)]
 fn under_b<'a, T: Taker<'a>>(text: &'a [u8], to: &mut T) -> Result<(), ScriptFaultKind>
-    ensures { HandsOn (T.calls to.old) (T.has_room to.old) (spec.call_under spec.rows_b text.now)
-        (T.calls to.new) result }
+    ensures { HandsOn (T.calls to.old) (T.has_room to.old)
+        (spec.call_under (spec.under 98 98) text.now) (T.calls to.new) result }
 {
-    if let Some(words) = Words::after(b"beep", text) {
-        hand_on(beep(words), to)
-    } else if let Some(words) = Words::after(b"bkgd", text) {
-        hand_on(cell(CellCall::Bkgd, words), to)
-    } else if let Some(words) = Words::after(b"bkgdset", text) {
-        hand_on(cell(CellCall::Bkgdset, words), to)
-    } else if let Some(words) = Words::after(b"border", text) {
-        hand_on(draw_border(words), to)
-    } else if let Some(words) = Words::after(b"box", text) {
-        hand_on(draw_box(words), to)
-    } else {
-        hand_on(None, to)
+    named! { text, to, words;
+        b"beep" => beep(words),
+        b"bkgd" => cell(CellCall::Bkgd, words),
+        b"bkgdset" => cell(CellCall::Bkgdset, words),
+        b"border" => draw_border(words),
+        b"box" => draw_box(words),
     }
 }
 
 #[inline(never)]
 fn under_c<'a, T: Taker<'a>>(text: &'a [u8], to: &mut T) -> Result<(), ScriptFaultKind>
-    ensures { HandsOn (T.calls to.old) (T.has_room to.old) (spec.call_under spec.rows_c text.now)
-        (T.calls to.new) result }
+    ensures { HandsOn (T.calls to.old) (T.has_room to.old)
+        (spec.call_under (spec.under 99 99) text.now) (T.calls to.new) result }
 {
-    if let Some(words) = Words::after(b"clear", text) {
-        hand_on(plain(PlainCall::Clear, words), to)
-    } else if let Some(words) = Words::after(b"clearok", text) {
-        hand_on(flag(FlagCall::Clearok, words), to)
-    } else if let Some(words) = Words::after(b"clrtobot", text) {
-        hand_on(plain(PlainCall::Clrtobot, words), to)
-    } else if let Some(words) = Words::after(b"clrtoeol", text) {
-        hand_on(plain(PlainCall::Clrtoeol, words), to)
-    } else if let Some(words) = Words::after(b"color_set", text) {
-        hand_on(number(NumberCall::ColorSet, words), to)
-    } else if let Some(words) = Words::after(b"copywin", text) {
-        hand_on(copywin(words), to)
-    } else if let Some(words) = Words::after(b"curs_set", text) {
-        hand_on(curs_set(words), to)
-    } else {
-        hand_on(None, to)
+    named! { text, to, words;
+        b"clear" => plain(PlainCall::Clear, words),
+        b"clearok" => flag(FlagCall::Clearok, words),
+        b"clrtobot" => plain(PlainCall::Clrtobot, words),
+        b"clrtoeol" => plain(PlainCall::Clrtoeol, words),
+        b"color_set" => number(NumberCall::ColorSet, words),
+        b"copywin" => copywin(words),
+        b"curs_set" => curs_set(words),
     }
 }
 
 #[inline(never)]
 fn under_d<'a, T: Taker<'a>>(text: &'a [u8], to: &mut T) -> Result<(), ScriptFaultKind>
-    ensures { HandsOn (T.calls to.old) (T.has_room to.old) (spec.call_under spec.rows_d text.now)
-        (T.calls to.new) result }
+    ensures { HandsOn (T.calls to.old) (T.has_room to.old)
+        (spec.call_under (spec.under 100 100) text.now) (T.calls to.new) result }
 {
-    if let Some(words) = Words::after(b"delch", text) {
-        hand_on(plain(PlainCall::Delch, words), to)
-    } else if let Some(words) = Words::after(b"deleteln", text) {
-        hand_on(plain(PlainCall::Deleteln, words), to)
-    } else if let Some(words) = Words::after(b"delwin", text) {
-        hand_on(plain(PlainCall::Delwin, words), to)
-    } else if let Some(words) = Words::after(b"derwin", text) {
-        hand_on(part(PartCall::Derwin, words), to)
-    } else if let Some(words) = Words::after(b"doupdate", text) {
-        hand_on(bare(ScreenCall::Doupdate, words), to)
-    } else if let Some(words) = Words::after(b"dupwin", text) {
-        hand_on(dupwin(words), to)
-    } else {
-        hand_on(None, to)
+    named! { text, to, words;
+        b"delch" => plain(PlainCall::Delch, words),
+        b"deleteln" => plain(PlainCall::Deleteln, words),
+        b"delwin" => plain(PlainCall::Delwin, words),
+        b"derwin" => part(PartCall::Derwin, words),
+        b"doupdate" => bare(ScreenCall::Doupdate, words),
+        b"dupwin" => dupwin(words),
     }
 }
 
 #[inline(never)]
-fn under_e<'a, T: Taker<'a>>(text: &'a [u8], to: &mut T) -> Result<(), ScriptFaultKind>
-    ensures { HandsOn (T.calls to.old) (T.has_room to.old) (spec.call_under spec.rows_e text.now)
-        (T.calls to.new) result }
+fn under_e_to_i<'a, T: Taker<'a>>(text: &'a [u8], to: &mut T) -> Result<(), ScriptFaultKind>
+    ensures { HandsOn (T.calls to.old) (T.has_room to.old)
+        (spec.call_under (spec.under 101 105) text.now) (T.calls to.new) result }
 {
-    if let Some(words) = Words::after(b"endwin", text) {
-        hand_on(bare(ScreenCall::Endwin, words), to)
-    } else if let Some(words) = Words::after(b"erase", text) {
-        hand_on(plain(PlainCall::Erase, words), to)
-    } else {
-        hand_on(None, to)
+    named! { text, to, words;
+        b"endwin" => bare(ScreenCall::Endwin, words),
+        b"erase" => plain(PlainCall::Erase, words),
+        b"hline" => line(LineCall::Hline, words),
+        b"idlok" => flag(FlagCall::Idlok, words),
+        b"init_pair" => init_pair(words),
+        b"insch" => cell(CellCall::Insch, words),
+        b"insertln" => plain(PlainCall::Insertln, words),
     }
 }
 
 #[inline(never)]
-fn under_h<'a, T: Taker<'a>>(text: &'a [u8], to: &mut T) -> Result<(), ScriptFaultKind>
-    ensures { HandsOn (T.calls to.old) (T.has_room to.old) (spec.call_under spec.rows_h text.now)
-        (T.calls to.new) result }
+fn under_l_to_n<'a, T: Taker<'a>>(text: &'a [u8], to: &mut T) -> Result<(), ScriptFaultKind>
+    ensures { HandsOn (T.calls to.old) (T.has_room to.old)
+        (spec.call_under (spec.under 108 110) text.now) (T.calls to.new) result }
 {
-    if let Some(words) = Words::after(b"hline", text) {
-        hand_on(line(LineCall::Hline, words), to)
-    } else {
-        hand_on(None, to)
+    named! { text, to, words;
+        b"leaveok" => flag(FlagCall::Leaveok, words),
+        b"move" => numbers(NumbersCall::Move, words),
+        b"mvwin" => numbers(NumbersCall::Mvwin, words),
+        b"newpad" => newpad(words),
+        b"newwin" => newwin(words),
+        b"noutrefresh" => show(ShowCall::Noutrefresh, words),
     }
 }
 
 #[inline(never)]
-fn under_i<'a, T: Taker<'a>>(text: &'a [u8], to: &mut T) -> Result<(), ScriptFaultKind>
-    ensures { HandsOn (T.calls to.old) (T.has_room to.old) (spec.call_under spec.rows_i text.now)
-        (T.calls to.new) result }
+fn under_o_to_p<'a, T: Taker<'a>>(text: &'a [u8], to: &mut T) -> Result<(), ScriptFaultKind>
+    ensures { HandsOn (T.calls to.old) (T.has_room to.old)
+        (spec.call_under (spec.under 111 112) text.now) (T.calls to.new) result }
 {
-    if let Some(words) = Words::after(b"idlok", text) {
-        hand_on(flag(FlagCall::Idlok, words), to)
-    } else if let Some(words) = Words::after(b"init_pair", text) {
-        hand_on(init_pair(words), to)
-    } else if let Some(words) = Words::after(b"insch", text) {
-        hand_on(cell(CellCall::Insch, words), to)
-    } else if let Some(words) = Words::after(b"insertln", text) {
-        hand_on(plain(PlainCall::Insertln, words), to)
-    } else {
-        hand_on(None, to)
-    }
-}
-
-#[inline(never)]
-fn under_l<'a, T: Taker<'a>>(text: &'a [u8], to: &mut T) -> Result<(), ScriptFaultKind>
-    ensures { HandsOn (T.calls to.old) (T.has_room to.old) (spec.call_under spec.rows_l text.now)
-        (T.calls to.new) result }
-{
-    if let Some(words) = Words::after(b"leaveok", text) {
-        hand_on(flag(FlagCall::Leaveok, words), to)
-    } else {
-        hand_on(None, to)
-    }
-}
-
-#[inline(never)]
-fn under_m<'a, T: Taker<'a>>(text: &'a [u8], to: &mut T) -> Result<(), ScriptFaultKind>
-    ensures { HandsOn (T.calls to.old) (T.has_room to.old) (spec.call_under spec.rows_m text.now)
-        (T.calls to.new) result }
-{
-    if let Some(words) = Words::after(b"move", text) {
-        hand_on(numbers(NumbersCall::Move, words), to)
-    } else if let Some(words) = Words::after(b"mvwin", text) {
-        hand_on(numbers(NumbersCall::Mvwin, words), to)
-    } else {
-        hand_on(None, to)
-    }
-}
-
-#[inline(never)]
-fn under_n<'a, T: Taker<'a>>(text: &'a [u8], to: &mut T) -> Result<(), ScriptFaultKind>
-    ensures { HandsOn (T.calls to.old) (T.has_room to.old) (spec.call_under spec.rows_n text.now)
-        (T.calls to.new) result }
-{
-    if let Some(words) = Words::after(b"newpad", text) {
-        hand_on(newpad(words), to)
-    } else if let Some(words) = Words::after(b"newwin", text) {
-        hand_on(newwin(words), to)
-    } else if let Some(words) = Words::after(b"noutrefresh", text) {
-        hand_on(show(ShowCall::Noutrefresh, words), to)
-    } else {
-        hand_on(None, to)
-    }
-}
-
-#[inline(never)]
-fn under_o<'a, T: Taker<'a>>(text: &'a [u8], to: &mut T) -> Result<(), ScriptFaultKind>
-    ensures { HandsOn (T.calls to.old) (T.has_room to.old) (spec.call_under spec.rows_o text.now)
-        (T.calls to.new) result }
-{
-    if let Some(words) = Words::after(b"overlay", text) {
-        hand_on(lay(LayCall::Overlay, words), to)
-    } else if let Some(words) = Words::after(b"overwrite", text) {
-        hand_on(lay(LayCall::Overwrite, words), to)
-    } else {
-        hand_on(None, to)
-    }
-}
-
-#[inline(never)]
-fn under_p<'a, T: Taker<'a>>(text: &'a [u8], to: &mut T) -> Result<(), ScriptFaultKind>
-    ensures { HandsOn (T.calls to.old) (T.has_room to.old) (spec.call_under spec.rows_p text.now)
-        (T.calls to.new) result }
-{
-    if let Some(words) = Words::after(b"pnoutrefresh", text) {
-        hand_on(show_pad(PadCall::Pnoutrefresh, words), to)
-    } else if let Some(words) = Words::after(b"prefresh", text) {
-        hand_on(show_pad(PadCall::Prefresh, words), to)
-    } else {
-        hand_on(None, to)
+    named! { text, to, words;
+        b"overlay" => lay(LayCall::Overlay, words),
+        b"overwrite" => lay(LayCall::Overwrite, words),
+        b"pnoutrefresh" => show_pad(PadCall::Pnoutrefresh, words),
+        b"prefresh" => show_pad(PadCall::Prefresh, words),
     }
 }
 
 #[inline(never)]
 fn under_r<'a, T: Taker<'a>>(text: &'a [u8], to: &mut T) -> Result<(), ScriptFaultKind>
-    ensures { HandsOn (T.calls to.old) (T.has_room to.old) (spec.call_under spec.rows_r text.now)
-        (T.calls to.new) result }
+    ensures { HandsOn (T.calls to.old) (T.has_room to.old)
+        (spec.call_under (spec.under 114 114) text.now) (T.calls to.new) result }
 {
-    if let Some(words) = Words::after(b"refresh", text) {
-        hand_on(show(ShowCall::Refresh, words), to)
-    } else {
-        hand_on(None, to)
+    named! { text, to, words;
+        b"refresh" => show(ShowCall::Refresh, words),
     }
 }
 
 #[inline(never)]
-fn under_s<'a, T: Taker<'a>>(text: &'a [u8], to: &mut T) -> Result<(), ScriptFaultKind>
-    ensures { HandsOn (T.calls to.old) (T.has_room to.old) (spec.call_under spec.rows_s text.now)
-        (T.calls to.new) result }
+fn under_s_to_v<'a, T: Taker<'a>>(text: &'a [u8], to: &mut T) -> Result<(), ScriptFaultKind>
+    ensures { HandsOn (T.calls to.old) (T.has_room to.old)
+        (spec.call_under (spec.under 115 118) text.now) (T.calls to.new) result }
 {
-    if let Some(words) = Words::after(b"scroll", text) {
-        hand_on(number(NumberCall::Scroll, words), to)
-    } else if let Some(words) = Words::after(b"scrollok", text) {
-        hand_on(flag(FlagCall::Scrollok, words), to)
-    } else if let Some(words) = Words::after(b"setscrreg", text) {
-        hand_on(numbers(NumbersCall::Setscrreg, words), to)
-    } else if let Some(words) = Words::after(b"subpad", text) {
-        hand_on(part(PartCall::Subpad, words), to)
-    } else if let Some(words) = Words::after(b"subwin", text) {
-        hand_on(part(PartCall::Subwin, words), to)
-    } else {
-        hand_on(None, to)
-    }
-}
-
-#[inline(never)]
-fn under_t<'a, T: Taker<'a>>(text: &'a [u8], to: &mut T) -> Result<(), ScriptFaultKind>
-    ensures { HandsOn (T.calls to.old) (T.has_room to.old) (spec.call_under spec.rows_t text.now)
-        (T.calls to.new) result }
-{
-    if let Some(words) = Words::after(b"touchline", text) {
-        hand_on(numbers(NumbersCall::Touchline, words), to)
-    } else if let Some(words) = Words::after(b"touchwin", text) {
-        hand_on(plain(PlainCall::Touchwin, words), to)
-    } else {
-        hand_on(None, to)
-    }
-}
-
-#[inline(never)]
-fn under_v<'a, T: Taker<'a>>(text: &'a [u8], to: &mut T) -> Result<(), ScriptFaultKind>
-    ensures { HandsOn (T.calls to.old) (T.has_room to.old) (spec.call_under spec.rows_v text.now)
-        (T.calls to.new) result }
-{
-    if let Some(words) = Words::after(b"vline", text) {
-        hand_on(line(LineCall::Vline, words), to)
-    } else {
-        hand_on(None, to)
+    named! { text, to, words;
+        b"scroll" => number(NumberCall::Scroll, words),
+        b"scrollok" => flag(FlagCall::Scrollok, words),
+        b"setscrreg" => numbers(NumbersCall::Setscrreg, words),
+        b"subpad" => part(PartCall::Subpad, words),
+        b"subwin" => part(PartCall::Subwin, words),
+        b"touchline" => numbers(NumbersCall::Touchline, words),
+        b"touchwin" => plain(PlainCall::Touchwin, words),
+        b"vline" => line(LineCall::Vline, words),
     }
 }

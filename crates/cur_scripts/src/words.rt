@@ -11,8 +11,8 @@ use cur_calls::Text;
 use cur_drawing::{Attrs, Put};
 use std::marker::Model;
 
-/// The remaining words of a line. The functions that read them are inlined, so that the slice stays
-/// in registers.
+/// The remaining words of a line. The functions that read numbers and cells are inlined, so that the
+/// slice stays in registers.
 #[derive(Drop)]
 pub(crate) struct Words<'a> {
     // the text from the space before the next word to the line's end
@@ -32,7 +32,6 @@ impl<'a> Words<'a> {
     ghost use Rattle.std.specs.Prelude.{◌≡◌, ◌∷◌, ◌≤◌, bytes_eq, false, true, option_map, IfNone, IfSome, Some};
 
     /// The words of `line` after the first one, if that is `name`, which must have no space.
-    #[inline(always)]
     pub(crate) fn after(name: &[u8], line: &'a [u8]) -> Option<Words<'a>>
         requires { spec.front_word name.now ≡ name.now }
         ensures name { IfSome result (λ words. bytes_eq (spec.front_word line.now) name.now ≡ true) }
@@ -48,7 +47,6 @@ impl<'a> Words<'a> {
     }
 
     /// The first word of a line, and the words after it.
-    #[inline(always)]
     #[tactic(auto, using(crate::proofs::WordsLeft::words_cut))]
     pub(crate) fn of(line: &'a [u8]) -> (&'a [u8], Words<'a>)
         ensures { words_of line.now ≡ result.0.now ∷ result.1 }
@@ -58,7 +56,6 @@ impl<'a> Words<'a> {
     }
 
     /// The next word, and the words after it.
-    #[inline(always)]
     pub(crate) fn next(self) -> Option<(&'a [u8], Words<'a>)>
         ensures { option_map (λ p. (p.0.now, p.1)) result ≡ spec.first_word self.entry }
     {
@@ -69,7 +66,6 @@ impl<'a> Words<'a> {
     }
 
     /// `Some` if no word is left.
-    #[inline(always)]
     #[tactic(auto, using(crate::proofs::WordsLeft::not_ended))]
     pub(crate) fn end(self) -> Option<()>
         ensures { result ≡ spec.ended self.entry }
@@ -81,7 +77,6 @@ impl<'a> Words<'a> {
     }
 
     /// The remaining text, spaces included, after the space that it begins with.
-    #[inline(always)]
     pub(crate) fn rest(self) -> Option<Text<'a>>
         ensures { result ≡ spec.rest self.entry }
     {
@@ -118,7 +113,6 @@ impl<'a> Words<'a> {
     }
 
     /// A number of a few digits without a sign as the first word of a line; `None` also for longer numbers.
-    #[inline(always)]
     #[tactic(auto, using(crate::proofs::Shorts::first_short))]
     fn first_short(line: &'a [u8]) -> Option<(u32, Words<'a>)>
         ensures value { IfSome result (λ p. spec.first window_in (words_of line.now) ≡ Some (p.0, p.1)) }
@@ -141,7 +135,6 @@ impl<'a> Words<'a> {
     }
 
     /// A flag: 0 or 1.
-    #[inline(always)]
     pub(crate) fn flag(self) -> Option<(bool, Words<'a>)>
         ensures { result ≡ spec.first flag_in self.entry }
     {
@@ -150,7 +143,6 @@ impl<'a> Words<'a> {
     }
 
     /// The number 0.
-    #[inline(always)]
     pub(crate) fn zero(self) -> Option<((), Words<'a>)>
         ensures { result ≡ spec.first zero_in self.entry }
     {
@@ -168,7 +160,6 @@ impl<'a> Words<'a> {
     }
 
     /// A cell, or a dash for `default`.
-    #[inline(always)]
     pub(crate) fn cell_or(self, default: Put) -> Option<(Put, Words<'a>)>
         ensures { result ≡ spec.first (λ word. cell_or default word) self.entry }
     {
@@ -177,7 +168,6 @@ impl<'a> Words<'a> {
     }
 
     /// Attributes.
-    #[inline(always)]
     pub(crate) fn attrs(self) -> Option<(Attrs, Words<'a>)>
         ensures { result ≡ spec.first attrs_in self.entry }
     {
@@ -196,7 +186,6 @@ impl<'a> Words<'a> {
     }
 
     /// Four numbers.
-    #[inline(always)]
     pub(crate) fn four_numbers(self) -> Option<((i32, i32, i32, i32), Words<'a>)>
         ensures { result ≡ spec.four_numbers self.entry }
     {
@@ -206,7 +195,6 @@ impl<'a> Words<'a> {
     }
 
     /// Two windows' numbers.
-    #[inline(always)]
     pub(crate) fn two_windows(self) -> Option<((usize, usize), Words<'a>)>
         ensures { result ≡ spec.two_windows self.entry }
     {
@@ -217,7 +205,6 @@ impl<'a> Words<'a> {
 }
 
 // The rest of `line` after `name`, if it begins with it.
-#[inline(always)]
 #[tactic(auto, using(crate::proofs::WordsLeft::shorter_line, crate::proofs::WordsLeft::passes_on, crate::proofs::WordsLeft::passes_no_more, std::proofs::lemmas::List::take_rest))]
 fn past_name<'a>(name: &[u8], line: &'a [u8]) -> Option<&'a [u8]>
     requires { spec.front_word name.now ≡ name.now }
@@ -240,7 +227,6 @@ fn past_name<'a>(name: &[u8], line: &'a [u8]) -> Option<&'a [u8]>
 }
 
 // The first word of a text, and the text after it, from a space on.
-#[inline(always)]
 #[tactic(auto, using(crate::proofs::WordsLeft::divided, std::proofs::lemmas::List::take_rest))]
 fn divided(text: &[u8]) -> (&[u8], &[u8])
     ensures word { result.0.now ≡ spec.front_word text.now }
@@ -251,7 +237,6 @@ fn divided(text: &[u8]) -> (&[u8], &[u8])
 }
 
 // The length of a text's first word.
-#[inline(always)]
 fn word_length(text: &[u8]) -> usize
     ensures { result ≡ length (spec.front_word text.now) }
 {
