@@ -7,10 +7,9 @@ ghost use Rattle.cur_screens.specs.Touched.{FitsLine, IsOneCell};
 ghost use Rattle.cur_windows.specs.TouchedWindows.{KeepsShown, MarksCellsAlone, MarksWritten};
 
 use crate::desks::Desk;
+use crate::regions::{note_writing, region_of};
 use cur_drawing::{Attrs, Border, Put, Refusal};
-use cur_screens::{
-    Touched, after_writing, joined, start_of, start_of_text, touch_text, touch_written,
-};
+use cur_screens::{Touched, joined, start_of, start_of_text, touch_text, touch_written};
 
 // The calls on one window. Each refuses a number above 63 with `Full`, and else one that names no
 // window with `NoWindow`. A refusal changes nothing, except for `NoScroll` and strings.
@@ -150,12 +149,12 @@ impl Desk {
         ensures refused { IfErr result (λ e. e ≢ Refusal.NoScroll → touched.new ≡ touched.old) }
     {
         let mut slot = self.find(id)?;
-        let (region, origin) = (self.region_of(&slot), self.origin_of(&slot));
+        let origin = self.origin_of(&slot);
         let start = start_of(&slot.window, put);
         let mut lines = 0;
         let grid = &mut self.grids[slot.root as usize];
         let answer = slot.window.add(grid, put, &mut lines);
-        self.scrolled = after_writing(self.scrolled, region, lines);
+        note_writing(&mut self.scrolled, &slot, origin, self.cols, lines);
         touch_written(touched, &slot, origin, start, &answer);
         self.windows[id] = Some(slot);
         answer
@@ -190,12 +189,12 @@ impl Desk {
             → MarksCellsAlone touched.old touched.new self.old s (length text.now)) }
     {
         let mut slot = self.find(id)?;
-        let (region, origin) = (self.region_of(&slot), self.origin_of(&slot));
+        let origin = self.origin_of(&slot);
         let start = start_of_text(&slot.window, text);
         let mut lines = 0;
         let grid = &mut self.grids[slot.root as usize];
         let answer = slot.window.add_all(grid, text, &mut lines);
-        self.scrolled = after_writing(self.scrolled, region, lines);
+        note_writing(&mut self.scrolled, &slot, origin, self.cols, lines);
         touch_text(touched, &slot, origin, start);
         self.windows[id] = Some(slot);
         answer
@@ -331,7 +330,7 @@ impl Desk {
         ensures { spec.step self.new result ≡ spec.on_grid self.old id (call.scroll_by n) }
     {
         let slot = self.find(id)?;
-        let region = self.region_of(&slot);
+        let region = region_of(&slot, self.origin_of(&slot), self.cols);
         self.scrolled = joined(self.scrolled, region.map(|region| region.by(n)));
         let grid = &mut self.grids[slot.root as usize];
         slot.window.scroll(grid, n)
