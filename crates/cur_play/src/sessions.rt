@@ -145,7 +145,6 @@ impl<C: Certificate> Session<C> {
 }
 
 /// Draws what `call` draws, and then sends what it sends.
-#[inline(always)]
 fn play<C: Certificate, W: Wire>(
     desk: &mut Desk,
     screen: &mut Virtual,
