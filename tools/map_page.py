@@ -19,6 +19,7 @@ PARTS = [
             "cur_commands",
             "ti_reports",
             "ti_surveys",
+            "ti_mends",
             "ti_wrapped",
             "ti_verdicts",
             "ti_commands",

@@ -1,0 +1,4 @@
+pub mod Changes
+pub mod RightFacts
+pub mod Takings
+pub mod Weighing

@@ -1,0 +1,4 @@
+pub mod Right
+pub mod Taken
+pub mod Notes
+pub mod Replies

@@ -1,0 +1,137 @@
+//! Taking the suggestions, one after another.
+
+ghost use Rattle.std.specs.Prelude.{◌≡◌, IfOk, IsTrue, Ok};
+ghost use Rattle.ti_caps.specs.Fits.{string_fits};
+ghost use Rattle.ti_mends.specs.Taken as spec;
+ghost use Rattle.ti_source.specs.Source.{source_of};
+
+use crate::mendings::{Asked, Kept, Mending, Reason};
+use crate::places::place_of;
+use crate::standings::{entry_with, loser};
+use std::alloc::{AllocError, Global};
+use ti_caps::{Cap, Entry};
+use ti_checker::No;
+use ti_faults::{Mended, listed_with, suggestion};
+use ti_fixes::{Fixed, give};
+
+/// The text as it was, with the capability listed.
+fn listed(mending: Mending, cap: Cap, reason: Reason) -> Result<Mending, AllocError>
+    ensures { IfOk result (spec.LeavesOut cap reason mending) }
+{
+    let Mending { fixed, entry, kept } = mending;
+    let mut kept = kept;
+    kept.push(Kept { cap, reason })?;
+    Ok(Mending { fixed, entry, kept })
+}
+
+/// The text as it was: the string for `cap` isn't taken, for this reason.
+fn leave(
+    asked: Asked<'_>,
+    cap: Cap,
+    string: &[u8],
+    mending: Mending,
+    reason: Reason,
+) -> Result<Mending, AllocError>
+    requires { spec.HoldsBack (spec.aim_of asked) cap string.now mending.fixed reason }
+    ensures { IfOk result (spec.IsTreated (spec.aim_of asked.entry) cap string.now mending) }
+{
+    listed(mending, cap, reason)
+}
+
+/// Takes the string if it is given as in `next`, or leaves the text as it was.
+#[tactic(auto, using(ti_source::proofs::Fitness::entries_fit, crate::proofs::Changes::change_length))]
+fn weigh(
+    alloc: Global,
+    asked: Asked<'_>,
+    cap: Cap,
+    string: &[u8],
+    mending: Mending,
+    next: Fixed,
+) -> Result<Mending, AllocError>
+    requires reads { source_of mending.fixed.text.items ≡ Ok mending.fixed.raws.items }
+    requires change { spec.IsChange cap string.now mending.fixed next }
+    ensures { IfOk result (spec.IsTreated (spec.aim_of asked.entry) cap string.now mending) }
+{
+    let Some(entry) = entry_with(alloc, next.raws.as_slice(), asked.name, cap, string)? else {
+        return leave(asked, cap, string, mending, Reason::Unplaced);
+    };
+    let (olds, news) = (mending.fixed.raws.as_slice(), next.raws.as_slice());
+    match loser(alloc, olds, news, asked.size, cap)? {
+        None => Ok(Mending {
+            fixed: next,
+            entry,
+            kept: mending.kept,
+        }),
+        Some(place) => leave(asked, cap, string, mending, Reason::Lost(place)),
+    }
+}
+
+/// Takes the string for `cap`, or leaves the text as it was.
+fn take(
+    alloc: Global,
+    asked: Asked<'_>,
+    cap: Cap,
+    string: &[u8],
+    mending: Mending,
+) -> Result<Mending, AllocError>
+    requires fits { IsTrue (string_fits string.now) }
+    requires reads { source_of mending.fixed.text.items ≡ Ok mending.fixed.raws.items }
+    ensures { IfOk result (spec.IsTreated (spec.aim_of asked.entry) cap string.now mending) }
+{
+    let (text, raws) = (mending.fixed.text.as_slice(), mending.fixed.raws.as_slice());
+    let place = place_of(alloc, raws, asked.name, cap)?;
+    match give(alloc, text, raws, place, cap, string)? {
+        Some(next) => weigh(alloc, asked, cap, string, mending, next),
+        None => leave(asked, cap, string, mending, Reason::Unplaced),
+    }
+}
+
+/// The text after the suggestion for `cap`, if there is one, was taken or left.
+fn step(
+    alloc: Global,
+    asked: Asked<'_>,
+    entry: &Entry,
+    mended: &Mended,
+    cap: Cap,
+    mending: Mending,
+) -> Result<Mending, AllocError>
+    requires { source_of mending.fixed.text.items ≡ Ok mending.fixed.raws.items }
+    ensures { IfOk result (spec.IsStep entry.now mended.now (spec.aim_of asked.entry) cap mending) }
+{
+    match suggestion(entry, mended, cap) {
+        None => Ok(mending),
+        Some(string) => take(alloc, asked, cap, string, mending),
+    }
+}
+
+/// The capabilities whose suggestions are listed with the faults `nos`.
+pub fn all_listed(alloc: Global, nos: &[No]) -> Result<Vec<Cap>, AllocError>
+    ensures { IfOk result (λ caps. caps.items ≡ spec.all_listed nos.now) }
+{
+    let mut caps = Vec::new(alloc);
+    for no in nos {
+        let own = listed_with(alloc, nos, no.cap)?;
+        caps.extend_from_slice(own.as_slice())?;
+    }
+    Ok(caps)
+}
+
+/// The text after each suggestion for the capabilities `caps` was taken or left, by the `mended` entry.
+pub fn mended_by_all(
+    alloc: Global,
+    asked: Asked<'_>,
+    entry: &Entry,
+    mended: &Mended,
+    caps: &[Cap],
+    start: Mending,
+) -> Result<Mending, AllocError>
+    requires { spec.IsCurrent asked.name.now start }
+    ensures each { IfOk result (spec.TakesEach (spec.IsStep entry.now mended.now (spec.aim_of asked.entry)) caps.now start) }
+    ensures current { IfOk result (spec.IsCurrent asked.entry.name.now) }
+{
+    let mut mending = start;
+    for cap in caps {
+        mending = step(alloc, asked, entry, mended, *cap, mending)?;
+    }
+    Ok(mending)
+}
