@@ -66,6 +66,7 @@ def commands(entry, cert="cert"):
         ["check", f"text:{entry}", *SIZE],
         ["check", "--all", f"text:{entry}", *SIZE],
         ["check", "--json", "--all", f"text:{entry}", *SIZE],
+        ["check", "--fix", f"text:{entry}", *SIZE],
         ["verify", f"text:{entry}", *SIZE, cert],
         ["survey", *SIZE, "text"],
         ["survey", "--all", *SIZE, "text"],
@@ -107,18 +108,21 @@ def judge_same():
 
 
 def judge_places():
-    """The lines of the file as it is, also where that is standard input."""
+    """The lines of the file as it is, also where that is standard input; and the text that is written."""
     told = run_cases(
         PROGRAM,
         [
             Case(["check", "--join", "--all", "text:user", *SIZE]),
+            Case(["check", "--join", "--fix", "text:user", *SIZE]),
             Case(["check", "--join", "--", "-:user", *SIZE], WRAPPED),
         ],
         {"text": WRAPPED},
     )
-    every, given = told
+    every, fixed, given = told
     if "no el: WrongEffect\ntext:8: el of wrapped\n" not in every.out.decode():
         fail(f"the line of el: {every.out}")
+    if (fixed.status, fixed.out, fixed.err) != (0, MENDED, b""):
+        fail(f"--fix --join: {fixed.status} {fixed.out} {fixed.err}")
     if (given.status, b"refused: no el: WrongEffect\n" in given.err) != (1, True):
         fail(f"standard input: {given.status} {given.err}")
     print("joins: places are told by the lines of the file")
@@ -156,7 +160,7 @@ def judge_refusals():
 
 
 def judge_stored():
-    """Compiled files and certificates are stored and read as they are; a source is never replaced."""
+    """Compiled files and certificates are stored and read as they are; a source is replaced by `--fix` alone."""
     with tempfile.TemporaryDirectory() as folder:
 
         def run(*words):
@@ -184,6 +188,10 @@ def judge_stored():
         told = run("check", "--join", "text:user", *SIZE, "--out", "text")
         if told.returncode != 3 or not has("text", WRAPPED_MENDED):
             fail(f"check --join --out of the source: {told}")
+        Path(folder, "text").write_bytes(WRAPPED)
+        told = run("check", "--join", "--fix", "text:user", *SIZE, "--out", "text")
+        if (told.returncode, told.stdout) != (0, b"") or not has("text", MENDED):
+            fail(f"--fix --join over the source: {told}")
     print("joins: compiled files and certificates are stored and read as they are")
 
 

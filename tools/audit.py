@@ -37,6 +37,7 @@ PUBLISHED = [
     "ti_commands",
     "ti_verdicts",
     "ti_surveys",
+    "ti_mends",
     "ti_wrapped",
     "ti_reports",
     "cur_commands",
@@ -57,6 +58,7 @@ COMMANDS = [
     ("show", [("cur_commands", "show_script")]),
     ("check", [("ti_verdicts", "check_entry"), ("ti_verdicts", "notes_on")]),
     ("check --all", [("ti_verdicts", "check_all")]),
+    ("check --fix", [("ti_mends", "fix_entry")]),
     ("survey", [("ti_surveys", "survey_paths"), ("ti_surveys", "survey_files")]),
     ("check --json, survey --json", [("ti_reports", "check_reports"), ("ti_reports", "survey_reports")]),
 ]

@@ -1,5 +1,6 @@
 -- Why the parser gives no matches.
-use Rattle.std.proofs.Common.{◌≡◌, ◌⊎◌, Bool, List, Option, Result, Ok, Err, IfOk, true, ap, ◌∙◌, inl, inr, refl, subst}
+use Rattle.std.proofs.Common.{◌≡◌, ◌⊎◌, List, Option, Result, Ok, Err, IfOk, true, ap, ◌∙◌, inl, inr, refl, subst}
+use Rattle.std.specs.Prelude.{codes}
 use Rattle.clap.proofs.OnLiterals.{clap_on_literals}
 use Rattle.clap.specs.Faults.{fault_of, is_simple_and_free}
 use Rattle.clap.specs.Kinds.{HasKind, IsAmong}
@@ -9,12 +10,12 @@ use Rattle.clap.specs.Walk.{Row, Text}
 use Rattle.clap.specs.declared.error.Error.{Error}
 use Rattle.clap.specs.declared.error.kind.ErrorKind.{ErrorKind}
 use Rattle.clap.specs.declared.error.kind.ErrorKind.TheVariants as kind
-use Rattle.ti_arguments.specs.Requests.{Asks, AsksWith, IsAnswer, IsTold, joins_of}
+use Rattle.ti_arguments.specs.Requests.{Asks, AsksWith, IsAnswer, IsTold, has_switch}
 use Rattle.ti_arguments.specs.Line.{line}
+use Rattle.ti_arguments.specs.declared.parser.Asked.{Asked}
 use Rattle.ti_arguments.specs.declared.parser.ParsedLine.{ParsedLine}
 use Rattle.ti_arguments.specs.declared.parser.ParsedLine.TheVariants as answers
 use Rattle.ti_arguments.specs.declared.parser.UsageFault.{UsageFault}
-use Rattle.ti_requests.specs.declared.request.Request.{Request}
 
 line_is_simple : is_simple_and_free line ≡ true
 unfolding clap_on_literals
@@ -25,8 +26,8 @@ unfolding clap_on_literals
 line_has_matches = refl
 
 -- the arguments found for the command that the words choose
-pub asked : {X : Type 0} (a : App) (words : List Text) (rows : Option (Text × List Row)) (request : Request) (joins : Bool) → a ≡ line → (is_simple a ≡ true → X × (rows ≡ subcommand_of a words)) → Asks rows request → joins ≡ joins_of rows → AsksWith (subcommand_of line words) request joins
-asked a words rows request joins q h asks with_join = subst (λ (r : Option (Text × List Row)). AsksWith r request joins) ((h (ap is_simple q ∙ line_has_matches)).1 ∙ ap (λ (b : App). subcommand_of b words) q) (asks, with_join)
+pub asked : {X : Type 0} (a : App) (words : List Text) (rows : Option (Text × List Row)) (found : Asked) → a ≡ line → (is_simple a ≡ true → X × (rows ≡ subcommand_of a words)) → Asks rows found.request → found.joins ≡ has_switch (codes "join") rows → found.fixes ≡ has_switch (codes "fix") rows → AsksWith (subcommand_of line words) found
+asked a words rows found q h asks join fix = subst (λ (r : Option (Text × List Row)). AsksWith r found) ((h (ap is_simple q ∙ line_has_matches)).1 ∙ ap (λ (b : App). subcommand_of b words) q) (record { asks = asks; join = join; fix = fix })
 
 -- the error is of a kind that the first failing step has
 pub failed : (a : App) (words : List Text) (e : Error) → a ≡ line → (is_simple_and_free a ≡ true → HasKind (fault_of a words) e) → HasKind (fault_of line words) e
@@ -43,6 +44,6 @@ no_memory k e (inr h) = cc
 -- the answer to the parser's error
 pub answered : (words : List Text) (e : Error) (r : Result ParsedLine UsageFault) → HasKind (fault_of line words) e → IfOk r (λ a. IsTold (kind_of e) a) → IfOk r (λ a. IsAnswer words a)
 answered words e (Err fault) h t = tt
-answered words e (Ok (answers.Request request joins)) h t = absurd t
+answered words e (Ok (answers.Request found)) h t = absurd t
 answered words e (Ok (answers.Text text)) (inl out) t = no_memory (kind_of e) out t
 answered words e (Ok (answers.Text text)) (inr m) t = among words (kind_of e) m t

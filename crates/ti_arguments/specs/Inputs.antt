@@ -71,5 +71,5 @@ pub record TakesInput (request : Request) : Type 0 where
 
 -- if the answer is a request, it takes standard input as allowed
 abbrev pub AnswersWithInput : ParsedLine → Type 0
-AnswersWithInput (answers.Request request joins) = TakesInput request
+AnswersWithInput (answers.Request asked) = TakesInput asked.request
 AnswersWithInput (answers.Text text) = Unit {0}

@@ -78,10 +78,14 @@ infocmp_rules =
     with_rule (with_join_rule (with_rule (with_rule (new_app (codes "infocmp")) (switch_rule (codes "c") 99))
     (switch_rule (codes "n") 110))) (several_rule (codes "ENTRY"))
 
+-- the source text with suggested strings in it
+abbrev pub with_fix_rule : App → App
+with_fix_rule a = with_rule a (long_switch_rule (codes "fix"))
+
 abbrev pub check_rules : App
 check_rules =
     with_size_rules
-    (with_rule (with_rule (with_join_rule (with_report_rules (new_app (codes "check")))) out_rule)
+    (with_rule (with_rule (with_join_rule (with_fix_rule (with_report_rules (new_app (codes "check"))))) out_rule)
     (positional_rule (codes "ENTRY")))
 
 abbrev pub verify_rules : App

@@ -9,6 +9,7 @@ use Rattle.clap.specs.Walk.{Row, Text, all_of, first_of}
 use Rattle.clap.specs.declared.error.kind.ErrorKind.{ErrorKind}
 use Rattle.clap.specs.declared.error.kind.ErrorKind.TheVariants as kind
 use Rattle.ti_arguments.specs.Line.{line}
+use Rattle.ti_arguments.specs.declared.parser.Asked.{Asked}
 use Rattle.ti_arguments.specs.declared.parser.ParsedLine.{ParsedLine}
 use Rattle.ti_arguments.specs.declared.parser.ParsedLine.TheVariants as answers
 use Rattle.ti_requests.specs.declared.feeds.FeedForm.{FeedForm}
@@ -89,10 +90,12 @@ AsksFor name rows (Check words) =
     × (words.cols.now ≡ word_of (codes "COLS") rows) × (option_map (λ o. o.now) words.out ≡ first_of (codes "out") rows)
 AsksFor name rows (CheckAll words) =
     (name ≡ codes "check") × (is_on (codes "json") rows ≡ false) × (is_on (codes "all") rows ≡ true)
+    × (is_on (codes "fix") rows ≡ false)
     × (first_of (codes "out") rows ≡ None) × (words.entry.now ≡ word_of (codes "ENTRY") rows)
     × (words.rows.now ≡ word_of (codes "ROWS") rows) × (words.cols.now ≡ word_of (codes "COLS") rows)
 AsksFor name rows (CheckJson lists_all words) =
     (name ≡ codes "check") × (is_on (codes "json") rows ≡ true) × (lists_all ≡ is_on (codes "all") rows)
+    × (is_on (codes "fix") rows ≡ false)
     × (first_of (codes "out") rows ≡ None) × (words.entry.now ≡ word_of (codes "ENTRY") rows)
     × (words.rows.now ≡ word_of (codes "ROWS") rows) × (words.cols.now ≡ word_of (codes "COLS") rows)
 AsksFor name rows (Verify words) =
@@ -112,22 +115,24 @@ abbrev pub Asks : Option (Text × List Row) → Request → Type 0
 Asks None request = ⊥
 Asks (Some chosen) request = AsksFor chosen.0 chosen.1 request
 
--- the words for the chosen command have `--join`
-abbrev pub joins_of : Option (Text × List Row) → Bool
-joins_of None = false
-joins_of (Some chosen) = is_on (codes "join") chosen.1
+-- the words for the chosen command have the switch
+abbrev pub has_switch : Text → Option (Text × List Row) → Bool
+has_switch id None = false
+has_switch id (Some chosen) = is_on id chosen.1
 
--- the request, and whether fields of a source may continue on further lines
-abbrev pub AsksWith : Option (Text × List Row) → Request → Bool → Type 0
-AsksWith chosen request joins = Asks chosen request × (joins ≡ joins_of chosen)
+-- the request; whether fields of a source may continue on further lines, and whether its text is to be mended
+pub record AsksWith (chosen : Option (Text × List Row)) (asked : Asked) : Type 0 where
+  pub asks : Asks chosen asked.request
+  pub join : asked.joins ≡ has_switch (codes "join") chosen
+  pub fix : asked.fixes ≡ has_switch (codes "fix") chosen
 
 -- the request or the text that the words ask for
 abbrev pub IsAnswer : List Text → ParsedLine → Type 0
-IsAnswer words (answers.Request request joins) = AsksWith (subcommand_of line words) request joins
+IsAnswer words (answers.Request asked) = AsksWith (subcommand_of line words) asked
 IsAnswer words (answers.Text text) =
     IsAmong kind.DisplayHelp (fault_of line words) ⊎ IsAmong kind.DisplayVersion (fault_of line words)
 
 -- the text in answer to the parser's error, if it is help or the version
 abbrev pub IsTold : ErrorKind → ParsedLine → Type 0
-IsTold told (answers.Request request joins) = ⊥
+IsTold told (answers.Request asked) = ⊥
 IsTold told (answers.Text text) = (told ≡ kind.DisplayHelp) ⊎ (told ≡ kind.DisplayVersion)

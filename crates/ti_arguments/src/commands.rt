@@ -5,7 +5,7 @@ ghost use Rattle.clap.specs.Words.{app_of, rule_of, with_rule, with_subcommand};
 ghost use Rattle.clap.specs.declared.builder.command.Command.TheViews.{out-Command};
 ghost use Rattle.ti_arguments.specs.Line.{check_rules, expand_rules, feed_rules, infocmp_rules, line, long_switch_rule};
 ghost use Rattle.ti_arguments.specs.Line.{out_rule, params_rule, play_rules, positional_rule, program, several_rule};
-ghost use Rattle.ti_arguments.specs.Line.{show_rules, survey_rules, switch_rule, tic_rules, verify_rules};
+ghost use Rattle.ti_arguments.specs.Line.{show_rules, survey_rules, switch_rule, tic_rules, verify_rules, with_fix_rule};
 ghost use Rattle.ti_arguments.specs.Line.{with_join_rule, with_plays, with_script_rules, with_case_rule, with_fail_rule};
 ghost use Rattle.ti_arguments.specs.Line.{with_plain_rule, with_report_rules, with_size_rules, with_verdicts};
 
@@ -264,13 +264,40 @@ fn check_command<'a>(alloc: Global) -> Result<Command<'a>, AllocError>
     let command = Command::new(alloc, "check")
         .about(help::CHECK)
         .after_help(help::CHECK_MORE);
+    let command = with_check_switches(alloc, command)?
+        .arg(out_option(
+            alloc,
+            "Write the certificate, or the text of --fix, to this file",
+        ))?
+        .arg(entry(alloc))?;
+    with_size(alloc, command)
+}
+
+/// `command` with the switches of `check`.
+fn with_check_switches<'a>(alloc: Global, command: Command<'a>) -> Result<Command<'a>, AllocError>
+    requires { (out-Command command).has_globals ≡ false }
+    ensures shape { IfOk result (λ c. app_of c
+        ≡ with_join_rule (with_fix_rule (with_report_rules (app_of command.entry)))) }
+    ensures local { IfOk result (λ c. (out-Command c).has_globals ≡ false) }
+{
     let all = "List all faults of the entry, and write no certificate";
     let json = "Report in JSON, an object a line, and write no certificate";
     let command = with_reports(alloc, command, all, json)?;
-    let command = with_join(alloc, command)?
-        .arg(out_option(alloc, "Write the certificate to this file"))?
-        .arg(entry(alloc))?;
-    with_size(alloc, command)
+    let command = with_fix(alloc, command)?;
+    with_join(alloc, command)
+}
+
+/// `command` with the switch for a mended source.
+fn with_fix<'a>(alloc: Global, command: Command<'a>) -> Result<Command<'a>, AllocError>
+    requires { (out-Command command).has_globals ≡ false }
+    ensures shape { IfOk result (λ c. app_of c ≡ with_fix_rule (app_of command.entry)) }
+    ensures local { IfOk result (λ c. (out-Command c).has_globals ≡ false) }
+{
+    command.arg(long_switch(
+        alloc,
+        "fix",
+        "Write the source text with the suggested strings in it, and no certificate",
+    ))
 }
 
 fn verify_command<'a>(alloc: Global) -> Result<Command<'a>, AllocError>

@@ -111,7 +111,8 @@ has at most 131072 bytes; one that is written has at most 4096, or 32768 where a
 With --join, which check, infocmp, survey, tic and verify take, a field of a source may continue on further lines: where a
 line ends before the comma of its field, and the next one begins with a space or a tab and is neither blank nor a comment,
 the next line goes on in the field, without its leading white space. Each place is given by the lines of the file, that of
-such a field by its first line. A compiled file, and a certificate, is read as it is.
+such a field by its first line. The text that `check --fix --join` writes has each field on one line, and blank lines in
+place of those that went on in it. A compiled file, and a certificate, is read as it is.
 
 Exit status: 0 done; 1 refused, with a line `refused: KIND` on standard error; 2 usage error; 3 a file could
 not be read or written, or is too long; 4 out of memory.
@@ -205,6 +206,13 @@ string_hex and suggestion_hex have the bytes in hexadecimal. Where a member does
 Characters outside 32 to 126 are escapes of JSON. The notes, the line `refused: ` and the exit status are those of the
 form without --json.
 
+With --fix there is no certificate. The output is the text of the source file in which each string that --all suggests
+is taken: the field is replaced where it stands, in the entry that --all names, and a missing one is put behind the last
+field of the entry; nothing else of the text is changed. With --out it is written to FILE, whole or not at all; only here
+FILE may be the source itself. Standard error has a line `kept CAP: REASON` for each of these strings that isn't taken: no
+place for its field was found, or an entry of the source would lose its yes. The text is judged again: standard error has
+a line `left: no CAP P..: CAUSE` for each fault that is left, and the first of them after `refused: `.
+
 A certificate has at most 67108864 bytes. The limits of a source file and of a compiled file are those of
 `ticurses tic --help`.
 
@@ -231,11 +239,13 @@ CAUSE is one of:
   NoResync     what leads out of any state (smcup, enacs, sgr0, rmacs, csr and clear, one after another) doesn't begin with ESC
 KIND is one of:
   BadSize      ROWS is not 2 to 200, or COLS is not 2 to 500
+  NoSource     with --fix: the entry is that of a compiled file
 and for the entry each KIND of `ticurses tic --help`.
 
 Example:
   ticurses check my.ti:myterm 24 80 --out myterm.cert
   ticurses check --all my.ti:myterm 24 80
+  ticurses check --fix my.ti:myterm 24 80 --out mended.ti
   ticurses check --all --json my.ti:myterm 24 80";
 
 /// `verify` in one line.

@@ -6,4 +6,4 @@ mod help;
 mod inputs;
 mod parser;
 
-pub use parser::{ParsedLine, UsageFault, parse_line};
+pub use parser::{Asked, ParsedLine, UsageFault, parse_line};

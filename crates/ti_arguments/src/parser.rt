@@ -5,7 +5,7 @@ ghost use Rattle.std.specs.String.{string_bytes};
 ghost use Rattle.clap.specs.Walk.{first_of, rows_of};
 ghost use Rattle.clap.specs.Words.{found_of, kind_of, subcommand_rows_of};
 ghost use Rattle.ti_arguments.specs.Inputs.{AnswersWithInput};
-ghost use Rattle.ti_arguments.specs.Requests.{Asks, AsksFor, HasForm, IsAnswer, IsTold, Plays, is_on, joins_of};
+ghost use Rattle.ti_arguments.specs.Requests.{Asks, AsksFor, HasForm, IsAnswer, IsTold, Plays, has_switch, is_on};
 ghost use Rattle.ti_arguments.specs.Requests.{word_of, words_of};
 
 use crate::commands::command_line;
@@ -18,16 +18,22 @@ use ti_requests::{
     VerifyWords,
 };
 
+/// A command with its words, and two switches that say how it is carried out.
+#[derive(Debug, Drop)]
+pub struct Asked<'a> {
+    /// The command and its words.
+    pub request: Request<'a>,
+    /// Whether the line has `--join`: a field of a source may continue on further lines.
+    pub joins: bool,
+    /// Whether the line has `--fix`: the `check` is to write a mended source text.
+    pub fixes: bool,
+}
+
 /// The answer to a line that can be understood.
 #[derive(Debug, Drop)]
 pub enum ParsedLine<'a> {
     /// A command with its words.
-    Request {
-        /// The command and its words.
-        request: Request<'a>,
-        /// Whether the line has `--join`: a field of a source may continue on further lines.
-        joins: bool,
-    },
+    Request(Asked<'a>),
     /// The text of `--help`, `help` or `--version`.
     Text(String),
 }
@@ -61,8 +67,13 @@ pub fn parse_line<'a>(alloc: Global, words: &'a [String]) -> Result<ParsedLine<'
         Ok(matches) => {
             let request = request_of(alloc, &matches)?;
             judge_input(alloc, &request)?;
-            let joins = joins_fields(&matches);
-            Ok(ParsedLine::Request { request, joins })
+            let joins = has_switch(&matches, "join");
+            let fixes = has_switch(&matches, "fix");
+            Ok(ParsedLine::Request(Asked {
+                request,
+                joins,
+                fixes,
+            }))
         }
         Err(error) => explain(alloc, &error),
     }
@@ -101,12 +112,12 @@ fn request_of<'a>(alloc: Global, matches: &ArgMatches<'a>) -> Result<Request<'a>
     }
 }
 
-/// Whether the line has `--join`.
-fn joins_fields(matches: &ArgMatches<'_>) -> bool
-    ensures { result ≡ joins_of (subcommand_rows_of matches.now) }
+/// Whether the words for the chosen command have the switch `id`.
+fn has_switch(matches: &ArgMatches<'_>, id: &str) -> bool
+    ensures { result ≡ has_switch id.now (subcommand_rows_of matches.now) }
 {
     match matches.subcommand() {
-        Some((_name, words)) => is_on(words, "join"),
+        Some((_name, words)) => is_on(words, id),
         None => false,
     }
 }
@@ -178,26 +189,27 @@ fn tic_request<'a>(words: &ArgMatches<'a>) -> Request<'a>
     }
 }
 
-/// The request of `check`: with `--all` or `--json` no certificate is written.
+/// The request of `check`: with `--all`, `--json` or `--fix` no certificate is written.
 fn check_request<'a>(alloc: Global, words: &ArgMatches<'a>) -> Result<Request<'a>, UsageFault>
     ensures { IfOk result (λ request. AsksFor (codes "check") (rows_of (found_of words.now)) request) }
 {
+    let fix = is_on(words, "fix");
     let json = is_on(words, "json");
     let all = is_on(words, "all");
     let out = first_word(words, "out");
-    match (json, all, out) {
-        (false, false, out) => Ok(Request::Check(CheckWords {
+    match (fix, json, all, out) {
+        (_, false, false, out) => Ok(Request::Check(CheckWords {
             entry: word(words, "ENTRY"),
             rows: word(words, "ROWS"),
             cols: word(words, "COLS"),
             out,
         })),
-        (false, true, None) => Ok(Request::CheckAll(FaultsWords {
+        (false, false, true, None) => Ok(Request::CheckAll(FaultsWords {
             entry: word(words, "ENTRY"),
             rows: word(words, "ROWS"),
             cols: word(words, "COLS"),
         })),
-        (true, lists_all, None) => Ok(Request::CheckJson {
+        (false, true, lists_all, None) => Ok(Request::CheckJson {
             lists_all,
             words: FaultsWords {
                 entry: word(words, "ENTRY"),
@@ -205,9 +217,16 @@ fn check_request<'a>(alloc: Global, words: &ArgMatches<'a>) -> Result<Request<'a
                 cols: word(words, "COLS"),
             },
         }),
-        (json, _, Some(_)) => Err(UsageFault::Usage(String::from_str(alloc, no_out(json))?)),
+        (true, true, _, _) | (true, _, true, _) => {
+            Err(UsageFault::Usage(String::from_str(alloc, FIX_ALONE)?))
+        }
+        (false, json, _, Some(_)) => Err(UsageFault::Usage(String::from_str(alloc, no_out(json))?)),
     }
 }
+
+const FIX_ALONE: &str =
+    "error: check --fix writes a source text: --all and --json are not for --fix\n\n\
+                         For more information, try '--help'.\n";
 
 /// Why `check --all` or `check --json` takes no `--out`.
 fn no_out(json: bool) -> &'static str {

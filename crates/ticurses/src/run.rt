@@ -5,15 +5,17 @@ ghost use Rattle.std.specs.Prelude.{◌≤◌};
 use crate::counted::Counted;
 use crate::hints::{hint_join, hint_path};
 use crate::progress::SurveyLines;
+use crate::stored::Sources;
 use cur_commands::{play_script, show_script};
 use std::alloc::Global;
 use std::io::{IsTerminal, Write};
-use ti_arguments::{ParsedLine, UsageFault, parse_line};
+use ti_arguments::{Asked, ParsedLine, UsageFault, parse_line};
 use ti_commands::{
     CommandRefusal, Comparison, Failure, Files, Output, Reply, Written, compare_entries,
     compile_entry, expand_string, feed_file, feed_state, print_entry, report, write_reply,
     write_text,
 };
+use ti_mends::fix_entry;
 use ti_reports::{check_reports, survey_reports};
 use ti_requests::{CheckWords, Request, SurveyWords};
 use ti_source::FaultKind;
@@ -25,7 +27,7 @@ use ti_wrapped::Wrapped;
 /// Carries out the `words` after the program's own name. The answer goes to `out`, notes and the
 /// lines of a failure to `err`. Returns the exit status: 0 done, 1 refused, 2 a usage error, 3 a
 /// file or the output failed, 4 out of memory. Files are reached through `files` alone.
-pub fn command<F: Files, O: Write, E: Write + IsTerminal>(
+pub fn command<F: Files + Sources, O: Write, E: Write + IsTerminal>(
     alloc: Global,
     words: &[String],
     files: &mut F,
@@ -52,7 +54,7 @@ pub fn command<F: Files, O: Write, E: Write + IsTerminal>(
 }
 
 /// Carries out the `words`, and adds the further lines to `remarks`.
-fn perform<F: Files, O: Output, E: Write + IsTerminal>(
+fn perform<F: Files + Sources, O: Output, E: Write + IsTerminal>(
     alloc: Global,
     words: &[String],
     files: &mut F,
@@ -61,18 +63,13 @@ fn perform<F: Files, O: Output, E: Write + IsTerminal>(
     remarks: &mut Remarks,
 ) -> Result<(), Failure> {
     match parse_line(alloc, words) {
-        Ok(ParsedLine::Request { request, joins }) => {
-            let reply = if joins {
-                let mut joined = Wrapped::new(alloc, files);
-                reply_to(alloc, &request, &mut joined, out, err, remarks)
-            } else {
-                reply_to(alloc, &request, files, out, err, remarks)
-            };
+        Ok(ParsedLine::Request(asked)) => {
+            let reply = reply_by(alloc, &asked, files, out, err, remarks);
             if let Some(path) = failed_path(&reply) {
-                hint_path(alloc, &request, path, files, remarks);
+                hint_path(alloc, &asked.request, path, files, remarks);
             }
-            if !joins && is_open_field(&reply) {
-                hint_join(&request, remarks);
+            if !asked.joins && is_open_field(&reply) {
+                hint_join(&asked.request, remarks);
             }
             let reply = reply?;
             let _ = err.write_all(reply.notes.as_slice());
@@ -161,21 +158,42 @@ fn survey_json<F: Files, O: Output, E: Write + IsTerminal>(
     Ok(lines.end(alloc, reply))
 }
 
-/// The reply of the command that `request` names. The bytes that `play` sends and the lines of a
-/// survey go to `out` as they come, and the reply has what follows them.
-fn reply_to<F: Files, O: Output, E: Write + IsTerminal>(
+/// The reply of the command that is `asked` for, to whose files its switches apply.
+fn reply_by<F: Files + Sources, O: Output, E: Write + IsTerminal>(
     alloc: Global,
-    request: &Request<'_>,
+    asked: &Asked<'_>,
     files: &mut F,
     out: &mut O,
     err: &mut E,
     remarks: &mut Remarks,
 ) -> Result<Reply, Failure> {
-    match request {
+    if asked.fixes {
+        files.allow_source();
+    }
+    if asked.joins {
+        let mut joined = Wrapped::new(alloc, files);
+        reply_to(alloc, asked, &mut joined, out, err, remarks)
+    } else {
+        reply_to(alloc, asked, files, out, err, remarks)
+    }
+}
+
+/// The reply of the command that is `asked` for. The bytes that `play` sends and the lines of a
+/// survey go to `out` as they come, and the reply has what follows them.
+fn reply_to<F: Files, O: Output, E: Write + IsTerminal>(
+    alloc: Global,
+    asked: &Asked<'_>,
+    files: &mut F,
+    out: &mut O,
+    err: &mut E,
+    remarks: &mut Remarks,
+) -> Result<Reply, Failure> {
+    match &asked.request {
         Request::Expand(words) => expand_string(alloc, words, remarks),
         Request::Feed { rows, cols, file } => feed_file(alloc, rows, cols, file, files, remarks),
         Request::FeedAs(words) => feed_state(alloc, words, files, remarks),
         Request::Tic { entry, out } => compile_entry(alloc, entry, *out, files, remarks),
+        Request::Check(words) if asked.fixes => fix_entry(alloc, words, files, remarks),
         Request::Check(words) => check_counted(alloc, words, files, err, remarks),
         Request::CheckAll(words) => check_all(alloc, words, files, remarks),
         Request::CheckJson { lists_all, words } => {

@@ -16,6 +16,12 @@ const INPUT: &str = "-";
 /// Where the system has standard input as a file.
 const INPUT_FILE: &str = "/dev/stdin";
 
+/// Files among which a command may be kept from storing to the one that it has read.
+pub trait Sources {
+    /// From now on a command may also store to the file that it has read.
+    fn allow_source(&mut self) {}
+}
+
 /// The system's files for a command to read and write. The path `-` is standard input; a file of
 /// that name is `./-`.
 #[derive(Drop)]
@@ -28,6 +34,8 @@ pub struct Stored<'a, R, I> {
     last_read: Option<(u64, u64)>,
     /// The length of the file that was opened last, if it has one.
     last_length: u64,
+    /// Whether the file that was opened last can't be stored to.
+    keeps_source: bool,
 }
 
 impl<'a, R: rt::Files, I> Stored<'a, R, I> {
@@ -39,6 +47,7 @@ impl<'a, R: rt::Files, I> Stored<'a, R, I> {
             input: Some(input),
             last_read: None,
             last_length: 0,
+            keeps_source: true,
         }
     }
 
@@ -131,6 +140,12 @@ impl<F: Read, I: Read> Read for Opened<F, I> {
     }
 }
 
+impl<R, I> Sources for Stored<'_, R, I> {
+    fn allow_source(&mut self) {
+        self.keeps_source = false;
+    }
+}
+
 impl<R: rt::Files, I: Read + Drop> Files for Stored<'_, R, I> {
     type File = Opened<R::File, I>;
 
@@ -153,7 +168,7 @@ impl<R: rt::Files, I: Read + Drop> Files for Stored<'_, R, I> {
     /// pipe, is written to.
     fn store(&mut self, path: &str, bytes: &[u8]) -> Result<(), FileFault> {
         match fs::metadata(self.rt, path) {
-            Ok(metadata) if self.last_read == Some(identity(&metadata)) => {
+            Ok(metadata) if self.keeps_source && self.last_read == Some(identity(&metadata)) => {
                 Err(FileFault::Failed(FileCause::Source))
             }
             Ok(metadata) if metadata.is_file() => {

@@ -1,0 +1,226 @@
+"""Suggestions taken in the source text by `check --fix`."""
+
+import re
+import shutil
+import subprocess
+import sys
+import tempfile
+from pathlib import Path
+
+from faults import COLS, ROWS, named
+from trying import PROGRAM, Case, run_cases
+
+SIZE = [str(ROWS), str(COLS)]
+SUGGESTED = re.compile(r"  (\w+=.+) would be right on T")
+FIELD = re.compile(r"\t(\w+)[=@]")
+ENTRIES = 200
+
+
+def fail(text):
+    sys.exit(f"fixes: {text}")
+
+
+# one field; several on a line, with white space and a comment between; a missing one; a field of a used entry; a last
+# line without a newline; a name that begins another; an escaped comma
+TEXT = rb"""# a comment, with el=\E[1K, in it
+
+base|what others use,
+	cup=\E[%i%p1%d;%p2%dH,  clear=\E[H\E[2J,
+	el=\E[1K, sgr0=\E[m,
+#	el1=\E[K,
+
+one|one field,
+	el1=\E[K, use=base,
+many|several fields on a line,	am, xmc#1,  bel=\E[,ed=\E[%p1%dK,	cr=\377,
+  	.el1=\E[K, kf1=\E\,x\,, el1=\E[K,
+	use=base,
+lacking|a missing field,
+	el=\E[K,
+	clear=\E[H\E[2J, sgr0=\E[m,
+shifts|its set is never made graphic,
+	clear=\E[H\E[2J, sgr0=\E[m, cup=\E[%i%p1%d;%p2%dH, acsc=qqxx, smacs=\E[11m, rmacs=^O,
+last|the last line,
+	clear=\E[H\E[2J, sgr0=\E[m, cup=\E[%i%p1%d;%p2%dH, cuf1=\E[D,"""
+
+# what each entry's text is to be, by the standards' strings
+WANTED = {
+    "one": [(rb"el=\E[1K, sgr0", rb"el=\E[K, sgr0"), (b"\tel1=\\E[K, use=base", b"\tel1=\\E[1K, use=base")],
+    "many": [
+        (rb"el=\E[1K, sgr0", rb"el=\E[K, sgr0"), (rb"bel=\E[,", b"bel=\\007,"), (rb"ed=\E[%p1%dK", rb"ed=\E[J"),
+        (rb"cr=\377", rb"cr=\r"), (rb"x\,, el1=\E[K", rb"x\,, el1=\E[1K"),
+    ],
+    "lacking": [(b"clear=\\E[H\\E[2J, sgr0=\\E[m,\nshifts", b"clear=\\E[H\\E[2J, sgr0=\\E[m, cup=\\E[%i%p1%d;%p2%dH,\nshifts")],
+    # strings that are right only together: one of them isn't at fault by itself
+    "shifts": [(rb"smacs=\E[11m, rmacs=^O,", rb"smacs=\016, rmacs=^O, enacs=\E(B\E)0,")],
+    "last": [(rb"cuf1=\E[D,", rb"cuf1=\E[C,")],
+}  # fmt: skip
+# what is left: a flag that no string mends
+LEFT = {"many": "no xmc: FlagOut"}
+
+
+def mended(name):
+    text = TEXT
+    for old, new in WANTED[name]:
+        if text.count(old) != 1:
+            fail(f"{old} stands {text.count(old)} times in the text")
+        text = text.replace(old, new)
+    return text
+
+
+def judge_planted():
+    told = run_cases(PROGRAM, [Case(["check", "--fix", f"text:{name}", *SIZE]) for name in WANTED], {"text": TEXT})
+    for name, one in zip(WANTED, told):
+        lines = [f"left: {LEFT[name]}", f"refused: {LEFT[name]}"] if name in LEFT else []
+        if one.out != mended(name) or one.status != bool(lines):
+            fail(f"--fix of {name}: {one.status} {one.err} {one.out.decode(errors='replace')}")
+        if sorted(one.err.decode().splitlines()) != lines:
+            fail(f"--fix of {name} printed {one.err}")
+    print(f"fixes: {len(WANTED)} entries are mended in their text, and nothing else of it changes")
+
+
+# `el` of `shared` serves `right`, which lacks what makes it wrong in `asked`: both want their own
+SHARED = rb"""shared|what both use, clear=\E[H\E[2J, cup=\E[%i%p1%d;%p2%dH, sgr0=\E[m, cuf1=\r,
+asked|with a fault, el=\E[1K, use=shared,
+compiled|not at fault, el=\E[K, cuf1=\E[C, use=shared,
+"""
+
+
+# `smacs` of `both` is right in `right`, which makes G1 graphic and shifts back; `other`, which designates, wants another
+BOTH = rb"""both|what both use, clear=\E[H\E[2J, cup=\E[%i%p1%d;%p2%dH, sgr0=\E[m, smacs=^N, acsc=qqxx,
+right|with a yes, enacs=\E(B\E)0, rmacs=^O, use=both,
+other|at fault, rmacs=\E(B, use=both,
+"""
+NO = "no smacs: WrongEffect"
+
+
+def judge_kept():
+    words = [["check", *more, f"both:{name}", *SIZE] for name in ("right", "other") for more in ([], ["--fix"])]
+    yes, same, no, kept = run_cases(PROGRAM, [Case(it) for it in words], {"both": BOTH})
+    if [it.status for it in (yes, same, no, kept)] != [0, 0, 1, 1] or same.err:
+        fail(f"the entries before: {yes} {same} {no} {kept}")
+    lines = ["kept smacs: right would lose its yes", f"left: {NO}", f"refused: {NO}"]
+    if (same.out, kept.out) != (BOTH, BOTH) or kept.err.decode().splitlines() != lines:
+        fail(f"a field by which an entry would lose its yes: {kept.out} {kept.err}")
+    print("fixes: a field stays as it is where an entry would lose its yes, and is named")
+
+
+def judge_by_hand():
+    data = {"shared": SHARED, "text": TEXT}
+    told = run_cases(
+        PROGRAM,
+        [
+            Case(["check", "--fix", "shared:asked", *SIZE]),
+            Case(["check", "--fix", "--all", "shared:asked", *SIZE]),
+            Case(["check", "--fix", "--json", "shared:asked", *SIZE]),
+            Case(["check", "--fix", "shared:nobody", *SIZE]),
+            Case(["check", "--fix", "shared", *SIZE]),
+            Case(["check", "--fix", "--out", "-", "shared:asked", *SIZE]),
+            Case(["check", "--fix", "shared:asked", "1", "6"]),
+        ],
+        data,
+    )
+    both, every, json, nobody, file, hyphen, size = told
+    if (both.status, both.out) != (0, SHARED.replace(rb"cuf1=\r", rb"cuf1=\E[C", 1).replace(rb"el=\E[1K", rb"el=\E[K")):
+        fail(f"a field of a used entry: {both}")
+    if [it.status for it in (every, json, nobody, file, hyphen, size)] != [2, 2, 1, 1, 2, 1]:
+        fail(f"refusals: {told[1:]}")
+    if any(it.out for it in told[1:]):
+        fail(f"output beside a refusal: {told[1:]}")
+    print("fixes: a used entry's field is mended, and 6 refusals have no output")
+
+
+def sources():
+    """The entries of the system's database, as ncurses' infocmp prints them."""
+    infocmp = shutil.which("infocmp")
+    trees = [tree for tree in map(Path, ("/etc/terminfo", "/lib/terminfo", "/usr/share/terminfo")) if tree.is_dir()]
+    if not infocmp or not trees:
+        return {}
+    names = sorted({path.name for tree in trees for path in tree.glob("?/*") if path.is_file()})
+    found = {}
+    for name in names:
+        told = subprocess.run([infocmp, "-1", "-x", "--", name], capture_output=True)
+        if told.returncode == 0:
+            found[name] = told.stdout
+    return found
+
+
+def suggestions(told):
+    """The fields that `check --all` says would be right."""
+    return [it[1] for it in map(SUGGESTED.fullmatch, told.out.decode().splitlines()) if it]
+
+
+def is_only(before, after, taken):
+    """Whether just these fields have changed, each where it was; the missing ones stand behind the entry's last. Each
+    field of the text is on a line of its own."""
+    wanted = {named(field): f"\t{field}," for field in taken}
+    lines = []
+    for line in before.decode("latin-1").split("\n"):
+        own = FIELD.match(line)
+        lines.append(wanted.pop(own[1], line) if own else line)
+    last = max(at for at, line in enumerate(lines) if line)
+    lines[last] += "".join(f" {field[1:]}" for field in wanted.values())
+    return lines == after.decode("latin-1").split("\n")
+
+
+def judge_database():
+    texts = sources()
+    if not texts:
+        print("fixes: left out, since ncurses' infocmp or its database is not installed")
+        return
+    names = list(texts)
+    data = {f"s{at}": text for at, text in enumerate(texts.values())}
+    listed = run_cases(PROGRAM, [Case(["check", "--all", f"s{at}:{name}", *SIZE]) for at, name in enumerate(names)], data)
+    faulty = [at for at, one in enumerate(listed) if suggestions(one)][:ENTRIES]
+    fixed = run_cases(PROGRAM, [Case(["check", "--fix", f"s{at}:{names[at]}", *SIZE]) for at in faulty], data)
+    after = {f"s{at}": one.out for at, one in zip(faulty, fixed)}
+    again = run_cases(PROGRAM, [Case(["check", "--all", f"s{at}:{names[at]}", *SIZE]) for at in faulty], after)
+    right = 0
+    for at, one, then in zip(faulty, fixed, again):
+        taken = suggestions(listed[at])
+        if not is_only(data[f"s{at}"], one.out, taken):
+            fail(f"--fix of {names[at]} took {taken}: {one}")
+        bad = {named(line[3:]) for line in then.out.decode().splitlines() if line.startswith("no ")}
+        if bad & {named(field) for field in taken}:
+            fail(f"--fix of {names[at]}: {bad} are at fault after {taken}")
+        if one.status != then.status or (one.status == 0) != (then.out == b"yes\n"):
+            fail(f"--fix of {names[at]} ended with {one.status}, and check --all with {then.status}")
+        right += one.status == 0
+    print(f"fixes: of {len(faulty)} faulty entries of the database {right} have a certificate after --fix; no other byte changed")
+
+
+def judge_out():
+    """`--out` may name the source itself, which is replaced at once; without `--fix` it is refused."""
+    with tempfile.TemporaryDirectory() as folder:
+        path = Path(folder, "text")
+        path.write_bytes(TEXT)
+
+        def run(*words):
+            return subprocess.run([f"{PROGRAM}/out/ticurses", "check", *words], cwd=folder, capture_output=True)
+
+        told = run("text:last", *SIZE, "--out", "text")
+        if path.read_bytes() != TEXT:
+            fail(f"check without --fix wrote to its source: {told}")
+        told = run("--fix", "text:last", *SIZE, "--out", "other")
+        if (told.returncode, told.stdout, Path(folder, "other").read_bytes(), path.read_bytes()) != (0, b"", mended("last"), TEXT):
+            fail(f"--fix --out: {told}")
+        told = run("--fix", "text:last", *SIZE, "--out", "text")
+        if (told.returncode, told.stdout, path.read_bytes()) != (0, b"", mended("last")):
+            fail(f"--fix --out of the source: {told}")
+        told = run("text:last", *SIZE, "--out", "text")
+        if told.returncode != 3 or path.read_bytes() != mended("last"):
+            fail(f"check --out of the source: {told}")
+        if sorted(it.name for it in Path(folder).iterdir()) != ["other", "text"]:
+            fail(f"files are left: {list(Path(folder).iterdir())}")
+    print("fixes: the text is stored whole, and over its source only with --fix")
+
+
+def main():
+    judge_planted()
+    judge_kept()
+    judge_by_hand()
+    judge_out()
+    judge_database()
+
+
+if __name__ == "__main__":
+    main()
