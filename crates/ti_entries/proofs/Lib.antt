@@ -1,1 +1,4 @@
 pub mod Faultless
+pub mod LineShifts
+pub mod LineBounds
+pub mod LinedFacts

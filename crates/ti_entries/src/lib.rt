@@ -1,6 +1,10 @@
-//! Resolving the entries of a source text that were read one by one, some of which may be unreadable.
+//! Resolving the entries of a source text that were read one by one, some of which may be unreadable, and finding the
+//! lines of their fields.
 #![tactic(auto)]
 
+mod lined_texts;
 mod resolution;
+mod text_lines;
 
+pub use lined_texts::LinedText;
 pub use resolution::{ApartFault, faultless_are_resolved, resolve_apart};

@@ -1,0 +1,108 @@
+//! The lines of a source text that have the fields of its entries.
+
+ghost use Rattle.std.specs.Prelude.{◌≡◌, ◌≤◌, ◌+◌, IfOk, length, map, slice_get};
+ghost use Rattle.std.specs.List.{AllByRecursion};
+ghost use Rattle.ti_source.specs.Lines.{field_lines_of};
+ghost use Rattle.ti_entries.specs.LinedTexts as spec;
+
+use crate::text_lines::{begins_entry, cut_line};
+use std::alloc::{AllocError, Global};
+use std::marker::Model;
+use ti_resolve::Origin;
+use ti_source::{FieldLine, field_lines};
+
+/// A source text, in which the line of each field was found beforehand. Contracts see the text.
+#[derive(Drop)]
+pub struct LinedText<'a> {
+    text: &'a [u8],
+    /// For each entry the lines of its fields.
+    lines: Vec<Vec<usize>>,
+}
+
+impl<'a> Model for LinedText<'a> {
+    ghost use Rattle.std.specs.Prelude.{◌≡◌, List, map, ℕ};
+    ghost use Rattle.ti_entries.specs.LinedTexts.{numbers_of};
+
+    ghost Value = { List ℕ };
+
+    ghost view = { λ t. t.text.now };
+
+    ghost invariant = { λ t. map (λ own. own.items) t.lines.items ≡ numbers_of t.text.now };
+}
+
+impl<'a> LinedText<'a> {
+    /// The `text`, which is read once for all fields, without their values.
+    ///
+    /// # Errors
+    /// Out of memory.
+    pub fn new(alloc: Global, text: &'a [u8]) -> Result<Self, AllocError>
+        ensures { IfOk result (λ lined. lined ≡ text.now) }
+    {
+        let lines = numbers_of(alloc, text)?;
+        Ok(LinedText { text, lines })
+    }
+
+    /// The line of the text that has the field at `origin`; 0 if there is no such field.
+    pub fn line(&self, origin: Origin) -> usize
+        ensures { result ≡ spec.line_at (field_lines_of self.now origin.entry) origin.field }
+    {
+        match self.lines.get(origin.entry) {
+            Some(own) => number_at(own.as_slice(), origin.field),
+            None => 0,
+        }
+    }
+}
+
+/// The number at a place of these; 0 if there is none.
+fn number_at(numbers: &[usize], place: usize) -> usize
+    ensures { result ≡ spec.or_zero (slice_get numbers.now place) }
+{
+    match numbers.get(place) {
+        Some(number) => *number,
+        None => 0,
+    }
+}
+
+/// The lines of the fields of each entry of `text`.
+fn numbers_of(alloc: Global, text: &[u8]) -> Result<Vec<Vec<usize>>, AllocError>
+    ensures { IfOk result (λ all. map (λ own. own.items) all.items ≡ spec.numbers_of text.now) }
+{
+    let mut all = Vec::new(alloc);
+    let mut rest = text;
+    let mut before = 0;
+    while let Some((line, behind)) = cut_line(rest) {
+        if begins_entry(line) {
+            let own = first_numbers(alloc, before, rest)?;
+            all.push(own)?;
+        }
+        rest = behind;
+        before += 1;
+    }
+    Ok(all)
+}
+
+/// The lines of the fields of the first entry of `text`, if so many lines come `before` it. Reads the text up to the
+/// end of that entry.
+fn first_numbers(alloc: Global, before: usize, text: &[u8]) -> Result<Vec<usize>, AllocError>
+    requires { before + length text.now ≤ 18446744073709551615 }
+    ensures { IfOk result (λ own. own.items ≡ map (spec.line_behind before) (field_lines_of text.now 0)) }
+{
+    let fields = field_lines(alloc, text, 0)?;
+    lines_behind(alloc, before, fields.as_slice())
+}
+
+/// The lines of these `fields`, if so many lines come `before` those that were counted.
+fn lines_behind(
+    alloc: Global,
+    before: usize,
+    fields: &[FieldLine],
+) -> Result<Vec<usize>, AllocError>
+    requires { AllByRecursion (λ field. spec.line_behind before field ≤ 18446744073709551615) fields.now }
+    ensures { IfOk result (λ own. own.items ≡ map (spec.line_behind before) fields.now) }
+{
+    let mut own = Vec::new(alloc);
+    for field in fields {
+        own.push(before + field.line)?;
+    }
+    Ok(own)
+}
