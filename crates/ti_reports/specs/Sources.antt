@@ -39,6 +39,11 @@ pub record IsFieldPlace (text : List ℕ) (raws : List RawEntry) (origin : Optio
   pub line : place.line ≡ option_map (line_of_field text) origin
   pub holder : HasHolder raws origin place.entry
 
+-- for private clauses: a field on this line, and the entry that has it
+pub record IsHeldAt (line : ℕ) (raws : List RawEntry) (origin : Origin) (place : ValuePlace) : Type 0 where
+  pub line_is : place.line ≡ Some line
+  pub holder : HasHolder raws (Some origin) place.entry
+
 -- the place of the first field about the capability, among the entry's own and those that it uses, if there is a value
 pub record IsPlaceIn (source : SourceText) (cap : ℕ) (place : ValuePlace) : Type 0 where
   pub origin : Option Origin

@@ -17,7 +17,7 @@ use ti_hints::{advice_on, unchecked_advice};
 /// none; and on strings that aren't checked, if `lists_all`.
 pub fn advice_lines(
     alloc: Global,
-    subject: &Subject<'_>,
+    subject: &Subject<'_, '_>,
     lists_all: bool,
     nos: &[No],
 ) -> Result<Vec<u8>, AllocError>
@@ -36,7 +36,7 @@ pub fn advice_lines(
 /// The advice on the `subject`, which has the faults `nos`.
 fn advice_texts(
     alloc: Global,
-    subject: &Subject<'_>,
+    subject: &Subject<'_, '_>,
     lists_all: bool,
     nos: &[No],
 ) -> Result<Vec<Vec<u8>>, AllocError> {
@@ -54,7 +54,7 @@ fn advice_texts(
 }
 
 /// The line of the advice `text` on the `subject`.
-fn advice_line(alloc: Global, subject: &Subject<'_>, text: &[u8]) -> Result<Vec<u8>, AllocError>
+fn advice_line(alloc: Global, subject: &Subject<'_, '_>, text: &[u8]) -> Result<Vec<u8>, AllocError>
     ensures { IfOk result (λ line. spec.IsReportLine (spec.ReportsAdvice subject.now.entry.now
         subject.now.size.rows subject.now.size.cols subject.now.file.now) line.items) }
 {
@@ -63,7 +63,11 @@ fn advice_line(alloc: Global, subject: &Subject<'_>, text: &[u8]) -> Result<Vec<
 }
 
 /// The report of the advice `text` on the `subject`.
-fn advice_report(alloc: Global, subject: &Subject<'_>, text: &[u8]) -> Result<Report, AllocError>
+fn advice_report(
+    alloc: Global,
+    subject: &Subject<'_, '_>,
+    text: &[u8],
+) -> Result<Report, AllocError>
     ensures { IfOk result (λ report. spec.ReportsAdvice subject.now.entry.now
         subject.now.size.rows subject.now.size.cols subject.now.file.now report) }
 {

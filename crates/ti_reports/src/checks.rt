@@ -70,7 +70,7 @@ fn entry_reply(
 /// The reply with `notes` that says that `nos` are the faults of the `subject`, all of them if `lists_all`.
 fn reply_of(
     alloc: Global,
-    subject: &Subject<'_>,
+    subject: &Subject<'_, '_>,
     lists_all: bool,
     notes: Vec<u8>,
     nos: &[No],
@@ -109,7 +109,7 @@ fn file_of<'a>(source: &'a Option<SourceText<'a>>, word: &'a str) -> &'a str
 }
 
 /// The origin of the entry that was found in this `source`.
-fn standing_of<'a>(source: &'a Option<SourceText<'a>>) -> Standing<'a>
+fn standing_of<'a>(source: &'a Option<SourceText<'a>>) -> Standing<'a, 'a>
     ensures stands { whereabouts_of result ≡ by_name source.now }
     ensures there { IsThere result }
 {

@@ -24,7 +24,7 @@ impl Speaker for Asked {
         self.lists_all
     }
 
-    fn say(&self, alloc: Global, found: &FileEntry<'_>) -> Result<Said, AllocError> {
+    fn say(&self, alloc: Global, found: &FileEntry<'_, '_>) -> Result<Said, AllocError> {
         entry_said(alloc, *self, found.path, placed(found.stands), found.entry)
     }
 
@@ -45,7 +45,7 @@ fn entry_said(
     alloc: Global,
     asked: Asked,
     path: &str,
-    stands: Standing<'_>,
+    stands: Standing<'_, '_>,
     entry: &Entry,
 ) -> Result<Said, AllocError>
     requires { IsThere stands }

@@ -27,7 +27,7 @@ use vt_term::Size;
 
 /// An entry that is reported on.
 #[derive(Drop)]
-pub struct Subject<'a> {
+pub struct Subject<'a, 'b> {
     /// The entry.
     pub entry: &'a Entry,
     /// The terminal's size.
@@ -35,7 +35,7 @@ pub struct Subject<'a> {
     /// The path of the file that has the entry.
     pub file: &'a str,
     /// The origin of the entry.
-    pub stands: Standing<'a>,
+    pub stands: Standing<'a, 'b>,
 }
 
 /// The lines of the faults `nos` of the `subject`, or the line that it has a certificate if there are none; and then
@@ -43,7 +43,7 @@ pub struct Subject<'a> {
 /// all of them mended.
 pub fn found_lines(
     alloc: Global,
-    subject: &Subject<'_>,
+    subject: &Subject<'_, '_>,
     lists_all: bool,
     nos: &[No],
 ) -> Result<Vec<u8>, AllocError>
@@ -61,7 +61,7 @@ pub fn found_lines(
 /// The lines of the faults `nos` of the `subject`, or the line that it has a certificate if there are none.
 fn verdict_lines(
     alloc: Global,
-    subject: &Subject<'_>,
+    subject: &Subject<'_, '_>,
     lists_all: bool,
     nos: &[No],
 ) -> Result<Vec<u8>, AllocError>
@@ -79,7 +79,7 @@ fn verdict_lines(
 /// A line for each of the faults `nos` of the `subject`, which are all that it has if `lists_all`.
 fn lines_of(
     alloc: Global,
-    subject: &Subject<'_>,
+    subject: &Subject<'_, '_>,
     lists_all: bool,
     nos: &[No],
 ) -> Result<Vec<u8>, AllocError>
@@ -96,7 +96,7 @@ fn lines_of(
 /// A line for each of the faults `nos` of the `subject`, which is `mended`, in their order.
 fn fault_lines(
     alloc: Global,
-    subject: &Subject<'_>,
+    subject: &Subject<'_, '_>,
     mended: &Option<Mended>,
     nos: &[No],
 ) -> Result<Vec<u8>, AllocError>
@@ -115,7 +115,7 @@ fn fault_lines(
 /// The line of `no`, one of the faults `nos` of the `subject`, which is `mended`.
 fn fault_line(
     alloc: Global,
-    subject: &Subject<'_>,
+    subject: &Subject<'_, '_>,
     mended: &Option<Mended>,
     nos: &[No],
     no: &No,
@@ -129,7 +129,7 @@ fn fault_line(
 }
 
 /// The line that the `subject` has a certificate.
-fn yes_line(alloc: Global, subject: &Subject<'_>) -> Result<Vec<u8>, AllocError>
+fn yes_line(alloc: Global, subject: &Subject<'_, '_>) -> Result<Vec<u8>, AllocError>
     ensures { IfOk result (λ line. spec.IsReportLine (spec.ReportsYes subject.now.entry.now
         subject.now.size.rows subject.now.size.cols subject.now.file.now) line.items) }
 {
@@ -138,7 +138,7 @@ fn yes_line(alloc: Global, subject: &Subject<'_>) -> Result<Vec<u8>, AllocError>
 }
 
 /// The report that the `subject` has a certificate.
-fn yes_report(alloc: Global, subject: &Subject<'_>) -> Result<Report, AllocError>
+fn yes_report(alloc: Global, subject: &Subject<'_, '_>) -> Result<Report, AllocError>
     ensures { IfOk result (λ report. spec.ReportsYes subject.now.entry.now
         subject.now.size.rows subject.now.size.cols subject.now.file.now report) }
 {
@@ -157,7 +157,7 @@ fn yes_report(alloc: Global, subject: &Subject<'_>) -> Result<Report, AllocError
 /// The report of `no`, one of the faults `nos` of the `subject`, which is `mended`.
 fn fault_report(
     alloc: Global,
-    subject: &Subject<'_>,
+    subject: &Subject<'_, '_>,
     mended: &Option<Mended>,
     nos: &[No],
     no: &No,
@@ -181,7 +181,7 @@ fn fault_report(
 /// What is found of `no`, one of the faults `nos` of the `subject`, which is `mended`.
 fn finding_of(
     alloc: Global,
-    subject: &Subject<'_>,
+    subject: &Subject<'_, '_>,
     mended: &Option<Mended>,
     nos: &[No],
     no: &No,

@@ -11,19 +11,19 @@ use crate::names::name_of;
 use std::alloc::{AllocError, Global};
 use ti_caps::Cap;
 use ti_commands::SourceText;
-use ti_resolve::{Origin, origin, origin_at};
+use ti_resolve::{Origin, origin};
 use ti_source::RawEntry;
 use ti_verdicts::{SourcePlace, first_name, line_of_field};
 
 /// The origin of an entry.
 #[derive(Drop)]
-pub enum Standing<'a> {
+pub enum Standing<'a, 'b> {
     /// The entry is in no source.
     Unsourced,
     /// The entry is in a source, found by its name.
     Named(&'a SourceText<'a>),
     /// The entry is in a source, at a place.
-    Placed(&'a SourcePlace<'a>),
+    Placed(&'a SourcePlace<'a, 'b>),
 }
 
 /// The place of a capability's value in a source text.
@@ -48,7 +48,7 @@ impl ValuePlace {
 }
 
 /// The origin of an entry at the place `stands` of a source, or in no source.
-pub fn placed<'a>(stands: &'a Option<SourcePlace<'a>>) -> Standing<'a>
+pub fn placed<'a, 'b>(stands: &'a Option<SourcePlace<'a, 'b>>) -> Standing<'a, 'b>
     requires { IfSome stands.now (λ there. there.place < length there.raws.now) }
     ensures stands { spec.whereabouts_of result ≡ spec.by_place (place_if stands.now) }
     ensures there { spec.IsThere result }
@@ -61,7 +61,11 @@ pub fn placed<'a>(stands: &'a Option<SourcePlace<'a>>) -> Standing<'a>
 
 /// The place of the value of `cap` in the source of the entry whose origin is `stands`; nowhere if there is no source
 /// or no value.
-pub fn value_place(alloc: Global, stands: &Standing<'_>, cap: Cap) -> Result<ValuePlace, AllocError>
+pub fn value_place(
+    alloc: Global,
+    stands: &Standing<'_, '_>,
+    cap: Cap,
+) -> Result<ValuePlace, AllocError>
     requires { spec.IsThere stands.now }
     ensures { IfOk result (λ place. spec.IsValuePlace (spec.whereabouts_of stands.now) cap place) }
 {
@@ -79,39 +83,39 @@ fn place_in(alloc: Global, source: &SourceText<'_>, cap: Cap) -> Result<ValuePla
     let raws = source.raws.as_slice();
     // the name was resolved before, so memory ran out
     match origin(alloc, raws, source.name.as_bytes(), cap) {
-        Ok(origin) => Ok(field_place(alloc, source.text.as_slice(), raws, origin)?),
+        Ok(Some(origin)) => {
+            let line = line_of_field(alloc, source.text.as_slice(), origin)?;
+            Ok(field_place(alloc, line, raws, origin)?)
+        }
+        Ok(None) => Ok(ValuePlace::nowhere()),
         Err(_) => Err(AllocError),
     }
 }
 
 /// The place of the value of `cap` of the entry at `there`.
-fn place_at(alloc: Global, there: &SourcePlace<'_>, cap: Cap) -> Result<ValuePlace, AllocError>
+fn place_at(alloc: Global, there: &SourcePlace<'_, '_>, cap: Cap) -> Result<ValuePlace, AllocError>
     requires { there.now.place < length there.now.raws.now }
     ensures { IfOk result (λ place. spec.IsPlaceAt (place_in there.now) cap place) }
 {
-    // the entry was resolved before, so memory ran out
-    match origin_at(alloc, there.raws, there.place, cap) {
-        Ok(origin) => Ok(field_place(alloc, there.text, there.raws, origin)?),
-        Err(_) => Err(AllocError),
+    match there.origin(alloc, cap)? {
+        Some(origin) => field_place(alloc, there.line(origin), there.raws, origin),
+        None => Ok(ValuePlace::nowhere()),
     }
 }
 
-/// The place of the field at `origin`, in the `text` with the entries `raws`; nowhere if there is no origin.
+/// The place of the field at `origin`, which is on the line `line`, among the entries `raws`.
 fn field_place(
     alloc: Global,
-    text: &[u8],
+    line: usize,
     raws: &[RawEntry],
-    origin: Option<Origin>,
+    origin: Origin,
 ) -> Result<ValuePlace, AllocError>
-    ensures { IfOk result (λ place. spec.IsFieldPlace text.now raws.now origin place) }
+    ensures { IfOk result (λ place. spec.IsHeldAt line raws.now origin place) }
 {
-    match origin {
-        Some(origin) => Ok(ValuePlace {
-            line: Some(line_of_field(alloc, text, origin)?),
-            entry: Some(holder(alloc, raws, origin)?),
-        }),
-        None => Ok(ValuePlace::nowhere()),
-    }
+    Ok(ValuePlace {
+        line: Some(line),
+        entry: Some(holder(alloc, raws, origin)?),
+    })
 }
 
 /// The first name of the entry of `raws` that has the field at `origin`.

@@ -17,7 +17,7 @@ use std::alloc::{AllocError, Global};
 use ti_caps::Entry;
 use ti_commands::{CommandRefusal, refusal_words, unpacked_entry};
 use ti_compiled::{Packed, decode};
-use ti_entries::{ApartFault, resolve_apart};
+use ti_entries::{ApartFault, LinedText, resolve_apart};
 use ti_hints::hint_entries;
 use ti_resolve::{Index, ResolveFault};
 use ti_source::{Apart, FaultKind, RawEntry, SourceFault, read_apart};
@@ -171,23 +171,26 @@ fn must_claim(kind: FaultKind) -> Result<(), AllocError>
 
 /// A source text whose entries were read one by one.
 #[derive(Drop)]
-struct SourceEntries<'a> {
+struct SourceEntries<'a, 'b> {
     path: &'a str,
-    text: &'a [u8],
+    text: &'b [u8],
     /// The entries by their names and places.
-    index: Index<'a>,
+    index: &'a Index<'b>,
     /// For each entry the reason why it can't be read, if it can't.
     faults: &'a [Option<SourceFault>],
+    /// The text with the lines of all fields.
+    lined: &'a LinedText<'b>,
+    ghost same_text: { lined.now ≡ text.now },
 }
 
 /// The lines of the entries `apart` of the source `text` at `path`, in order. The `watcher` hears those of each entry.
 #[tactic(auto, using(crate::proofs::SaidFacts::faults_beside))]
-fn apart_lines<S: Speaker, W: Watcher>(
+fn apart_lines<'a, S: Speaker, W: Watcher>(
     alloc: Global,
     speaker: &S,
     path: &str,
-    text: &[u8],
-    apart: &Apart,
+    text: &'a [u8],
+    apart: &'a Apart,
     watcher: &mut W,
 ) -> Result<Said, AllocError>
     requires reads { IsApart text.now apart.now.raws.items apart.now.faults.items }
@@ -197,11 +200,14 @@ fn apart_lines<S: Speaker, W: Watcher>(
         path.now text.now (told_of said)) }
     ensures heard { IfOk result (λ said. Hears W.heard W.has_failed watcher.old watcher.new said.lines.items) }
 {
+    let index = Index::new(alloc, apart.raws.as_slice())?;
+    let lined = LinedText::new(alloc, text)?;
     let source = SourceEntries {
         path,
         text,
-        index: Index::new(alloc, apart.raws.as_slice())?,
+        index: &index,
         faults: apart.faults.as_slice(),
+        lined: &lined,
     };
     source_lines(alloc, speaker, &source, watcher)
 }
@@ -210,16 +216,16 @@ fn apart_lines<S: Speaker, W: Watcher>(
 fn source_lines<S: Speaker, W: Watcher>(
     alloc: Global,
     speaker: &S,
-    source: &SourceEntries<'_>,
+    source: &SourceEntries<'_, '_>,
     watcher: &mut W,
 ) -> Result<Said, AllocError>
-    requires fit { AllByRecursion FieldsFit source.now.index.raws.now }
-    requires names { NamesFit source.now.index.raws.now source.now.faults.now }
-    requires beside { length source.now.faults.now ≡ length source.now.index.raws.now }
+    requires fit { AllByRecursion FieldsFit source.now.index.now.raws.now }
+    requires names { NamesFit source.now.index.now.raws.now source.now.faults.now }
+    requires beside { length source.now.faults.now ≡ length source.now.index.now.raws.now }
     ensures told { IfOk result (λ said. IsToldOfEach
         (spec.IsSourcePart (S.says speaker.now) (S.refuses speaker.now) source.now.path.now source.now.text.now
-        source.now.index.raws.now source.now.faults.now)
-        (range_with_len 0 (length source.now.index.raws.now)) (told_of said)) }
+        source.now.index.now.raws.now source.now.faults.now)
+        (range_with_len 0 (length source.now.index.now.raws.now)) (told_of said)) }
     ensures heard { IfOk result (λ said. Hears W.heard W.has_failed watcher.old watcher.new said.lines.items) }
 {
     let raws = source.index.raws;
@@ -238,26 +244,28 @@ fn source_lines<S: Speaker, W: Watcher>(
 fn source_part<S: Speaker>(
     alloc: Global,
     speaker: &S,
-    source: &SourceEntries<'_>,
+    source: &SourceEntries<'_, '_>,
     place: usize,
 ) -> Result<Said, AllocError>
-    requires fit { AllByRecursion FieldsFit source.now.index.raws.now }
-    requires names { NamesFit source.now.index.raws.now source.now.faults.now }
-    requires beside { length source.now.faults.now ≡ length source.now.index.raws.now }
-    requires there { place < length source.now.index.raws.now }
+    requires fit { AllByRecursion FieldsFit source.now.index.now.raws.now }
+    requires names { NamesFit source.now.index.now.raws.now source.now.faults.now }
+    requires beside { length source.now.faults.now ≡ length source.now.index.now.raws.now }
+    requires there { place < length source.now.index.now.raws.now }
     ensures { IfOk result (λ said. spec.IsSourcePart (S.says speaker.now) (S.refuses speaker.now)
-        source.now.path.now source.now.text.now source.now.index.raws.now source.now.faults.now place
+        source.now.path.now source.now.text.now source.now.index.now.raws.now source.now.faults.now place
         (told_of said)) }
 {
     let raws = source.index.raws;
     let raw = raw_at(raws, place);
-    let entry = entry_apart(alloc, &source.index, source.faults, place)?;
+    let entry = entry_apart(alloc, source.index, source.faults, place)?;
     let name = first_name(raw.names.as_slice());
     let stands = Some(SourcePlace {
         path: source.path,
         text: source.text,
         raws,
         place,
+        lined: source.lined,
+        index: source.index,
     });
     entry_lines(alloc, speaker, source.path, &stands, name, &entry)
 }
@@ -300,7 +308,7 @@ fn entry_lines<S: Speaker>(
     alloc: Global,
     speaker: &S,
     path: &str,
-    stands: &Option<SourcePlace<'_>>,
+    stands: &Option<SourcePlace<'_, '_>>,
     name: &[u8],
     entry: &Result<Entry, CommandRefusal>,
 ) -> Result<Said, AllocError>

@@ -28,7 +28,7 @@ impl<'a, C: Certifier> Speaker for Asked<'a, C> {
         self.lists_all
     }
 
-    fn say(&self, alloc: Global, found: &FileEntry<'_>) -> Result<Said, AllocError> {
+    fn say(&self, alloc: Global, found: &FileEntry<'_, '_>) -> Result<Said, AllocError> {
         if self.lists_all {
             all_faults(alloc, self.size, found.stands, found.name, found.entry)
         } else {
@@ -99,7 +99,7 @@ fn refused(alloc: Global, why: &[u8]) -> Result<Vec<u8>, AllocError>
 fn all_faults(
     alloc: Global,
     size: Size,
-    stands: &Option<SourcePlace<'_>>,
+    stands: &Option<SourcePlace<'_, '_>>,
     name: &[u8],
     entry: &Entry,
 ) -> Result<Said, AllocError>
@@ -122,7 +122,7 @@ fn all_faults(
 /// is.
 fn places_of(
     alloc: Global,
-    stands: &Option<SourcePlace<'_>>,
+    stands: &Option<SourcePlace<'_, '_>>,
     name: &[u8],
     nos: &[No],
 ) -> Result<Vec<u8>, AllocError>

@@ -12,11 +12,11 @@ use ti_verdicts::SourcePlace;
 
 /// An entry that a file has.
 #[derive(Drop)]
-pub struct FileEntry<'a> {
+pub struct FileEntry<'a, 'b> {
     /// The file's path.
     pub path: &'a str,
     /// The place of the entry in the file; `None` if the file is no source.
-    pub stands: &'a Option<SourcePlace<'a>>,
+    pub stands: &'a Option<SourcePlace<'a, 'b>>,
     /// The first of the names that the entry has there.
     pub name: &'a [u8],
     /// The contents of the entry.
@@ -36,7 +36,7 @@ pub trait Speaker {
 
     /// Its statement about the entry that was `found`. If that is the entry of a source, its place must be one of those
     /// of the source's entries.
-    fn say(&self, alloc: Global, found: &FileEntry<'_>) -> Result<Said, AllocError>
+    fn say(&self, alloc: Global, found: &FileEntry<'_, '_>) -> Result<Said, AllocError>
         requires { IfSome found.now.stands.now (λ there. there.place < length there.raws.now) }
         ensures { IfOk result (λ said. says self.now found.now.path.now (place_if found.now.stands.now)
             found.now.name.now found.now.entry.now (told_of said)) };

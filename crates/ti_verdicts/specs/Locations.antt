@@ -1,39 +1,37 @@
 -- The place of a capability's value in a source text, in the form that editors read.
-use Rattle.std.specs.Prelude.{◌≡◌, ◌==◌, ℕ, List, [], ◌∷◌, ◌++◌, Option, Some, None, codes, slice_get}
+use Rattle.std.specs.Prelude.{◌≡◌, ◌==◌, ℕ, List, [], ◌∷◌, ◌++◌, Option, Some, None, codes}
 use Rattle.std.specs.Fmt.{decimal}
 use Rattle.std.specs.List.{before_first}
 use Rattle.ti_caps.specs.Table.{name_at}
 use Rattle.ti_commands.specs.declared.sources.SourceText.{SourceText}
 use Rattle.ti_checker.specs.declared.causes.No.{No}
+use Rattle.ti_entries.specs.LinedTexts.{line_at}
 use Rattle.ti_resolve.specs.Origins.{IsOrigin, IsOriginAt}
 use Rattle.ti_resolve.specs.Uses.{names_at}
 use Rattle.ti_resolve.specs.declared.origins.Origin.{Origin}
 use Rattle.ti_source.specs.Lines.{field_lines_of}
-use Rattle.ti_source.specs.declared.lines.FieldLine.{FieldLine}
 use Rattle.ti_source.specs.declared.types.RawEntry.{RawEntry}
 use Rattle.ti_verdicts.specs.Refusals.{no_text}
-use Rattle.ti_verdicts.specs.declared.locations.SourcePlace.{SourcePlace}
+use Rattle.ti_verdicts.specs.declared.source_places.SourcePlace.{SourcePlace}
 use Rattle.ti_words.specs.Shown.{shown}
-
--- the number of a line, if there is one
-abbrev pub number_of : Option FieldLine → ℕ
-number_of None = 0
-number_of (Some field) = field.line
 
 -- the line of the text that has a field
 unfoldable pub line_of_field : List ℕ → Origin → ℕ
-line_of_field text origin = number_of (slice_get (field_lines_of text origin.entry) origin.field)
+line_of_field text origin = line_at (field_lines_of text origin.entry) origin.field
 
 -- an entry's first name
 abbrev pub first_name : List ℕ → List ℕ
 first_name names = before_first (λ b. b == 124) names
 
--- `FILE:LINE: CAP of NAME` by the file's path and text and its entries, with the first name of the entry that has the
--- field
+-- `FILE:LINE: CAP of NAME` by the file's path, the line's number and the names of an entry
+unfoldable pub numbered_text : List ℕ → ℕ → ℕ → List ℕ → List ℕ
+numbered_text path number cap names =
+    path ++ (codes ":" ++ (decimal number ++ (codes ": " ++ (name_at cap ++ (codes " of " ++ first_name names)))))
+
+-- by the file's path and text and its entries, with the first name of the entry that has the field
 unfoldable pub place_text : List ℕ → List ℕ → List RawEntry → ℕ → Origin → List ℕ
 place_text path text raws cap origin =
-    path
-    ++ (codes ":" ++ (decimal (line_of_field text origin) ++ (codes ": " ++ (name_at cap ++ (codes " of " ++ first_name (names_at raws origin.entry))))))
+    numbered_text path (line_of_field text origin) cap (names_at raws origin.entry)
 
 -- the line with these words, as far as they can be shown; none for a capability without a value
 abbrev pub origin_text : SourceText → ℕ → Option Origin → List ℕ

@@ -12,6 +12,7 @@ mod locations;
 mod reasons;
 mod refusals;
 mod remedies;
+mod source_places;
 mod starts;
 mod verifications;
 
@@ -19,8 +20,9 @@ pub use answers::{Answer, answers_line, fault_answers};
 pub use certifiers::{Certifier, Checker};
 pub use checks::{check_entry, notes_on};
 pub use fault_lists::check_all;
-pub use locations::{SourcePlace, first_name, line_of_field, placed};
+pub use locations::{first_name, line_of_field, placed};
 pub use reasons::explain_no;
 pub use refusals::{cause_name, no_failure, no_words};
+pub use source_places::SourcePlace;
 pub use starts::{probe_run_words, probe_words};
 pub use verifications::{checked_at, verify_certificate};

@@ -6,26 +6,14 @@ ghost use Rattle.ti_resolve.specs.Uses.{names_at};
 ghost use Rattle.ti_verdicts.specs.Locations as spec;
 
 use crate::refusals::no_words;
+use crate::source_places::SourcePlace;
 use std::alloc::{AllocError, Global};
 use ti_caps::{Cap, name};
 use ti_checker::No;
 use ti_commands::SourceText;
-use ti_resolve::{Origin, origin, origin_at};
+use ti_resolve::{Origin, origin};
 use ti_source::{RawEntry, field_lines};
 use ti_words::push_shown;
-
-/// The place of an entry in a source text.
-#[derive(Drop)]
-pub struct SourcePlace<'a> {
-    /// The file's path.
-    pub path: &'a str,
-    /// The file's text.
-    pub text: &'a [u8],
-    /// All entries of the text, as they were read.
-    pub raws: &'a [RawEntry],
-    /// The place of the entry in `raws`.
-    pub place: usize,
-}
 
 /// The end of the first of `names`, if another follows.
 fn name_end(names: &[u8]) -> Option<usize>
@@ -72,6 +60,7 @@ fn location_in(alloc: Global, source: &SourceText<'_>, cap: Cap) -> Result<Vec<u
 }
 
 /// The line of the field at `origin`, which is about `cap`.
+#[tactic(auto, unfolding(crate::specs::Locations::place_text))]
 fn place_line(
     alloc: Global,
     source: &SourceText<'_>,
@@ -80,34 +69,31 @@ fn place_line(
 ) -> Result<Vec<u8>, AllocError>
     ensures { IfOk result (λ line. line.items ≡ spec.origin_text source.now cap (Some origin)) }
 {
-    let text = source.text.as_slice();
-    let raws = source.raws.as_slice();
-    let words = place_words(alloc, source.path, text, raws, cap, origin)?;
+    let number = line_of_field(alloc, source.text.as_slice(), origin)?;
+    let names = names_of(source.raws.as_slice(), origin.entry);
+    let words = place_words(alloc, source.path, number, cap, names)?;
     let mut line = Vec::new(alloc);
     push_shown(&mut line, words.as_slice())?;
     line.push(b'\n')?;
     Ok(line)
 }
 
-/// `FILE:LINE: CAP of NAME` of the field at `origin`, which is about `cap`, in the `text` at `path` with the entries
-/// `raws`.
-#[tactic(auto, unfolding(crate::specs::Locations::place_text))]
+/// `FILE:LINE: CAP of NAME` of a field on the line `number`, which is about `cap`, of the entry with these `names`.
+#[tactic(auto, unfolding(crate::specs::Locations::numbered_text))]
 fn place_words(
     alloc: Global,
     path: &str,
-    text: &[u8],
-    raws: &[RawEntry],
+    number: usize,
     cap: Cap,
-    origin: Origin,
+    names: &[u8],
 ) -> Result<Vec<u8>, AllocError>
-    ensures { IfOk result (λ words. words.items ≡ spec.place_text path.now text.now raws.now cap origin) }
+    ensures { IfOk result (λ words. words.items ≡ spec.numbered_text path.now number cap names.now) }
 {
-    let number = line_of_field(alloc, text, origin)?;
     let mut words = Vec::from_slice(alloc, path.as_bytes())?;
     words.extend_from_slice(format!(in alloc; ":{number}: ")?.as_bytes())?;
     words.extend_from_slice(name(cap))?;
     words.extend_from_slice(b" of ")?;
-    words.extend_from_slice(first_name(names_of(raws, origin.entry)))?;
+    words.extend_from_slice(first_name(names))?;
     Ok(words)
 }
 
@@ -115,7 +101,7 @@ fn place_words(
 /// place `stands`; empty if the entry is in no source, or has no value.
 pub fn placed(
     alloc: Global,
-    stands: &Option<SourcePlace<'_>>,
+    stands: &Option<SourcePlace<'_, '_>>,
     name: &[u8],
     no: &No,
 ) -> Result<Vec<u8>, AllocError>
@@ -131,25 +117,24 @@ pub fn placed(
 /// The line of `no`, a fault of the entry of this name at `stands`.
 fn placed_in(
     alloc: Global,
-    stands: &SourcePlace<'_>,
+    stands: &SourcePlace<'_, '_>,
     name: &[u8],
     no: &No,
 ) -> Result<Vec<u8>, AllocError>
     requires { stands.now.place < length stands.now.raws.now }
     ensures { IfOk result (λ line. spec.IsPlacedIn (spec.place_in stands.now) name.now no.now line.items) }
 {
-    // the entry was resolved before, so memory ran out
-    match origin_at(alloc, stands.raws, stands.place, no.cap) {
-        Ok(None) => Ok(Vec::new(alloc)),
-        Ok(Some(origin)) => placed_line(alloc, stands, name, no, origin),
-        Err(_) => Err(AllocError),
+    match stands.origin(alloc, no.cap)? {
+        None => Ok(Vec::new(alloc)),
+        Some(origin) => placed_line(alloc, stands, name, no, origin),
     }
 }
 
 /// The line of `no`, a fault of the entry of this name at `stands`, where the field at `origin` gives the value.
+#[tactic(auto, unfolding(crate::specs::Locations::place_text))]
 fn placed_line(
     alloc: Global,
-    stands: &SourcePlace<'_>,
+    stands: &SourcePlace<'_, '_>,
     name: &[u8],
     no: &No,
     origin: Origin,
@@ -157,7 +142,8 @@ fn placed_line(
     ensures { IfOk result (λ line. line.items
         ≡ spec.placed_text (spec.place_in stands.now) name.now no.now (Some origin)) }
 {
-    let mut words = place_words(alloc, stands.path, stands.text, stands.raws, no.cap, origin)?;
+    let names = names_of(stands.raws, origin.entry);
+    let mut words = place_words(alloc, stands.path, stands.line(origin), no.cap, names)?;
     words.extend_from_slice(b": ")?;
     words.extend_from_slice(name)?;
     words.extend_from_slice(b" ")?;

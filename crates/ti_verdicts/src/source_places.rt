@@ -1,0 +1,70 @@
+//! The place of an entry in a source text.
+
+ghost use Rattle.std.specs.Prelude.{◌≡◌, ◌<◌, IfOk, length};
+ghost use Rattle.ti_resolve.specs.Origins.{IsOriginAt};
+
+use std::alloc::{AllocError, Global};
+use ti_caps::Cap;
+use ti_entries::LinedText;
+use ti_resolve::{Index, Origin, origin_from};
+use ti_source::RawEntry;
+
+/// The place of an entry in a source text.
+#[derive(Drop)]
+pub struct SourcePlace<'a, 'b> {
+    /// The file's path.
+    pub path: &'a str,
+    /// The file's text.
+    pub text: &'b [u8],
+    /// All entries of the text, as they were read.
+    pub raws: &'b [RawEntry],
+    /// The place of the entry in `raws`.
+    pub place: usize,
+    /// The text with the lines of all fields.
+    pub lined: &'a LinedText<'b>,
+    /// The entries with the index of their names.
+    pub index: &'a Index<'b>,
+    ghost same_text: { lined.now ≡ text.now },
+    ghost same_raws: { index.now.raws.now ≡ raws.now },
+}
+
+impl SourcePlace<'_, '_> {
+    ghost use Rattle.std.specs.Prelude.{◌≡◌, ◌<◌, IfOk, length};
+    ghost use Rattle.ti_resolve.specs.Origins.{IsOriginAt};
+    ghost use Rattle.ti_verdicts.specs.Locations.{line_of_field};
+
+    /// The field that gives the entry its value of `cap`; `None` if it has none.
+    ///
+    /// # Errors
+    /// Out of memory.
+    pub fn origin(&self, alloc: Global, cap: Cap) -> Result<Option<Origin>, AllocError>
+        requires { self.now.place < length self.now.raws.now }
+        ensures { IfOk result (λ found. IsOriginAt self.now.raws.now self.now.place cap found) }
+    {
+        origin_by(alloc, self.index, self.place, cap)
+    }
+
+    /// The line of the text that has the field at `origin`.
+    pub fn line(&self, origin: Origin) -> usize
+        ensures { result ≡ line_of_field self.now.text.now origin }
+    {
+        self.lined.line(origin)
+    }
+}
+
+/// The field that gives `cap` its value in the entry at `place`, which was resolved before.
+fn origin_by(
+    alloc: Global,
+    index: &Index<'_>,
+    place: usize,
+    cap: Cap,
+) -> Result<Option<Origin>, AllocError>
+    requires { place < length index.now.raws.now }
+    ensures { IfOk result (λ found. IsOriginAt index.now.raws.now place cap found) }
+{
+    match origin_from(alloc, index, place, cap) {
+        Ok(found) => Ok(found),
+        // it was resolved before, so memory ran out
+        Err(_) => Err(AllocError),
+    }
+}
