@@ -163,7 +163,7 @@ def as_text(held):
 
 
 def judge_forms(one):
-    """What an object says twice is the same, and what follows from its cause."""
+    """An object says one thing in each member that repeats it, and what follows from its cause."""
     for key in ("entry", "source_entry"):
         digits = one[f"{key}_hex"]
         if one[key] != (None if digits is None else as_text(bytes.fromhex(digits))):
@@ -417,7 +417,7 @@ NO_OUT = b"error: check writes a certificate, or with --json reports on the entr
 
 
 def judge_refused():
-    """An entry that can't be had is refused as in the plain form, with an object; a wrong size has none."""
+    """An entry that can't be obtained is refused as in the plain form, with an object; a wrong size has none."""
     lacking = ["five.ti:six", "six.ti:six", "names:lost", "faulty:a", "five.ti", "six"]
     refused = [*([word, *SIZE] for word in lacking), ["five.ti:five", "1", "6"], ["five.ti:five", "x", "6"]]
     cases = [Case(["check", *form, *words]) for words in refused for form in ([], ["--json"])]
