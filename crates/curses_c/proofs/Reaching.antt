@@ -21,7 +21,7 @@ use Rattle.cur_play.specs.Deliveries.{FitsIn}
 use Rattle.cur_play.specs.Scenes.{Scene, Stage}
 use Rattle.cur_play.specs.declared.answers.Answer.{Answer}
 use Rattle.curses_c.specs.Held.{CopiesLines, Hands, Makes, Recolors, noting}
-use Rattle.curses_c.specs.Laws.{Played, Begun, Called, Took, Noted, Recolored, CopiedLines, Rests, Still, Drew, TookMore, NotedMore, RecoloredMore, CopiedMoreLines, FitsHeld, ShowsAfter, Begins, CallsReach, RefreshesShow, LossesBegin, LossesFit, OpeningsBegin}
+use Rattle.curses_c.specs.Laws.{Reaches, Begun, Called, Took, Noted, Recolored, CopiedLines, Played, Rests, FitsHeld, ShowsAfter, Begins, CallsReach, RefreshesShow, LossesBegin, LossesFit, OpeningsBegin}
 use Rattle.curses_c.specs.declared.held.Held.{Held}
 
 -- all sent bytes lead to a state that fits, and each prefix of them to a state that fits a lost session
@@ -97,7 +97,7 @@ begun h s b =
 
 reached : (h k : Held) (taken : List ℕ) (s : State) → Played h taken k → Begins h s → Reached k (taken ++ k.outbox.waiting) s
 reached h k taken s (Begun _ _ e f) b = subst (λ (x : Held). Reached x (taken ++ x.outbox.waiting) s) (sym f) (subst (λ (l : List ℕ). Reached h (l ++ h.outbox.waiting) s) (sym e) (begun h s b))
-reached h k taken s (Called _ mid _ call answer p m) b = made mid k call answer taken s m (reached h mid taken s p b)
+reached h k taken s (Called _ mid _ call answer p m _) b = made mid k call answer taken s m (reached h mid taken s p b)
 reached h k taken s (Took before _ mid _ room count p hands e) b =
     subst (λ (l : List ℕ). Reached k l s) (sym (handed before taken mid.outbox.waiting k.outbox.waiting count e hands.rest))
     (took mid k room count (before ++ mid.outbox.waiting) s hands (reached h mid before s p b))
@@ -113,14 +113,14 @@ calls_reach h k taken s p b = (reached h k taken s p b).whole
 
 -- the bytes that waited are those taken since, and those that wait
 rested : (h k : Held) (taken : List ℕ) → Rests h taken k → taken ++ k.outbox.waiting ≡ h.outbox.waiting
-rested h k taken (Still _ _ e f) = ap (λ (l : List ℕ). l ++ k.outbox.waiting) e ∙ ap (λ (x : Held). x.outbox.waiting) f
-rested h k taken (Drew _ mid _ call answer p m quiet) =
+rested h k taken (Begun _ _ e f) = ap (λ (l : List ℕ). l ++ k.outbox.waiting) e ∙ ap (λ (x : Held). x.outbox.waiting) f
+rested h k taken (Called _ mid _ call answer p m quiet) =
     let none : m.carries.bytes ≡ [] = empty_list m.carries.bytes (m.carries.quiet quiet) in
     ap (λ (l : List ℕ). taken ++ l) (m.carries.sent.waiting ∙ ap (λ (l : List ℕ). mid.outbox.waiting ++ l) none ∙ append-nil mid.outbox.waiting) ∙ rested h mid taken p
-rested h k taken (TookMore before _ mid _ room count p hands e) = handed before taken mid.outbox.waiting k.outbox.waiting count e hands.rest ∙ rested h mid before p
-rested h k taken (NotedMore _ mid _ line p e) = ap (λ (x : Held). taken ++ x.outbox.waiting) e ∙ rested h mid taken p
-rested h k taken (RecoloredMore _ mid _ p f b answer q e) = ap (λ (x : Held). taken ++ x.outbox.waiting) e.0 ∙ rested h mid taken q
-rested h k taken (CopiedMoreLines _ mid _ n top bottom answer q e) = ap (λ (x : Held). taken ++ x.outbox.waiting) e.0 ∙ rested h mid taken q
+rested h k taken (Took before _ mid _ room count p hands e) = handed before taken mid.outbox.waiting k.outbox.waiting count e hands.rest ∙ rested h mid before p
+rested h k taken (Noted _ mid _ line p e) = ap (λ (x : Held). taken ++ x.outbox.waiting) e ∙ rested h mid taken p
+rested h k taken (Recolored _ mid _ p f b answer q e) = ap (λ (x : Held). taken ++ x.outbox.waiting) e.0 ∙ rested h mid taken q
+rested h k taken (CopiedLines _ mid _ n top bottom answer q e) = ap (λ (x : Held). taken ++ x.outbox.waiting) e.0 ∙ rested h mid taken q
 
 pub refreshes_show : RefreshesShow
 refreshes_show h mid k last taken more call answer s p m shown rests none b =

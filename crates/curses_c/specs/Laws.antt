@@ -19,32 +19,28 @@ use Rattle.cur_play.specs.declared.sends.Emission.TheVariants.{Nothing}
 use Rattle.curses_c.specs.Held.{CopiesLines, Hands, Loses, Makes, Recolors, noting}
 use Rattle.curses_c.specs.declared.held.Held.{Held}
 
--- calls on a session, colors of pairs, copies of lines, and takings of waiting bytes, with all bytes taken; a change of
--- the noted line changes none of these
-pub data Played (h : Held) : List ℕ → Held → Type 0 where
-  Begun : (taken : List ℕ) (k : Held) → taken ≡ [] → k ≡ h → Played h taken k
-  Called : (taken : List ℕ) (mid k : Held) (call : Call) (answer : Answer) → Played h taken mid
-      → Makes mid call answer k → Played h taken k
-  Took : (before taken : List ℕ) (mid k : Held) (room : List ℕ) (count : ℕ) → Played h before mid
-      → Hands mid room count k → taken ≡ before ++ take count mid.outbox.waiting → Played h taken k
-  Noted : (taken : List ℕ) (mid k : Held) (line : ℕ) → Played h taken mid → k ≡ noting line mid → Played h taken k
-  Recolored : (taken : List ℕ) (mid k : Held) (p f b : ℤ) (answer : Answer) → Played h taken mid
-      → Recolors p f b mid answer k → Played h taken k
-  CopiedLines : (taken : List ℕ) (mid k : Held) (n : ℕ) (top bottom : ℤ) (answer : Answer) → Played h taken mid
-      → CopiesLines n top bottom mid answer k → Played h taken k
+-- a session after some of the calls that may be made on it, colors of pairs, copies of lines, and takings of waiting
+-- bytes, with all bytes taken; a change of the noted line changes none of these
+pub data Reaches (may : Call → Type 0) (h : Held) : List ℕ → Held → Type 0 where
+  Begun : (taken : List ℕ) (k : Held) → taken ≡ [] → k ≡ h → Reaches may h taken k
+  Called : (taken : List ℕ) (mid k : Held) (call : Call) (answer : Answer) → Reaches may h taken mid
+      → Makes mid call answer k → may call → Reaches may h taken k
+  Took : (before taken : List ℕ) (mid k : Held) (room : List ℕ) (count : ℕ) → Reaches may h before mid
+      → Hands mid room count k → taken ≡ before ++ take count mid.outbox.waiting → Reaches may h taken k
+  Noted : (taken : List ℕ) (mid k : Held) (line : ℕ) → Reaches may h taken mid → k ≡ noting line mid
+      → Reaches may h taken k
+  Recolored : (taken : List ℕ) (mid k : Held) (p f b : ℤ) (answer : Answer) → Reaches may h taken mid
+      → Recolors p f b mid answer k → Reaches may h taken k
+  CopiedLines : (taken : List ℕ) (mid k : Held) (n : ℕ) (top bottom : ℤ) (answer : Answer) → Reaches may h taken mid
+      → CopiesLines n top bottom mid answer k → Reaches may h taken k
 
--- as `Played`, with only calls that send nothing
-pub data Rests (h : Held) : List ℕ → Held → Type 0 where
-  Still : (taken : List ℕ) (k : Held) → taken ≡ [] → k ≡ h → Rests h taken k
-  Drew : (taken : List ℕ) (mid k : Held) (call : Call) (answer : Answer) → Rests h taken mid → Makes mid call answer k
-      → output_of call ≡ Nothing → Rests h taken k
-  TookMore : (before taken : List ℕ) (mid k : Held) (room : List ℕ) (count : ℕ) → Rests h before mid
-      → Hands mid room count k → taken ≡ before ++ take count mid.outbox.waiting → Rests h taken k
-  NotedMore : (taken : List ℕ) (mid k : Held) (line : ℕ) → Rests h taken mid → k ≡ noting line mid → Rests h taken k
-  RecoloredMore : (taken : List ℕ) (mid k : Held) (p f b : ℤ) (answer : Answer) → Rests h taken mid
-      → Recolors p f b mid answer k → Rests h taken k
-  CopiedMoreLines : (taken : List ℕ) (mid k : Held) (n : ℕ) (top bottom : ℤ) (answer : Answer) → Rests h taken mid
-      → CopiesLines n top bottom mid answer k → Rests h taken k
+-- any calls may be made
+abbrev pub Played : Held → List ℕ → Held → Type 0
+Played h taken k = Reaches (λ call. Unit {0}) h taken k
+
+-- only calls that send nothing
+abbrev pub Rests : Held → List ℕ → Held → Type 0
+Rests h taken k = Reaches (λ call. output_of call ≡ Nothing) h taken k
 
 -- the states that the terminal may be in if nothing waits
 abbrev pub FitsHeld : Held → State → Type 0
