@@ -3,8 +3,10 @@
 #![tactic(auto)]
 
 mod lined_texts;
+mod names;
 mod resolution;
 mod text_lines;
 
 pub use lined_texts::LinedText;
+pub use names::place_named;
 pub use resolution::{ApartFault, faultless_are_resolved, resolve_apart};

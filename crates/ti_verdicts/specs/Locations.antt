@@ -12,6 +12,7 @@ use Rattle.ti_resolve.specs.declared.origins.Origin.{Origin}
 use Rattle.ti_source.specs.Lines.{field_lines_of}
 use Rattle.ti_source.specs.declared.types.RawEntry.{RawEntry}
 use Rattle.ti_verdicts.specs.Refusals.{no_text}
+use Rattle.ti_verdicts.specs.declared.source_places.NamedSource.{NamedSource}
 use Rattle.ti_verdicts.specs.declared.source_places.SourcePlace.{SourcePlace}
 use Rattle.ti_words.specs.Shown.{shown}
 
@@ -90,3 +91,7 @@ place_in stands = record {
 abbrev pub place_if : Option SourcePlace → Option PlaceInSource
 place_if None = None
 place_if (Some stands) = Some (place_in stands)
+
+abbrev pub source_if : Option NamedSource → Option SourceText
+source_if None = None
+source_if (Some named) = Some named.source.now

@@ -1,8 +1,9 @@
 //! The command `check --all`.
 
-ghost use Rattle.std.specs.Prelude.{◌≡◌, IfErr, IfOk};
+ghost use Rattle.std.specs.Prelude.{◌≡◌, IfErr, IfOk, Some};
 ghost use Rattle.ti_verdicts.specs.Checks.{FailsForEntry};
 ghost use Rattle.ti_verdicts.specs.FaultLists as spec;
+ghost use Rattle.ti_verdicts.specs.Locations.{source_if};
 ghost use Rattle.ti_verdicts.specs.Parts.{HasParts};
 
 use crate::answers::{answers_line, fault_answers};
@@ -12,13 +13,16 @@ use crate::locations::location;
 use crate::reasons::explain_no;
 use crate::refusals::{no_failure, no_words};
 use crate::remedies::{note_another_kind, note_left_out, suggestion_lines};
+use crate::source_places::NamedSource;
 use std::alloc::{AllocError, Global};
 use ti_caps::Entry;
 use ti_checker::No;
-use ti_commands::{Failure, Files, Reply, Sourced, size_words, sourced_entry};
+use ti_commands::{Failure, Files, Reply, SourceText, Sourced, size_words, sourced_entry};
+use ti_entries::LinedText;
 use ti_faults::{Mended, faults};
 use ti_hints::{advise, advise_unchecked};
 use ti_requests::FaultsWords;
+use ti_resolve::Index;
 use ti_words::Remarks;
 use vt_term::Size;
 
@@ -90,6 +94,60 @@ fn faults_text(
 ) -> Result<Vec<u8>, AllocError>
     ensures { IfOk result (λ text. spec.IsFaultsText found.now.entry found.now.source mended.now nos.now text.items) }
 {
+    match &found.source {
+        None => {
+            let located = Located {
+                entry: &found.entry,
+                source: None,
+            };
+            located_text(alloc, &located, size, mended, nos)
+        }
+        Some(source) => source_text(alloc, &found.entry, source, size, mended, nos),
+    }
+}
+
+/// The lines of the faults `nos` of `entry`, which is that of `source` and is `mended`, and then their counts.
+fn source_text<'x>(
+    alloc: Global,
+    entry: &'x Entry,
+    source: &'x SourceText<'x>,
+    size: Size,
+    mended: &Mended,
+    nos: &[No],
+) -> Result<Vec<u8>, AllocError>
+    ensures { IfOk result (λ text. spec.IsFaultsText entry.now (Some source.now) mended.now nos.now text.items) }
+{
+    let index = Index::new(alloc, source.raws.as_slice())?;
+    let lined = LinedText::new(alloc, source.text.as_slice())?;
+    let located = Located {
+        entry,
+        source: Some(NamedSource {
+            source,
+            lined: &lined,
+            index: &index,
+        }),
+    };
+    located_text(alloc, &located, size, mended, nos)
+}
+
+/// An entry with its source, if it is in one.
+#[derive(Drop)]
+struct Located<'a, 'b> {
+    entry: &'b Entry,
+    source: Option<NamedSource<'a, 'b>>,
+}
+
+/// The lines of the faults `nos` of the entry `found`, which is `mended`, and then their counts.
+fn located_text(
+    alloc: Global,
+    found: &Located<'_, '_>,
+    size: Size,
+    mended: &Mended,
+    nos: &[No],
+) -> Result<Vec<u8>, AllocError>
+    ensures { IfOk result (λ text. spec.IsFaultsText found.now.entry.now (source_if found.now.source) mended.now
+        nos.now text.items) }
+{
     let mut text = fault_lines(alloc, found, size, mended, nos)?;
     let counts = counts_line(alloc, nos)?;
     text.extend_from_slice(counts.as_slice())?;
@@ -107,13 +165,13 @@ fn counts_line(alloc: Global, nos: &[No]) -> Result<Vec<u8>, AllocError>
 /// The lines of the faults `nos` of the entry `found`, which is `mended`, one after another.
 fn fault_lines(
     alloc: Global,
-    found: &Sourced<'_>,
+    found: &Located<'_, '_>,
     size: Size,
     mended: &Mended,
     nos: &[No],
 ) -> Result<Vec<u8>, AllocError>
     ensures { IfOk result (λ lines. HasParts
-        (spec.HasFaultLines found.now.entry found.now.source mended.now nos.now) nos.now lines.items) }
+        (spec.HasFaultLines found.now.entry.now (source_if found.now.source) mended.now nos.now) nos.now lines.items) }
 {
     let mut lines = Vec::new(alloc);
     for no in nos {
@@ -127,22 +185,22 @@ fn fault_lines(
 /// the source, its explanation, and the strings that would be right.
 fn own_lines(
     alloc: Global,
-    found: &Sourced<'_>,
+    found: &Located<'_, '_>,
     size: Size,
     mended: &Mended,
     no: &No,
     nos: &[No],
 ) -> Result<Vec<u8>, AllocError>
-    ensures { IfOk result (λ lines. spec.HasFaultLines found.now.entry found.now.source mended.now nos.now no.now
+    ensures { IfOk result (λ lines. spec.HasFaultLines found.now.entry.now (source_if found.now.source) mended.now nos.now no.now
         lines.items) }
 {
     let mut lines = no_words(alloc, no)?;
     lines.push(b'\n')?;
     let place = location(alloc, &found.source, no.cap)?;
     lines.extend_from_slice(place.as_slice())?;
-    let further = explanation(alloc, &found.entry, size, no)?;
+    let further = explanation(alloc, found.entry, size, no)?;
     lines.extend_from_slice(further.as_slice())?;
-    let remedies = suggestion_lines(alloc, &found.entry, mended, no.cap, nos)?;
+    let remedies = suggestion_lines(alloc, found.entry, mended, no.cap, nos)?;
     lines.extend_from_slice(remedies.as_slice())?;
     Ok(lines)
 }

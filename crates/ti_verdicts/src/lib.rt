@@ -23,6 +23,6 @@ pub use fault_lists::check_all;
 pub use locations::{first_name, line_of_field, placed};
 pub use reasons::explain_no;
 pub use refusals::{cause_name, no_failure, no_words};
-pub use source_places::SourcePlace;
+pub use source_places::{NamedSource, SourcePlace};
 pub use starts::{probe_run_words, probe_words};
 pub use verifications::{checked_at, verify_certificate};

@@ -6,12 +6,11 @@ ghost use Rattle.ti_resolve.specs.Uses.{names_at};
 ghost use Rattle.ti_verdicts.specs.Locations as spec;
 
 use crate::refusals::no_words;
-use crate::source_places::SourcePlace;
+use crate::source_places::{NamedSource, SourcePlace};
 use std::alloc::{AllocError, Global};
 use ti_caps::{Cap, name};
 use ti_checker::No;
-use ti_commands::SourceText;
-use ti_resolve::{Origin, origin};
+use ti_resolve::Origin;
 use ti_source::{RawEntry, field_lines};
 use ti_words::push_shown;
 
@@ -36,26 +35,24 @@ pub fn first_name(names: &[u8]) -> &[u8]
 /// empty if there is no source or no value.
 pub fn location(
     alloc: Global,
-    source: &Option<SourceText<'_>>,
+    source: &Option<NamedSource<'_, '_>>,
     cap: Cap,
 ) -> Result<Vec<u8>, AllocError>
-    ensures { IfOk result (λ line. spec.IsLocation source.now cap line.items) }
+    ensures { IfOk result (λ line. spec.IsLocation (spec.source_if source.now) cap line.items) }
 {
     match source {
         None => Ok(Vec::new(alloc)),
-        Some(source) => location_in(alloc, source, cap),
+        Some(named) => location_in(alloc, named, cap),
     }
 }
 
-/// The line that says where `source` has the value of `cap`; empty if there is no value.
-fn location_in(alloc: Global, source: &SourceText<'_>, cap: Cap) -> Result<Vec<u8>, AllocError>
-    ensures { IfOk result (λ line. spec.IsLocatedIn source.now cap line.items) }
+/// The line that says where the source `named` has the value of `cap`; empty if there is no value.
+fn location_in(alloc: Global, named: &NamedSource<'_, '_>, cap: Cap) -> Result<Vec<u8>, AllocError>
+    ensures { IfOk result (λ line. spec.IsLocatedIn named.now.source.now cap line.items) }
 {
-    // the name was resolved before, so memory ran out
-    match origin(alloc, source.raws.as_slice(), source.name.as_bytes(), cap) {
-        Ok(None) => Ok(Vec::new(alloc)),
-        Ok(Some(origin)) => place_line(alloc, source, cap, origin),
-        Err(_) => Err(AllocError),
+    match named.origin(alloc, cap)? {
+        None => Ok(Vec::new(alloc)),
+        Some(origin) => place_line(alloc, named, cap, origin),
     }
 }
 
@@ -63,15 +60,15 @@ fn location_in(alloc: Global, source: &SourceText<'_>, cap: Cap) -> Result<Vec<u
 #[tactic(auto, unfolding(crate::specs::Locations::place_text))]
 fn place_line(
     alloc: Global,
-    source: &SourceText<'_>,
+    named: &NamedSource<'_, '_>,
     cap: Cap,
     origin: Origin,
 ) -> Result<Vec<u8>, AllocError>
-    ensures { IfOk result (λ line. line.items ≡ spec.origin_text source.now cap (Some origin)) }
+    ensures { IfOk result (λ line. line.items ≡ spec.origin_text named.now.source.now cap (Some origin)) }
 {
-    let number = line_of_field(alloc, source.text.as_slice(), origin)?;
+    let source = named.source;
     let names = names_of(source.raws.as_slice(), origin.entry);
-    let words = place_words(alloc, source.path, number, cap, names)?;
+    let words = place_words(alloc, source.path, named.line(origin), cap, names)?;
     let mut line = Vec::new(alloc);
     push_shown(&mut line, words.as_slice())?;
     line.push(b'\n')?;

@@ -1,11 +1,12 @@
 //! The place of an entry in a source text.
 
 ghost use Rattle.std.specs.Prelude.{◌≡◌, ◌<◌, IfOk, length};
-ghost use Rattle.ti_resolve.specs.Origins.{IsOriginAt};
+ghost use Rattle.ti_resolve.specs.Origins.{IsOrigin, IsOriginAt};
 
 use std::alloc::{AllocError, Global};
 use ti_caps::Cap;
-use ti_entries::LinedText;
+use ti_commands::SourceText;
+use ti_entries::{LinedText, place_named};
 use ti_resolve::{Index, Origin, origin_from};
 use ti_source::RawEntry;
 
@@ -66,5 +67,57 @@ fn origin_by(
         Ok(found) => Ok(found),
         // it was resolved before, so memory ran out
         Err(_) => Err(AllocError),
+    }
+}
+
+/// A source text, and the entry in it that has its name.
+#[derive(Drop)]
+pub struct NamedSource<'a, 'b> {
+    /// The source, and the name.
+    pub source: &'b SourceText<'b>,
+    /// The text with the lines of all fields.
+    pub lined: &'a LinedText<'b>,
+    /// The entries with the index of their names.
+    pub index: &'a Index<'b>,
+    ghost same_text: { lined.now ≡ source.now.text.items },
+    ghost same_raws: { index.now.raws.now ≡ source.now.raws.items },
+}
+
+impl NamedSource<'_, '_> {
+    ghost use Rattle.std.specs.Prelude.{◌≡◌, IfOk};
+    ghost use Rattle.ti_resolve.specs.Origins.{IsOrigin};
+    ghost use Rattle.ti_verdicts.specs.Locations.{line_of_field};
+
+    /// The field that gives the entry its value of `cap`; `None` if it has none.
+    ///
+    /// # Errors
+    /// Out of memory.
+    pub fn origin(&self, alloc: Global, cap: Cap) -> Result<Option<Origin>, AllocError>
+        ensures { IfOk result (λ found. IsOrigin self.now.source.now.raws.items self.now.source.now.name.now cap found) }
+    {
+        origin_named(alloc, self.index, self.source.name.as_bytes(), cap)
+    }
+
+    /// The line of the text that has the field at `origin`.
+    pub fn line(&self, origin: Origin) -> usize
+        ensures { result ≡ line_of_field self.now.source.now.text.items origin }
+    {
+        self.lined.line(origin)
+    }
+}
+
+/// The field that gives `cap` its value in the entry named `name`, which was resolved before.
+fn origin_named(
+    alloc: Global,
+    index: &Index<'_>,
+    name: &[u8],
+    cap: Cap,
+) -> Result<Option<Origin>, AllocError>
+    ensures { IfOk result (λ found. IsOrigin index.now.raws.now name.now cap found) }
+{
+    match place_named(index.raws, name) {
+        Some(root) => origin_by(alloc, index, root, cap),
+        // the name was resolved before, so there is one
+        None => Err(AllocError),
     }
 }

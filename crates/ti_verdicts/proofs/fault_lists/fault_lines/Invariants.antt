@@ -1,8 +1,9 @@
 use Rattle.std.proofs.Common.{take}
 use Rattle.ti_verdicts.specs.FaultLists.{HasFaultLines}
+use Rattle.ti_verdicts.specs.Locations.{source_if}
 use Rattle.ti_verdicts.specs.Parts.{HasParts}
 use Rattle.ti_verdicts.proofs.fault_lists.fault_lines.Given as goal
 
 -- the faults before this one have their lines
 abbrev pub invariant-loop-no : goal.invariant-loop-no
-invariant-loop-no l = HasParts (HasFaultLines l.found.entry l.found.source l.mended l.nos) (take l.no-index l.nos) l.lines.items
+invariant-loop-no l = HasParts (HasFaultLines l.found.entry.now (source_if l.found.source) l.mended l.nos) (take l.no-index l.nos) l.lines.items
