@@ -153,9 +153,6 @@ fn shown<'a>(request: &Request) -> Option<Call<'a>>
     }
 }
 
-// A call is a large value: each of these is inlined, so that it is made where it is kept.
-
-#[inline(always)]
 fn newwin<'a>(request: &Request) -> Option<Call<'a>>
     ensures { result ≡ spec.newwin request.now }
 {
@@ -168,7 +165,6 @@ fn newwin<'a>(request: &Request) -> Option<Call<'a>>
     })
 }
 
-#[inline(always)]
 fn newpad<'a>(request: &Request) -> Option<Call<'a>>
     ensures { result ≡ spec.newpad request.now }
 {
@@ -179,7 +175,6 @@ fn newpad<'a>(request: &Request) -> Option<Call<'a>>
     })
 }
 
-#[inline(always)]
 fn part<'a>(call: PartCall, request: &Request) -> Option<Call<'a>>
     ensures { result ≡ spec.part call request.now }
 {
@@ -194,7 +189,6 @@ fn part<'a>(call: PartCall, request: &Request) -> Option<Call<'a>>
     })
 }
 
-#[inline(always)]
 fn dupwin<'a>(request: &Request) -> Option<Call<'a>>
     ensures { result ≡ spec.dupwin request.now }
 {
@@ -204,7 +198,6 @@ fn dupwin<'a>(request: &Request) -> Option<Call<'a>>
     })
 }
 
-#[inline(always)]
 fn plain<'a>(call: PlainCall, request: &Request) -> Option<Call<'a>>
     ensures { result ≡ spec.plain call request.now }
 {
@@ -214,7 +207,6 @@ fn plain<'a>(call: PlainCall, request: &Request) -> Option<Call<'a>>
     })
 }
 
-#[inline(always)]
 fn number<'a>(call: NumberCall, request: &Request) -> Option<Call<'a>>
     ensures { result ≡ spec.number call request.now }
 {
@@ -225,7 +217,6 @@ fn number<'a>(call: NumberCall, request: &Request) -> Option<Call<'a>>
     })
 }
 
-#[inline(always)]
 fn numbers<'a>(call: NumbersCall, request: &Request) -> Option<Call<'a>>
     ensures { result ≡ spec.numbers call request.now }
 {
@@ -237,7 +228,6 @@ fn numbers<'a>(call: NumbersCall, request: &Request) -> Option<Call<'a>>
     })
 }
 
-#[inline(always)]
 fn flag<'a>(call: FlagCall, request: &Request) -> Option<Call<'a>>
     ensures { result ≡ spec.flag call request.now }
 {
@@ -248,7 +238,6 @@ fn flag<'a>(call: FlagCall, request: &Request) -> Option<Call<'a>>
     })
 }
 
-#[inline(always)]
 fn attributes<'a>(call: AttrsCall, request: &Request) -> Option<Call<'a>>
     ensures { result ≡ spec.attributes call request.now }
 {
@@ -259,7 +248,6 @@ fn attributes<'a>(call: AttrsCall, request: &Request) -> Option<Call<'a>>
     })
 }
 
-#[inline(always)]
 fn cell<'a>(call: CellCall, request: &Request) -> Option<Call<'a>>
     ensures { result ≡ spec.cell call request.now }
 {
@@ -270,7 +258,6 @@ fn cell<'a>(call: CellCall, request: &Request) -> Option<Call<'a>>
     })
 }
 
-#[inline(always)]
 fn line<'a>(call: LineCall, request: &Request) -> Option<Call<'a>>
     ensures { result ≡ spec.line call request.now }
 {
@@ -282,7 +269,6 @@ fn line<'a>(call: LineCall, request: &Request) -> Option<Call<'a>>
     })
 }
 
-#[inline(always)]
 fn draw_border<'a>(request: &Request) -> Option<Call<'a>>
     ensures { result ≡ spec.draw_border request.now }
 {
@@ -292,7 +278,6 @@ fn draw_border<'a>(request: &Request) -> Option<Call<'a>>
     })
 }
 
-#[inline(always)]
 fn draw_box<'a>(request: &Request) -> Option<Call<'a>>
     ensures { result ≡ spec.draw_box request.now }
 {
@@ -303,7 +288,6 @@ fn draw_box<'a>(request: &Request) -> Option<Call<'a>>
     })
 }
 
-#[inline(always)]
 fn lay<'a>(call: LayCall, request: &Request) -> Option<Call<'a>>
     ensures { result ≡ spec.lay call request.now }
 {
@@ -314,7 +298,6 @@ fn lay<'a>(call: LayCall, request: &Request) -> Option<Call<'a>>
     })
 }
 
-#[inline(always)]
 fn copywin<'a>(request: &Request) -> Option<Call<'a>>
     ensures { result ≡ spec.copywin request.now }
 {
@@ -331,7 +314,6 @@ fn copywin<'a>(request: &Request) -> Option<Call<'a>>
     })
 }
 
-#[inline(always)]
 fn show<'a>(call: ShowCall, request: &Request) -> Option<Call<'a>>
     ensures { result ≡ spec.show call request.now }
 {
@@ -341,7 +323,6 @@ fn show<'a>(call: ShowCall, request: &Request) -> Option<Call<'a>>
     })
 }
 
-#[inline(always)]
 fn show_pad<'a>(call: PadCall, request: &Request) -> Option<Call<'a>>
     ensures { result ≡ spec.show_pad call request.now }
 {
@@ -357,14 +338,12 @@ fn show_pad<'a>(call: PadCall, request: &Request) -> Option<Call<'a>>
     })
 }
 
-#[inline(always)]
 fn screen<'a>(call: ScreenCall, _request: &Request) -> Option<Call<'a>>
     ensures { result ≡ spec.screen call _request.now }
 {
     Some(Call::Screen(call))
 }
 
-#[inline(always)]
 fn curs_set<'a>(request: &Request) -> Option<Call<'a>>
     ensures { result ≡ spec.curs_set request.now }
 {
@@ -373,7 +352,6 @@ fn curs_set<'a>(request: &Request) -> Option<Call<'a>>
     })
 }
 
-#[inline(always)]
 fn init_pair<'a>(request: &Request) -> Option<Call<'a>>
     ensures { result ≡ spec.init_pair request.now }
 {
@@ -410,7 +388,6 @@ fn default_of(call: LineCall) -> Put
 }
 
 /// The character that a caller passes.
-#[inline(always)]
 pub(crate) fn put_of(cell: Standing) -> Put
     ensures { result ≡ spec.put_of cell }
 {
