@@ -39,6 +39,7 @@ PUBLISHED = [
     "ti_surveys",
     "ti_mends",
     "ti_wrapped",
+    "ti_objects",
     "ti_reports",
     "cur_commands",
     "ti_arguments",

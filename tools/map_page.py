@@ -17,6 +17,7 @@ PARTS = [
             "ti_arguments",
             "ti_requests",
             "cur_commands",
+            "ti_objects",
             "ti_reports",
             "ti_surveys",
             "ti_mends",
