@@ -62,6 +62,8 @@ COMMANDS = [
     ("check --fix", [("ti_mends", "fix_entry")]),
     ("survey", [("ti_surveys", "survey_paths"), ("ti_surveys", "survey_files")]),
     ("check --json, survey --json", [("ti_reports", "check_reports"), ("ti_reports", "survey_reports")]),
+    ("check --sarif, survey --sarif", [("ti_objects", "sarif_file")]),
+    ("survey --baseline", [("ti_objects", "has_wrong")]),
 ]
 
 # functions by which the program answers all commands

@@ -82,10 +82,14 @@ infocmp_rules =
 abbrev pub with_fix_rule : App → App
 with_fix_rule a = with_rule a (long_switch_rule (codes "fix"))
 
+-- a report in SARIF
+abbrev pub with_sarif_rule : App → App
+with_sarif_rule a = with_rule a (long_switch_rule (codes "sarif"))
+
 abbrev pub check_rules : App
 check_rules =
     with_size_rules
-    (with_rule (with_rule (with_join_rule (with_fix_rule (with_report_rules (new_app (codes "check"))))) out_rule)
+    (with_rule (with_rule (with_join_rule (with_fix_rule (with_sarif_rule (with_report_rules (new_app (codes "check")))))) out_rule)
     (positional_rule (codes "ENTRY")))
 
 abbrev pub verify_rules : App
@@ -105,13 +109,23 @@ play_rules = with_script_rules (new_app (codes "play"))
 abbrev pub show_rules : App
 show_rules = with_script_rules (new_app (codes "show"))
 
+-- `--baseline FILE`
+abbrev pub baseline_rule : Rule
+baseline_rule =
+    record (new_rule (codes "baseline")) { long = Some (codes "baseline"); action = Some Set; value_names = 1 }
+
+abbrev pub with_baseline_rule : App → App
+with_baseline_rule a = with_rule a baseline_rule
+
 -- a survey that fails if an entry isn't right
 abbrev pub with_fail_rule : App → App
 with_fail_rule a = with_rule a (long_switch_rule (codes "fail"))
 
 abbrev pub survey_rules : App
 survey_rules =
-    with_rule (with_size_rules (with_join_rule (with_fail_rule (with_report_rules (new_app (codes "survey"))))))
+    with_rule
+    (with_size_rules
+    (with_join_rule (with_baseline_rule (with_fail_rule (with_sarif_rule (with_report_rules (new_app (codes "survey"))))))))
     (several_rule (codes "FILE"))
 
 -- the program alone: its own name is not among the words, and a command must follow

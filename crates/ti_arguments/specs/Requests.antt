@@ -1,5 +1,5 @@
 -- The request of a line of words, from the arguments that clap's parser finds in it for the commands of `Line`.
-use Rattle.std.specs.Prelude.{◌≡◌, ◌⊎◌, Bool, true, false, List, [], ◌∷◌, Option, Some, None, codes, map, option_map}
+use Rattle.std.specs.Prelude.{◌≡◌, ◌⊎◌, ◌||◌, Bool, true, false, List, [], ◌∷◌, Option, Some, None, codes, map, option_map}
 use Rattle.std.specs.Prelude.{unwrap_or}
 use Rattle.std.specs.Str.{bytes_eq}
 use Rattle.clap.specs.Faults.{fault_of}
@@ -33,6 +33,14 @@ words_of id rows = unwrap_or (all_of id rows) []
 abbrev pub is_on : Text → List Row → Bool
 is_on id rows = bytes_eq (word_of id rows) (codes "true")
 
+-- a report is asked for: in JSON, or in SARIF, which is made of it
+abbrev pub reports_of : List Row → Bool
+reports_of rows = is_on (codes "json") rows || is_on (codes "sarif") rows
+
+-- all faults are asked for; SARIF has all
+abbrev pub lists_of : List Row → Bool
+lists_of rows = is_on (codes "all") rows || is_on (codes "sarif") rows
+
 -- an `infocmp` with these switches and entries
 abbrev pub IsInfocmp : Text → List Row → Bool → Bool → List Text → Type 0
 IsInfocmp name rows common neither entries =
@@ -49,7 +57,7 @@ Plays rows words =
 -- the words of a survey
 abbrev pub Surveys : Text → List Row → SurveyWords → Type 0
 Surveys name rows words =
-    (name ≡ codes "survey") × (words.lists_all ≡ is_on (codes "all") rows)
+    (name ≡ codes "survey") × (words.lists_all ≡ lists_of rows)
     × (words.is_strict ≡ is_on (codes "fail") rows)
     × (words.rows.now ≡ word_of (codes "ROWS") rows) × (words.cols.now ≡ word_of (codes "COLS") rows)
     × (map (λ f. f.now) words.paths.items ≡ words_of (codes "FILE") rows)
@@ -85,16 +93,16 @@ AsksFor name rows (Tic entry out) =
     (name ≡ codes "tic") × (entry.now ≡ word_of (codes "ENTRY") rows)
     × (option_map (λ o. o.now) out ≡ first_of (codes "out") rows)
 AsksFor name rows (Check words) =
-    (name ≡ codes "check") × (is_on (codes "json") rows ≡ false) × (is_on (codes "all") rows ≡ false)
+    (name ≡ codes "check") × (reports_of rows ≡ false) × (lists_of rows ≡ false)
     × (words.entry.now ≡ word_of (codes "ENTRY") rows) × (words.rows.now ≡ word_of (codes "ROWS") rows)
     × (words.cols.now ≡ word_of (codes "COLS") rows) × (option_map (λ o. o.now) words.out ≡ first_of (codes "out") rows)
 AsksFor name rows (CheckAll words) =
-    (name ≡ codes "check") × (is_on (codes "json") rows ≡ false) × (is_on (codes "all") rows ≡ true)
+    (name ≡ codes "check") × (reports_of rows ≡ false) × (lists_of rows ≡ true)
     × (is_on (codes "fix") rows ≡ false)
     × (first_of (codes "out") rows ≡ None) × (words.entry.now ≡ word_of (codes "ENTRY") rows)
     × (words.rows.now ≡ word_of (codes "ROWS") rows) × (words.cols.now ≡ word_of (codes "COLS") rows)
 AsksFor name rows (CheckJson lists_all words) =
-    (name ≡ codes "check") × (is_on (codes "json") rows ≡ true) × (lists_all ≡ is_on (codes "all") rows)
+    (name ≡ codes "check") × (reports_of rows ≡ true) × (lists_all ≡ lists_of rows)
     × (is_on (codes "fix") rows ≡ false)
     × (first_of (codes "out") rows ≡ None) × (words.entry.now ≡ word_of (codes "ENTRY") rows)
     × (words.rows.now ≡ word_of (codes "ROWS") rows) × (words.cols.now ≡ word_of (codes "COLS") rows)
@@ -104,8 +112,9 @@ AsksFor name rows (Verify words) =
     × (words.certificate.now ≡ word_of (codes "CERT") rows)
 AsksFor name rows (Play words) = (name ≡ codes "play") × Plays rows words
 AsksFor name rows (Show words) = (name ≡ codes "show") × Plays rows words
-AsksFor name rows (Survey words) = (is_on (codes "json") rows ≡ false) × Surveys name rows words
-AsksFor name rows (SurveyJson words) = (is_on (codes "json") rows ≡ true) × Surveys name rows words
+AsksFor name rows (Survey words) =
+    (reports_of rows ≡ false) × (first_of (codes "baseline") rows ≡ None) × Surveys name rows words
+AsksFor name rows (SurveyJson words) = (reports_of rows ≡ true) × Surveys name rows words
 AsksFor name rows (Print entry) = IsInfocmp name rows false false (entry.now ∷ [])
 AsksFor name rows (Common first second) = IsInfocmp name rows true false (first.now ∷ second.now ∷ [])
 AsksFor name rows (Neither first second) = IsInfocmp name rows false true (first.now ∷ second.now ∷ [])
@@ -120,11 +129,19 @@ abbrev pub has_switch : Text → Option (Text × List Row) → Bool
 has_switch id None = false
 has_switch id (Some chosen) = is_on id chosen.1
 
--- the request; whether fields of a source may continue on further lines, and whether its text is to be mended
+-- the word behind an option of the chosen command
+abbrev pub option_of : Text → Option (Text × List Row) → Option Text
+option_of id None = None
+option_of id (Some chosen) = first_of id chosen.1
+
+-- the request; whether fields of a source may continue on further lines, whether its text is to be mended, whether the
+-- report is one of SARIF, and the earlier report
 pub record AsksWith (chosen : Option (Text × List Row)) (asked : Asked) : Type 0 where
   pub asks : Asks chosen asked.request
   pub join : asked.joins ≡ has_switch (codes "join") chosen
   pub fix : asked.fixes ≡ has_switch (codes "fix") chosen
+  pub sarif : asked.sarif ≡ has_switch (codes "sarif") chosen
+  pub baseline : option_map (λ b. b.now) asked.baseline ≡ option_of (codes "baseline") chosen
 
 -- the request or the text that the words ask for
 abbrev pub IsAnswer : List Text → ParsedLine → Type 0

@@ -7,7 +7,8 @@ ghost use Rattle.ti_arguments.specs.Line.{check_rules, expand_rules, feed_rules,
 ghost use Rattle.ti_arguments.specs.Line.{out_rule, params_rule, play_rules, positional_rule, program, several_rule};
 ghost use Rattle.ti_arguments.specs.Line.{show_rules, survey_rules, switch_rule, tic_rules, verify_rules, with_fix_rule};
 ghost use Rattle.ti_arguments.specs.Line.{with_join_rule, with_plays, with_script_rules, with_case_rule, with_fail_rule};
-ghost use Rattle.ti_arguments.specs.Line.{with_plain_rule, with_report_rules, with_size_rules, with_verdicts};
+ghost use Rattle.ti_arguments.specs.Line.{baseline_rule, with_baseline_rule, with_plain_rule, with_report_rules};
+ghost use Rattle.ti_arguments.specs.Line.{with_sarif_rule, with_size_rules, with_verdicts};
 
 use crate::help;
 use clap::{Arg, ArgAction, Command};
@@ -137,7 +138,7 @@ fn with_switches<'a>(
         .arg(long_switch(alloc, second.name, second.help))
 }
 
-/// `command` with the switches for all faults and for JSON, whose help is `all` and `json`.
+/// `command` with the switches for reports: for all faults and for JSON, whose help is `all` and `json`, and for SARIF.
 fn with_reports<'a>(
     alloc: Global,
     command: Command<'a>,
@@ -145,7 +146,7 @@ fn with_reports<'a>(
     json: &'a str,
 ) -> Result<Command<'a>, AllocError>
     requires { (out-Command command).has_globals ≡ false }
-    ensures shape { IfOk result (λ c. app_of c ≡ with_report_rules (app_of command.entry)) }
+    ensures shape { IfOk result (λ c. app_of c ≡ with_sarif_rule (with_report_rules (app_of command.entry))) }
     ensures local { IfOk result (λ c. (out-Command c).has_globals ≡ false) }
 {
     let all = SwitchWords {
@@ -156,7 +157,8 @@ fn with_reports<'a>(
         name: "json",
         help: json,
     };
-    with_switches(alloc, command, all, json)
+    let command = with_switches(alloc, command, all, json)?;
+    with_sarif(alloc, command)
 }
 
 fn feed_command<'a>(alloc: Global) -> Result<Command<'a>, AllocError>
@@ -277,7 +279,7 @@ fn check_command<'a>(alloc: Global) -> Result<Command<'a>, AllocError>
 fn with_check_switches<'a>(alloc: Global, command: Command<'a>) -> Result<Command<'a>, AllocError>
     requires { (out-Command command).has_globals ≡ false }
     ensures shape { IfOk result (λ c. app_of c
-        ≡ with_join_rule (with_fix_rule (with_report_rules (app_of command.entry)))) }
+        ≡ with_join_rule (with_fix_rule (with_sarif_rule (with_report_rules (app_of command.entry))))) }
     ensures local { IfOk result (λ c. (out-Command c).has_globals ≡ false) }
 {
     let all = "List all faults of the entry, and write no certificate";
@@ -347,6 +349,28 @@ fn with_script<'a>(alloc: Global, command: Command<'a>) -> Result<Command<'a>, A
         ))
 }
 
+/// `command` with the switch for a report in SARIF.
+fn with_sarif<'a>(alloc: Global, command: Command<'a>) -> Result<Command<'a>, AllocError>
+    requires { (out-Command command).has_globals ≡ false }
+    ensures shape { IfOk result (λ c. app_of c ≡ with_sarif_rule (app_of command.entry)) }
+    ensures local { IfOk result (λ c. (out-Command c).has_globals ≡ false) }
+{
+    command.arg(long_switch(
+        alloc,
+        "sarif",
+        "Report all faults as one file of SARIF, which code hosts show at the line",
+    ))
+}
+
+/// `command` with the option for an earlier report.
+fn with_baseline<'a>(alloc: Global, command: Command<'a>) -> Result<Command<'a>, AllocError>
+    requires { (out-Command command).has_globals ≡ false }
+    ensures shape { IfOk result (λ c. app_of c ≡ with_baseline_rule (app_of command.entry)) }
+    ensures local { IfOk result (λ c. (out-Command c).has_globals ≡ false) }
+{
+    command.arg(baseline_option(alloc))
+}
+
 /// `command` with the switch for a survey that fails if an entry isn't right.
 fn with_fail<'a>(alloc: Global, command: Command<'a>) -> Result<Command<'a>, AllocError>
     requires { (out-Command command).has_globals ≡ false }
@@ -367,15 +391,36 @@ fn survey_command<'a>(alloc: Global) -> Result<Command<'a>, AllocError>
     let command = Command::new(alloc, "survey")
         .about(help::SURVEY)
         .after_help(help::SURVEY_MORE);
-    let all = "List all faults of each entry, a line for each";
-    let json = "Report in JSON, an object a line";
-    let command = with_reports(alloc, command, all, json)?;
-    let command = with_join(alloc, with_fail(alloc, command)?)?;
+    let command = with_survey_switches(alloc, command)?;
     with_size(alloc, command)?.arg(several(
         alloc,
         "FILE",
         "A source file, all entries of which are checked, or a compiled file",
     ))
+}
+
+/// `command` with the switch for a survey that fails, and the option for an earlier report.
+fn with_news<'a>(alloc: Global, command: Command<'a>) -> Result<Command<'a>, AllocError>
+    requires { (out-Command command).has_globals ≡ false }
+    ensures shape { IfOk result (λ c. app_of c ≡ with_baseline_rule (with_fail_rule (app_of command.entry))) }
+    ensures local { IfOk result (λ c. (out-Command c).has_globals ≡ false) }
+{
+    let command = with_fail(alloc, command)?;
+    with_baseline(alloc, command)
+}
+
+/// `command` with the switches and the option of `survey`.
+fn with_survey_switches<'a>(alloc: Global, command: Command<'a>) -> Result<Command<'a>, AllocError>
+    requires { (out-Command command).has_globals ≡ false }
+    ensures shape { IfOk result (λ c. app_of c ≡ with_join_rule (with_baseline_rule (with_fail_rule
+        (with_sarif_rule (with_report_rules (app_of command.entry)))))) }
+    ensures local { IfOk result (λ c. (out-Command c).has_globals ≡ false) }
+{
+    let all = "List all faults of each entry, a line for each";
+    let json = "Report in JSON, an object a line";
+    let command = with_reports(alloc, command, all, json)?;
+    let command = with_news(alloc, command)?;
+    with_join(alloc, command)
 }
 
 fn long_switch<'a>(alloc: Global, name: &'a str, help: &'a str) -> Arg<'a>
@@ -397,6 +442,17 @@ fn out_option<'a>(alloc: Global, help: &'a str) -> Arg<'a>
         .value_name("FILE")
         .action(ArgAction::Set)
         .help(help)
+}
+
+fn baseline_option<'a>(alloc: Global) -> Arg<'a>
+    ensures rule { rule_of result ≡ baseline_rule }
+    ensures local { result.global ≡ false }
+{
+    Arg::new(alloc, "baseline")
+        .long("baseline")
+        .value_name("FILE")
+        .action(ArgAction::Set)
+        .help("With --json or --sarif, leave out what this earlier output of --json has")
 }
 
 fn entry<'a>(alloc: Global) -> Arg<'a>

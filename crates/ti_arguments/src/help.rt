@@ -206,6 +206,11 @@ string_hex and suggestion_hex have the bytes in hexadecimal. Where a member does
 Characters outside 32 to 126 are escapes of JSON. The notes, the line `refused: ` and the exit status are those of the
 form without --json.
 
+With --sarif the output is one file of SARIF 2.1.0, which code hosts show at the lines of FILE: a result for each object
+of --json --all but a yes. ruleId is the rule. The level is error for what was shown to be wrong and for what can't be
+read, warning where the string couldn't be judged, and note for advice and where the entry seems to be for a terminal of
+another kind. The message has the line of the fault, its explanation and the suggestion.
+
 With --fix there is no certificate. The output is the text of the source file in which each string that --all suggests
 is taken: the field is replaced where it stands, in the entry that --all names, and a missing one is put behind the last
 field of the entry; nothing else of the text is changed. With --out it is written to FILE, whole or not at all; only here
@@ -246,7 +251,8 @@ Example:
   ticurses check my.ti:myterm 24 80 --out myterm.cert
   ticurses check --all my.ti:myterm 24 80
   ticurses check --fix my.ti:myterm 24 80 --out mended.ti
-  ticurses check --all --json my.ti:myterm 24 80";
+  ticurses check --all --json my.ti:myterm 24 80
+  ticurses check --sarif my.ti:myterm 24 80";
 
 /// `verify` in one line.
 pub const VERIFY: &str =
@@ -433,6 +439,12 @@ With --json the output is a JSON object on a line of its own for each of these l
 `ticurses check --json`, and one for each advice. In place of KIND the verdict is `refused`, and cause has the KIND; entry
 is null where a FILE has a fault of its own.
 
+With --sarif the output is one file of SARIF for all FILEs, as `ticurses check --help` describes it.
+
+With --baseline FILE, which is for --json and --sarif, the objects that FILE has are left out: those of an earlier output
+of --json, whatever lines they are on. An object that says the same of the same entry of the same file counts as one. So
+the output is what is new. With --fail the status is 1 only if a new object is a fault or a refusal.
+
 With --fail the status is 1 if an answer isn't yes, with the line `refused: Faulty` on standard error. The output is the same.
 
 A FILE has at most 16777216 bytes. One that can't be read has no line, and the others are checked all the same.
@@ -444,4 +456,5 @@ or standard output could not be written; 4 out of memory.
 Example:
   ticurses survey 24 80 my.ti /usr/share/terminfo/*/*
   ticurses survey --all --fail 24 80 my.ti
-  ticurses survey --json 24 80 my.ti";
+  ticurses survey --json 24 80 my.ti
+  ticurses survey --sarif --baseline old.json 24 80 my.ti";

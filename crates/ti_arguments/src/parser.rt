@@ -6,7 +6,7 @@ ghost use Rattle.clap.specs.Walk.{first_of, rows_of};
 ghost use Rattle.clap.specs.Words.{found_of, kind_of, subcommand_rows_of};
 ghost use Rattle.ti_arguments.specs.Inputs.{AnswersWithInput};
 ghost use Rattle.ti_arguments.specs.Requests.{Asks, AsksFor, HasForm, IsAnswer, IsTold, Plays, has_switch, is_on};
-ghost use Rattle.ti_arguments.specs.Requests.{word_of, words_of};
+ghost use Rattle.ti_arguments.specs.Requests.{lists_of, option_of, reports_of, word_of, words_of};
 
 use crate::commands::command_line;
 use crate::inputs::judge_input;
@@ -18,7 +18,7 @@ use ti_requests::{
     VerifyWords,
 };
 
-/// A command with its words, and two switches that say how it is carried out.
+/// A command with its words, and options that say how it is carried out.
 #[derive(Debug, Drop)]
 pub struct Asked<'a> {
     /// The command and its words.
@@ -27,6 +27,10 @@ pub struct Asked<'a> {
     pub joins: bool,
     /// Whether the line has `--fix`: the `check` is to write a mended source text.
     pub fixes: bool,
+    /// Whether the line has `--sarif`: the report is to be a file of SARIF.
+    pub sarif: bool,
+    /// The path of an earlier report, if the line has `--baseline`: only what it doesn't say is to be reported.
+    pub baseline: Option<&'a str>,
 }
 
 /// The answer to a line that can be understood.
@@ -69,10 +73,14 @@ pub fn parse_line<'a>(alloc: Global, words: &'a [String]) -> Result<ParsedLine<'
             judge_input(alloc, &request)?;
             let joins = has_switch(&matches, "join");
             let fixes = has_switch(&matches, "fix");
+            let sarif = has_switch(&matches, "sarif");
+            let baseline = option_word(&matches, "baseline");
             Ok(ParsedLine::Request(Asked {
                 request,
                 joins,
                 fixes,
+                sarif,
+                baseline,
             }))
         }
         Err(error) => explain(alloc, &error),
@@ -107,7 +115,7 @@ fn request_of<'a>(alloc: Global, matches: &ArgMatches<'a>) -> Result<Request<'a>
         Some(("verify", words)) => Ok(verify_request(words)),
         Some(("play", words)) => Ok(Request::Play(scripted(words))),
         Some(("show", words)) => Ok(Request::Show(scripted(words))),
-        Some(("survey", words)) => Ok(survey_request(alloc, words)?),
+        Some(("survey", words)) => survey_request(alloc, words),
         _ => Err(UsageFault::Usage(String::new(alloc))),
     }
 }
@@ -119,6 +127,16 @@ fn has_switch(matches: &ArgMatches<'_>, id: &str) -> bool
     match matches.subcommand() {
         Some((_name, words)) => is_on(words, id),
         None => false,
+    }
+}
+
+/// The word behind the option `id` of the chosen command.
+fn option_word<'a>(matches: &ArgMatches<'a>, id: &str) -> Option<&'a str>
+    ensures { option_map (λ w. w.now) result ≡ option_of id.now (subcommand_rows_of matches.now) }
+{
+    match matches.subcommand() {
+        Some((_name, words)) => first_word(words, id),
+        None => None,
     }
 }
 
@@ -194,8 +212,8 @@ fn check_request<'a>(alloc: Global, words: &ArgMatches<'a>) -> Result<Request<'a
     ensures { IfOk result (λ request. AsksFor (codes "check") (rows_of (found_of words.now)) request) }
 {
     let fix = is_on(words, "fix");
-    let json = is_on(words, "json");
-    let all = is_on(words, "all");
+    let json = reports(words);
+    let all = lists_all(words);
     let out = first_word(words, "out");
     match (fix, json, all, out) {
         (_, false, false, out) => Ok(Request::Check(CheckWords {
@@ -225,13 +243,13 @@ fn check_request<'a>(alloc: Global, words: &ArgMatches<'a>) -> Result<Request<'a
 }
 
 const FIX_ALONE: &str =
-    "error: check --fix writes a source text: --all and --json are not for --fix\n\n\
+    "error: check --fix writes a source text: --all, --json and --sarif are not for --fix\n\n\
                          For more information, try '--help'.\n";
 
 /// Why `check --all` or `check --json` takes no `--out`.
 fn no_out(json: bool) -> &'static str {
     if json {
-        "error: check writes a certificate, or with --json reports on the entry: --out is not for --json\n\n\
+        "error: check writes a certificate, or reports on the entry: --out is not for --json and --sarif\n\n\
          For more information, try '--help'.\n"
     } else {
         "error: check writes a certificate, or with --all lists the faults: --out is not for --all\n\n\
@@ -264,24 +282,28 @@ fn scripted<'a>(words: &ArgMatches<'a>) -> ScriptWords<'a>
 }
 
 #[tactic(auto, using(crate::proofs::Rows::all_in_rows))]
-fn survey_request<'a>(alloc: Global, words: &ArgMatches<'a>) -> Result<Request<'a>, AllocError>
+fn survey_request<'a>(alloc: Global, words: &ArgMatches<'a>) -> Result<Request<'a>, UsageFault>
     ensures { IfOk result (λ request. AsksFor (codes "survey") (rows_of (found_of words.now)) request) }
 {
     let paths = words.get_strs("FILE").unwrap_or(&[]);
-    let json = is_on(words, "json");
+    let reports = reports(words);
+    let baseline = first_word(words, "baseline");
     let words = SurveyWords {
-        lists_all: is_on(words, "all"),
+        lists_all: lists_all(words),
         is_strict: is_on(words, "fail"),
         rows: word(words, "ROWS"),
         cols: word(words, "COLS"),
         paths: Vec::from_slice(alloc, paths)?,
     };
-    if json {
-        Ok(Request::SurveyJson(words))
-    } else {
-        Ok(Request::Survey(words))
+    match (reports, baseline) {
+        (true, _) => Ok(Request::SurveyJson(words)),
+        (false, None) => Ok(Request::Survey(words)),
+        (false, Some(_)) => Err(UsageFault::Usage(String::from_str(alloc, BASELINE_REPORTS)?)),
     }
 }
+
+const BASELINE_REPORTS: &str = "error: --baseline is for --json and --sarif\n\n\
+                                For more information, try '--help'.\n";
 
 /// The request of `infocmp`: one entry is printed, two are compared.
 #[tactic(auto, using(crate::proofs::Rows::all_in_rows))]
@@ -323,4 +345,18 @@ fn is_on(words: &ArgMatches<'_>, id: &str) -> bool
     ensures { result ≡ is_on id.now (rows_of (found_of words.now)) }
 {
     word(words, id) == "true"
+}
+
+/// Whether the line asks for a report: in JSON, or in SARIF, which is made of it.
+fn reports(words: &ArgMatches<'_>) -> bool
+    ensures { result ≡ reports_of (rows_of (found_of words.now)) }
+{
+    is_on(words, "json") || is_on(words, "sarif")
+}
+
+/// Whether the line asks for all faults; SARIF has all.
+fn lists_all(words: &ArgMatches<'_>) -> bool
+    ensures { result ≡ lists_of (rows_of (found_of words.now)) }
+{
+    is_on(words, "all") || is_on(words, "sarif")
 }

@@ -2,6 +2,7 @@
 #![tactic(auto)]
 
 mod counted;
+mod forms;
 mod hints;
 mod progress;
 mod run;

@@ -3,6 +3,7 @@
 ghost use Rattle.std.specs.Prelude.{◌≤◌};
 
 use crate::counted::Counted;
+use crate::forms::{formed, is_formed};
 use crate::hints::{hint_join, hint_path};
 use crate::progress::SurveyLines;
 use crate::stored::Sources;
@@ -64,7 +65,7 @@ fn perform<F: Files + Sources, O: Output, E: Write + IsTerminal>(
 ) -> Result<(), Failure> {
     match parse_line(alloc, words) {
         Ok(ParsedLine::Request(asked)) => {
-            let reply = reply_by(alloc, &asked, files, out, err, remarks);
+            let reply = reply_in_form(alloc, &asked, files, out, err, remarks);
             if let Some(path) = failed_path(&reply) {
                 hint_path(alloc, &asked.request, path, files, remarks);
             }
@@ -156,6 +157,31 @@ fn survey_json<F: Files, O: Output, E: Write + IsTerminal>(
     let mut lines = SurveyLines::new(alloc, out, err);
     let reply = survey_reports(alloc, words, files, &mut lines, remarks)?;
     Ok(lines.end(alloc, reply))
+}
+
+/// The reply of the command that is `asked` for. A report that is written in another form than it is made in is kept
+/// until it is whole.
+fn reply_in_form<F: Files + Sources, O: Output, E: Write + IsTerminal>(
+    alloc: Global,
+    asked: &Asked<'_>,
+    files: &mut F,
+    out: &mut O,
+    err: &mut E,
+    remarks: &mut Remarks,
+) -> Result<Reply, Failure> {
+    if !is_formed(asked) {
+        return reply_by(alloc, asked, files, out, err, remarks);
+    }
+    let mut lines = Vec::new(alloc);
+    let reply = reply_by(
+        alloc,
+        asked,
+        files,
+        &mut Written::new(&mut lines),
+        err,
+        remarks,
+    )?;
+    formed(alloc, asked, files, lines, reply, remarks)
 }
 
 /// The reply of the command that is `asked` for, to whose files its switches apply.
