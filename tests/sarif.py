@@ -140,7 +140,7 @@ LATER = {
 
 
 def judge_baselines(folder, earlier):
-    """What an earlier report has is left out, on whatever line it is, and only the rest counts for --fail."""
+    """An object that an earlier report has is left out, on whatever line it is, and only the rest counts for --fail."""
     cases = []
     for name, (text, _news) in LATER.items():
         # the earlier report, as one on the file that is surveyed now

@@ -1,4 +1,4 @@
--- What standard error says about a text with suggestions taken.
+-- The notes on standard error about a text with suggestions taken.
 use Rattle.std.specs.Prelude.{ℕ, List, [], ◌∷◌, ◌++◌, codes}
 use Rattle.std.specs.List.{flat_map}
 use Rattle.ti_caps.specs.Table.{name_at}

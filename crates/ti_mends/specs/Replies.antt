@@ -59,8 +59,8 @@ pub record IsMendedText (source : List ℕ) (raws : List RawEntry) (entry : Cont
   pub says : text ≡ reached.fixed.text.items
   pub noted : notes ≡ fix_notes reached.fixed.raws.items reached.kept.items left
 
--- The source that the word names, with the suggestions for the entry's faults taken. That text is read and judged
--- again, and what is left decides how the reply ends.
+-- The source that the word names, with the suggestions for the entry's faults taken. The new text is read and
+-- judged again, and what is left decides how the reply ends.
 pub record IsFixed (before after : Held) (words : CheckWords) (reply : Reply) : Type 0 where
   pub height : ℕ
   pub width : ℕ

@@ -1,4 +1,4 @@
-//! What standard error says about a text with suggestions taken.
+//! The notes on standard error about a text with suggestions taken.
 
 ghost use Rattle.std.specs.Prelude.{◌≡◌, ◌++◌, IfOk, OnOk};
 ghost use Rattle.std.specs.List.{flat_map};

@@ -1,4 +1,4 @@
--- What the lines of a report say that those of an earlier one don't.
+-- The lines of a report that say something new beside those of an earlier one.
 use Rattle.std.specs.Prelude.{ℕ, Bool, true, false, not, List, [], ◌∷◌, ◌++◌, Option, Some, None, codes, if◌then◌else◌, option_map}
 use Rattle.std.specs.List.{filter_map, list_any}
 use Rattle.std.specs.Str.{bytes_eq}

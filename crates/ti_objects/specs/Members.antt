@@ -1,4 +1,4 @@
--- What an object of a report has under a name.
+-- The values that an object of a report has under a name.
 use Rattle.std.specs.Prelude.{ℕ, Bool, false, List, [], Option, option_and_then, unwrap_or}
 use Rattle.serde_json.specs.Data.{Data, Items, no_items}
 use Rattle.serde_json.specs.Find.{as_array, as_bool, as_number, as_str, as_u64, get}

@@ -1,4 +1,4 @@
--- What SARIF has of a finding.
+-- A finding as SARIF has it.
 use Rattle.std.specs.Prelude.{ℕ, List, ◌++◌, Option, Some, None, codes, option_and_then, option_map}
 use Rattle.serde_json.specs.Data.{Data, Members, array, item, member, no_items, no_members, object, put, string}
 use Rattle.serde_json.specs.Read.{read}

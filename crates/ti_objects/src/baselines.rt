@@ -1,4 +1,4 @@
-//! What the lines of a report say that those of an earlier one don't.
+//! The lines of a report that say something new beside those of an earlier one.
 
 ghost use Rattle.std.specs.Prelude.{◌≡◌, ◌++◌, IfOk, OnOk, map, not, option_map, string_bytes};
 ghost use Rattle.std.specs.List.{list_any};
@@ -15,7 +15,7 @@ use serde_json::Value;
 use std::alloc::{AllocError, Global};
 use std::marker::Model;
 
-/// What the lines of an earlier report say.
+/// The statements of an earlier report.
 #[derive(Drop)]
 pub struct Baseline {
     keys: Vec<String>,
@@ -36,7 +36,7 @@ fn is_among(keys: &[String], key: &str) -> bool
     keys.iter().any(|known| known.as_str() == key)
 }
 
-/// What an object without a finding says.
+/// The statement of an object without a finding.
 fn plain_key(alloc: Global, report: &Value) -> Result<String, AllocError>
     ensures { IfOk result (λ key. string_bytes key ≡ spec.key_by None (view report.now)) }
 {
@@ -45,7 +45,7 @@ fn plain_key(alloc: Global, report: &Value) -> Result<String, AllocError>
     format!(in alloc; "{file}:{entry}")
 }
 
-/// What a piece of advice says.
+/// The statement of a piece of advice.
 fn advice_key(alloc: Global, report: &Value) -> Result<String, AllocError>
     ensures { IfOk result (λ key. string_bytes key ≡ spec.key_by (Some Kind.Advice) (view report.now)) }
 {
@@ -54,7 +54,7 @@ fn advice_key(alloc: Global, report: &Value) -> Result<String, AllocError>
     format!(in alloc; "{statement}{words}")
 }
 
-/// What `report` says.
+/// The statement of `report`.
 fn key_in(alloc: Global, report: &Value) -> Result<String, AllocError>
     ensures { IfOk result (λ key. string_bytes key ≡ spec.key_in (view report.now)) }
 {
@@ -66,7 +66,7 @@ fn key_in(alloc: Global, report: &Value) -> Result<String, AllocError>
     }
 }
 
-/// What a line says, if it is an object.
+/// The statement of a line, if it is an object.
 #[tactic(auto, unfolding(crate::specs::Baselines::key_of))]
 fn key_of(alloc: Global, line: &str) -> Result<Option<String>, AllocError>
     ensures { IfOk result (λ key. option_map (λ k. string_bytes k) key ≡ spec.key_of line.now) }
@@ -84,7 +84,7 @@ impl Baseline {
     ghost use Rattle.ti_objects.specs.Baselines as spec;
     ghost use Rattle.ti_objects.specs.Lines.{lines_of};
 
-    /// What the lines of `reports` say.
+    /// The statements of the lines of `reports`.
     ///
     /// # Errors
     /// Out of memory.

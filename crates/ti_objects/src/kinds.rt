@@ -7,7 +7,7 @@ ghost use Rattle.serde_json.specs.View.{view};
 use crate::members::{is_true, text_in};
 use serde_json::Value;
 
-/// What an object of a report tells of.
+/// The kind of finding that an object of a report is about.
 #[derive(Clone, Copy, Debug, PartialEq, Eq)]
 pub(crate) enum Kind {
     /// A fault of an entry.

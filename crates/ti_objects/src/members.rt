@@ -1,4 +1,4 @@
-//! What an object has under a name.
+//! The values that an object has under a name.
 
 ghost use Rattle.std.specs.Prelude.{◌≡◌, option_map};
 ghost use Rattle.serde_json.specs.View.{items_view, view};

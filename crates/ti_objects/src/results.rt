@@ -1,4 +1,4 @@
-//! What SARIF has of a finding.
+//! A finding as SARIF has it.
 
 ghost use Rattle.std.specs.Prelude.{◌≡◌, IfOk, OnOk, codes, option_map};
 ghost use Rattle.serde_json.specs.Data.{array, item, no_items, string};
@@ -100,7 +100,7 @@ fn put_fix(
     }
 }
 
-/// What tells the finding of `report` from others in later runs.
+/// The print that distinguishes the finding of `report` from others in later runs.
 fn prints(alloc: Global, kind: Kind, report: &Value) -> Result<Value, AllocError>
     ensures { IfOk result (λ value. view value ≡ spec.prints_data kind (view report.now)) }
 {
