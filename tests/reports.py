@@ -413,7 +413,7 @@ def judge_failing():
                 fail(f"survey --fail: {failing.status} {failing.err} {failing.out}")
 
 
-NO_OUT = b"error: check writes a certificate, or with --json reports on the entry: --out is not for --json\n"
+NO_OUT = b"error: check writes a certificate, or reports on the entry: --out is not for --json and --sarif\n"
 
 
 def judge_refused():
