@@ -12,8 +12,8 @@ use crate::functions::{CodeElement, EraseExtent, Function, ModeKind};
 use crate::pens::{Ink, Pen};
 use crate::printer;
 use crate::renditions::{Rendition, RenditionChange};
+use crate::sheets::Sheet;
 use crate::sizes::Size;
-use grids::Grid;
 use std::alloc::{AllocError, Global};
 use std::marker::Model;
 
@@ -62,7 +62,7 @@ pub struct Settings {
 #[derive(Drop)]
 pub struct Display {
     size: Size,
-    grid: Grid<Cell>,
+    grid: Sheet,
     row: usize,
     col: usize,
     pending: bool,
@@ -97,7 +97,7 @@ impl Display {
         ensures { IfOk result (λ d. d ≡ reset_screen size.rows size.cols) }
     {
         let blank = Cell::blank(Rendition::plain());
-        let grid = Grid::new(alloc, size.rows, size.cols, blank)?;
+        let grid = Sheet::new(alloc, size.rows, size.cols, blank)?;
         Ok(Display {
             size,
             grid,
@@ -206,9 +206,9 @@ impl Display {
         ensures { IfOk result (λ text. text.items ≡ screen_text self.now) }
     {
         let mut text = Vec::new(alloc);
-        printer::push_rows(&mut text, self.grid.lines())?;
+        printer::push_sheet_rows(&mut text, &self.grid)?;
         printer::push_cursor(alloc, &mut text, self.row, self.col, self.visible)?;
-        printer::push_looks(alloc, &mut text, self.grid.lines())?;
+        printer::push_sheet_looks(alloc, &mut text, &self.grid)?;
         Ok(text)
     }
 

@@ -10,6 +10,7 @@ mod marks;
 mod pens;
 mod printer;
 mod renditions;
+mod sheets;
 mod sizes;
 
 pub use cells::Cell;

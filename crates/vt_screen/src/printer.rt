@@ -1,15 +1,27 @@
 //! The screen as a text.
-ghost use Rattle.std.specs.Prelude.{◌≡◌, ◌<◌, ◌++◌, length, OnOk, map};
+ghost use Rattle.std.specs.Prelude.{◌≡◌, ◌<◌, ◌+◌, ◌^◌, ◌++◌, length, OnOk, map};
 ghost use Rattle.std.specs.List.{flat_map};
 ghost use Rattle.vt_screen.specs.Printed as spec;
 
 use crate::cells::Cell;
 use crate::looks::{ends_run, run_start, style_text};
+use crate::sheets::Sheet;
 use grids::Line;
 use std::alloc::{AllocError, Global};
 
+/// Appends the characters of each row of a sheet, a line for each row.
+#[tactic(auto, using(crate::proofs::Prints::rows_joined))]
+pub(crate) fn push_sheet_rows(text: &mut Vec<u8>, sheet: &Sheet) -> Result<(), AllocError>
+    ensures { OnOk result (text.new.items ≡ text.old.items ++ flat_map spec.row_text sheet.now) }
+{
+    let (upper, lower) = sheet.parts();
+    push_rows(text, upper)?;
+    push_rows(text, lower)?;
+    Ok(())
+}
+
 /// Appends the characters of each row, a line for each row.
-pub(crate) fn push_rows(text: &mut Vec<u8>, lines: &[Line<Cell>]) -> Result<(), AllocError>
+fn push_rows(text: &mut Vec<u8>, lines: &[Line<Cell>]) -> Result<(), AllocError>
     ensures { OnOk result (text.new.items ≡ text.old.items ++ flat_map spec.row_text lines.now) }
 {
     for line in lines {
@@ -50,16 +62,34 @@ pub(crate) fn push_cursor(
     text.extend_from_slice(if visible { b"\n" } else { b" hidden\n" })
 }
 
-/// Appends a line for each run of cells that are shown alike and not plainly.
-pub(crate) fn push_looks(
+/// Appends a line for each run of cells of a sheet that are shown alike and not plainly.
+#[tactic(auto, using(crate::proofs::Prints::looks_joined))]
+pub(crate) fn push_sheet_looks(
     alloc: Global,
     text: &mut Vec<u8>,
+    sheet: &Sheet,
+) -> Result<(), AllocError>
+    requires { length sheet.now < 2 ^ 64 }
+    ensures { OnOk result (text.new.items ≡ text.old.items ++ spec.looks_text 0 sheet.now) }
+{
+    let (upper, lower) = sheet.parts();
+    push_looks(alloc, text, 0, upper)?;
+    push_looks(alloc, text, upper.len(), lower)?;
+    Ok(())
+}
+
+/// Appends a line for each run of cells that are shown alike and not plainly, of lines from the row `first` on.
+fn push_looks(
+    alloc: Global,
+    text: &mut Vec<u8>,
+    first: usize,
     lines: &[Line<Cell>],
 ) -> Result<(), AllocError>
-    ensures { OnOk result (text.new.items ≡ text.old.items ++ spec.looks_text 0 lines.now) }
+    requires { first + length lines.now < 2 ^ 64 }
+    ensures { OnOk result (text.new.items ≡ text.old.items ++ spec.looks_text first lines.now) }
 {
-    for (row, line) in lines.iter().enumerate() {
-        push_runs(alloc, text, row, line.cells())?;
+    for (k, line) in lines.iter().enumerate() {
+        push_runs(alloc, text, first + k, line.cells())?;
     }
     Ok(())
 }
