@@ -5,7 +5,6 @@
 mod lined_texts;
 mod names;
 mod resolution;
-mod text_lines;
 
 pub use lined_texts::LinedText;
 pub use names::place_named;

@@ -5,11 +5,10 @@ ghost use Rattle.std.specs.List.{AllByRecursion};
 ghost use Rattle.ti_source.specs.Lines.{field_lines_of};
 ghost use Rattle.ti_entries.specs.LinedTexts as spec;
 
-use crate::text_lines::{begins_entry, cut_line};
 use std::alloc::{AllocError, Global};
 use std::marker::Model;
 use ti_resolve::Origin;
-use ti_source::{FieldLine, field_lines};
+use ti_source::{FieldLine, begins_entry, cut_line, field_lines};
 
 /// A source text, in which the line of each field was found beforehand. Contracts see the text.
 #[derive(Drop)]

@@ -6,9 +6,10 @@ ghost use Rattle.ti_joins.specs.Joins as joins;
 ghost use Rattle.ti_joins.specs.Steps as spec;
 ghost use Rattle.ti_source.specs.Layout.{lines_of};
 
-use crate::lines::{cut_line, is_comment, is_further, push_ended, skip_white};
+use crate::line_ends::push_ended;
 use crate::scan::Scan;
 use std::alloc::{AllocError, Global};
+use ti_source::{cut_line, is_comment, is_further, skip_white};
 
 /// A text that is joined line by line.
 #[derive(Drop)]

@@ -3,7 +3,7 @@
 
 mod joiner;
 mod laws;
-mod lines;
+mod line_ends;
 mod scan;
 
 pub use joiner::joined;

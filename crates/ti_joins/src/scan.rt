@@ -3,8 +3,8 @@
 ghost use Rattle.std.specs.Prelude.{◌≡◌};
 ghost use Rattle.ti_joins.specs.Steps as spec;
 
-use crate::lines::is_white;
 use ti_caps::Opener;
+use ti_source::is_white;
 
 /// The end of the bytes of a line so far.
 #[derive(Clone, Copy)]

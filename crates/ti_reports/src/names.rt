@@ -1,7 +1,6 @@
 //! The names of an entry.
 
-ghost use Rattle.std.specs.Prelude.{◌≡◌, ◌==◌, ◌<◌, ◌∷◌, [], IfNone, IfOk, IfSome, OnOk, length, option_map};
-ghost use Rattle.std.specs.List as List;
+ghost use Rattle.std.specs.Prelude.{◌≡◌, IfOk, OnOk, option_map};
 ghost use Rattle.ti_caps.specs.Fits.{names_in};
 ghost use Rattle.ti_reports.specs.Names as spec;
 ghost use Rattle.ti_verdicts.specs.Locations.{first_name};
@@ -10,6 +9,7 @@ use crate::forms::Written;
 use crate::texts::text_of;
 use std::alloc::{AllocError, Global};
 use ti_caps::Entry;
+use ti_resolve::cut_name;
 use ti_verdicts::first_name;
 
 /// The first name of `entry`.
@@ -72,24 +72,4 @@ fn push_name(alloc: Global, all: &mut Vec<Written>, name: &[u8]) -> Result<(), A
     let written = name_of(alloc, name)?;
     all.push(written)?;
     Ok(())
-}
-
-/// The place of the first `|`.
-fn bar_in(names: &[u8]) -> Option<usize>
-    ensures value { result ≡ List.position (λ byte. byte == 124) names.now }
-    ensures range { IfSome result (λ at. at < length names.now) }
-{
-    names.iter().position(|byte| *byte == b'|')
-}
-
-/// The first name of a names field, and the other names; `None` if it has only one.
-fn cut_name(names: &[u8]) -> Option<(&[u8], &[u8])>
-    ensures found { IfSome result (λ x. names_in names.now ≡ x.0.now ∷ names_in x.1.now) }
-    ensures shorter { IfSome result (λ x. length x.1.now < length names.now) }
-    ensures none { IfNone result (names_in names.now ≡ names.now ∷ []) }
-{
-    match bar_in(names) {
-        None => None,
-        Some(at) => Some((&names[..at], &names[at + 1..])),
-    }
 }

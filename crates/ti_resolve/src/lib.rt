@@ -14,4 +14,4 @@ pub use resolution::{
     answers_once, entered_from, expands_once, faults_are_so, faults_from_are_so, origin, origin_at,
     origin_from, resolve, resolve_at, resolve_from, resolved_at_once, resolved_once, walks_resolve,
 };
-pub use search::Index;
+pub use search::{Index, cut_name};

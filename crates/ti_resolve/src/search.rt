@@ -19,9 +19,9 @@ fn bar_in(names: &[u8]) -> Option<usize>
     names.iter().position(|byte| *byte == b'|')
 }
 
-/// The first name of a names field, and the other names; `None` if it has only one.
+/// The first name of `names`, a names field whose names `|` separates, and the other names; `None` if it has only one.
 #[tactic(auto, using(crate::proofs::Names::cut_found, crate::proofs::Names::cut_none))]
-fn cut_name(names: &[u8]) -> Option<(&[u8], &[u8])>
+pub fn cut_name(names: &[u8]) -> Option<(&[u8], &[u8])>
     ensures found { IfSome result (λ x. names_in names.now ≡ x.0.now ∷ names_in x.1.now) }
     ensures shorter { IfSome result (λ x. length x.1.now < length names.now) }
     ensures none { IfNone result (names_in names.now ≡ names.now ∷ []) }

@@ -43,9 +43,10 @@ fn without_return(line: &[u8]) -> &[u8]
     }
 }
 
-/// The first line of `text`, and the rest; `None` if the text is empty.
+/// The first line of `text` without its end, a line feed with or without a carriage return before it, and the bytes
+/// behind that end; `None` if the text is empty.
 #[tactic(auto, using(std::proofs::lemmas::List::take_rest, crate::proofs::Layouts::line_cut, crate::proofs::Layouts::line_whole, crate::proofs::Tests::filled))]
-pub(crate) fn cut_line(text: &[u8]) -> Option<(&[u8], &[u8])>
+pub fn cut_line(text: &[u8]) -> Option<(&[u8], &[u8])>
     ensures found { IfSome result (λ x. lines_of text.now ≡ x.0.now ∷ lines_of x.1.now) }
     ensures shorter { IfSome result (λ x. length x.1.now < length text.now) }
     ensures none { IfNone result (lines_of text.now ≡ []) }
@@ -59,7 +60,8 @@ pub(crate) fn cut_line(text: &[u8]) -> Option<(&[u8], &[u8])>
     }
 }
 
-pub(crate) fn is_white(byte: u8) -> bool
+/// Whether `byte` is white space within a line: a space or a tab.
+pub fn is_white(byte: u8) -> bool
     ensures { result ≡ is_white byte }
 {
     byte == b' ' || byte == b'\t'
@@ -72,8 +74,8 @@ pub(crate) fn is_blank(bytes: &[u8]) -> bool
     bytes.iter().all(|byte| is_white(*byte))
 }
 
-/// `bytes` without the white space at its start.
-pub(crate) fn skip_white(bytes: &[u8]) -> &[u8]
+/// `bytes` without the white space at its start, as many spaces and tabs as there are.
+pub fn skip_white(bytes: &[u8]) -> &[u8]
     ensures { result.now ≡ skip_white bytes.now }
 {
     let mut rest = bytes;

@@ -60,13 +60,16 @@ fn part_line(line: usize, part: &[u8]) -> Option<FieldLine>
     }
 }
 
-pub(crate) fn begins_entry(line: &[u8]) -> bool
+/// Whether `line` begins an entry: it is neither blank nor a comment, and has no white space in its first column,
+/// terminfo(5).
+pub fn begins_entry(line: &[u8]) -> bool
     ensures { result ≡ begins_entry line.now }
 {
     !is_passed(line) && !begins_white(line)
 }
 
-fn is_further(line: &[u8]) -> bool
+/// Whether `line` continues an entry: it is neither blank nor a comment, and begins with white space, terminfo(5).
+pub fn is_further(line: &[u8]) -> bool
     ensures { result ≡ is_further line.now }
 {
     !is_passed(line) && begins_white(line)

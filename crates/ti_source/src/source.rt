@@ -23,7 +23,8 @@ struct Reader {
     current: Option<Draft>,
 }
 
-fn is_comment(line: &[u8]) -> bool
+/// Whether `line` is a comment: it begins with `#` in its first column, terminfo(5).
+pub fn is_comment(line: &[u8]) -> bool
     ensures { result ≡ is_comment line.now }
 {
     match line {
