@@ -1,16 +1,12 @@
-//! Which capabilities of an entry are checked, and whether lines are just those that it sends.
+//! Which capabilities of an entry are checked.
 
-ghost use Rattle.std.specs.Prelude.{◌≡◌, ◌<◌, IfErr, OnOk, Some, false, is_some, true};
+ghost use Rattle.std.specs.Prelude.{◌≡◌, ◌<◌, Some, false, is_some, true};
 ghost use Rattle.ti_caps.specs.Entry.{string_at};
-ghost use Rattle.ti_rows.specs.Lists.{IsFirst};
-ghost use Rattle.ti_rows.specs.Names.{first_in_order, order};
 ghost use Rattle.ti_conforms.specs.Entries as spec;
 
-use crate::agreement::{Disagreement, LinesByRow, all_agree};
-use std::alloc::Global;
 use ti_caps::{Cap, Entry, Kind, at};
-use ti_rows::{CAPABILITIES, NO_ATTRIBUTES, Row};
-use vt_term::{Color, Size};
+use ti_rows::{NO_ATTRIBUTES, Row};
+use vt_term::Color;
 
 /// The group of capabilities with which a capability is checked.
 #[derive(Clone, Copy, Debug, PartialEq, Eq)]
@@ -75,52 +71,4 @@ pub fn is_checked(entry: &Entry, row: Row) -> bool
     ensures { result ≡ spec.is_checked entry.now row }
 {
     has_string(entry, row) && meets(entry, group_of(row))
-}
-
-/// Checks that the lines of one capability are just those that the entry sends, and that there are
-/// none if it isn't checked.
-fn cap_agrees<L: LinesByRow>(
-    alloc: Global,
-    size: Size,
-    entry: &Entry,
-    lines: &L,
-    first: Row,
-) -> Result<(), Disagreement>
-    requires { IsFirst size.rows size.cols first }
-    ensures agrees { OnOk result (spec.CapAgrees size.rows size.cols entry.now (L.line_of lines.now) (order first)) }
-    ensures fault { IfErr result (spec.IsNotAgreed size.rows size.cols entry.now (L.line_of lines.now)) }
-{
-    if !is_checked(entry, first) {
-        return if lines.has_any(first) {
-            Err(Disagreement::Unwanted(first))
-        } else {
-            Ok(())
-        };
-    }
-    match entry.get_string(first.cap()) {
-        Some(string) => all_agree(alloc, size, string, lines, first),
-        None => Ok(()),
-    }
-}
-
-/// Checks that lines are just those that an entry sends: for each checked capability of the entry and each
-/// parameter list that `size` allows, a line with the bytes that its string sends, and no other line.
-///
-/// # Errors
-/// `Disagree` or `Unwanted` with a row for which this isn't true, or `NoMemory`.
-pub fn entry_agrees<L: LinesByRow>(
-    alloc: Global,
-    size: Size,
-    entry: &Entry,
-    lines: &L,
-) -> Result<(), Disagreement>
-    ensures agrees { OnOk result (spec.EntryAgrees size.rows size.cols entry.now (L.line_of lines.now)) }
-    ensures fault { IfErr result (spec.IsNotAgreed size.rows size.cols entry.now (L.line_of lines.now)) }
-{
-    for order in 0..CAPABILITIES {
-        if let Some(first) = Row::first(order) {
-            cap_agrees(alloc, size, entry, lines, first)?;
-        }
-    }
-    Ok(())
 }

@@ -15,10 +15,10 @@ mod reach;
 mod resync;
 mod sends;
 
-pub use agreement::{Disagreement, LinesByRow, all_agree};
+pub use agreement::{Disagreement, LinesByRow};
 pub use certificates::Certificate;
 pub use closures::{Charsets, KEPT, designated, or_kept, settles, switched};
-pub use entries::{Group, entry_agrees, is_checked};
+pub use entries::{Group, is_checked};
 pub use fitness::{Unfit, acsc, first_unfit};
 pub use looks::{NO_LOOKS, is_alone, is_some_look};
 pub use partners::{Character, fallback, misfit, partner, shown};
