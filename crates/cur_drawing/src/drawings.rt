@@ -27,6 +27,7 @@ impl Window {
     ///
     /// `scrolled` is increased by the number of lines by which the scrolling region moved up; no
     /// clause says so.
+    #[tactic(auto, using(crate::proofs::Written::added_one))]
     pub fn add(
         &mut self,
         grid: &mut Grid<Cell>,
@@ -37,6 +38,10 @@ impl Window {
         ensures value { step grid.new self.new result ≡ added put (canvas grid.old self.old) }
         ensures kept { IsKept grid.old self.old grid.new self.new }
     {
+        // most characters need none of the further tests
+        if put.is_cell() {
+            return self.write(grid, put, scrolled);
+        }
         put.check_written()?;
         self.add_character(grid, put, scrolled)
     }
