@@ -1,6 +1,6 @@
 //! How cells of the virtual screen are printed.
 //!
-//! What an entry has for that is looked up once (`Means`). `ink_of` says how a cell is printed, and `shows_ink` whether
+//! `Means` has an entry's means for that, looked up once. `ink_of` says how a cell is printed, and `shows_ink` whether
 //! it is printed like a given ink. All other functions that ask this are short cuts (`shortcuts.rt`): they decide by the
 //! cell's own numbers, and leave the rest to these two.
 ghost use Rattle.std.specs.Prelude.{◌≡◌, ℕ, Option};
@@ -18,16 +18,16 @@ use vt_term::{Color, color_of as color};
 /// The number of letters: a cell has a character from 32 to 126.
 const LETTERS: usize = 95;
 
-/// What an entry has for printing cells, looked up once.
+/// An entry's means of printing cells, looked up once.
 #[derive(Clone, Copy)]
 pub(crate) struct Means {
     /// Whether it has the strings for colors.
     pub colored: bool,
-    /// What each letter of the alternate set shows, from 32 on.
+    /// The character that each letter of the alternate set shows, from 32 on.
     pub alternates: [Character; LETTERS],
 }
 
-/// What the entry of `checked` has for printing cells.
+/// The means of printing cells that the entry of `checked` has.
 pub(crate) fn means_of<C: Certificate>(checked: &C) -> Means
     ensures { result ≡ spec.means_of (C.table checked.now) (C.partners checked.now) }
 {
@@ -37,8 +37,8 @@ pub(crate) fn means_of<C: Certificate>(checked: &C) -> Means
     }
 }
 
-/// What each letter of the alternate set shows, from 32 on, if the entry has the strings for the graphic set
-/// (`graphic`).
+/// The character that each letter of the alternate set shows, from 32 on, if the entry has the strings for the
+/// graphic set (`graphic`).
 fn alternates_of<C: Certificate>(checked: &C, graphic: bool) -> [Character; LETTERS]
     ensures { result ≡ spec.alternates_of graphic (C.partners checked.now) }
 {
