@@ -1,8 +1,8 @@
 //! Writing, drawing and scrolling in one window.
-ghost use Rattle.std.specs.Prelude.{◌≡◌, ◌<◌, ◌≤◌, ◌+◌, ◌-◌, min};
+ghost use Rattle.std.specs.Prelude.{◌≡◌, ◌<◌, ◌≤◌, ◌+◌, ◌-◌, min, true};
 ghost use Rattle.cur_drawing.specs.Cells.{IsPrinted};
 ghost use Rattle.cur_drawing.specs.Grids.{shape_of};
-ghost use Rattle.cur_drawing.specs.Windows.{IsWindow};
+ghost use Rattle.cur_drawing.specs.Windows.{IsWindow, is_pair, is_printed};
 ghost use Rattle.cur_drawing.specs.Calls.{IsCanvas, IsKept, canvas, step, done, advanced, written, written_times};
 ghost use Rattle.cur_drawing.specs.Calls.{character, added, erased, cleared, insert_char, horizontal, vertical};
 ghost use Rattle.cur_drawing.specs.Calls.{IsBorder, sides, corners, bordered, scrolled, scroll_by, change_background};
@@ -44,6 +44,21 @@ impl Window {
         }
         put.check_written()?;
         self.add_character(grid, put, scrolled)
+    }
+
+    /// Writes the character `put` at the cursor as `add` does, and leaves it to the caller to move the cursor to the
+    /// next column. A cell must be able to hold the character, and the cursor must not be in the last column.
+    #[tactic(auto, using(crate::proofs::Written::added_next))]
+    pub fn put_next(&self, grid: &mut Grid<Cell>, put: Put)
+        requires canvas { IsCanvas grid.old self.now }
+        requires byte { is_printed put.byte ≡ true }
+        requires pair { is_pair put.pair ≡ true }
+        requires before { (self.now).col + 1 < (self.now).area.cols }
+        ensures value { done grid.new (record self.now { col = (self.now).col + 1 })
+            ≡ added put (canvas grid.old self.now) }
+        ensures kept { IsKept grid.old self.now grid.new (record self.now { col = (self.now).col + 1 }) }
+    {
+        self.put_cell(grid, self.content(put));
     }
 
     /// Erases the whole window, and moves the cursor to its corner (`erase`).
