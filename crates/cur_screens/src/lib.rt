@@ -15,7 +15,7 @@ pub use hints::{Hint, Scroll, after_writing, joined};
 pub use marks::Marks;
 pub use slots::{Origin, Slot, WINDOWS, whole_area};
 pub use touched::{
-    Touched, WrittenFrom, mark_rectangle, spread, start_of, start_of_text, touch_text,
+    Touched, WrittenFrom, mark_rectangle, spread, start_of, start_of_text, touch_cells, touch_text,
     touch_written, unmark,
 };
 pub use virtual_screen::{ScreenCopy, Virtual, blank_grid};

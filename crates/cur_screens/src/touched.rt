@@ -274,7 +274,7 @@ pub fn touch_text(touched: &mut Touched, slot: &Slot, origin: Origin, start: Wri
 
 /// Marks `count` cells from the column `col` on of the window's line with the cursor. `origin` must
 /// be the grid's place, unless it is a pad's.
-fn touch_cells(touched: &mut Touched, slot: &Slot, origin: Origin, col: u16, count: u16)
+pub fn touch_cells(touched: &mut Touched, slot: &Slot, origin: Origin, col: u16, count: u16)
     requires window { IsWindow (slot.now).window }
     requires within { origin.pad ≡ false → LiesWithin origin (slot.now).window.area }
     requires cells { col + count ≤ (slot.now).window.area.cols }
