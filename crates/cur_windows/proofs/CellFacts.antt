@@ -1,18 +1,19 @@
 -- Text that becomes cells of the cursor's line changes and marks nothing else.
-use Rattle.std.proofs.Common.{Some, Ok, set, ◌≡◌, inl, inr, ℕ, ◌+◌, ◌<◌, ◌==◌, ◌||◌, nat_lt, Bool, true, false, List, [], Option, length, get_or, sym, ap, subst, ◌∙◌, arith, if◌then◌else◌, refl, suc, ◌∷◌}
+use Rattle.std.proofs.Common.{Some, Ok, set, ◌≡◌, inl, inr, ℕ, ◌+◌, ◌<◌, nat_lt, Bool, true, false, List, [], Option, length, get_or, sym, ap, subst, ◌∙◌, arith, if◌then◌else◌, refl, suc, ◌∷◌}
 use Rattle.std.proofs.lemmas.Bool.{cases_lt}
 use Rattle.std.proofs.lemmas.Bool.Decides.{nat_tests}
 use Rattle.std.proofs.lemmas.List.{get_or_default}
 use Rattle.grids.specs.declared.areas.Area.{Area}
 use Rattle.grids.proofs.Drawings.{cell_at-drawn_in_off}
+use Rattle.cur_drawing.proofs.Written.{added_next, one_drawn}
 use Rattle.cur_drawing.specs.declared.puts.Put.{Put}
 use Rattle.cur_drawing.specs.declared.windows.Window.{Window}
 use Rattle.cur_drawing.specs.Cells.{space}
 use Rattle.cur_drawing.specs.Grids.{Grid, cell_at, filled, is_in, shape_of}
 use Rattle.cur_screens.specs.Marks.{Marking}
-use Rattle.cur_drawing.specs.Windows.{cells_of, checked, content, is_pair, is_printed}
+use Rattle.cur_drawing.specs.Windows.{cells_of, content}
 use Rattle.cur_drawing.specs.Calls as calls
-use Rattle.cur_drawing.specs.Calls.{Canvas, CanvasStep, IsKept, and_then, canvas, done, if_accepted, plain}
+use Rattle.cur_drawing.specs.Calls.{Canvas, CanvasStep, IsKept, and_then, canvas, done, plain}
 use Rattle.cur_screens.specs.declared.slots.Origin.{Origin}
 use Rattle.cur_screens.specs.declared.slots.Slot.{Slot}
 use Rattle.cur_windows.specs.Desks.{IsDesk, IsPlaced, State, grid_at, origin_at, slot_of, window_at}
@@ -20,43 +21,8 @@ use Rattle.cur_screens.specs.Touched.{AreTouched, FitsLine, IsOneCell, Markings,
 use Rattle.cur_windows.specs.TouchedWindows.{KeepsShown, MarksCellsAlone, MarksWritten, ShowsBut}
 use Rattle.cur_windows.proofs.TouchedFacts.{SparesGrid, slot_spared, with_grid, written_within}
 
-other : (b n : ℕ) → is_printed b ≡ true → n < 32 → (b == n) ≡ false
-other b n printed lt = grind (arith, nat_tests, printed, lt)
-
-in_ascii : (b : ℕ) → is_printed b ≡ true → nat_lt b 128 ≡ true
-in_ascii b printed = grind (arith, nat_tests, printed)
-
-no_control : (b : ℕ) → is_printed b ≡ true → (nat_lt b 32 || (b == 127)) ≡ false
-no_control b printed = grind (arith, nat_tests, printed)
-
-below : (m n : ℕ) → m < n → nat_lt m n ≡ true
-below m n lt = grind (arith, nat_tests)
-
--- the grid with the cell at the cursor
-abbrev one_drawn : Put → Canvas → Grid
-one_drawn p s = filled (cells_of s.window s.window.row s.window.col 1) (content s.window p) s.grid
-
-written_one : (p : Put) (s : Canvas) → s.window.col + 1 < s.window.area.cols → calls.written p s ≡ done (one_drawn p s) (record s.window { col = s.window.col + 1 })
-written_one p s lt = ap (λ (t : Bool). if t then done (one_drawn p s) (record s.window { col = s.window.col + 1 }) else calls.advanced (canvas (one_drawn p s) s.window)) (below (s.window.col + 1) s.window.area.cols lt)
-
-character_one : (p : Put) (s : Canvas) → is_printed p.byte ≡ true → calls.character p s ≡ calls.written p s
-character_one p s printed =
-    let b = p.byte in
-    pick (b == 10) (b == 9) (b == 8) (b == 13) (nat_lt b 32 || (b == 127)) _ _ _ _ _ (calls.written p s) (other b 10 printed (omega arith)) (other b 9 printed (omega arith)) (other b 8 printed (omega arith)) (other b 13 printed (omega arith)) (no_control b printed)
-  where
-    pick : (p q r s t : Bool) (A B C D E W : CanvasStep) → p ≡ false → q ≡ false → r ≡ false → s ≡ false → t ≡ false → (if p then A else if q then B else if r then C else if s then D else if t then E else W) ≡ W
-    pick p q r s t A B C D E W e f g h i =
-        ap (λ (x : Bool). if x then A else if q then B else if r then C else if s then D else if t then E else W) e
-        ∙ ap (λ (x : Bool). if x then B else if r then C else if s then D else if t then E else W) f
-        ∙ ap (λ (x : Bool). if x then C else if s then D else if t then E else W) g
-        ∙ ap (λ (x : Bool). if x then D else if t then E else W) h
-        ∙ ap (λ (x : Bool). if x then E else W) i
-
 pub one_cell : (p : Put) (s : Canvas) → IsOneCell s.window p → calls.added p s ≡ done (one_drawn p s) (record s.window { col = s.window.col + 1 })
-one_cell p s is =
-    ap (λ (t : Bool). if_accepted (checked t (is_pair p.pair)) s (calls.character p s)) (in_ascii p.byte is.printed)
-    ∙ ap (λ (t : Bool). if_accepted (checked true t) s (calls.character p s)) is.pair
-    ∙ character_one p s is.printed ∙ written_one p s is.before
+one_cell p s is = added_next p s is.printed is.pair is.before
 
 -- ---- cells of one line
 

@@ -9,7 +9,9 @@ ghost use Rattle.cur_windows.specs.TouchedWindows.{KeepsShown, MarksCellsAlone, 
 use crate::desks::Desk;
 use crate::regions::{note_writing, region_of};
 use cur_drawing::{Attrs, Border, Put, Refusal};
-use cur_screens::{Touched, joined, start_of, start_of_text, touch_text, touch_written};
+use cur_screens::{
+    Touched, joined, start_of, start_of_text, touch_cells, touch_text, touch_written,
+};
 
 // The calls on one window. Each refuses a number above 63 with `Full`, and else one that names no
 // window with `NoWindow`. A refusal changes nothing, except for `NoScroll` and strings.
@@ -141,6 +143,32 @@ impl Desk {
         put: Put,
         touched: &mut Touched,
     ) -> Result<(), Refusal>
+        ensures step { spec.step self.new result ≡ spec.on_window self.old id (call.added put) }
+        ensures touched { KeepsShown touched.old self.old touched.new self.new }
+        ensures only { MarksWritten touched.old touched.new self.old self.new id }
+        ensures cells { IfOk (spec.slot_of self.old id) (λ s. IsOneCell s.window put
+            → MarksCellsAlone touched.old touched.new self.old s 1) }
+        ensures refused { IfErr result (λ e. e ≢ Refusal.NoScroll → touched.new ≡ touched.old) }
+    {
+        let slot = self.find(id)?;
+        let start = start_of(&slot.window, put);
+        if !start.fits {
+            return self.add_any(id, put, touched);
+        }
+        let origin = self.origin_of(&slot);
+        let mut moved = slot;
+        moved.window.col += 1;
+        // before the cell, so that the compiler leaves all but the column in its place
+        self.windows[id] = Some(moved);
+        let grid = &mut self.grids[slot.root as usize];
+        slot.window.put_next(grid, put);
+        touch_cells(touched, &moved, origin, slot.window.col, 1);
+        Ok(())
+    }
+
+    // Writes `put` as `addch_marked` does. It stands alone so that one cell of the cursor's line takes less.
+    #[inline(never)]
+    fn add_any(&mut self, id: usize, put: Put, touched: &mut Touched) -> Result<(), Refusal>
         ensures step { spec.step self.new result ≡ spec.on_window self.old id (call.added put) }
         ensures touched { KeepsShown touched.old self.old touched.new self.new }
         ensures only { MarksWritten touched.old touched.new self.old self.new id }

@@ -10,7 +10,7 @@ use Rattle.cur_windows.proofs.CellFacts.{StaysInLine, alone_cells, put_answers, 
 use Rattle.cur_windows.proofs.Closures.{closes_canvas}
 use Rattle.cur_windows.proofs.TouchedFacts.{left_by, left_unmarked, touched_by, written_by}
 use Rattle.cur_windows.proofs.WrittenLines as writing
-use Rattle.cur_windows.proofs.desks.Desk.addch_marked.Goals as goal
+use Rattle.cur_windows.proofs.desks.Desk.add_any.Goals as goal
 
 pub invariant_of-self : goal.invariant_of-self
 invariant_of-self c = closes_canvas _ _ c.args.id _ _ _ _ c.self.view_is c.self.invariant c.in_ok-slot.ensures.there c.index_mut-grid.ensures.value c.add-answer.ensures.kept

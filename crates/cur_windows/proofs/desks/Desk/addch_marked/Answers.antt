@@ -1,0 +1,26 @@
+use Rattle.std.proofs.Common.{[], IfOk, Result, refl, subst}
+use Rattle.std.proofs.lemmas.Bool.{not-false}
+use Rattle.cur_drawing.specs.declared.refusals.Refusal.{Refusal}
+use Rattle.cur_screens.specs.declared.slots.Slot.{Slot}
+use Rattle.cur_screens.specs.Touched.{IsOneCell}
+use Rattle.cur_windows.specs.TouchedWindows.{MarksCellsAlone}
+use Rattle.cur_windows.proofs.CellFacts.{alone_cells, put_stays, touched_cells, written_cells}
+use Rattle.cur_windows.proofs.Closures.{closes_canvas}
+use Rattle.cur_windows.proofs.desks.Desk.addch_marked.Goals as goal
+
+pub invariant_of-self : goal.invariant_of-self
+invariant_of-self c = closes_canvas _ _ c.args.id _ _ _ _ c.self.view_is c.self.invariant c.in_ok-slot.ensures.there c.index_mut-grid.ensures.value c.put_next.ensures.kept
+
+pub returns-clause-touched : goal.returns-clause-touched
+returns-clause-touched c =
+    touched_cells _ _ [] c.args.id _ _ _ _ _ _ _ 1 (put_stays c.args.put _ _ (c.start_of-start.ensures.one (not-false _ c.if-not-start.false)).0 c.put_next.ensures.value)
+    c.self.view_is c.self.invariant c.in_ok-slot.ensures.placed c.index_mut-grid.ensures.value c.put_next.ensures.kept c.origin_of-origin.ensures.value c.touch_cells.ensures
+
+pub returns-clause-only : goal.returns-clause-only
+returns-clause-only c =
+    written_cells _ _ _ c.args.id _ _ _ _ _ _ _ 1 (put_stays c.args.put _ _ (c.start_of-start.ensures.one (not-false _ c.if-not-start.false)).0 c.put_next.ensures.value)
+    c.self.view_is c.self.invariant c.in_ok-slot.ensures.there c.in_ok-slot.ensures.value refl c.origin_of-origin.ensures.value c.touch_cells.ensures
+
+pub returns-clause-cells : goal.returns-clause-cells
+returns-clause-cells c = subst (λ (r : Result Slot Refusal). IfOk r (λ s. IsOneCell s.window c.args.put → MarksCellsAlone c.args.touched.now c.touch_cells.new.touched c.args.self.now s 1)) c.in_ok-slot.ensures.value (λ is.
+    alone_cells c.args.self.now _ _ _ _ _ _ _ _ _ 1 (put_stays c.args.put _ _ is c.put_next.ensures.value) c.origin_of-origin.ensures.value refl refl c.touch_cells.ensures)
