@@ -1,16 +1,17 @@
 -- From a line of the certificate to a step.
-use Rattle.std.proofs.Common.{◌≡◌, ℕ, ◌≤◌, List, length, Some, Result, true, sym, ap, arith}
+use Rattle.std.proofs.Common.{◌≡◌, ℕ, ◌≤◌, List, length, Some, Ok, Result, true, sym, ap, arith}
 use Rattle.vt_term.specs.Screen.{State}
 use Rattle.cur_wires.specs.Leads.{Leads}
-use Rattle.cur_wires.specs.Wire.{Sends}
+use Rattle.cur_wires.specs.Wire.{IsWire, Sends}
 use Rattle.vt_term.specs.Ends.{Closed, Ends}
 use Rattle.cur_wires.specs.Steps.{Spells, Steps}
-use Rattle.cur_wires.proofs.Stops.{leads_line, spells_as, spells_sent, steps_sent}
+use Rattle.cur_wires.proofs.Stops.{leads_line, spells_as, spells_sent, steps_nothing, steps_sent}
 use Rattle.cur_wires.proofs.Completion.{ends_sized}
 use Rattle.ti_rows.specs.declared.rows.Row.{Row}
 use Rattle.ti_conforms.specs.Certified.{Table, IsLost, IsReady, IsChecked, IsCheckedLine, IsPiece, Line, Ended, limit_of, or_nothing, text_of}
 use Rattle.cur_steps.specs.Beliefs.{Agrees, Belief, LeadsTo, Turns}
 use Rattle.cur_steps.specs.Pieces.{IsPaint, Stroke, paints}
+use Rattle.cur_steps.specs.Steps.{Acts}
 use Rattle.cur_steps.specs.declared.inks.Ink.{Ink}
 
 pub ready_lost : (t : Table) → IsChecked t → (s : State) → IsReady t s → IsLost t s
@@ -24,6 +25,12 @@ ready_lost t checked s h = record {
 
 pub agrees_lost : (t : Table) → IsChecked t → (g : ℕ → ℕ → Ink) (b : Belief) (s : State) → Agrees t g b s → IsLost t s
 agrees_lost t checked g b s h = ready_lost t checked s h.ready
+
+-- a step that sends nothing, as the terminal already agrees with the belief after it
+pub acts_nothing : {W E : Type 0} (went : W → W → List ℕ → Type 0) (failures : W → ℕ) → IsWire went failures → (a : W) (t : Table) → IsChecked t → (n : ℕ) (g h : ℕ → ℕ → Ink) (b c : Belief)
+    → ((s : State) → Agrees t g b s → Agrees t h c s) → Acts {T = Unit {0}} {E = E} went failures a a (Ok tt) t n g h b c
+acts_nothing went failures lawful a t checked n g h b c so =
+    steps_nothing went failures lawful a tt (IsPaint t) n (IsLost t) (Agrees t g b) (Agrees t h c) (λ s x. x.ready.rest) so (agrees_lost t checked g b)
 
 -- the end of a line's run
 pub line_ends : (t : Table) → IsChecked t → (row : Row) (bytes : List ℕ) → t.line_of row ≡ Some bytes → (g h : ℕ → ℕ → Ink) (b c : Belief) → Turns t row g b h c → (s : State) → Agrees t g b s → Ends s bytes (Agrees t h c)

@@ -152,7 +152,6 @@ impl Brush {
 }
 
 /// Whether `ink` is of the plain set, without attributes and in the default colors.
-#[inline(always)]
 pub fn is_plain_ink(ink: Ink) -> bool
     ensures value { result ≡ spec.same spec.blank_ink (record ink { byte = 32 }) }
 {
@@ -205,7 +204,7 @@ fn same_others(a: Attributes, b: Attributes) -> bool
 }
 
 /// Whether the colors `a` and `b` are the same; `None` is the default color.
-pub(crate) fn same_color(a: Option<Color>, b: Option<Color>) -> bool
+pub fn same_color(a: Option<Color>, b: Option<Color>) -> bool
     ensures value { result ≡ spec.same_color a b }
 {
     match (a, b) {

@@ -14,6 +14,7 @@ mod stretches;
 pub use beliefs::{Belief, Mode, Place};
 pub use inks::{
     Blank, Brush, Cells, Ink, Picture, byte_as, is_plain_ink, is_same, same_attributes, same_brush,
+    same_color,
 };
 pub use lines::{has_line, send_line};
 pub use looks::look_alike;

@@ -98,7 +98,6 @@ pub fn is_mode(now: Option<Mode>, wanted: Mode) -> bool
 }
 
 /// Shows the cursor in the mode `wanted`, if it isn't known to be.
-#[inline(always)]
 pub fn show_as<C: Certificate, W: Wire>(
     checked: &C,
     belief: &mut Belief,

@@ -1,10 +1,8 @@
 use Rattle.std.proofs.Common.{◌≡◌, true, length, refl, sym}
-use Rattle.cur_wires.proofs.Stops.{steps_none, steps_nothing}
-use Rattle.ti_conforms.specs.Certified.{HasSingles, IsLost, text_of}
-use Rattle.cur_steps.specs.Pieces.{IsPaint}
-use Rattle.cur_steps.specs.Beliefs.{Agrees, Belief}
+use Rattle.ti_conforms.specs.Certified.{HasSingles, text_of}
+use Rattle.cur_steps.specs.Beliefs.{Belief}
 use Rattle.cur_steps.specs.Singles.{has_single, turned_on}
-use Rattle.cur_steps.proofs.Actions.{agrees_lost}
+use Rattle.cur_steps.proofs.Actions.{acts_nothing}
 use Rattle.cur_steps.proofs.Answers.{has_none, has_some}
 use Rattle.cur_steps.proofs.SingleFacts.{with_attributes, single_paints, single_set, single_absent, single_limit}
 use Rattle.cur_steps.proofs.singles.add_single.Goals as goal
@@ -13,7 +11,7 @@ pub returns-then-not-has_single-clause-step : goal.returns-then-not-has_single-c
 returns-then-not-has_single-clause-step g c h =
     let t = g.C.Certificate.table c.args.checked.now in
     let b = c.args.belief.now in
-    steps_none g.W.Wire.went g.W.Wire.failures g.met.W.Wire.lawful c.args.wire.now tt (IsPaint t) _ (IsLost t) (Agrees t h b) (λ s x. x.ready.rest) (agrees_lost t c.requires.checked h b)
+    acts_nothing g.W.Wire.went g.W.Wire.failures g.met.W.Wire.lawful c.args.wire.now t c.requires.checked _ h h b b (λ s x. x)
 
 pub returns-in-Some-clause-step : goal.returns-in-Some-clause-step
 returns-in-Some-clause-step g c h =
@@ -36,5 +34,4 @@ returns-in-None-clause-step g c h =
     let on : has_single row c.args.wanted ≡ true = sym c.if-not-has_single.ensures in
     let singles : HasSingles t = c.requires.checked.singles c.requires.sgr in
     rw c.turned_on-belief.ensures
-    (steps_nothing g.W.Wire.went g.W.Wire.failures g.met.W.Wire.lawful c.args.wire.now tt (IsPaint t) _ (IsLost t) (Agrees t h b) (Agrees t h d) (λ s x. x.ready.rest)
-    (single_absent t singles c.args.wanted row on (has_none t row (c.in-None.ensures.none refl)) h b) (agrees_lost t c.requires.checked h b))
+    (acts_nothing g.W.Wire.went g.W.Wire.failures g.met.W.Wire.lawful c.args.wire.now t c.requires.checked _ h h b d (single_absent t singles c.args.wanted row on (has_none t row (c.in-None.ensures.none refl)) h b))

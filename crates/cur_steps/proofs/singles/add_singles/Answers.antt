@@ -1,10 +1,10 @@
 use Rattle.std.proofs.Common.{◌+◌, take, Ok, refl, ap, ◌∙◌, arith}
 use Rattle.std.proofs.lemmas.Result.{err_from_is_err_and}
-use Rattle.cur_wires.proofs.Stops.{steps_fail, steps_next, steps_none}
+use Rattle.cur_wires.proofs.Stops.{steps_fail, steps_next}
 use Rattle.ti_conforms.specs.Certified.{IsLost, lengths}
 use Rattle.cur_steps.specs.Pieces.{IsPaint}
 use Rattle.cur_steps.specs.Beliefs.{Agrees, Belief}
-use Rattle.cur_steps.proofs.Actions.{agrees_lost}
+use Rattle.cur_steps.proofs.Actions.{acts_nothing}
 use Rattle.cur_steps.proofs.SingleFacts.{ahead_more, lengths_more, lengths_within}
 use Rattle.cur_steps.proofs.singles.add_singles.Goals as goal
 
@@ -15,7 +15,7 @@ loop-row-init g c =
     record {
       set = c.requires.set;
       ahead = refl;
-      step = λ h. steps_none g.W.Wire.went g.W.Wire.failures g.met.W.Wire.lawful c.args.wire.now tt (IsPaint t) _ (IsLost t) (Agrees t h b) (λ s x. x.ready.rest) (agrees_lost t c.requires.checked h b);
+      step = λ h. acts_nothing g.W.Wire.went g.W.Wire.failures g.met.W.Wire.lawful c.args.wire.now t c.requires.checked _ h h b b (λ s x. x);
     }
 
 pub loop-row-preserved : goal.loop-row-preserved

@@ -1,11 +1,9 @@
 use Rattle.std.proofs.Common.{◌≡◌, Option, Some, true, false, arith, refl, ap, sym, ◌∙◌}
 use Rattle.vt_term.specs.Color.{Color}
-use Rattle.cur_wires.proofs.Stops.{steps_nothing}
 use Rattle.ti_rows.specs.declared.rows.Row.TheVariants.{Op, Setab}
-use Rattle.ti_conforms.specs.Certified.{IsLost, has}
-use Rattle.cur_steps.specs.Pieces.{IsPaint}
-use Rattle.cur_steps.specs.Beliefs.{Agrees, Belief}
-use Rattle.cur_steps.proofs.Actions.{agrees_lost}
+use Rattle.ti_conforms.specs.Certified.{has}
+use Rattle.cur_steps.specs.Beliefs.{Belief}
+use Rattle.cur_steps.proofs.Actions.{acts_nothing}
 use Rattle.cur_steps.proofs.Answers.{has_none}
 use Rattle.cur_steps.proofs.Turns.{background_set, brush_as, colored_has}
 use Rattle.cur_steps.proofs.Sameness.{color_equal}
@@ -17,16 +15,14 @@ returns-then-same-clause-step g c h =
     let b = c.args.belief.now in
     let d : Belief = record b { brush = record b.brush { background = c.args.wanted } } in
     let same : b.brush.background ≡ c.args.wanted = color_equal b.brush.background c.args.wanted (sym c.same_color-same.ensures.value ∙ c.if-same.true) in
-    steps_nothing g.W.Wire.went g.W.Wire.failures g.met.W.Wire.lawful c.args.wire.now tt (IsPaint t) _ (IsLost t) (Agrees t h b) (Agrees t h d) (λ s x. x.ready.rest)
-    (brush_as t h b (record b.brush { background = c.args.wanted }) (ap (λ (f : Option Color). record b.brush { background = f }) same)) (agrees_lost t c.requires.checked h b)
+    acts_nothing g.W.Wire.went g.W.Wire.failures g.met.W.Wire.lawful c.args.wire.now t c.requires.checked _ h h b d (brush_as t h b (record b.brush { background = c.args.wanted }) (ap (λ (f : Option Color). record b.brush { background = f }) same))
 
 pub returns-in_default-clause-step : goal.returns-in_default-clause-step
 returns-in_default-clause-step g c h =
     let t = g.C.Certificate.table c.args.checked.now in
     let b = c.args.belief.now in
     let d : Belief = record b { brush = record b.brush { background = c.args.wanted } } in
-    steps_nothing g.W.Wire.went g.W.Wire.failures g.met.W.Wire.lawful c.args.wire.now tt (IsPaint t) _ (IsLost t) (Agrees t h b) (Agrees t h d) (λ s x. x.ready.rest)
-    (brush_as t h b (record b.brush { background = c.args.wanted }) (ap (λ (f : Option Color). record b.brush { background = f }) (c.requires.now c.in_default.is ∙ sym c.in_default.is))) (agrees_lost t c.requires.checked h b)
+    acts_nothing g.W.Wire.went g.W.Wire.failures g.met.W.Wire.lawful c.args.wire.now t c.requires.checked _ h h b d (brush_as t h b (record b.brush { background = c.args.wanted }) (ap (λ (f : Option Color). record b.brush { background = f }) (c.requires.now c.in_default.is ∙ sym c.in_default.is)))
 
 pub returns-in-Some-line-clause-step : goal.returns-in-Some-line-clause-step
 returns-in-Some-line-clause-step g c h =

@@ -1,10 +1,7 @@
 use Rattle.std.proofs.Common.{None, arith, refl}
-use Rattle.cur_wires.proofs.Stops.{steps_nothing}
 use Rattle.ti_rows.specs.declared.rows.Row.TheVariants.{Op}
-use Rattle.ti_conforms.specs.Certified.{IsLost}
-use Rattle.cur_steps.specs.Pieces.{IsPaint}
-use Rattle.cur_steps.specs.Beliefs.{Agrees, Belief}
-use Rattle.cur_steps.proofs.Actions.{agrees_lost}
+use Rattle.cur_steps.specs.Beliefs.{Belief}
+use Rattle.cur_steps.proofs.Actions.{acts_nothing}
 use Rattle.cur_steps.proofs.Answers.{has_none}
 use Rattle.cur_steps.proofs.Turns.{colors_gone, no_colors, no_color_lines}
 use Rattle.cur_steps.proofs.steps.colors_off.Goals as goal
@@ -14,8 +11,7 @@ returns-then-plain-clause-step g c h =
     let t = g.C.Certificate.table c.args.checked.now in
     let b = c.args.belief.now in
     let d : Belief = record b { brush = record b.brush { foreground = None; background = None } } in
-    steps_nothing g.W.Wire.went g.W.Wire.failures g.met.W.Wire.lawful c.args.wire.now tt (IsPaint t) _ (IsLost t) (Agrees t h b) (Agrees t h d) (λ s x. x.ready.rest)
-    (no_colors t h b (c.is_uncolored-plain.ensures.foreground c.if-plain.true) (c.is_uncolored-plain.ensures.background c.if-plain.true)) (agrees_lost t c.requires.checked h b)
+    acts_nothing g.W.Wire.went g.W.Wire.failures g.met.W.Wire.lawful c.args.wire.now t c.requires.checked _ h h b d (no_colors t h b (c.is_uncolored-plain.ensures.foreground c.if-plain.true) (c.is_uncolored-plain.ensures.background c.if-plain.true))
 
 pub returns-in-Some-clause-step : goal.returns-in-Some-clause-step
 returns-in-Some-clause-step g c h =
@@ -28,5 +24,4 @@ returns-in-None-clause-step g c h =
     let t = g.C.Certificate.table c.args.checked.now in
     let b = c.args.belief.now in
     let d : Belief = record b { brush = record b.brush { foreground = None; background = None } } in
-    steps_nothing g.W.Wire.went g.W.Wire.failures g.met.W.Wire.lawful c.args.wire.now tt (IsPaint t) _ (IsLost t) (Agrees t h b) (Agrees t h d) (λ s x. x.ready.rest)
-    (no_color_lines t h b (has_none t Op (c.in-None.ensures.none refl))) (agrees_lost t c.requires.checked h b)
+    acts_nothing g.W.Wire.went g.W.Wire.failures g.met.W.Wire.lawful c.args.wire.now t c.requires.checked _ h h b d (no_color_lines t h b (has_none t Op (c.in-None.ensures.none refl)))

@@ -1,9 +1,6 @@
 use Rattle.std.proofs.Common.{Some, refl}
-use Rattle.cur_wires.proofs.Stops.{steps_none, steps_nothing}
-use Rattle.ti_conforms.specs.Certified.{IsLost}
-use Rattle.cur_steps.specs.Pieces.{IsPaint}
-use Rattle.cur_steps.specs.Beliefs.{Agrees, Belief, set_row}
-use Rattle.cur_steps.proofs.Actions.{agrees_lost}
+use Rattle.cur_steps.specs.Beliefs.{Belief, set_row}
+use Rattle.cur_steps.proofs.Actions.{acts_nothing}
 use Rattle.cur_steps.proofs.Answers.{has_none}
 use Rattle.cur_steps.proofs.Turns.{set_chosen, set_limit, set_paints, set_absent}
 use Rattle.cur_steps.proofs.steps.set_as.Goals as goal
@@ -12,7 +9,7 @@ pub returns-then-is_active-clause-step : goal.returns-then-is_active-clause-step
 returns-then-is_active-clause-step g c h =
     let t = g.C.Certificate.table c.args.checked.now in
     let b = c.args.belief.now in
-    steps_none g.W.Wire.went g.W.Wire.failures g.met.W.Wire.lawful c.args.wire.now tt (IsPaint t) _ (IsLost t) (Agrees t h b) (λ s x. x.ready.rest) (agrees_lost t c.requires.checked h b)
+    acts_nothing g.W.Wire.went g.W.Wire.failures g.met.W.Wire.lawful c.args.wire.now t c.requires.checked _ h h b b (λ s x. x)
 
 pub returns-in-Some-clause-step : goal.returns-in-Some-clause-step
 returns-in-Some-clause-step g c h =
@@ -26,5 +23,4 @@ returns-in-None-clause-step g c h =
     let b = c.args.belief.now in
     let d : Belief = record b { graphic = Some c.args.graphic } in
     let none = rw c.row_of_set-row.ensures at c.in-None.ensures.none refl in
-    steps_nothing g.W.Wire.went g.W.Wire.failures g.met.W.Wire.lawful c.args.wire.now tt (IsPaint t) _ (IsLost t) (Agrees t h b) (Agrees t h d) (λ s x. x.ready.rest)
-    (set_absent t c.requires.checked c.args.graphic c.requires.lines (has_none t (set_row c.args.graphic) none) h b) (agrees_lost t c.requires.checked h b)
+    acts_nothing g.W.Wire.went g.W.Wire.failures g.met.W.Wire.lawful c.args.wire.now t c.requires.checked _ h h b d (set_absent t c.requires.checked c.args.graphic c.requires.lines (has_none t (set_row c.args.graphic) none) h b)
