@@ -251,7 +251,6 @@ fn put_here<C: Certificate, W: Wire>(
 }
 
 /// Prints `ink` at `at`. The line must already show the target up to `at`.
-#[inline(always)]
 pub fn put_cell<C: Certificate, N: Picture, W: Wire>(
     target: &Target<'_, C, N>,
     belief: &mut Belief,
