@@ -1,9 +1,9 @@
 -- The text of the line about a move, part by part.
-use Rattle.std.proofs.Common.{◌≡◌, ℕ, zero, suc, ◌+◌, ◌/◌, ◌%◌, ◌==◌, ◌<◌, ◌≤◌, ◌^◌, Bool, true, List, [], ◌∷◌, ◌++◌, Some, Option, refl, sym, ap, ◌∙◌, subst, arith, append_assoc, append-nil, lit<}
+use Rattle.std.proofs.Common.{◌≡◌, ℕ, zero, suc, ◌+◌, ◌/◌, ◌%◌, ◌==◌, ◌<◌, ◌≤◌, ◌^◌, true, List, [], ◌∷◌, ◌++◌, Some, refl, sym, ap, ◌∙◌, subst, arith, append_assoc, lit<}
 use Rattle.std.specs.Prelude.{slice_index}
 use Rattle.std.specs.Fmt.{decimal}
 use Rattle.std.specs.List.{AllByRecursion}
-use Rattle.std.proofs.lemmas.Bool.{agree_below, agree_below_at, eqb-true}
+use Rattle.std.proofs.lemmas.Bool.{agree_below_at, eqb-true}
 use Rattle.std.proofs.lemmas.Fmt.{decimal_digit, decimal_step}
 use Rattle.hex.specs.Hex.{IsBytes, encode_lower, encode_with, lower_digits}
 use Rattle.vt_term.specs.Text.{IsParameter}
@@ -12,7 +12,6 @@ use Rattle.vt_term.proofs.Decimals.{all_append}
 use Rattle.vt_term.proofs.Moves.{spells}
 use Rattle.vt_term.proofs.Sequences.{all_weaker}
 use Rattle.ti_rows.specs.Names.{name_in_order}
-use Rattle.ti_rows.specs.declared.rows.Row.{Row}
 use Rattle.ti_lines.specs.EffectText.{spelled}
 use Rattle.ti_lines.specs.RowLines.{IsLine, IsTextOf, line_text}
 use Rattle.ti_lines.specs.declared.row_lines.RowLine.{RowLine}

@@ -1,9 +1,8 @@
 -- The effect of a move to a place, and the character sets that it keeps.
-use Rattle.std.proofs.Common.{◌≡◌, ℕ, ◌<◌, ◌≤◌, Bool, true, false, List, [], ◌∷◌, Some, refl, sym, ap, ◌∙◌, subst, inl, arith, append-nil}
+use Rattle.std.proofs.Common.{◌≡◌, ℕ, ◌<◌, ◌≤◌, Bool, true, false, List, [], ◌∷◌, Some, refl, sym, ap, ◌∙◌, subst, inl, append-nil}
 use Rattle.vt_term.specs.Size.{IsSize}
 use Rattle.vt_term.specs.Text.{Splits}
 use Rattle.vt_term.specs.Moves.{cursor_to}
-use Rattle.vt_term.specs.Function.{Function, CursorPosition, function_of}
 use Rattle.vt_term.proofs.Moves.{move_function, move_token}
 use Rattle.vt_term.proofs.Sequences.{empty_open}
 use Rattle.vt_term.proofs.Splits.{one_splitting}
@@ -12,8 +11,7 @@ use Rattle.vt_effects.specs.Record.{IsRecordOf}
 use Rattle.vt_effects.specs.declared.starts.Start.{Start}
 use Rattle.vt_effects.proofs.Basics.{cup_record}
 use Rattle.ti_rows.specs.declared.rows.Row.{Row}
-use Rattle.ti_rows.specs.Lists.{IsInRange}
-use Rattle.ti_conforms.specs.Charsets.{joined, reach_of, makes_g0_graphic, makes_g1_graphic, shifts_out}
+use Rattle.ti_conforms.specs.Charsets.{joined, reach_of}
 use Rattle.ti_conforms.specs.declared.reach.Reach.{Reach}
 use Rattle.ti_forms.specs.Forms.{IsMove, IsMoveTo}
 

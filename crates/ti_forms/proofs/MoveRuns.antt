@@ -1,6 +1,6 @@
 -- The run of the standard's string for a move, part by part.
-use Rattle.std.proofs.Common.{◌≡◌, ◌<◌, ◌≤◌, ◌+◌, ◌-◌, ◌==◌, ◌&&◌, ◌^◌, ℕ, ℤ, pos, negsuc, Bool, true, false, cond, List, [], ◌∷◌, ◌++◌, length, Result, Ok, Err, Option, Some, None, refl, sym, ap, ◌∙◌, arith, append-nil, append_assoc, lit<, get_or, subst}
-use Rattle.std.specs.Prelude.{replicate, ◌+ℤ◌, Contains}
+use Rattle.std.proofs.Common.{◌≡◌, ◌<◌, ◌≤◌, ◌+◌, ◌-◌, ◌==◌, ◌&&◌, ◌^◌, ℕ, pos, Bool, true, false, cond, List, [], ◌∷◌, ◌++◌, length, Result, Ok, None, refl, sym, ap, ◌∙◌, arith, append-nil, append_assoc, lit<, get_or, subst}
+use Rattle.std.specs.Prelude.{replicate, ◌+ℤ◌}
 use Rattle.std.specs.Prelude.{◌≢◌}
 use Rattle.std.specs.Fmt.{decimal}
 use Rattle.std.specs.List.{AllByRecursion}
@@ -13,15 +13,14 @@ use Rattle.ti_parm.specs.declared.code.Action.TheVariants.{Literal, Parameter, I
 use Rattle.ti_parm.specs.declared.formats.Format.{Format}
 use Rattle.ti_parm.specs.declared.formats.Conversion.TheVariants.{Decimal}
 use Rattle.ti_parm.specs.declared.fault.ParmFault.{ParmFault}
-use Rattle.ti_parm.specs.declared.uses.FirstUse.{FirstUse}
 use Rattle.ti_parm.specs.declared.uses.FirstUse.TheVariants.{Unused, ReadFirst}
 use Rattle.ti_parm.specs.Fault.{◌>>=◌}
 use Rattle.ti_parm.specs.Codes.{code_at, format_of, no_flags}
-use Rattle.ti_parm.specs.Operators.{fitting, is_int}
-use Rattle.ti_parm.specs.Formats.{digits_shown, laid_out, magnitude, number_shown, padded, shown}
+use Rattle.ti_parm.specs.Operators.{fitting}
+use Rattle.ti_parm.specs.Formats.{digits_shown, laid_out, magnitude, number_shown, padded}
 use Rattle.ti_parm.specs.Syntax.{Act, Parts, Done, Next, ahead_in, syntax}
 use Rattle.ti_parm.specs.Value.{Value, Number, nine, zeros}
-use Rattle.ti_parm.specs.Meaning.{State, act, meaning, run, run_part, sent, start_of, one_more, ReadsUnset}
+use Rattle.ti_parm.specs.Meaning.{State, act, meaning, run, run_part, sent, start_of, ReadsUnset}
 use Rattle.ti_parm.specs.Delays.{HasNoOpening, strip}
 use Rattle.ti_parm.proofs.FormatFacts.{shown-by}
 use Rattle.ti_parm.proofs.Strips.{strip-undelayed}

@@ -1,8 +1,7 @@
 -- The bytes that the standard's string sends.
-use Rattle.std.proofs.Common.{◌≡◌, ℕ, ◌<◌, ◌≤◌, List, Result, Ok, sym, ap, ◌∙◌, subst, arith}
+use Rattle.std.proofs.Common.{◌≡◌, ℕ, ◌≤◌, List, Ok, sym, ap, ◌∙◌, subst, arith}
 use Rattle.vt_term.specs.Moves.{cursor_to}
 use Rattle.ti_rows.specs.declared.rows.Row.TheVariants.{Cup}
-use Rattle.ti_parm.specs.Meaning.{State, ReadsUnset}
 use Rattle.ti_conforms.specs.Sends.{Sends}
 use Rattle.ti_forms.specs.Forms.{move_string}
 use Rattle.ti_forms.proofs.MoveRuns.{move_sent, move_reads_nothing}
