@@ -1,5 +1,6 @@
 mod Digits
+mod FormEffects
+pub mod FormRuns
+mod FormSends
 mod LineTexts
-mod MoveEffects
-pub mod MoveRuns
-mod MoveSends
+mod Sequences

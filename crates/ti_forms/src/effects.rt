@@ -1,18 +1,20 @@
 //! What the bytes of a row do.
 
-ghost use Rattle.std.specs.Prelude.{◌≡◌, ◌<◌, ℕ, IfErr, IfOk, IfSome, IsTrue, List, OnOk, Some, []};
+ghost use Rattle.std.specs.Prelude.{◌≡◌, ℕ, IfErr, IfOk, IfSome, List, OnOk, Some, []};
 ghost use Rattle.ti_conforms.specs.Charsets.{joined, reach_of};
-ghost use Rattle.ti_forms.specs.Forms.{IsMove};
+ghost use Rattle.ti_forms.specs.Forms as spec;
 ghost use Rattle.ti_rows.specs.Asked.{start_of};
 ghost use Rattle.vt_effects.specs.Basic.{placed_at};
+ghost use Rattle.vt_effects.specs.Effect.{unchanged};
 ghost use Rattle.vt_effects.specs.Record.{IsRecordOf};
+ghost use Rattle.vt_effects.specs.declared.effects.Erasure.TheVariants as erasures;
 ghost use Rattle.vt_term.specs.Scanned.{HasFault};
 ghost use Rattle.vt_term.specs.Text.{Splits};
 
-use crate::moves::is_move_to;
+use crate::forms::is_of_form;
 use ti_conforms::Reach;
 use ti_rows::Row;
-use vt_effects::{Effect, Move, effect_of_text};
+use vt_effects::{Effect, Erasure, Move, Region, effect_of_text};
 use vt_term::{Scanner, Size, TextFault};
 
 /// The effect of a move to a place.
@@ -27,40 +29,84 @@ pub(crate) fn placed(row: u16, col: u16) -> Effect
     }
 }
 
-/// Whether a screen of this size has the place.
-fn has_place(row: u16, col: u16, size: Size) -> bool
-    ensures row { IsTrue result → row < size.rows }
-    ensures col { IsTrue result → col < size.cols }
+/// The effect of a move of the cursor's row.
+fn by_rows(row: Move) -> Effect
+    ensures { result ≡ spec.by_rows row }
 {
-    usize::from(row) < size.rows && usize::from(col) < size.cols
-}
-
-/// Whether `row` is a move to a place and `bytes` are its bytes.
-fn is_move(row: Row, bytes: &[u8]) -> bool
-    ensures { IsTrue result → IsMove row bytes.now }
-{
-    match row {
-        Row::Cup(line, column) => is_move_to(line, column, bytes),
-        _ => false,
+    Effect {
+        row,
+        ends_pending: true,
+        ..Effect::unchanged()
     }
 }
 
-/// The effect of `bytes` from the start of `row`, if they are those of a move to its place, which the size must have.
-fn move_effect(bytes: &[u8], row: Row, size: Size) -> Option<Effect>
+/// The effect of a move of the cursor's column.
+fn by_cols(col: Move) -> Effect
+    ensures { result ≡ spec.by_cols col }
+{
+    Effect {
+        col,
+        ends_pending: true,
+        ..Effect::unchanged()
+    }
+}
+
+/// The effect of new margins.
+fn bounded(top: u16, bottom: u16) -> Effect
+    ensures { result ≡ spec.bounded_by top bottom }
+{
+    Effect {
+        margins: Some(Region { top, bottom }),
+        ..placed(0, 0)
+    }
+}
+
+/// The effect of erasing cells from the cursor on.
+fn erasing(count: u16) -> Effect
+    ensures { result ≡ record unchanged { erasure = erasures.Next count } }
+{
+    Effect {
+        erasure: Erasure::Next(count),
+        ..Effect::unchanged()
+    }
+}
+
+/// The effect of the standard's string for `row`.
+fn standard_effect(row: Row) -> Effect
+    ensures { result ≡ spec.standard_effect row }
+{
+    match row {
+        Row::Cup(line, column) => placed(line, column),
+        Row::Hpa(column) => by_cols(Move::To(column)),
+        Row::Vpa(line) => by_rows(Move::To(line)),
+        Row::Cub(count) => by_cols(Move::Back(count)),
+        Row::Cuf(count) => by_cols(Move::Forward(count)),
+        Row::Cuu(count) => by_rows(Move::Back(count)),
+        Row::Cud(count) => by_rows(Move::Forward(count)),
+        Row::Ech(count) => erasing(count),
+        Row::Csr(top, bottom) => bounded(top, bottom),
+        _ => Effect::unchanged(),
+    }
+}
+
+/// The effect of `bytes` from the start of `row`, if they are those of the standard's string for it and the size allows
+/// the row.
+fn form_effect(bytes: &[u8], row: Row, size: Size) -> Option<Effect>
     ensures { IfSome result (λ effect. IsRecordOf size.rows size.cols (start_of size.rows size.cols row) bytes.now
         (Some effect)) }
 {
-    match row {
-        Row::Cup(line, column)
-            if has_place(line, column, size) && is_move_to(line, column, bytes) => {
-            Some(placed(line, column))
-        }
-        _ => None,
+    if !row.is_in_range(size) {
+        return None;
+    }
+    if is_of_form(row, bytes) {
+        Some(standard_effect(row))
+    } else {
+        None
     }
 }
 
 /// The effect of `bytes` from the start of `row`, if they have one: the result of `effect_of_text`. No text is read
-/// where the bytes are those of a move to the row's place.
+/// where the bytes are those that the standard's string sends for the row.
 ///
 /// # Errors
 /// The first fault of the bytes as a text.
@@ -73,14 +119,14 @@ pub fn row_effect(
     ensures record { IfOk result (IsRecordOf size.rows size.cols (start_of size.rows size.cols row) bytes.now) }
     ensures fault { IfErr result (HasFault bytes.now) }
 {
-    match move_effect(bytes, row, size) {
+    match form_effect(bytes, row, size) {
         Some(effect) => Ok(Some(effect)),
         None => effect_of_text(scanner, bytes, size, &row.start(size)),
     }
 }
 
 /// Adds to `reach` the marks that the tokens of `bytes` turn on, as `Reach::learn_text` does. No text is read where
-/// the bytes are those of a move to the place of `row`.
+/// the bytes are those that the standard's string sends for `row`.
 ///
 /// # Errors
 /// The first fault of the bytes as a text; the marks of the tokens before it are added.
@@ -95,7 +141,7 @@ pub fn learn_row(
         → reach.new ≡ joined reach.old (reach_of tokens)) }
     ensures fault { IfErr result (HasFault bytes.now) }
 {
-    if is_move(row, bytes) {
+    if is_of_form(row, bytes) {
         return Ok(());
     }
     reach.learn_text(scanner, bytes)

@@ -3,6 +3,7 @@
 
 mod agreement;
 mod effects;
+mod forms;
 pub mod laws;
 mod lines;
 mod moves;

@@ -1,21 +1,15 @@
 //! The bytes that a string sends for a row.
 
-ghost use Rattle.std.specs.Prelude.{◌≡◌, ◌≤◌, IfErr, IsTrue, OnOk};
+ghost use Rattle.std.specs.Prelude.{◌≡◌, ◌<◌, ◌≤◌, IfErr, IfSome, OnOk};
 ghost use Rattle.ti_conforms.specs.Sends.{IsUnsent, Sends};
-ghost use Rattle.ti_forms.specs.Forms.{move_string};
+ghost use Rattle.ti_forms.specs.Forms.{bytes_of};
 ghost use Rattle.vt_term.specs.Moves.{cursor_to};
 
-use crate::moves::{is_place, move_to};
+use crate::forms::{Form, form_sent};
+use crate::moves::move_to;
 use std::alloc::{AllocError, Global};
 use ti_conforms::SendFault;
 use ti_rows::Row;
-
-/// Whether `string` is the standard's string for a move to a place.
-fn is_standard(string: &[u8]) -> bool
-    ensures { IsTrue result → string.now ≡ move_string }
-{
-    string == b"\x1b[%i%p1%d;%p2%dH".as_slice()
-}
 
 /// Replaces the content of `bytes` by a move to a place, which must be one that a screen can have.
 pub(crate) fn move_into(row: u16, col: u16, bytes: &mut Vec<u8>) -> Result<(), AllocError>
@@ -27,8 +21,18 @@ pub(crate) fn move_into(row: u16, col: u16, bytes: &mut Vec<u8>) -> Result<(), A
     bytes.extend_from_slice(move_to(row, col).as_slice())
 }
 
+/// Replaces the content of `bytes` by a control sequence, whose numbers must be below 1000.
+fn form_into(form: Form, bytes: &mut Vec<u8>) -> Result<(), AllocError>
+    requires first { form.first < 1000 }
+    requires second { IfSome form.second (λ number. number < 1000) }
+    ensures { OnOk result (bytes.new.items ≡ bytes_of form) }
+{
+    bytes.clear();
+    bytes.extend_from_slice(form.bytes().as_slice())
+}
+
 /// Replaces the content of `bytes` by the bytes that `string` sends for `row`, as `send_into` of `ti_conforms` does.
-/// The standard's string for a move to a place isn't run.
+/// A string that is the standard's for the row's capability isn't run.
 ///
 /// # Errors
 /// `Fault` if the string can't be expanded; `StaticRead` if it reads a static variable before it sets it; or
@@ -42,13 +46,11 @@ pub fn send_into(
     ensures sends { OnOk result (Sends string.now row bytes.new.items) }
     ensures unsent { IfErr result (λ why. IsUnsent string.now row why) }
 {
-    match row {
-        Row::Cup(line, column) if is_place(line, column) && is_standard(string) => {
-            match move_into(line, column, bytes) {
-                Ok(()) => Ok(()),
-                Err(_) => Err(SendFault::NoMemory),
-            }
-        }
-        _ => ti_conforms::send_into(alloc, string, row, bytes),
+    match form_sent(string, row) {
+        Some(form) => match form_into(form, bytes) {
+            Ok(()) => Ok(()),
+            Err(_) => Err(SendFault::NoMemory),
+        },
+        None => ti_conforms::send_into(alloc, string, row, bytes),
     }
 }

@@ -1,8 +1,8 @@
 use Rattle.std.proofs.Common.{refl}
-use Rattle.ti_forms.specs.Forms.{move_string}
-use Rattle.vt_term.specs.Moves.{cursor_to}
-use Rattle.ti_forms.proofs.MoveSends.{move_sends}
+use Rattle.ti_forms.specs.Forms.{ToPlace}
+use Rattle.ti_rows.specs.declared.rows.Row.TheVariants.{Cup}
+use Rattle.ti_forms.proofs.FormSends.{forms_sent}
 use Rattle.ti_forms.proofs.laws.moves_are_sent.Goals as goal
 
 pub returns : goal.returns
-returns c = λ row col h k. move_sends move_string row col (cursor_to row col) refl h k refl
+returns c = λ row col h k. forms_sent (Cup row col) (ToPlace row col refl h k)

@@ -1,0 +1,10 @@
+use Rattle.std.proofs.Common.{sym, ap, ◌∙◌}
+use Rattle.ti_rows.specs.declared.rows.Row.{Row}
+use Rattle.ti_forms.specs.Forms.{standard_effect}
+use Rattle.ti_forms.proofs.effects.standard_effect.Goals as goal
+
+pub returns-in-Hpa : goal.returns-in-Hpa
+returns-in-Hpa c = c.by_cols.ensures ∙ ap (λ (row : Row). standard_effect row) (sym c.in-Hpa.is)
+
+pub returns-in-Vpa : goal.returns-in-Vpa
+returns-in-Vpa c = c.by_rows.ensures ∙ ap (λ (row : Row). standard_effect row) (sym c.in-Vpa.is)
