@@ -68,10 +68,10 @@ IsValuePlace (ByPlace stands) cap place = IsPlaceAt stands cap place
 
 abbrev pub whereabouts_of : Standing → Whereabouts
 whereabouts_of Unsourced = Nowhere
-whereabouts_of (Named source) = ByName source.now
+whereabouts_of (Named named) = ByName named.now.source.now
 whereabouts_of (Placed there) = ByPlace (place_in there.now)
 
 abbrev pub IsThere : Standing → Type 0
 IsThere Unsourced = ⊤
-IsThere (Named source) = ⊤
+IsThere (Named named) = ⊤
 IsThere (Placed there) = there.now.place < length there.now.raws.now

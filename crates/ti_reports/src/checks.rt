@@ -1,6 +1,6 @@
 //! The command `check --json`.
 
-ghost use Rattle.std.specs.Prelude.{◌≡◌, IfErr, IfOk};
+ghost use Rattle.std.specs.Prelude.{◌≡◌, IfErr, IfOk, Some};
 ghost use Rattle.ti_reports.specs.Checks as spec;
 ghost use Rattle.ti_reports.specs.Sources.{IsThere, by_name, whereabouts_of};
 ghost use Rattle.ti_commands.specs.Sizes.{LacksSize};
@@ -14,8 +14,10 @@ use std::alloc::{AllocError, Global};
 use ti_caps::Entry;
 use ti_checker::No;
 use ti_commands::{Failure, Files, Reply, SourceText, Sourced, size_words, sourced_entry};
+use ti_entries::LinedText;
 use ti_requests::FaultsWords;
-use ti_verdicts::{explain_no, no_failure, notes_on};
+use ti_resolve::Index;
+use ti_verdicts::{NamedSource, explain_no, no_failure, notes_on};
 use ti_words::Remarks;
 use vt_term::Size;
 
@@ -54,17 +56,85 @@ fn entry_reply(
 {
     let notes = notes_on(alloc, &found.entry, asked.size)?;
     let nos = found_faults(alloc, &found.entry, asked.size, asked.lists_all)?;
-    let subject = Subject {
-        entry: &found.entry,
-        size: asked.size,
-        file: file_of(&found.source, word),
-        stands: standing_of(&found.source),
-    };
-    let reply = reply_of(alloc, &subject, asked.lists_all, notes, nos.as_slice())?;
+    let reply = located_reply(alloc, asked, word, found, notes, nos.as_slice())?;
     if !asked.lists_all {
         explain_first(alloc, &found.entry, asked.size, nos.as_slice(), remarks);
     }
     Ok(reply)
+}
+
+/// The reply with `notes` that says that `nos` are the faults of the entry that was `found` by the ENTRY `word`, as it
+/// is `asked` for.
+fn located_reply<'x>(
+    alloc: Global,
+    asked: Asked,
+    word: &'x str,
+    found: &'x Sourced<'x>,
+    notes: Vec<u8>,
+    nos: &[No],
+) -> Result<Reply, AllocError>
+    ensures noted { IfOk result (λ reply. reply.notes ≡ notes) }
+    ensures told { IfOk result (λ reply. spec.TellsFound found.now.entry asked.size.rows asked.size.cols
+        asked.lists_all (spec.file_of found.now.source word.now) (by_name found.now.source) nos.now reply) }
+{
+    match &found.source {
+        None => {
+            let subject = Subject {
+                entry: &found.entry,
+                size: asked.size,
+                file: word,
+                stands: Standing::Unsourced,
+            };
+            reply_of(alloc, &subject, asked.lists_all, notes, nos)
+        }
+        Some(source) => source_reply(alloc, asked, &found.entry, source, notes, nos),
+    }
+}
+
+/// The reply with `notes` that says that `nos` are the faults of the `entry` of `source`, as it is `asked` for.
+fn source_reply<'x>(
+    alloc: Global,
+    asked: Asked,
+    entry: &'x Entry,
+    source: &'x SourceText<'x>,
+    notes: Vec<u8>,
+    nos: &[No],
+) -> Result<Reply, AllocError>
+    ensures noted { IfOk result (λ reply. reply.notes ≡ notes) }
+    ensures told { IfOk result (λ reply. spec.TellsFound entry.now asked.size.rows asked.size.cols
+        asked.lists_all source.now.path.now (by_name (Some source.now)) nos.now reply) }
+{
+    let index = Index::new(alloc, source.raws.as_slice())?;
+    let lined = LinedText::new(alloc, source.text.as_slice())?;
+    let named = NamedSource {
+        source,
+        lined: &lined,
+        index: &index,
+    };
+    named_reply(alloc, asked, entry, &named, notes, nos)
+}
+
+/// The reply with `notes` that says that `nos` are the faults of the `entry` of the source `named`, as it is `asked`
+/// for.
+fn named_reply<'x, 'y>(
+    alloc: Global,
+    asked: Asked,
+    entry: &'x Entry,
+    named: &'x NamedSource<'x, 'y>,
+    notes: Vec<u8>,
+    nos: &[No],
+) -> Result<Reply, AllocError>
+    ensures noted { IfOk result (λ reply. reply.notes ≡ notes) }
+    ensures told { IfOk result (λ reply. spec.TellsFound entry.now asked.size.rows asked.size.cols
+        asked.lists_all named.now.source.now.path.now (by_name (Some named.now.source.now)) nos.now reply) }
+{
+    let subject = Subject {
+        entry,
+        size: asked.size,
+        file: named.source.path,
+        stands: Standing::Named(named),
+    };
+    reply_of(alloc, &subject, asked.lists_all, notes, nos)
 }
 
 /// The reply with `notes` that says that `nos` are the faults of the `subject`, all of them if `lists_all`.
@@ -95,27 +165,6 @@ fn failure_of(alloc: Global, nos: &[No]) -> Option<Failure>
     match nos {
         [] => None,
         [first, ..] => Some(no_failure(alloc, first)),
-    }
-}
-
-/// The path of the file that `word` names: the path of `source`, or else the whole word.
-fn file_of<'a>(source: &'a Option<SourceText<'a>>, word: &'a str) -> &'a str
-    ensures { result.now ≡ spec.file_of source.now word.now }
-{
-    match source {
-        Some(source) => source.path,
-        None => word,
-    }
-}
-
-/// The origin of the entry that was found in this `source`.
-fn standing_of<'a>(source: &'a Option<SourceText<'a>>) -> Standing<'a, 'a>
-    ensures stands { whereabouts_of result ≡ by_name source.now }
-    ensures there { IsThere result }
-{
-    match source {
-        Some(source) => Standing::Named(source),
-        None => Standing::Unsourced,
     }
 }
 

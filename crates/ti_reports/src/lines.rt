@@ -10,10 +10,9 @@ use crate::forms::Written;
 use crate::names::name_of;
 use std::alloc::{AllocError, Global};
 use ti_caps::Cap;
-use ti_commands::SourceText;
-use ti_resolve::{Origin, origin};
+use ti_resolve::Origin;
 use ti_source::RawEntry;
-use ti_verdicts::{SourcePlace, first_name, line_of_field};
+use ti_verdicts::{NamedSource, SourcePlace, first_name};
 
 /// The origin of an entry.
 #[derive(Drop)]
@@ -21,7 +20,7 @@ pub enum Standing<'a, 'b> {
     /// The entry is in no source.
     Unsourced,
     /// The entry is in a source, found by its name.
-    Named(&'a SourceText<'a>),
+    Named(&'a NamedSource<'a, 'b>),
     /// The entry is in a source, at a place.
     Placed(&'a SourcePlace<'a, 'b>),
 }
@@ -71,24 +70,21 @@ pub fn value_place(
 {
     match stands {
         Standing::Unsourced => Ok(ValuePlace::nowhere()),
-        Standing::Named(source) => place_in(alloc, source, cap),
+        Standing::Named(named) => place_in(alloc, named, cap),
         Standing::Placed(there) => place_at(alloc, there, cap),
     }
 }
 
-/// The place of the value of `cap` in `source`.
-fn place_in(alloc: Global, source: &SourceText<'_>, cap: Cap) -> Result<ValuePlace, AllocError>
-    ensures { IfOk result (λ place. spec.IsPlaceIn source.now cap place) }
+/// The place of the value of `cap` in the source `named`.
+fn place_in(alloc: Global, named: &NamedSource<'_, '_>, cap: Cap) -> Result<ValuePlace, AllocError>
+    ensures { IfOk result (λ place. spec.IsPlaceIn named.now.source.now cap place) }
 {
-    let raws = source.raws.as_slice();
-    // the name was resolved before, so memory ran out
-    match origin(alloc, raws, source.name.as_bytes(), cap) {
-        Ok(Some(origin)) => {
-            let line = line_of_field(alloc, source.text.as_slice(), origin)?;
-            Ok(field_place(alloc, line, raws, origin)?)
+    match named.origin(alloc, cap)? {
+        Some(origin) => {
+            let raws = named.source.raws.as_slice();
+            field_place(alloc, named.line(origin), raws, origin)
         }
-        Ok(None) => Ok(ValuePlace::nowhere()),
-        Err(_) => Err(AllocError),
+        None => Ok(ValuePlace::nowhere()),
     }
 }
 
