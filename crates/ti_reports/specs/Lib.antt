@@ -1,5 +1,4 @@
 pub mod Checks
-pub mod Escapes
 pub mod Explanations
 pub mod Faults
 pub mod Findings

@@ -5,7 +5,6 @@ mod advice;
 mod asked;
 mod checks;
 mod entries;
-mod escapes;
 mod explanations;
 mod faults;
 mod findings;
