@@ -16,9 +16,9 @@ from trying import PROGRAM, TOP, Case, run_cases
 # the members of an object, and what each may be
 TEXT, NUMBER, TRUTH = (str, type(None)), (int, type(None)), (bool, type(None))
 MEMBERS = {
-    "aliases": (list,), "aliases_hex": (list,), "another_kind": TRUTH, "bytes": TEXT, "capability": TEXT, "cause": TEXT, "entry": TEXT,
-    "entry_hex": TEXT, "explanation": (list,), "file": (str,), "judged": TRUTH, "line": NUMBER, "parameters": (list,), "rule": TEXT, "seen": TEXT, "size": (dict,),
-    "source_entry": TEXT, "source_entry_hex": TEXT, "start": TEXT, "string": TEXT, "string_hex": TEXT, "suggestion": TEXT, "suggestion_hex": TEXT, "verdict": (str,),
+    "aliases": (list,), "aliases_hex": (list,), "another_kind": TRUTH, "bytes": TEXT, "capability": TEXT, "cause": TEXT,
+    "entry": TEXT, "entry_hex": TEXT, "explanation": (list,), "file": (str,), "judged": TRUTH, "line": NUMBER, "parameters": (list,), "part": TRUTH, "rule": TEXT, "seen": TEXT, "size": (dict,),
+    "source_entry": TEXT, "source_entry_hex": TEXT, "start": TEXT, "string": TEXT, "string_hex": TEXT, "suggested_with": (list,), "suggestion": TEXT, "suggestion_hex": TEXT, "verdict": (str,),
     "version": (int,), "wanted": TEXT,
 }  # fmt: skip
 OF_FAULTS = [
@@ -46,6 +46,9 @@ ABSENT = {"verdict": "no", "capability": "cup", "cause": "Absent", "rule": "Abse
 ABSENT["explanation"] = ["cup is missing"]
 # and advice
 ADVICE = {"verdict": "advice", "rule": "Advice", "capability": "sgr", "explanation": ["bold is never shown"]}
+
+# and an entry that can't be read
+UNREAD = {"verdict": "refused", "part": None, "rule": "Refused", "cause": "line 5: BadEscape", "line": 5}
 
 # strings with a byte above 127, and with the characters that spell it
 SPELLING = rb"""one|the byte,
@@ -77,12 +80,15 @@ REFUSED_BY_SCHEMA = [
     {**ABSENT, "suggestion": "\\E[m", "suggestion_hex": "1b5b6d", "another_kind": True},
     {**ABSENT, "judged": False},
     {**ABSENT, "line": 5},
-    {"verdict": "refused", "cause": "NoSuchEntry a", "rule": "Refused", "explanation": ["never"]},
+    {"verdict": "refused", "part": None, "cause": "NoSuchEntry a", "rule": "Refused", "explanation": ["never"]},
     {"verdict": "advice", "rule": "Advice", "capability": "sgr"},
     {"verdict": "advice", "rule": None, "capability": "sgr", "explanation": ["never"]},
     {"verdict": "advice", "rule": "Advice", "explanation": ["never"]},
     {**ABSENT, "explanation": []},
-    {"verdict": "refused", "cause": "NoSuchEntry a", "rule": None},
+    {"verdict": "refused", "part": None, "cause": "NoSuchEntry a", "rule": None},
+    {"verdict": "refused", "part": None, "cause": "NoSuchEntry a", "rule": "Refused", "line": 5},
+    {"verdict": "refused", "part": None, "cause": "line 5: BadEscape", "rule": "Refused"},
+    {**ADVICE, "line": 5},
     {"version": 2},
     {"entry_hex": "6"},
     {"size": {"cols": 80, "rows": 1}},
@@ -113,8 +119,8 @@ SCHEMA = schema()
 def judge_schema():
     """The schema accepts a yes, and refuses objects that no report may be."""
     yes = {**{key: [] if list in kinds else None for key, kinds in MEMBERS.items()}, "entry": "a", "entry_hex": "61", "file": "a.ti"}
-    yes |= {"size": {"cols": COLS, "rows": ROWS}, "verdict": "yes", "version": 1}
-    for right in (yes, {**yes, **ABSENT}, {**yes, **ADVICE}):
+    yes |= {"size": {"cols": COLS, "rows": ROWS}, "part": False, "verdict": "yes", "version": 1}
+    for right in (yes, {**yes, **ABSENT}, {**yes, **ADVICE}, {**yes, **UNREAD}):
         if not SCHEMA.is_valid(right):
             fail(f"the schema refuses {right}")
     for other in REFUSED_BY_SCHEMA:
@@ -136,7 +142,8 @@ def objects(told, size=(ROWS, COLS)):
             fail(f"not as docs/report.schema.json says: {line}: {error.message}")
         if one["size"] != {"cols": size[1], "rows": size[0]}:
             fail(f"not the size that was given: {line}")
-        if one["verdict"] != "no" and any(one[key] is not None for key in OF_FAULTS if (one["verdict"], key) != ("advice", "capability")):
+        said_of = {"advice": ("capability",), "refused": ("line",)}.get(one["verdict"], ())
+        if one["verdict"] != "no" and any(one[key] is not None for key in OF_FAULTS if key not in said_of):
             fail(f"a fault of an entry without one: {line}")
         judge_forms(one)
         found.append(one)
@@ -177,6 +184,10 @@ def judge_forms(one):
     judged = one["cause"] not in UNJUDGED if one["verdict"] == "no" else None
     if (one["rule"], one["judged"], one["version"]) != (rule, judged, 1):
         fail(f"not the rule and the judgement of the cause: {one}")
+    if one["verdict"] == "refused":
+        unread = re.match(r"line (\d+): ", one["cause"])
+        if one["line"] != (int(unread[1]) if unread else None):
+            fail(f"not the line of the refusal: {one}")
 
 
 def said(one):
@@ -216,6 +227,14 @@ def blocks(text):
     return found
 
 
+def judge_part(one):
+    """An entry that is at fault for want of clear, and of no other string, isn't one that is only there to be used."""
+    if one["entry"] is not None and "+" in one["entry"] and one["verdict"] != "refused" and not one["part"]:
+        fail(f"an entry with a plus sign in its name: {one}")
+    if one["string"] is not None and one["capability"] in ("clear", "cup", "sgr0") and one["part"] is not ("+" in one["entry"]):
+        fail(f"an entry with one of its strings: {one}")
+
+
 def judge_lines(one, lines, path):
     """An object says what the lines below its fault say."""
     for key in ("start", "wanted", "seen"):
@@ -228,6 +247,9 @@ def judge_lines(one, lines, path):
     suggested = [line for line in lines if line.endswith(" would be right on T")]
     # what switches sets is mended as one: the plain form names the others too
     right = [line for line in suggested if line.startswith(f"{one['capability']}=")]
+    others = [line.removesuffix(" would be right on T") for line in suggested if line not in right]
+    if not set(others) <= set(one["suggested_with"]) or one["suggested_with"] and one["capability"] not in ("enacs", "smacs", "rmacs"):
+        fail(f"what is suggested with {one} is not {others}")
     if len(suggested) > len(right) and one["capability"] not in ("smacs", "rmacs"):
         fail(f"{one} has the suggestions {suggested}")
     if right != ([f"{one['capability']}={one['suggestion']} would be right on T"] if one["suggestion"] is not None else []):
@@ -307,7 +329,7 @@ def judge_entries(path, held, names, planted=None):
 
 def judge_places(path, ones, places):
     """The objects of `survey --all --json` have the lines of the source that the plain form prints on standard error."""
-    placed = [it for it in ones if it["line"] is not None]
+    placed = [it for it in ones if it["verdict"] == "no" and it["line"] is not None]
     if len(placed) != len(places):
         fail(f"{len(placed)} objects of {path} have a line, and survey --all printed {places}")
     for one, place in zip(placed, places):
@@ -325,6 +347,7 @@ def judge_survey(path, held):
     for form, plain, reported in zip(forms[::2], told[::2], told[1::2]):
         ones, _ = parted(objects(reported))
         for it in ones:
+            judge_part(it)
             if lines_of.setdefault((it["entry_hex"], it["capability"]), it["line"]) != it["line"]:
                 fail(f"survey --json reported the line of {it}, and with --all {lines_of[it['entry_hex'], it['capability']]}")
         if form:
@@ -378,7 +401,7 @@ def judge_names():
     if spelled != [(r"\E[2J\356", "1b5b324aee"), (r"\E[2J\\356", "1b5b324a5c333536")]:
         fail(f"a byte above 127, and its spelling: {spelled}")
     (one,) = objects(faulty)
-    if (one["entry"], one["file"], one["verdict"]) != (None, "faulty", "refused") or faulty.status:
+    if (one["entry"], one["file"], one["verdict"], one["line"]) != (None, "faulty", "refused", 1) or faulty.status:
         fail(f"a file without entries: {one} {faulty.status}")
 
 
@@ -434,8 +457,11 @@ def judge_refused():
             fail(f"a refusal of check --json: {other.status} {other.out} {other.err}, and of check {one.err}")
     if both.status != 2 or not both.err.startswith(NO_OUT) or both.out:
         fail(f"--json beside --out: {both.status} {both.err}")
-    if (plain.status, plain.err) != (survey.status, survey.err) or plain.status != 3 or len(parted(objects(survey))[0]) != 2:
+    unread, *ones = parted(objects(survey))[0]
+    if (plain.status, plain.err) != (survey.status, survey.err) or plain.status != 3 or len(ones) != 2:
         fail(f"a survey without one of its files: {survey.status} {survey.out} {survey.err}")
+    if [unread[key] for key in ("verdict", "file", "entry", "cause", "line")] != ["refused", "six.ti", None, "file: six.ti", None]:
+        fail(f"a file that can't be read: {unread}")
 
 
 def main():

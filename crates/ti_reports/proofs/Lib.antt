@@ -1,3 +1,4 @@
+pub mod FieldFacts
 pub mod FirstFacts
 pub mod Floats
 pub mod LineFacts

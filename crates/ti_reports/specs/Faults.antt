@@ -1,5 +1,5 @@
 -- The report on an entry: that it has a certificate, or each of its faults.
-use Rattle.std.specs.Prelude.{◌≡◌, ℕ, Bool, List, [], ◌∷◌, ◌++◌, Option, Some, None, String, string_bytes}
+use Rattle.std.specs.Prelude.{◌≡◌, ℕ, Bool, List, [], ◌∷◌, ◌++◌, Option, Some, None, String, map, string_bytes}
 use Rattle.std.specs.declared.alloc.Global.{Global}
 use Rattle.ti_caps.specs.Entry.{Content, string_at}
 use Rattle.ti_caps.specs.Table.{name_at}
@@ -7,11 +7,12 @@ use Rattle.ti_checker.specs.declared.causes.No.{No}
 use Rattle.ti_faults.specs.declared.mended.Mended.{Mended}
 use Rattle.ti_reports.specs.Explanations.{IsExplained}
 use Rattle.ti_reports.specs.Names.{AreAliases, HasName}
+use Rattle.ti_reports.specs.Parts.{is_part}
 use Rattle.ti_reports.specs.Reports.{IsNothing, report_line}
 use Rattle.ti_reports.specs.Sent.{IsSentText}
 use Rattle.ti_reports.specs.Sources.{IsValuePlace, Whereabouts, whereabouts_of}
 use Rattle.ti_reports.specs.Spellings.{IsSpelling}
-use Rattle.ti_reports.specs.Suggestions.{IsMendedFor, IsSuggested, is_judged, other_kind}
+use Rattle.ti_reports.specs.Suggestions.{AreFields, IsMendedFor, IsSuggested, is_judged, mended_with, other_kind}
 use Rattle.ti_reports.specs.Texts.{IsShownAs}
 use Rattle.ti_reports.specs.declared.faults.Subject.{Subject}
 use Rattle.ti_reports.specs.declared.reports.Finding.{Finding}
@@ -30,6 +31,7 @@ HasWords bytes None = ⊥
 pub record Concerns (entry : Content) (height width : ℕ) (file : List ℕ) (report : Report) : Type 0 where
   pub name : HasName (first_name entry.names) report.entry
   pub aliases : AreAliases entry.names report.aliases.items
+  pub part : report.is_part ≡ Some (is_part entry)
   pub rows : report.rows ≡ height
   pub cols : report.cols ≡ width
   pub path : string_bytes report.file ≡ file
@@ -69,6 +71,8 @@ pub record Finds (of : OfFaults) (refusal : No) (finding : Finding) : Type 0 whe
   pub place : IsValuePlace of.stands refusal.cap finding.place
   pub string_is : IsSpelling (string_at of.entry refusal.cap) finding.string
   pub suggestion : IsSuggested of.entry of.mended of.nos refusal.cap finding.suggestion
+  pub suggested_with : AreFields of.entry of.mended of.nos (mended_with refusal.cap)
+      (map string_bytes finding.suggested_with.items)
   pub run : IsExplained of.entry of.height of.width refusal finding.run
   pub judged : finding.judged ≡ Some (is_judged refusal.cause)
   pub another_kind : finding.another_kind ≡ other_kind of.mended of.nos
@@ -108,6 +112,7 @@ pub record IsAdvice (finding : Finding) : Type 0 where
   pub source_entry : finding.place.entry ≡ None
   pub string_is : finding.string ≡ None
   pub suggestion : finding.suggestion ≡ None
+  pub suggested_with : finding.suggested_with.items ≡ []
   pub start : finding.run.start ≡ None
   pub wanted : finding.run.wanted ≡ None
   pub seen : finding.run.seen ≡ None

@@ -4,6 +4,7 @@ pub mod Faults
 pub mod Findings
 pub mod Lacks
 pub mod Names
+pub mod Parts
 pub mod Ran
 pub mod Reports
 pub mod Sent

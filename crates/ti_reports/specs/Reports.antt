@@ -1,4 +1,4 @@
--- A report and its JSON: an object that always has the same twenty-six members, null where one doesn't apply.
+-- A report and its JSON: an object that always has the same twenty-eight members, null where one doesn't apply.
 use Rattle.std.specs.Prelude.{◌≡◌, ℕ, Bool, List, [], ◌∷◌, ◌++◌, Option, Some, None, String, codes, map, string_bytes}
 use Rattle.std.specs.declared.alloc.Global.{Global}
 use Rattle.serde_json.specs.Data.{Data, Members, no_members, member, array, boolean, null, number, object, put, string}
@@ -18,21 +18,26 @@ word_of No = codes "no"
 word_of Refused = codes "refused"
 word_of Advice = codes "advice"
 
--- nothing is said of a fault
-pub record IsNothing (finding : Finding) : Type 0 where
+-- nothing is said of a fault, but perhaps where something is
+pub record IsBare (finding : Finding) : Type 0 where
   pub capability : finding.capability ≡ None
   pub parameters : finding.parameters.items ≡ []
   pub bytes : finding.bytes ≡ None
-  pub line : finding.place.line ≡ None
-  pub source_entry : finding.place.entry ≡ None
   pub string : finding.string ≡ None
   pub suggestion : finding.suggestion ≡ None
+  pub suggested_with : finding.suggested_with.items ≡ []
   pub start : finding.run.start ≡ None
   pub wanted : finding.run.wanted ≡ None
   pub seen : finding.run.seen ≡ None
   pub judged : finding.judged ≡ None
   pub another_kind : finding.another_kind ≡ None
   pub explanation : finding.explanation.items ≡ []
+
+-- nothing is said of a fault
+pub record IsNothing (finding : Finding) : Type 0 where
+  pub bare : IsBare finding
+  pub line : finding.place.line ≡ None
+  pub source_entry : finding.place.entry ≡ None
 
 -- ---- the JSON
 
@@ -100,6 +105,7 @@ report_data report = object (
     (member (codes "judged") (truth_data report.finding.judged)
     (member (codes "line") (number_data report.finding.place.line)
     (member (codes "parameters") (numbers_data report.finding.parameters.items)
+    (member (codes "part") (truth_data report.is_part)
     (member (codes "rule") (rule_data report.verdict report.cause)
     (member (codes "seen") (text_data report.finding.run.seen)
     (member (codes "size") (size_data report.rows report.cols)
@@ -108,11 +114,12 @@ report_data report = object (
     (member (codes "start") (text_data report.finding.run.start)
     (member (codes "string") (written_data report.finding.string)
     (member (codes "string_hex") (hex_data report.finding.string)
+    (member (codes "suggested_with") (texts_data report.finding.suggested_with.items)
     (member (codes "suggestion") (written_data report.finding.suggestion)
     (member (codes "suggestion_hex") (hex_data report.finding.suggestion)
     (member (codes "verdict") (string (word_of report.verdict))
     (member (codes "version") version
-    (member (codes "wanted") (text_data report.finding.run.wanted) no_members))))))))))))))))))))))))))
+    (member (codes "wanted") (text_data report.finding.run.wanted) no_members))))))))))))))))))))))))))))
 
 -- the object without a space, in characters that can be printed, and the end of the line
 abbrev pub report_line : Report → List ℕ
@@ -123,11 +130,12 @@ report_line report = printable_json (compact_text (report_data report)) ++ 10 �
 abbrev pub with_entry : Report → Members → Members
 with_entry report ms =
     put (codes "size") (size_data report.rows report.cols)
+    (put (codes "part") (truth_data report.is_part)
     (put (codes "file") (string (string_bytes report.file))
     (put (codes "aliases_hex") (names_hex_data report.aliases.items)
     (put (codes "aliases") (names_data report.aliases.items)
     (put (codes "entry_hex") (hex_data report.entry)
-    (put (codes "entry") (written_data report.entry) ms)))))
+    (put (codes "entry") (written_data report.entry) ms))))))
 
 abbrev pub with_verdict : Report → Members → Members
 with_verdict report ms =
@@ -147,10 +155,11 @@ with_value finding ms =
 
 abbrev pub with_strings : Finding → Members → Members
 with_strings finding ms =
-    put (codes "suggestion_hex") (hex_data finding.suggestion)
+    put (codes "suggested_with") (texts_data finding.suggested_with.items)
+    (put (codes "suggestion_hex") (hex_data finding.suggestion)
     (put (codes "suggestion") (written_data finding.suggestion)
     (put (codes "string_hex") (hex_data finding.string)
-    (put (codes "string") (written_data finding.string) ms)))
+    (put (codes "string") (written_data finding.string) ms))))
 
 abbrev pub with_run : Finding → Members → Members
 with_run finding ms =

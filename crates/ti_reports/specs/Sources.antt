@@ -1,5 +1,7 @@
 -- The place of a value in a source text.
 use Rattle.std.specs.Prelude.{◌≡◌, ◌<◌, ⊤, ℕ, List, Option, Some, None, length, option_map}
+use Rattle.ti_commands.specs.declared.failure.CommandRefusal.{CommandRefusal}
+use Rattle.ti_commands.specs.declared.failure.CommandRefusal.TheVariants as refusals
 use Rattle.ti_commands.specs.declared.sources.SourceText.{SourceText}
 use Rattle.ti_reports.specs.Names.{HasName}
 use Rattle.ti_reports.specs.declared.forms.Written.{Written}
@@ -63,6 +65,25 @@ abbrev pub IsValuePlace : Whereabouts → ℕ → ValuePlace → Type 0
 IsValuePlace Nowhere cap place = IsNowhere place
 IsValuePlace (ByName source) cap place = IsPlaceIn source cap place
 IsValuePlace (ByPlace stands) cap place = IsPlaceAt stands cap place
+
+-- ---- a refusal
+
+-- a line of the text, whichever entry has it
+abbrev pub IsOnLine : ℕ → ValuePlace → Type 0
+IsOnLine line place = (place.line ≡ Some line) × (place.entry ≡ None)
+
+-- The place at which a refusal finds its reason: a fault of a source text has its line; the others say nothing of a
+-- line.
+abbrev pub IsRefusalPlace : CommandRefusal → ValuePlace → Type 0
+IsRefusalPlace refusals.Size place = IsNowhere place
+IsRefusalPlace (refusals.Escape fault) place = IsNowhere place
+IsRefusalPlace (refusals.Parm fault) place = IsNowhere place
+IsRefusalPlace (refusals.Token fault) place = IsNowhere place
+IsRefusalPlace (refusals.Stuck fault) place = IsNowhere place
+IsRefusalPlace (refusals.Source fault) place = IsOnLine fault.line place
+IsRefusalPlace (refusals.Resolve fault) place = IsNowhere place
+IsRefusalPlace (refusals.Pack fault) place = IsNowhere place
+IsRefusalPlace (refusals.Verdict words) place = IsNowhere place
 
 -- ---- for private clauses: the origin without its memory, and an entry at the place
 

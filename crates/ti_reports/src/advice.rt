@@ -7,6 +7,7 @@ use crate::explanations::Explanation;
 use crate::faults::Subject;
 use crate::lines::ValuePlace;
 use crate::names::{entry_aliases, entry_name};
+use crate::parts::is_part;
 use crate::reports::{Finding, Report, Verdict, report_line};
 use crate::texts::text_of;
 use std::alloc::{AllocError, Global};
@@ -74,6 +75,7 @@ fn advice_report(
     Ok(Report {
         entry: Some(entry_name(alloc, subject.entry)?),
         aliases: entry_aliases(alloc, subject.entry)?,
+        is_part: Some(is_part(subject.entry)),
         rows: subject.size.rows,
         cols: subject.size.cols,
         file: String::from_str(alloc, subject.file)?,
@@ -100,6 +102,7 @@ fn advice_finding(alloc: Global, text: &[u8]) -> Result<Finding, AllocError>
         place: ValuePlace::nowhere(),
         string: None,
         suggestion: None,
+        suggested_with: Vec::new(alloc),
         run: Explanation::none(),
         judged: None,
         another_kind: None,

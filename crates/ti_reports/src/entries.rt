@@ -9,16 +9,18 @@ use crate::asked::Asked;
 use crate::faults::{Subject, found_lines};
 use crate::findings::found_faults;
 use crate::lines::{Standing, placed};
-use crate::refusals::refused_line;
+use crate::refusals::{lacking_line, unread_line};
 use std::alloc::{AllocError, Global};
 use ti_caps::Entry;
-use ti_surveys::{FileEntry, Said, Speaker, answers_of};
+use ti_surveys::{FileEntry, Lacking, Said, Speaker, answers_of};
 use ti_verdicts::Answer;
 
 impl Speaker for Asked {
     ghost says = { λ asked. spec.Reports asked.size.rows asked.size.cols asked.lists_all };
 
     ghost refuses = { λ asked. spec.ReportsLack asked.size.rows asked.size.cols };
+
+    ghost leaves = { λ asked. spec.ReportsUnread asked.size.rows asked.size.cols };
 
     fn hints(&self) -> bool {
         self.lists_all
@@ -28,14 +30,13 @@ impl Speaker for Asked {
         entry_said(alloc, *self, found.path, placed(found.stands), found.entry)
     }
 
-    fn refuse(
-        &self,
-        alloc: Global,
-        path: &str,
-        name: Option<&[u8]>,
-        why: &[u8],
-    ) -> Result<Said, AllocError> {
-        let line = refused_line(alloc, *self, path, name, why)?;
+    fn refuse(&self, alloc: Global, lacking: &Lacking<'_, '_>) -> Result<Said, AllocError> {
+        let line = lacking_line(alloc, *self, lacking)?;
+        Said::of_line(alloc, line, Answer::Refused)
+    }
+
+    fn leave(&self, alloc: Global, path: &str) -> Result<Said, AllocError> {
+        let line = unread_line(alloc, *self, path)?;
         Said::of_line(alloc, line, Answer::Refused)
     }
 }

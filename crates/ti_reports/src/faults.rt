@@ -12,10 +12,11 @@ use crate::advice::advice_lines;
 use crate::explanations::explained;
 use crate::lines::{Standing, value_place};
 use crate::names::{entry_aliases, entry_name};
+use crate::parts::is_part;
 use crate::reports::{Finding, Report, Verdict, report_line};
 use crate::sent::sent_text;
 use crate::spellings::own_string;
-use crate::suggestions::{is_judged, mended_if, other_kind, suggested};
+use crate::suggestions::{is_judged, mended_if, other_kind, suggested, suggested_with};
 use crate::texts::text_of;
 use std::alloc::{AllocError, Global};
 use ti_caps::{Cap, Entry, name};
@@ -145,6 +146,7 @@ fn yes_report(alloc: Global, subject: &Subject<'_, '_>) -> Result<Report, AllocE
     Ok(Report {
         entry: Some(entry_name(alloc, subject.entry)?),
         aliases: entry_aliases(alloc, subject.entry)?,
+        is_part: Some(is_part(subject.entry)),
         rows: subject.size.rows,
         cols: subject.size.cols,
         file: String::from_str(alloc, subject.file)?,
@@ -169,6 +171,7 @@ fn fault_report(
     Ok(Report {
         entry: Some(entry_name(alloc, subject.entry)?),
         aliases: entry_aliases(alloc, subject.entry)?,
+        is_part: Some(is_part(subject.entry)),
         rows: subject.size.rows,
         cols: subject.size.cols,
         file: String::from_str(alloc, subject.file)?,
@@ -197,6 +200,7 @@ fn finding_of(
         place: value_place(alloc, &subject.stands, no.cap)?,
         string: own_string(alloc, entry, no.cap)?,
         suggestion: suggested(alloc, entry, mended, nos, no.cap)?,
+        suggested_with: suggested_with(alloc, entry, mended, nos, no.cap)?,
         run: explained(alloc, entry, subject.size, no)?,
         judged: Some(is_judged(no.cause)),
         another_kind: other_kind(mended, nos),

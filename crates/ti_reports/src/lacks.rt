@@ -1,4 +1,4 @@
-//! The report that an entry can't be had.
+//! The report that an entry can't be obtained.
 
 ghost use Rattle.std.specs.Prelude.{◌≡◌, IfErr, IfNone, IfOk, IfSome};
 ghost use Rattle.ti_commands.specs.Findings.{IsPath, IsPathAndName};
@@ -6,7 +6,8 @@ ghost use Rattle.ti_commands.specs.declared.failure.Failure.TheVariants.{NoMemor
 ghost use Rattle.ti_reports.specs.Lacks as spec;
 
 use crate::asked::Asked;
-use crate::refusals::refused_line;
+use crate::lines::{ValuePlace, refusal_place};
+use crate::refusals::{file_words, refused_line};
 use std::alloc::{AllocError, Global};
 use ti_commands::{Failure, Reply, refusal_words};
 
@@ -22,7 +23,8 @@ pub fn lack_reply(
     ensures failure { IfErr result (λ e. e ≡ NoMemory) }
 {
     let why = reason(alloc, &failure)?;
-    let line = lack_line(alloc, asked, word, why.as_slice())?;
+    let place = reason_place(&failure);
+    let line = lack_line(alloc, asked, word, why.as_slice(), place)?;
     Ok(Reply {
         notes: Vec::new(alloc),
         text: line,
@@ -43,22 +45,31 @@ fn reason(alloc: Global, failure: &Failure) -> Result<Vec<u8>, AllocError>
     }
 }
 
-/// The words that the file at `path` can't be read.
-fn file_words(alloc: Global, path: &[u8]) -> Result<Vec<u8>, AllocError>
-    ensures { IfOk result (λ words. words.items ≡ spec.file_text path.now) }
+/// The place at which the reason of `failure` is found.
+fn reason_place(failure: &Failure) -> ValuePlace
+    ensures { spec.IsReasonPlace failure.now result }
 {
-    let mut words = Vec::from_slice(alloc, b"file: ")?;
-    words.extend_from_slice(path)?;
-    Ok(words)
+    match failure {
+        Failure::Refused(refusal) => refusal_place(refusal),
+        Failure::RefusedUnwritten(refusal) => refusal_place(refusal),
+        Failure::Usage(_) | Failure::File(_) => ValuePlace::nowhere(),
+        Failure::Output | Failure::NoMemory => ValuePlace::nowhere(),
+    }
 }
 
-/// The line that the ENTRY `word` gives no entry, with `why`.
-fn lack_line(alloc: Global, asked: Asked, word: &str, why: &[u8]) -> Result<Vec<u8>, AllocError>
-    ensures { IfOk result (λ line. spec.IsLackLine asked.size.rows asked.size.cols word.now why.now line.items) }
+/// The line that the ENTRY `word` gives no entry, with the reason `why`, which is found at `place`.
+fn lack_line(
+    alloc: Global,
+    asked: Asked,
+    word: &str,
+    why: &[u8],
+    place: ValuePlace,
+) -> Result<Vec<u8>, AllocError>
+    ensures { IfOk result (λ line. spec.IsLackLine asked.size.rows asked.size.cols word.now why.now place line.items) }
 {
     match path_and_name(word) {
-        Some((path, name)) => refused_line(alloc, asked, path, Some(name.as_bytes()), why),
-        None => refused_line(alloc, asked, word, None, why),
+        Some((path, name)) => refused_line(alloc, asked, path, Some(name.as_bytes()), why, place),
+        None => refused_line(alloc, asked, word, None, why, place),
     }
 }
 

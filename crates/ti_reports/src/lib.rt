@@ -13,6 +13,7 @@ mod lacks;
 mod lines;
 mod looks;
 mod names;
+mod parts;
 mod ran;
 mod refusals;
 mod reports;

@@ -10,6 +10,7 @@ use crate::forms::Written;
 use crate::names::name_of;
 use std::alloc::{AllocError, Global};
 use ti_caps::Cap;
+use ti_commands::CommandRefusal;
 use ti_resolve::Origin;
 use ti_source::RawEntry;
 use ti_verdicts::{NamedSource, SourcePlace, first_name};
@@ -43,6 +44,32 @@ impl ValuePlace {
             line: None,
             entry: None,
         }
+    }
+
+    /// A line, whichever entry has it.
+    pub fn on_line(line: usize) -> ValuePlace
+        ensures { spec.IsOnLine line result }
+    {
+        ValuePlace {
+            line: Some(line),
+            entry: None,
+        }
+    }
+}
+
+/// The place at which `refusal` finds its reason: the line of a fault of a source text, else nowhere.
+pub fn refusal_place(refusal: &CommandRefusal) -> ValuePlace
+    ensures { spec.IsRefusalPlace refusal.now result }
+{
+    match refusal {
+        CommandRefusal::Source(fault) => ValuePlace::on_line(fault.line as usize),
+        CommandRefusal::Size | CommandRefusal::Escape(_) | CommandRefusal::Parm(_) => {
+            ValuePlace::nowhere()
+        }
+        CommandRefusal::Token(_) | CommandRefusal::Stuck(_) | CommandRefusal::Resolve(_) => {
+            ValuePlace::nowhere()
+        }
+        CommandRefusal::Pack(_) | CommandRefusal::Verdict(_) => ValuePlace::nowhere(),
     }
 }
 

@@ -1,48 +1,108 @@
-//! Reports on entries and files that can't be read.
+//! Reports on entries and files that can't be obtained.
 
 ghost use Rattle.std.specs.Prelude.{◌≡◌, IfOk, option_map};
+ghost use Rattle.ti_reports.specs.Reports.{IsBare};
 ghost use Rattle.ti_reports.specs.Surveys as spec;
 
 use crate::asked::Asked;
+use crate::lines::{ValuePlace, refusal_place};
 use crate::names::name_if;
 use crate::reports::{Finding, Report, Verdict, report_line};
 use crate::texts::text_of;
 use std::alloc::{AllocError, Global};
+use ti_commands::refusal_words;
+use ti_surveys::Lacking;
 
-/// The line that the entry `name` of the file at `path` can't be read, or no entry of the file if there is no name,
-/// with `why`.
+/// The line about an entry that is `lacking`, or about a file that has no entries.
+pub fn lacking_line(
+    alloc: Global,
+    asked: Asked,
+    lacking: &Lacking<'_, '_>,
+) -> Result<Vec<u8>, AllocError>
+    ensures { IfOk result (λ line. spec.IsOfRefusal asked.size.rows asked.size.cols lacking.now.path.now
+        (option_map (λ n. n.now) lacking.now.name) lacking.now.refusal.now line.items) }
+{
+    let why = refusal_words(alloc, lacking.refusal)?;
+    let place = refusal_place(lacking.refusal);
+    refused_line(
+        alloc,
+        asked,
+        lacking.path,
+        lacking.name,
+        why.as_slice(),
+        place,
+    )
+}
+
+/// The line that the file at `path` can't be read.
+pub fn unread_line(alloc: Global, asked: Asked, path: &str) -> Result<Vec<u8>, AllocError>
+    ensures { IfOk result (λ line. spec.IsUnreadLine asked.size.rows asked.size.cols path.now line.items) }
+{
+    let why = file_words(alloc, path.as_bytes())?;
+    let place = ValuePlace::nowhere();
+    refused_line(alloc, asked, path, None, why.as_slice(), place)
+}
+
+/// The words that the file at `path` can't be read.
+pub fn file_words(alloc: Global, path: &[u8]) -> Result<Vec<u8>, AllocError>
+    ensures { IfOk result (λ words. words.items ≡ spec.file_text path.now) }
+{
+    let mut words = Vec::from_slice(alloc, b"file: ")?;
+    words.extend_from_slice(path)?;
+    Ok(words)
+}
+
+/// The line that the entry `name` of the file at `path` can't be obtained, or no entry of the file if there is
+/// no name, with the reason `why`, which is found at `place`.
 pub fn refused_line(
     alloc: Global,
     asked: Asked,
     path: &str,
     name: Option<&[u8]>,
     why: &[u8],
+    place: ValuePlace,
 ) -> Result<Vec<u8>, AllocError>
     ensures { IfOk result (λ line. spec.IsRefusedReport asked.size.rows asked.size.cols
-        path.now (option_map (λ n. n.now) name.entry) why.now line.items) }
+        path.now (option_map (λ n. n.now) name.entry) why.now place line.items) }
 {
-    report_line(alloc, &refused_report(alloc, asked, path, name, why)?)
+    report_line(
+        alloc,
+        &refused_report(alloc, asked, path, name, why, place)?,
+    )
 }
 
-/// The report that the entry `name` of the file at `path` can't be read, with `why`.
+/// The report that the entry `name` of the file at `path` can't be obtained, with the reason `why`, which is found at
+/// `place`.
 fn refused_report(
     alloc: Global,
     asked: Asked,
     path: &str,
     name: Option<&[u8]>,
     why: &[u8],
+    place: ValuePlace,
 ) -> Result<Report, AllocError>
     ensures { IfOk result (λ report. spec.ReportsRefused asked.size.rows asked.size.cols
-        path.now (option_map (λ n. n.now) name.entry) why.now report) }
+        path.now (option_map (λ n. n.now) name.entry) why.now place report) }
 {
     Ok(Report {
         entry: name_if(alloc, name)?,
         aliases: Vec::new(alloc),
+        is_part: None,
         rows: asked.size.rows,
         cols: asked.size.cols,
         file: String::from_str(alloc, path)?,
         verdict: Verdict::Refused,
         cause: Some(text_of(alloc, why)?),
-        finding: Finding::none(alloc),
+        finding: bare_finding(alloc, place),
     })
+}
+
+/// No fault, at `place`.
+fn bare_finding(alloc: Global, place: ValuePlace) -> Finding
+    ensures stands { result.place ≡ place }
+    ensures bare { IsBare result }
+{
+    let mut finding = Finding::none(alloc);
+    finding.place = place;
+    finding
 }

@@ -48,6 +48,8 @@ pub struct Report {
     pub entry: Option<Written>,
     /// The entry's other names, the description last.
     pub aliases: Vec<Written>,
+    /// Whether the entry is only there to be used by others; `None` if there is no entry.
+    pub is_part: Option<bool>,
     /// The terminal's rows.
     pub rows: usize,
     /// The terminal's columns.
@@ -71,12 +73,14 @@ pub struct Finding {
     pub parameters: Vec<u16>,
     /// The bytes that its string sends for these parameters, in hexadecimal.
     pub bytes: Option<String>,
-    /// The place of the capability's value.
+    /// The place of the capability's value, or of the reason why an entry can't be obtained.
     pub place: ValuePlace,
     /// The capability's string.
     pub string: Option<Written>,
     /// The string that would be right.
     pub suggestion: Option<Written>,
+    /// The fields that are to be given with this string, since they are mended as one.
+    pub suggested_with: Vec<String>,
     /// The run that shows the fault.
     pub run: Explanation,
     /// Whether the fault was shown; `false` if the string may be right.
@@ -99,6 +103,7 @@ impl Finding {
             place: ValuePlace::nowhere(),
             string: None,
             suggestion: None,
+            suggested_with: Vec::new(alloc),
             run: Explanation::none(),
             judged: None,
             another_kind: None,
@@ -153,6 +158,7 @@ fn put_entry(
     put(members, alloc, "aliases", aliases)?;
     put(members, alloc, "aliases_hex", aliases_hex)?;
     put(members, alloc, "file", file)?;
+    put(members, alloc, "part", truth_value(report.is_part))?;
     put(members, alloc, "size", size)
 }
 
@@ -209,10 +215,12 @@ fn put_strings(
     let string_hex = hex_value(alloc, &finding.string)?;
     let suggestion = written_value(alloc, &finding.suggestion)?;
     let suggestion_hex = hex_value(alloc, &finding.suggestion)?;
+    let suggested_with = texts_value(alloc, finding.suggested_with.as_slice())?;
     put(members, alloc, "string", string)?;
     put(members, alloc, "string_hex", string_hex)?;
     put(members, alloc, "suggestion", suggestion)?;
-    put(members, alloc, "suggestion_hex", suggestion_hex)
+    put(members, alloc, "suggestion_hex", suggestion_hex)?;
+    put(members, alloc, "suggested_with", suggested_with)
 }
 
 /// Puts the run that shows `finding`, what is known of it, and its explanation into `members`.

@@ -53,7 +53,7 @@ fn forms_of(alloc: Global, string: &[u8]) -> Result<Written, AllocError>
 }
 
 /// The `string` as a source text has it; it must be one that an entry can have (`string_fits`).
-fn source_form(alloc: Global, string: &[u8]) -> Result<String, AllocError>
+pub fn source_form(alloc: Global, string: &[u8]) -> Result<String, AllocError>
     requires { IsTrue (string_fits string.now) }
     ensures printed { IfOk result (λ text. string_bytes text ≡ string_text string.now) }
     ensures reads { IfOk result (λ text. unescaped (string_bytes text) ≡ Ok string.now) }

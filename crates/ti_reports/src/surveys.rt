@@ -14,9 +14,9 @@ use ti_words::Remarks;
 
 /// Reports in JSON on each entry of each file that the `words` name: its first fault, or all of them if the `words` ask
 /// for that, or that it has a certificate. An entry that can't be read has its line too. The `watcher` passes on the
-/// lines of each entry once they are known, and sees how far the survey has come; the reply has no text. If files can't
-/// be read, the reply fails as the first such file does, the `remarks` name the further ones, and the others are surveyed
-/// all the same; else it is refused if the `words` ask for that and a verdict isn't yes.
+/// lines of each entry once they are known, and sees how far the survey has come; the reply has no text. A file that
+/// can't be read has one too; the reply then fails as the first such file does, the `remarks` name the further ones, and
+/// the others are surveyed all the same. Else it is refused if the `words` ask for that and a verdict isn't yes.
 ///
 /// # Errors
 /// The reason why the words give no size, before any line is known; out of memory, after the `watcher` has passed on

@@ -1,5 +1,5 @@
 -- The statements about each item of a list, one after another.
-use Rattle.std.proofs.Common.{◌≡◌, ◌<◌, ℕ, zero, suc, ◌+◌, List, [], ◌∷◌, ◌++◌, length, take, get_or, Option, Some, None, IfSome, Result, refl, sym, ap, subst, ◌∙◌, inl, inr, append_assoc, add-one, arith}
+use Rattle.std.proofs.Common.{◌≡◌, ◌<◌, ℕ, Bool, zero, suc, ◌+◌, List, [], ◌∷◌, ◌++◌, length, take, get_or, Option, Some, Result, refl, sym, ap, subst, ◌∙◌, append_assoc, add-one, arith}
 use Rattle.std.specs.List.{range_with_len}
 use Rattle.std.specs.Prelude.{map, slice_get}
 use Rattle.std.proofs.lemmas.List.{append-nil}
@@ -10,11 +10,10 @@ use Rattle.ti_source.specs.declared.types.SourceFault.{SourceFault}
 use Rattle.ti_commands.specs.Contents.{Held}
 use Rattle.ti_commands.specs.Words.{texts_of}
 use Rattle.ti_commands.specs.declared.failure.CommandRefusal.{CommandRefusal}
-use Rattle.ti_surveys.specs.Lines.{IsSourcePart, IsTold, Refusing, ResolvesApart, Saying}
+use Rattle.ti_surveys.specs.Lines.{IsSourcePart, IsTold, Leaving, Refusing, ResolvesApart, Saying}
 use Rattle.ti_verdicts.specs.Locations.{first_name}
 use Rattle.ti_surveys.specs.Surveys.{HasLines, OfFile}
-use Rattle.ti_surveys.specs.Told.{IsToldOfEach, IsToldOrLeft, Told, followed_by, left_if, nothing, told_if, told_of}
-use Rattle.ti_surveys.specs.declared.said.Said.{Said}
+use Rattle.ti_surveys.specs.Told.{IsEither, IsToldOfEach, IsToldOrLeft, Told, followed_by, left_if, nothing}
 use denote.Ref.{Bor}
 
 range_more : (from n : ℕ) → range_with_len from (suc n) ≡ range_with_len from n ++ (from + n) ∷ []
@@ -48,49 +47,38 @@ said_step P n told own more spelled h p =
 
 -- ---- paths
 
-pub told_or_left_none : {X : Type 0} (P : X → Told → Type 0) (told : Told) (left : List X) → told ≡ nothing → left ≡ [] → IsToldOrLeft P [] told left
+pub told_or_left_none : {X : Type 0} (P Leaves : X → Told → Type 0) (told : Told) (left : List X) → told ≡ nothing → left ≡ [] → IsToldOrLeft P Leaves [] told left
 unfolding IsToldOrLeft
-told_or_left_none P told left e f = (e, f)
+told_or_left_none P Leaves told left e f = (e, f)
 
-told_end : {X : Type 0} (P : X → Told → Type 0) (xs : List X) (x : X) (told own : Told) (left : List X) → IsToldOrLeft P xs told left → P x own → IsToldOrLeft P (xs ++ x ∷ []) (followed_by told own) left
+told_end : {X : Type 0} (P Leaves : X → Told → Type 0) (xs : List X) (x : X) (told own : Told) (left : List X) (is_left : Bool) → IsToldOrLeft P Leaves xs told left → IsEither P Leaves is_left x own
+    → IsToldOrLeft P Leaves (xs ++ x ∷ []) (followed_by told own) (left ++ left_if is_left x)
 unfolding IsToldOrLeft
-told_end P [] x told own left h p = inl (own, nothing, ap (λ (t : Told). followed_by t own) h.0 ∙ sym (right_nothing own), p, (refl, h.1))
-told_end P (first ∷ xs) x told own left (inl h) p =
-    inl (h.0, followed_by h.1 own, ap (λ (t : Told). followed_by t own) h.2 ∙ said_assoc h.0 h.1 own, h.3, told_end P xs x h.1 own left h.4 p)
-told_end P (first ∷ xs) x told own left (inr h) p = inr (h.0, h.1, told_end P xs x told own h.0 h.2 p)
-
-left_end : {X : Type 0} (P : X → Told → Type 0) (xs : List X) (x : X) (told : Told) (left : List X) → IsToldOrLeft P xs told left → IsToldOrLeft P (xs ++ x ∷ []) told (left ++ x ∷ [])
-unfolding IsToldOrLeft
-left_end {X} P [] x told left h = inr ([], ap (λ (l : List X). l ++ x ∷ []) h.1, (h.0, refl))
-left_end P (first ∷ xs) x told left (inl h) = inl (h.0, h.1, h.2, h.3, left_end P xs x h.1 left h.4)
-left_end {X} P (first ∷ xs) x told left (inr h) = inr (h.0 ++ x ∷ [], ap (λ (l : List X). l ++ x ∷ []) h.1, left_end P xs x told h.0 h.2)
-
-path_end : (P : List ℕ → Told → Type 0) (paths : List (List ℕ)) (path : List ℕ) (told : Told) (left : List (List ℕ)) (own : Option Said) → IsToldOrLeft P paths told left → IfSome own (λ said. P path (told_of said))
-    → IsToldOrLeft P (paths ++ path ∷ []) (followed_by told (told_if own)) (left ++ left_if path own)
-path_end P paths path told left None h p = subst (λ (t : Told). IsToldOrLeft P (paths ++ path ∷ []) t (left ++ path ∷ [])) (sym (right_nothing told)) (left_end P paths path told left h)
-path_end P paths path told left (Some said) h p =
-    subst (λ (l : List (List ℕ)). IsToldOrLeft P (paths ++ path ∷ []) (followed_by told (told_of said)) l) (sym (append-nil left)) (told_end P paths path told (told_of said) left h p)
+told_end {X} P Leaves [] x told own left is_left h p =
+    (is_left, own, nothing, [], ap (λ (t : Told). followed_by t own) h.0 ∙ sym (right_nothing own), ap (λ (l : List X). l ++ left_if is_left x) h.1 ∙ sym (append-nil (left_if is_left x)), p, (refl, refl))
+told_end {X} P Leaves (first ∷ xs) x told own left is_left h p =
+    (h.0, h.1, followed_by h.2 own, h.3 ++ left_if is_left x, ap (λ (t : Told). followed_by t own) h.4 ∙ said_assoc h.1 h.2 own, ap (λ (l : List X). l ++ left_if is_left x) h.5 ∙ append_assoc (left_if h.0 first) h.3 (left_if is_left x), h.6, told_end P Leaves xs x h.2 own h.3 is_left h.7 p)
 
 pub taken_text : (words : List (Bor (List ℕ))) (n : ℕ) (d : Bor (List ℕ)) → n < length words → take (suc n) (texts_of words) ≡ take n (texts_of words) ++ (get_or words n d).now ∷ []
 taken_text [] n d h = absurd (omega (arith, h))
 taken_text (word ∷ words) zero d h = refl
 taken_text (word ∷ words) (suc n) d h = ap (λ (l : List (List ℕ)). word.now ∷ l) (taken_text words n d (omega (arith, h)))
 
-one_more : (P : List ℕ → Told → Type 0) (words : List (Bor (List ℕ))) (n : ℕ) (d : Bor (List ℕ)) (told : Told) (left : List (List ℕ)) (own : Option Said) → n < length words
-    → IsToldOrLeft P (take n (texts_of words)) told left → IfSome own (λ said. P (get_or words n d).now (told_of said)) → IsToldOrLeft P (take (n + 1) (texts_of words)) (followed_by told (told_if own)) (left ++ left_if (get_or words n d).now own)
-one_more P words n d told left own l h p =
-    subst (λ (m : ℕ). IsToldOrLeft P (take m (texts_of words)) (followed_by told (told_if own)) (left ++ left_if (get_or words n d).now own)) (sym (add-one n))
-    (subst (λ (ys : List (List ℕ)). IsToldOrLeft P ys (followed_by told (told_if own)) (left ++ left_if (get_or words n d).now own)) (sym (taken_text words n d l))
-    (path_end P (take n (texts_of words)) (get_or words n d).now told left own h p))
+one_more : (P Leaves : List ℕ → Told → Type 0) (words : List (Bor (List ℕ))) (n : ℕ) (d : Bor (List ℕ)) (told own : Told) (left : List (List ℕ)) (is_left : Bool) → n < length words
+    → IsToldOrLeft P Leaves (take n (texts_of words)) told left → IsEither P Leaves is_left (get_or words n d).now own → IsToldOrLeft P Leaves (take (n + 1) (texts_of words)) (followed_by told own) (left ++ left_if is_left (get_or words n d).now)
+one_more P Leaves words n d told own left is_left l h p =
+    subst (λ (m : ℕ). IsToldOrLeft P Leaves (take m (texts_of words)) (followed_by told own) (left ++ left_if is_left (get_or words n d).now)) (sym (add-one n))
+    (subst (λ (ys : List (List ℕ)). IsToldOrLeft P Leaves ys (followed_by told own) (left ++ left_if is_left (get_or words n d).now)) (sym (taken_text words n d l))
+    (told_end P Leaves (take n (texts_of words)) (get_or words n d).now told own left is_left h p))
 
--- one more path, of files that hold what they held: it has its statements or is left
-pub paths_step : (Are : OfFile) (held now : Held) (words : List (Bor (List ℕ))) (n : ℕ) (d : Bor (List ℕ)) (told more : Told) (left both : List (List ℕ)) (own : Option Said) → n < length words → now ≡ held → more ≡ followed_by told (told_if own)
-    → both ≡ left ++ left_if (get_or words n d).now own → IsToldOrLeft (HasLines Are held) (take n (texts_of words)) told left → IfSome own (λ said. HasLines Are now (get_or words n d).now (told_of said))
-    → IsToldOrLeft (HasLines Are held) (take (n + 1) (texts_of words)) more both
-paths_step Are held now words n d told more left both own l same spelled listed h p =
-    subst (λ (t : Told). IsToldOrLeft (HasLines Are held) (take (n + 1) (texts_of words)) t both) (sym spelled)
-    (subst (λ (b : List (List ℕ)). IsToldOrLeft (HasLines Are held) (take (n + 1) (texts_of words)) (followed_by told (told_if own)) b) (sym listed)
-    (one_more (HasLines Are held) words n d told left own l h (subst (λ (k : Held). IfSome own (λ said. HasLines Are k (get_or words n d).now (told_of said))) same p)))
+-- one more path, of files that hold what they held: it has its statements, or is left and has those
+pub paths_step : (Are : OfFile) (Leaves : Leaving) (held now : Held) (words : List (Bor (List ℕ))) (n : ℕ) (d : Bor (List ℕ)) (told more own : Told) (left both : List (List ℕ)) (is_left : Bool) → n < length words → now ≡ held → more ≡ followed_by told own
+    → both ≡ left ++ left_if is_left (get_or words n d).now → IsToldOrLeft (HasLines Are held) Leaves (take n (texts_of words)) told left → IsEither (HasLines Are now) Leaves is_left (get_or words n d).now own
+    → IsToldOrLeft (HasLines Are held) Leaves (take (n + 1) (texts_of words)) more both
+paths_step Are Leaves held now words n d told more own left both is_left l same spelled listed h p =
+    subst (λ (t : Told). IsToldOrLeft (HasLines Are held) Leaves (take (n + 1) (texts_of words)) t both) (sym spelled)
+    (subst (λ (b : List (List ℕ)). IsToldOrLeft (HasLines Are held) Leaves (take (n + 1) (texts_of words)) (followed_by told own) b) (sym listed)
+    (one_more (HasLines Are held) Leaves words n d told own left is_left l h (subst (λ (k : Held). IsEither (HasLines Are k) Leaves is_left (get_or words n d).now own) same p)))
 
 -- ---- lines
 

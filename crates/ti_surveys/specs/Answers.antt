@@ -5,12 +5,14 @@ use Rattle.std.specs.List.{flat_map}
 use Rattle.ti_caps.specs.Entry.{Content}
 use Rattle.ti_checker.specs.declared.causes.Cause.TheVariants.{NoMemory}
 use Rattle.ti_checker.specs.declared.causes.No.{No}
+use Rattle.ti_commands.specs.Refusals.{refusal_text_of}
+use Rattle.ti_commands.specs.declared.failure.CommandRefusal.{CommandRefusal}
 use Rattle.ti_faults.specs.AllFaults.{AreAllFaults}
-use Rattle.ti_surveys.specs.Lines.{Refusing, Saying}
+use Rattle.ti_surveys.specs.Lines.{Leaving, Refusing, Saying}
 use Rattle.ti_verdicts.specs.Parts.{HasParts}
 use Rattle.ti_verdicts.specs.Locations.{IsPlaced, PlaceInSource}
 use Rattle.ti_verdicts.specs.Refusals.{no_text}
-use Rattle.ti_surveys.specs.Told.{Told}
+use Rattle.ti_surveys.specs.Told.{Told, nothing}
 use Rattle.ti_verdicts.specs.declared.answers.Answer.{Answer}
 use Rattle.ti_verdicts.specs.declared.answers.Answer.TheVariants as answers
 use Rattle.ti_surveys.specs.declared.asked.Asked.{Asked}
@@ -80,15 +82,19 @@ abbrev pub SaysTo : {C : Type 0} → (C → Content → ℕ → ℕ → List ℕ
 SaysTo certifies refuses asked = SaysBy asked.lists_all (certifies asked.certifier.now)
     (refuses asked.certifier.now) asked.size.rows asked.size.cols
 
--- the words of a refusal, with the reason
-abbrev pub refusal_text : List ℕ → List ℕ
-refusal_text why = codes " refused: " ++ why
+-- the words of a refusal behind the name
+abbrev pub refusal_text : CommandRefusal → List ℕ
+refusal_text refusal = codes " refused: " ++ refusal_text_of refusal
 
 -- the name, or the path of a file that has no entries
 abbrev pub name_or : List ℕ → Option (List ℕ) → List ℕ
 name_or path (Some name) = name
 name_or path None = path
 
--- the line of a name whose entry or file can't be read, with the reason
+-- the line of a name whose entry or file can't be obtained, with the reason; the entry's place has no influence
 abbrev pub IsRefused : Refusing
-IsRefused path name why told = told ≡ one_line (name_or path name) (refusal_text why) answers.Refused
+IsRefused path stands name refusal told = told ≡ one_line (name_or path name) (refusal_text refusal) answers.Refused
+
+-- nothing is said of a path that can't be read: the failure or a remark names it
+abbrev pub SaysNothing : Leaving
+SaysNothing path told = told ≡ nothing

@@ -16,7 +16,6 @@ use Rattle.ti_source.specs.declared.types.SourceFault.{SourceFault}
 use Rattle.ti_commands.specs.Findings.{FitsTo}
 use Rattle.ti_commands.specs.declared.failure.CommandRefusal.{CommandRefusal}
 use Rattle.ti_commands.specs.declared.failure.CommandRefusal.TheVariants.{Pack, Resolve, Source}
-use Rattle.ti_commands.specs.Refusals.{refusal_text_of}
 use Rattle.ti_surveys.specs.Told.{IsToldOfEach, Told}
 use Rattle.ti_verdicts.specs.Locations.{PlaceInSource, first_name}
 
@@ -24,14 +23,14 @@ use Rattle.ti_verdicts.specs.Locations.{PlaceInSource, first_name}
 abbrev pub Saying : Type 1
 Saying = List ℕ → Option PlaceInSource → List ℕ → Content → Told → Type 0
 
--- the statements allowed about an entry of this name that can't be read, or about a file that has no entries, by the
--- file's path and the reason
+-- the statements allowed about an entry that can't be obtained, by the path of its file, its place in a source, its name
+-- and the refusal that says why; or about a file that has no entries, without place and name
 abbrev pub Refusing : Type 1
-Refusing = List ℕ → Option (List ℕ) → List ℕ → Told → Type 0
+Refusing = List ℕ → Option PlaceInSource → Option (List ℕ) → CommandRefusal → Told → Type 0
 
--- a statement with a refusal as the reason
-abbrev pub IsLack : Refusing → CommandRefusal → List ℕ → Option (List ℕ) → Told → Type 0
-IsLack Refuses refusal path name told = Refuses path name (refusal_text_of refusal) told
+-- the statements allowed about a file that can't be read, by its path
+abbrev pub Leaving : Type 1
+Leaving = List ℕ → Told → Type 0
 
 -- ---- the lines of an entry
 
@@ -39,7 +38,7 @@ IsLack Refuses refusal path name told = Refuses path name (refusal_text_of refus
 abbrev pub IsTold : Saying → Refusing → Result Content CommandRefusal → List ℕ → Option PlaceInSource → List ℕ → Told
     → Type 0
 IsTold Says Refuses (Ok entry) path stands name told = Says path stands name entry told
-IsTold Says Refuses (Err refusal) path stands name told = IsLack Refuses refusal path (Some name) told
+IsTold Says Refuses (Err refusal) path stands name told = Refuses path stands (Some name) refusal told
 
 -- the entry at a place of a text whose entries are read one by one, or the reason why there is none: it or one that it
 -- uses can't be read, or it can't be resolved
@@ -84,7 +83,7 @@ pub record HasEntry (Says : Saying) (Refuses : Refusing) (path bytes : List ℕ)
 pub record IsFaultyFile (Refuses : Refusing) (path bytes : List ℕ) (said : Told) : Type 0 where
   pub fault : PackFault
   pub faulty : read_of bytes ≡ Err fault
-  pub told : IsLack Refuses (Pack fault) path None said
+  pub told : Refuses path None None (Pack fault) said
 
 -- the statements about the entries of a source text, each read by itself
 pub record HasEntries (Says : Saying) (Refuses : Refusing) (path bytes : List ℕ) (said : Told) : Type 0 where
@@ -98,7 +97,7 @@ pub record LacksEntries (Refuses : Refusing) (path bytes : List ℕ) (said : Tol
   pub fault : SourceFault
   pub faulty : FailsBy fault.kind fault (apart_of bytes)
   pub claims : fault.kind ≢ fault_kinds.NoMemory
-  pub told : IsLack Refuses (Source fault) path None said
+  pub told : Refuses path None None (Source fault) said
 
 abbrev pub AreLinesBy : Bool → Saying → Refusing → List ℕ → List ℕ → Told → Type 0
 AreLinesBy true Says Refuses path bytes said =

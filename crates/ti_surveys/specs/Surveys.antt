@@ -9,9 +9,9 @@ use Rattle.ti_commands.specs.Words.{texts_of}
 use Rattle.ti_commands.specs.declared.failure.Failure.{Failure}
 use Rattle.ti_commands.specs.declared.failure.Failure.TheVariants.{File}
 use Rattle.ti_commands.specs.declared.failure.Reply.{Reply}
-use Rattle.ti_surveys.specs.Answers.{IsRefused, SaysBy}
+use Rattle.ti_surveys.specs.Answers.{IsRefused, SaysBy, SaysNothing}
 use Rattle.ti_verdicts.specs.Counts.{answers_line}
-use Rattle.ti_surveys.specs.Lines.{AreLines}
+use Rattle.ti_surveys.specs.Lines.{AreLines, Leaving}
 use Rattle.ti_surveys.specs.Strict.{EndsStrictly}
 use Rattle.ti_surveys.specs.Told.{IsToldOrLeft, Told}
 use Rattle.ti_requests.specs.declared.request.SurveyWords.{SurveyWords}
@@ -42,11 +42,11 @@ AreNamed [] failed remarks = failed ≡ None
 AreNamed (first ∷ others) failed remarks =
     Blames first failed × (before : List (List ℕ)) × (remarks ≡ before ++ map further others)
 
--- each path has its lines, one after another, or is named as one that can't be read
-pub record EndsPaths (Are : OfFile) (held : Held) (paths : List (List ℕ)) (told : Told) (failed : Option Failure)
-    (remarks : List (List ℕ)) : Type 0 where
+-- each path has its lines, one after another, or is named as one that can't be read and has the lines for that
+pub record EndsPaths (Are : OfFile) (Leaves : Leaving) (held : Held) (paths : List (List ℕ)) (told : Told)
+    (failed : Option Failure) (remarks : List (List ℕ)) : Type 0 where
   pub unread : List (List ℕ)
-  pub each : IsToldOrLeft (HasLines Are held) paths told unread
+  pub each : IsToldOrLeft (HasLines Are held) Leaves paths told unread
   pub named : AreNamed unread failed remarks
 
 -- The lines of each path are heard, and the reply has the number of lines with each answer; its notes are the places of
@@ -59,7 +59,7 @@ pub record IsSurveyed (certifies : Content → ℕ → ℕ → List ℕ → Type
   pub given : SizeGiven words.rows.now words.cols.now height width
   pub told : Told
   pub failed : Option Failure
-  pub ends : EndsPaths (AreLines (SaysBy words.lists_all certifies refuses height width) IsRefused)
+  pub ends : EndsPaths (AreLines (SaysBy words.lists_all certifies refuses height width) IsRefused) SaysNothing
       held (texts_of words.paths.items) told failed remarks
   pub strictly : EndsStrictly words.is_strict told.answers failed reply.failure
   pub places : reply.notes.items ≡ told.places

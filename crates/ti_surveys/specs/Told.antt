@@ -1,5 +1,5 @@
 -- The statements of a survey about an entry, a file or several.
-use Rattle.std.specs.Prelude.{◌≡◌, ◌⊎◌, ℕ, List, [], ◌∷◌, ◌++◌, Option, Some, None}
+use Rattle.std.specs.Prelude.{◌≡◌, ℕ, Bool, true, false, List, [], ◌∷◌, ◌++◌}
 use Rattle.ti_verdicts.specs.declared.answers.Answer.{Answer}
 use Rattle.ti_surveys.specs.declared.said.Said.{Said}
 
@@ -26,23 +26,25 @@ IsToldOfEach P [] told = told ≡ nothing
 IsToldOfEach P (x ∷ xs) told = (own : Told) × (later : Told) × (told ≡ followed_by own later) × P x own
     × IsToldOfEach P xs later
 
--- Each item has its statement, which follows those before it, or is among the `left`, in their order.
-unfoldable pub IsToldOrLeft : {X : Type 0} → (X → Told → Type 0) → List X → Told → List X → Type 0
-IsToldOrLeft P [] told left = (told ≡ nothing) × (left ≡ [])
-IsToldOrLeft {X} P (x ∷ xs) told left =
-    ((own : Told) × (later : Told) × (told ≡ followed_by own later) × P x own × IsToldOrLeft P xs later left)
-    ⊎ ((later : List X) × (left ≡ x ∷ later) × IsToldOrLeft P xs told later)
+-- the statement about an item that is dealt with, or the one about an item that is left
+abbrev pub IsEither : {X : Type 0} → (X → Told → Type 0) → (X → Told → Type 0) → Bool → X → Told → Type 0
+IsEither P Leaves false x told = P x told
+IsEither P Leaves true x told = Leaves x told
+
+-- the item, if it is left
+abbrev pub left_if : {X : Type 0} → Bool → X → List X
+left_if false x = []
+left_if true x = x ∷ []
+
+-- Each item has its statement, which follows those before it, or it is among the `left`, in their order, with the
+-- statement about an item that is left.
+unfoldable pub IsToldOrLeft : {X : Type 0} → (X → Told → Type 0) → (X → Told → Type 0) → List X → Told → List X
+    → Type 0
+IsToldOrLeft P Leaves [] told left = (told ≡ nothing) × (left ≡ [])
+IsToldOrLeft {X} P Leaves (x ∷ xs) told left =
+    (is_left : Bool) × (own : Told) × (later : Told) × (others : List X) × (told ≡ followed_by own later)
+    × (left ≡ left_if is_left x ++ others) × IsEither P Leaves is_left x own × IsToldOrLeft P Leaves xs later others
 
 -- (Serves the code alone.) the lines, the places and the answers, without their memory
 abbrev pub told_of : Said → Told
 told_of said = record { lines = said.lines.items; places = said.places.items; answers = said.answers.items }
-
--- (Serves the code alone.) the statements about a path, if it can be read
-abbrev pub told_if : Option Said → Told
-told_if None = nothing
-told_if (Some said) = told_of said
-
--- (Serves the code alone.) the path, if there are no statements about it
-abbrev pub left_if : List ℕ → Option Said → List (List ℕ)
-left_if path None = path ∷ []
-left_if path (Some said) = []

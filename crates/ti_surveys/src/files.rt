@@ -11,11 +11,11 @@ ghost use Rattle.ti_verdicts.specs.Locations.{place_if};
 ghost use Rattle.ti_surveys.specs.Told.{IsToldOfEach, told_of};
 
 use crate::said::Said;
-use crate::speakers::{FileEntry, Speaker};
+use crate::speakers::{FileEntry, Lacking, Speaker};
 use crate::watchers::{Watcher, pass_on};
 use std::alloc::{AllocError, Global};
 use ti_caps::Entry;
-use ti_commands::{CommandRefusal, refusal_words, unpacked_entry};
+use ti_commands::{CommandRefusal, unpacked_entry};
 use ti_compiled::{Packed, decode};
 use ti_entries::{ApartFault, LinedText, resolve_apart};
 use ti_hints::hint_entries;
@@ -85,7 +85,7 @@ fn compiled_said<S: Speaker>(
 {
     match decode(bytes) {
         Ok(packed) => packed_lines(alloc, speaker, path, &packed),
-        Err(fault) => lack(alloc, speaker, path, None, &CommandRefusal::Pack(fault)),
+        Err(fault) => file_lack(alloc, speaker, path, &CommandRefusal::Pack(fault)),
     }
 }
 
@@ -145,10 +145,10 @@ fn unread_lines<S: Speaker, W: Watcher>(
     refusal: &CommandRefusal,
     watcher: &mut W,
 ) -> Result<Said, AllocError>
-    ensures told { IfOk result (λ said. spec.IsLack (S.refuses speaker.now) refusal.now path.now None (told_of said)) }
+    ensures told { IfOk result (λ said. S.refuses speaker.now path.now None None refusal.now (told_of said)) }
     ensures heard { IfOk result (λ said. Hears W.heard W.has_failed watcher.old watcher.new said.lines.items) }
 {
-    let said = lack(alloc, speaker, path, None, refusal)?;
+    let said = file_lack(alloc, speaker, path, refusal)?;
     pass_on(watcher, &said);
     Ok(said)
 }
@@ -326,22 +326,41 @@ fn entry_lines<S: Speaker>(
             };
             speaker.say(alloc, &found)
         }
-        Err(refusal) => lack(alloc, speaker, path, Some(name), refusal),
+        Err(refusal) => lack(alloc, speaker, path, stands, Some(name), refusal),
     }
 }
 
-/// The statement that the file at `path` has an entry of this `name` that can't be read, or no entries if there is no
-/// name, with the `refusal` that says why.
+/// The statement that the file at `path` has no entries, with the `refusal` that says why.
+fn file_lack<S: Speaker>(
+    alloc: Global,
+    speaker: &S,
+    path: &str,
+    refusal: &CommandRefusal,
+) -> Result<Said, AllocError>
+    ensures { IfOk result (λ said. S.refuses speaker.now path.now None None refusal.now (told_of said)) }
+{
+    lack(alloc, speaker, path, &None, None, refusal)
+}
+
+/// The statement about the entry of this `name` that can't be obtained from the file at `path`, at the place `stands`,
+/// or about a file that has no entries if there is no name; the `refusal` says why.
 fn lack<S: Speaker>(
     alloc: Global,
     speaker: &S,
     path: &str,
+    stands: &Option<SourcePlace<'_, '_>>,
     name: Option<&[u8]>,
     refusal: &CommandRefusal,
 ) -> Result<Said, AllocError>
-    ensures { IfOk result (λ said. spec.IsLack (S.refuses speaker.now) refusal.now path.now
-        (option_map (λ n. n.now) name.entry) (told_of said)) }
+    requires { IfSome stands.now (λ there. there.place < length there.raws.now) }
+    ensures { IfOk result (λ said. S.refuses speaker.now path.now (place_if stands.now)
+        (option_map (λ n. n.now) name.entry) refusal.now (told_of said)) }
 {
-    let why = refusal_words(alloc, refusal)?;
-    speaker.refuse(alloc, path, name, why.as_slice())
+    let lacking = Lacking {
+        path,
+        stands,
+        name,
+        refusal,
+    };
+    speaker.refuse(alloc, &lacking)
 }

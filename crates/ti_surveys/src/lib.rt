@@ -15,7 +15,7 @@ mod watchers;
 pub use laws::faultless_is_whole;
 pub use lines::answers_of;
 pub use said::Said;
-pub use speakers::{FileEntry, Speaker};
+pub use speakers::{FileEntry, Lacking, Speaker};
 pub use strict::strict_failure;
 pub use surveys::{Surveyed, survey_files, survey_paths};
 pub use watchers::Watcher;

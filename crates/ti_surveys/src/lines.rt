@@ -10,10 +10,11 @@ ghost use Rattle.ti_surveys.specs.Told.{told_of};
 
 use crate::asked::Asked;
 use crate::said::Said;
-use crate::speakers::{FileEntry, Speaker};
+use crate::speakers::{FileEntry, Lacking, Speaker};
 use std::alloc::{AllocError, Global};
 use ti_caps::Entry;
 use ti_checker::{Cause, No};
+use ti_commands::{CommandRefusal, refusal_words};
 use ti_faults::{faults, must_claim};
 use ti_verdicts::{Answer, Certifier, SourcePlace, fault_answers, no_words, placed};
 use ti_words::push_shown;
@@ -23,6 +24,8 @@ impl<'a, C: Certifier> Speaker for Asked<'a, C> {
     ghost says = { λ asked path. spec.SaysTo C.certifies C.refuses asked path };
 
     ghost refuses = { λ _. spec.IsRefused };
+
+    ghost leaves = { λ _. spec.SaysNothing };
 
     fn hints(&self) -> bool {
         self.lists_all
@@ -36,14 +39,13 @@ impl<'a, C: Certifier> Speaker for Asked<'a, C> {
         }
     }
 
-    fn refuse(
-        &self,
-        alloc: Global,
-        path: &str,
-        name: Option<&[u8]>,
-        why: &[u8],
-    ) -> Result<Said, AllocError> {
-        refused_line(alloc, name_or(name, path), why)
+    fn refuse(&self, alloc: Global, lacking: &Lacking<'_, '_>) -> Result<Said, AllocError> {
+        let name = name_or(lacking.name, lacking.path);
+        refused_line(alloc, name, lacking.refusal)
+    }
+
+    fn leave(&self, alloc: Global, _path: &str) -> Result<Said, AllocError> {
+        Ok(Said::new(alloc))
     }
 }
 
@@ -86,12 +88,13 @@ fn words_of(alloc: Global, no: &No) -> Result<Vec<u8>, AllocError>
     Ok(words)
 }
 
-/// The words for an entry or a file that can't be read, with the reason `why`.
-fn refused(alloc: Global, why: &[u8]) -> Result<Vec<u8>, AllocError>
-    ensures { IfOk result (λ words. words.items ≡ spec.refusal_text why.now) }
+/// The words for an entry or a file that can't be obtained, with the `refusal` that says why.
+fn refused(alloc: Global, refusal: &CommandRefusal) -> Result<Vec<u8>, AllocError>
+    ensures { IfOk result (λ words. words.items ≡ spec.refusal_text refusal.now) }
 {
+    let why = refusal_words(alloc, refusal)?;
     let mut words = Vec::from_slice(alloc, b" refused: ")?;
-    words.extend_from_slice(why)?;
+    words.extend_from_slice(why.as_slice())?;
     Ok(words)
 }
 
@@ -205,11 +208,11 @@ fn no_line(alloc: Global, name: &[u8], no: &No) -> Result<Said, AllocError>
     one_line(alloc, name, words.as_slice(), Answer::No(no.cause))
 }
 
-/// The line of `name`, whose entry or file can't be read, with the reason `why`.
-fn refused_line(alloc: Global, name: &[u8], why: &[u8]) -> Result<Said, AllocError>
+/// The line of `name`, whose entry or file can't be obtained, with the `refusal` that says why.
+fn refused_line(alloc: Global, name: &[u8], refusal: &CommandRefusal) -> Result<Said, AllocError>
     ensures { IfOk result (λ said. told_of said
-        ≡ spec.one_line name.now (spec.refusal_text why.now) Answer.Refused) }
+        ≡ spec.one_line name.now (spec.refusal_text refusal.now) Answer.Refused) }
 {
-    let words = refused(alloc, why)?;
+    let words = refused(alloc, refusal)?;
     one_line(alloc, name, words.as_slice(), Answer::Refused)
 }

@@ -1,12 +1,12 @@
 //! The command `survey`, and the common part of all surveys.
 
-ghost use Rattle.std.specs.Prelude.{◌≡◌, ◌++◌, IfErr, IfOk, IfSome, OnOk};
+ghost use Rattle.std.specs.Prelude.{◌≡◌, ◌++◌, IfErr, IfOk, OnOk};
 ghost use Rattle.ti_commands.specs.Sizes.{LacksSize};
 ghost use Rattle.ti_commands.specs.Words.{texts_of};
 ghost use Rattle.ti_surveys.specs.Heard.{Hears};
 ghost use Rattle.ti_surveys.specs.Lines.{AreLines};
 ghost use Rattle.ti_surveys.specs.Surveys as spec;
-ghost use Rattle.ti_surveys.specs.Told.{IsToldOrLeft, followed_by, left_if, told_if, told_of};
+ghost use Rattle.ti_surveys.specs.Told.{IsEither, IsToldOrLeft, followed_by, left_if, told_of};
 
 use crate::asked::Asked;
 use crate::files::file_lines;
@@ -14,7 +14,7 @@ use crate::said::Said;
 use crate::speakers::Speaker;
 use crate::strict::strict_failure;
 use crate::unread::named;
-use crate::watchers::Watcher;
+use crate::watchers::{Watcher, pass_on};
 use std::alloc::{AllocError, Global};
 use ti_commands::{Failure, Files, LONGEST_FILE, Reply, read_whole, size_words};
 use ti_requests::SurveyWords;
@@ -82,9 +82,9 @@ pub fn survey_files<C: Certifier, F: Files, W: Watcher>(
     })
 }
 
-/// The statements of the `speaker` about each entry of each file of `paths`, one after another. If files can't be read,
-/// the failure is that of the first one, the last `remarks` name the further ones, and the others are surveyed all the
-/// same. The `watcher` passes on the lines of each entry once they are known, and receives reports of how far the survey
+/// The statements of the `speaker` about each entry of each file of `paths`, or about a file that can't be read, one
+/// after another. If files can't be read, the failure is that of the first one, and the last `remarks` name the further
+/// ones. The `watcher` passes on the lines of each entry once they are known, and receives reports of how far the survey
 /// has come.
 ///
 /// # Errors
@@ -98,7 +98,8 @@ pub fn survey_paths<S: Speaker, F: Files, W: Watcher>(
     remarks: &mut Remarks,
 ) -> Result<Surveyed, AllocError>
     ensures told { IfOk result (λ surveyed. spec.EndsPaths (AreLines (S.says speaker.now) (S.refuses speaker.now))
-        (F.holds files.old) (texts_of paths.now) (told_of surveyed.said) surveyed.failure remarks.new) }
+        (S.leaves speaker.now) (F.holds files.old) (texts_of paths.now) (told_of surveyed.said) surveyed.failure
+        remarks.new) }
     ensures heard { IfOk result (λ surveyed. Hears W.heard W.has_failed watcher.old watcher.new
         surveyed.said.lines.items) }
     ensures kept { F.holds files.new ≡ F.holds files.old }
@@ -118,17 +119,27 @@ struct Parted<'a> {
 }
 
 impl<'a> Parted<'a> {
-    /// Adds `path`, which has its `own` statements or can't be read.
-    fn add(&mut self, path: &'a str, own: &Option<Said>) -> Result<(), AllocError>
-        ensures told { OnOk result (told_of self.new.said ≡ followed_by (told_of self.old.said) (told_if own.now)) }
+    /// Adds `path` with its `own` statements.
+    fn add(&mut self, path: &'a str, own: &Own) -> Result<(), AllocError>
+        ensures told { OnOk result (told_of self.new.said
+            ≡ followed_by (told_of self.old.said) (told_of own.now.said)) }
         ensures unread { OnOk result (texts_of self.new.unread.items
-            ≡ texts_of self.old.unread.items ++ left_if path.now own.now) }
+            ≡ texts_of self.old.unread.items ++ left_if own.now.is_left path.now) }
     {
-        match own {
-            Some(said) => self.said.add(said),
-            None => Ok(self.unread.push(path)?),
+        self.said.add(&own.said)?;
+        if own.is_left {
+            self.unread.push(path)?;
         }
+        Ok(())
     }
+}
+
+/// The statements about a path.
+#[derive(Drop)]
+struct Own {
+    said: Said,
+    /// Whether it can't be read.
+    is_left: bool,
 }
 
 /// The statements of the `speaker` about all `paths`, whose lines the `watcher` hears.
@@ -142,7 +153,7 @@ fn paths_said<'a, S: Speaker, F: Files, W: Watcher>(
 ) -> Result<Parted<'a>, AllocError>
     ensures told { IfOk result (λ parted. IsToldOrLeft
         (spec.HasLines (AreLines (S.says speaker.now) (S.refuses speaker.now)) (F.holds files.old))
-        (texts_of paths.now) (told_of parted.said) (texts_of parted.unread.items)) }
+        (S.leaves speaker.now) (texts_of paths.now) (told_of parted.said) (texts_of parted.unread.items)) }
     ensures heard { IfOk result (λ parted. Hears W.heard W.has_failed watcher.old watcher.new
         parted.said.lines.items) }
     ensures kept { F.holds files.new ≡ F.holds files.old }
@@ -159,7 +170,7 @@ fn paths_said<'a, S: Speaker, F: Files, W: Watcher>(
     Ok(parted)
 }
 
-/// The statements of the `speaker` about `path`, whose lines the `watcher` hears; none if it can't be read.
+/// The statements of the `speaker` about `path`, whose lines the `watcher` hears.
 fn path_said<S: Speaker, F: Files, W: Watcher>(
     alloc: Global,
     speaker: &S,
@@ -167,16 +178,20 @@ fn path_said<S: Speaker, F: Files, W: Watcher>(
     files: &mut F,
     watcher: &mut W,
     remarks: &mut Remarks,
-) -> Result<Option<Said>, AllocError>
-    ensures told { IfOk result (λ own. IfSome own (λ said. spec.HasLines
-        (AreLines (S.says speaker.now) (S.refuses speaker.now)) (F.holds files.old) path.now (told_of said))) }
-    ensures heard { IfOk result (λ own. Hears W.heard W.has_failed watcher.old watcher.new (told_if own).lines) }
+) -> Result<Own, AllocError>
+    ensures told { IfOk result (λ own. IsEither
+        (spec.HasLines (AreLines (S.says speaker.now) (S.refuses speaker.now)) (F.holds files.old))
+        (S.leaves speaker.now) own.is_left path.now (told_of own.said)) }
+    ensures heard { IfOk result (λ own. Hears W.heard W.has_failed watcher.old watcher.new own.said.lines.items) }
     ensures kept { F.holds files.new ≡ F.holds files.old }
 {
     match read_whole(alloc, files, path, LONGEST_FILE, remarks) {
         Ok(bytes) => {
             let said = file_lines(alloc, speaker, path, bytes.as_slice(), watcher, remarks)?;
-            Ok(Some(said))
+            Ok(Own {
+                said,
+                is_left: false,
+            })
         }
         Err(Failure::NoMemory) => Err(AllocError),
         Err(
@@ -185,6 +200,27 @@ fn path_said<S: Speaker, F: Files, W: Watcher>(
             | Failure::Usage(_)
             | Failure::File(_)
             | Failure::Output,
-        ) => Ok(None),
+        ) => {
+            let said = left_said(alloc, speaker, path, watcher)?;
+            Ok(Own {
+                said,
+                is_left: true,
+            })
+        }
     }
+}
+
+/// The statements of the `speaker` about `path`, which can't be read. The `watcher` hears their lines.
+fn left_said<S: Speaker, W: Watcher>(
+    alloc: Global,
+    speaker: &S,
+    path: &str,
+    watcher: &mut W,
+) -> Result<Said, AllocError>
+    ensures told { IfOk result (λ said. S.leaves speaker.now path.now (told_of said)) }
+    ensures heard { IfOk result (λ said. Hears W.heard W.has_failed watcher.old watcher.new said.lines.items) }
+{
+    let said = speaker.leave(alloc, path)?;
+    pass_on(watcher, &said);
+    Ok(said)
 }
