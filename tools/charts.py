@@ -4,8 +4,9 @@
 charts.py          writes docs/pictures/performance-*.svg and trust.svg
 charts.py --check  says which of them differ from the tables, with status 1 if there is one
 
-A bar is a ratio: how often what is measured of the other program (time or bytes) has that of ticurses. Bars to the
-right of the line at 1 are in favor of ticurses, and each step of the scale is ten times or twice the one before."""
+A bar is a ratio: how often what is measured of the other program (time, instructions or bytes) has that of ticurses.
+Bars to the right of the line at 1 are in favor of ticurses, and each step of the scale is ten times or twice the one
+before."""
 
 import math
 import os
@@ -17,7 +18,7 @@ from crates import TOP
 from svg import FAINT, FRAME, INK, Picture
 
 PAGE, FOLDER = f"{TOP}/docs/PERFORMANCE.md", f"{TOP}/docs/pictures"
-COLORS = ["#0969da", "#bf8700", "#1a7f37", "#8250df"]
+COLORS = ["#0969da", "#bf8700", "#1a7f37", "#8250df", "#cf222e"]
 LEFT, RIGHT, WIDTH, BAR, GAP = 230, 70, 860, 11, 9
 
 
@@ -74,15 +75,19 @@ def resolving(tables):
     return [(f"{row[0]} uses", [("", first / (figure(row[1]) / figure(row[0])))]) for row in rows]
 
 
+def beside(names, row, first):
+    """The bars of a row which has, from a column on, a figure of each peer and the ratio behind it."""
+    return [(names[at], figure(row[at + 1])) for at in range(first, len(names), 2)]
+
+
 def feeding(tables):
-    return [
-        (f"{row[0]}, {row[1]}", [(name, figure(row[at])) for name, at in (("libvterm", 4), ("vt100", 6))])
-        for row in tables[0][1:]
-    ]
+    names, *rows = tables[0]
+    return [(f"{row[0]}, {row[1]}", beside(names, row, 3)) for row in rows if "instructions" not in row[1]]
 
 
 def expanding(tables):
-    return [(row[0].replace("`", ""), [("", *figures(row[3]))]) for row in tables[0][1:]]
+    names, *rows = tables[0]
+    return [(row[0].replace("`", ""), beside(names, row, 3)) for row in rows if row[1] == "instructions"]
 
 
 def checking(tables):
@@ -155,7 +160,7 @@ CHARTS = [
     (
         "expanding",
         "Expanding a parameter string",
-        "the time of ncurses' tparm to that of ticurses, from the least to the greatest of three runs",
+        "the instructions of ncurses' tparm or of unibilium to those of ticurses",
         expanding,
     ),
     (
@@ -204,9 +209,10 @@ def drawn(title, subject, groups):
     picture.text(16, 42, f"A bar is {subject}. To the right of 1 ticurses takes less.", 11, FAINT)
     y = 64
     if series != [""]:
+        apart = min(150, (WIDTH - LEFT) // len(series))
         for at, name in enumerate(series):
-            picture.box(LEFT + 150 * at, y - 9, 10, 10, COLORS[at])
-            picture.text(LEFT + 150 * at + 15, y, name, 11)
+            picture.box(LEFT + apart * at, y - 9, 10, 10, COLORS[at])
+            picture.text(LEFT + apart * at + 15, y, name, 11)
         y += 16
     top = y
     y += 14
