@@ -8,7 +8,6 @@ use Rattle.cur_screens.specs.declared.slots.Origin.{Origin}
 use Rattle.cur_screens.specs.Touched.{Markings, MarksArea, MarksCells, TouchesGrid, full_from, grid_marks}
 use Rattle.cur_screens.proofs.Openings.{is_full_at, length_full_from, set_open, used_at}
 use Rattle.cur_screens.proofs.Spreading.{unknown}
-use Rattle.cur_screens.proofs.Marked.{past_full}
 
 -- one grid's marks change, unless it is a pad's; those of the other grids stay
 pub record OnGrid (p : Marking → Marking → Type 0) (t u : Markings) (root : ℕ) (lies : Bool) : Type 0 where
@@ -18,9 +17,8 @@ pub record OnGrid (p : Marking → Marking → Type 0) (t u : Markings) (root : 
   pub others : (k : ℕ) → k ≢ root → grid_marks u k ≡ grid_marks t k
 
 -- a grid that isn't in use is fully marked
-pub all_marked_at : (n : ℕ) (g t : Markings) (k : ℕ) → full_from n g ≡ t → (n ≤ k) ⊎ (length g ≤ k) → (grid_marks t k).all ≡ true
-all_marked_at n g t k is (inl unused) = ap (λ (x : Markings). (grid_marks x k).all) (sym is) ∙ is_full_at n g k unused
-all_marked_at n g t k is (inr past) = past_full t k (omega (arith, past, ap length is, length_full_from n g))
+pub all_marked_at : (n : ℕ) (g t : Markings) (k : ℕ) → full_from n g ≡ t → n ≤ k → (grid_marks t k).all ≡ true
+all_marked_at n g t k is unused = ap (λ (x : Markings). (grid_marks x k).all) (sym is) ∙ is_full_at n g k unused
 
 pub not_used : (p : Marking → Marking → Type 0) (t : Markings) (root : ℕ) (lies : Bool) → ((m : Marking) → m.all ≡ true → p m m) → (lies ≡ true) ⊎ ((grid_marks t root).all ≡ true) → OnGrid p t t root lies
 not_used p t root lies stays side = record {

@@ -35,10 +35,6 @@ widened from end m =
 abbrev pub marked_between : ℕ → ℕ → ℕ → Marking → Marking
 marked_between i from end m = record m { lines = slice_set m.lines i (widened from end (marked_at m i)) }
 
--- these lines and the line i, which had the marks x
-abbrev pub with_line : ℕ → Marked → Marked → Marked
-with_line i x rows = if nat_lt x.from x.end then rows else widened i (i + 1) rows
-
 -- only lines from one on and before another have marks, and all lines can be numbered
 pub record AreMarkedWithin (rows : Marked) (lines : List Marked) : Type 0 where
   pub few : length lines < 65536

@@ -1,7 +1,7 @@
 //! Marks at the places where a screen may differ from another one.
 ghost use Rattle.std.specs.Prelude.{ℕ, ◌≡◌, ◌<◌, ◌≤◌, ◌+◌, ◌⊎◌, IfOk, length, replicate, true, []};
 ghost use Rattle.cur_screens.specs.Marks.{AreMarkedWithin, IsUnmarked, JoinsMarks, JoinsLine, JoinsLines};
-ghost use Rattle.cur_screens.specs.Marks.{marked_between, none_marked, nothing, widened, with_line};
+ghost use Rattle.cur_screens.specs.Marks.{marked_between, none_marked, nothing, widened};
 
 use cur_drawing::Span;
 use std::alloc::{AllocError, Global};
@@ -29,17 +29,6 @@ impl Marked {
             from: self.from.min(from),
             end: self.end.max(end),
         }
-    }
-
-    // These lines and the line `row`, whose marks were `line`: a line that has marks is among them already.
-    fn with_line(self, row: u16, line: Marked) -> Marked
-        requires { row < 65535 }
-        ensures { result ≡ with_line row line self }
-    {
-        if line.from < line.end {
-            return self;
-        }
-        self.widened(row, row + 1)
     }
 }
 
@@ -102,7 +91,10 @@ impl Marks {
         if place < self.lines.len() {
             let line = self.lines[place];
             self.lines[place] = line.widened(from, end);
-            self.rows = self.rows.with_line(row, line);
+            // a line that has marks is among these already
+            if line.from >= line.end {
+                self.rows = self.rows.widened(row, row + 1);
+            }
         }
     }
 

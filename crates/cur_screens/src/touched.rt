@@ -25,11 +25,14 @@ pub struct Touched {
 }
 
 impl Model for Touched {
+    ghost use Rattle.std.specs.Prelude.{◌≤◌, length};
     ghost use Rattle.cur_screens.specs.Touched.{Markings, full_from};
 
     ghost Value = { Markings };
 
     ghost view = { λ t. full_from t.used t.grids.items };
+
+    ghost invariant = { λ t. t.used ≤ length t.grids.items };
 }
 
 impl Touched {
@@ -68,7 +71,7 @@ impl Touched {
         ensures marks { IfSome result (λ m. m.now ≡ grid_marks self.now root) }
         ensures full { result ≡ None → (grid_marks self.now root).all ≡ true }
     {
-        if root < self.used && root < self.grids.len() {
+        if root < self.used {
             return Some(&self.grids[root]);
         }
         None
@@ -94,7 +97,7 @@ pub fn mark_rectangle(touched: &mut Touched, root: usize, area: Area)
     requires some { 0 < area.cols }
     ensures { MarksGrid touched.old touched.new root area }
 {
-    if root >= touched.used || root >= touched.grids.len() {
+    if root >= touched.used {
         return;
     }
     mark_area(&mut touched.grids[root], area);
@@ -120,7 +123,7 @@ fn touch(touched: &mut Touched, slot: &Slot, origin: Origin, first: u16)
     ensures { IsTouched touched.old touched.new slot.now origin first }
 {
     let root = slot.root as usize;
-    if origin.pad || root >= touched.used || root >= touched.grids.len() {
+    if origin.pad || root >= touched.used {
         return;
     }
     touch_grid(&mut touched.grids[root], &slot.window, origin, first);
@@ -284,7 +287,7 @@ pub fn touch_cells(touched: &mut Touched, slot: &Slot, origin: Origin, col: u16,
         return;
     }
     let root = slot.root as usize;
-    if origin.pad || root >= touched.used || root >= touched.grids.len() {
+    if origin.pad || root >= touched.used {
         return;
     }
     mark_cells(&mut touched.grids[root], &slot.window, origin, col, count);
@@ -339,9 +342,11 @@ pub fn unmark(touched: &mut Touched, root: usize, whole: bool)
 #[tactic(auto, using(crate::proofs::Openings::opened))]
 fn use_until(grids: &mut Vec<Marks>, used: usize, end: usize) -> usize
     requires within { end ≤ length grids.old.items }
+    requires used { used ≤ length grids.old.items }
     ensures same { full_from result grids.new.items ≡ full_from used grids.old.items }
     ensures size { length grids.new.items ≡ length grids.old.items }
     ensures used { end ≤ result }
+    ensures within { result ≤ length grids.new.items }
 {
     let mut used = used;
     while used < end {

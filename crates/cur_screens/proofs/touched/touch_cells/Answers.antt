@@ -3,7 +3,7 @@ use Rattle.cur_screens.specs.Marks.{Marking}
 use Rattle.cur_screens.specs.Touched.{MarksCells}
 use Rattle.cur_screens.proofs.UsedMarks.{all_marked_at, cells_full, is_used, not_used}
 use Rattle.cur_screens.proofs.touched.touch_cells.Goals as goal
-use Rattle.cur_screens.proofs.touched.touch_cells.Goals.{then-origin-via-then-origin, then-origin-via-else-origin+then-root-touched, then-origin-via-else-origin+else-root-touched+then-root-len}
+use Rattle.cur_screens.proofs.touched.touch_cells.Goals.{then-origin-via-then-origin, then-origin-via-else-origin+then-root-touched}
 
 pub returns-then-origin : goal.returns-then-origin
 returns-then-origin c =
@@ -11,8 +11,7 @@ returns-then-origin c =
     let all = all_marked_at c.touched.inside.used c.touched.inside.grids.items t s.root c.touched.view_is in
     let on = not_used (λ (m n : Marking). MarksCells m n o s.window c.args.col c.args.count) t s.root o.pad (cells_full o s.window c.args.col c.args.count) (elim c.then-origin.branch [
       | then-origin-via-then-origin w ↦ inl w.if-origin.true
-      | then-origin-via-else-origin+then-root-touched w ↦ inr (all (inl w.if-root-touched.true))
-      | then-origin-via-else-origin+else-root-touched+then-root-len w ↦ inr (all (inr (omega (arith, w.len.ensures, w.if-root-len.true))))
+      | then-origin-via-else-origin+then-root-touched w ↦ inr (all w.if-root-touched.true)
     ]) in
     record { grid = on.grid; pad = on.pad; none = on.none; others = on.others }
 
@@ -20,5 +19,5 @@ pub returns : goal.returns
 returns c =
     let s = c.args.slot.now in let o = c.args.origin in
     let on = is_used (λ (m n : Marking). MarksCells m n o s.window c.args.col c.args.count) c.touched.inside.used c.touched.inside.grids.items c.args.touched.now s.root o.pad c.index_mut.result.now c.mark_cells.new.marks c.touched.view_is
-    c.if-root-touched.false (omega (arith, c.len.ensures, c.if-root-len.false)) c.index_mut.ensures.value c.mark_cells.ensures c.if-origin.false in
+    c.if-root-touched.false (omega (arith, c.if-root-touched.false, c.touched.invariant)) c.index_mut.ensures.value c.mark_cells.ensures c.if-origin.false in
     record { grid = on.grid; pad = on.pad; none = on.none; others = on.others }
