@@ -1,5 +1,5 @@
 -- The result of a call on one window is a desk.
-use Rattle.std.proofs.Common.{◌≡◌, ℕ, ◌<◌, List, [], Option, Some, None, IsSome, length, get_or, set, refl, sym, ap, ◌∙◌, subst, inl, inr, arith, rules}
+use Rattle.std.proofs.Common.{◌≡◌, ℕ, ◌<◌, List, [], Option, Some, None, IsSome, length, get_or, set, option_map, refl, sym, ap, ◌∙◌, subst, inl, inr, arith, rules}
 use Rattle.std.proofs.lemmas.Bool.{cases_eq}
 use Rattle.std.proofs.lemmas.List.{get_or-set_same, get_or-set_other, length-set, get_or_default}
 use Rattle.grids.specs.declared.areas.Area.{Area}
@@ -10,7 +10,7 @@ use Rattle.cur_drawing.specs.Calls.{IsCanvas, IsKept}
 use Rattle.cur_drawing.proofs.DrawingFacts.{fits_same, shape_of-line, shape_of-length}
 use Rattle.cur_screens.specs.declared.slots.Slot.{Slot}
 use Rattle.cur_screens.specs.declared.slots.Origin.{Origin}
-use Rattle.cur_windows.specs.Desks.{State, grid_at, origin_at, window_at, IsWhole, IsPlaced, IsFramed, IsDesk}
+use Rattle.cur_windows.specs.Desks.{State, grid_at, in_column, origin_at, window_at, IsWhole, IsPlaced, IsFramed, IsDesk}
 
 pub whole_same : (a : Area) (g h : Grid) → shape_of h ≡ shape_of g → IsWhole a g → IsWhole a h
 whole_same a g h e is = record {
@@ -105,6 +105,18 @@ closes_canvas d now n s w g h e is there at kept =
     let read : g ≡ get_or d.grids s.root [] = at ∙ get_or_default d.grids s.root g [] lt in
     desk_kept d n s w (set d.grids s.root h) is there.0 there2 (length-set d.grids s.root h ∙ is.grids)
     (λ k. shape_kept d.grids s.root k h lt (kept.shape ∙ ap shape_of read)) kept.area kept.canvas.window
+
+-- the window's cursor was moved in its place
+pub column_set : (d now : State) (n col : ℕ) (s : Slot) (was o : Option Slot) → d ≡ now → IsDesk d → (n < 64) × (window_at now n ≡ Some s) → was ≡ get_or d.windows n was → o ≡ option_map (in_column col) was → o ≡ Some (in_column col s)
+column_set d now n col s was o e is there read made =
+    let lt : n < length d.windows = omega (arith, is.windows, there.0) in
+    let found : was ≡ Some s = read ∙ get_or_default d.windows n was None lt ∙ ap (λ (x : State). window_at x n) e ∙ there.1 in
+    made ∙ ap (λ (x : Option Slot). option_map (in_column col) x) found
+
+pub closes_moved : (d now : State) (n : ℕ) (s : Slot) (w : Window) (g h : Grid) (o : Option Slot) → o ≡ Some (record s { window = w }) → d ≡ now → IsDesk d → (n < 64) × (window_at now n ≡ Some s) → g ≡ get_or d.grids s.root g → IsKept g s.window h w →
+    IsDesk (record d { grids = set d.grids s.root h; windows = set d.windows n o })
+closes_moved d now n s w g h o is e desk there at kept =
+    subst (λ (x : Option Slot). IsDesk (record d { grids = set d.grids s.root h; windows = set d.windows n x })) (sym is) (closes_canvas d now n s w g h e desk there at kept)
 
 -- the window found is at its place
 pub placed_here : (d now : State) (n : ℕ) (s : Slot) (o : Option Slot) → d ≡ now → IsDesk d → n < 64 → o ≡ get_or d.windows n o → o ≡ Some s → IsPlaced now n s

@@ -97,6 +97,10 @@ some_slot None = Err NoWindow
 abbrev pub slot_of : State → ℕ → Result Slot Refusal
 slot_of d n = if nat_lt last_number n then Err Full else some_slot (window_at d n)
 
+-- a window whose cursor moved to the column `col` of its line
+abbrev pub in_column : ℕ → Slot → Slot
+in_column col s = record s { window = record s.window { col = col } }
+
 abbrev pub with_window : State → ℕ → Slot → Window → State
 with_window d n s w = record d { windows = slice_set d.windows n (Some (record s { window = w })) }
 

@@ -1,5 +1,5 @@
 //! The calls on one window.
-ghost use Rattle.std.specs.Prelude.{◌≡◌, ◌≢◌, bit_and, bit_or, ◌-◌, IfErr, IfOk, length};
+ghost use Rattle.std.specs.Prelude.{◌≡◌, ◌≢◌, bit_and, bit_or, ◌-◌, IfErr, IfOk, length, option_map};
 ghost use Rattle.cur_windows.specs.Desks as spec;
 ghost use Rattle.cur_drawing.specs.Calls as call;
 ghost use Rattle.cur_drawing.specs.Windows as window;
@@ -10,7 +10,7 @@ use crate::desks::Desk;
 use crate::regions::{note_writing, region_of};
 use cur_drawing::{Attrs, Border, Put, Refusal};
 use cur_screens::{
-    Touched, joined, start_of, start_of_text, touch_cells, touch_text, touch_written,
+    Slot, Touched, joined, start_of, start_of_text, touch_cells, touch_text, touch_written,
 };
 
 // The calls on one window. Each refuses a number above 63 with `Full`, and else one that names no
@@ -137,6 +137,9 @@ impl Desk {
     /// have scrolled, and nothing if the call is refused with anything but `NoScroll`. A character
     /// that becomes one cell of the cursor's line, but not in its last column, marks this cell
     /// alone, and the places between it and the marks already in its line.
+    // A program that writes cell by cell spends most of its time here. Behind a call of its own, all of the window was
+    // loaded and stored, and the character went through memory.
+    #[inline(always)]
     pub fn addch_marked(
         &mut self,
         id: usize,
@@ -158,8 +161,7 @@ impl Desk {
         let origin = self.origin_of(&slot);
         let mut moved = slot;
         moved.window.col += 1;
-        // before the cell, so that the compiler leaves all but the column in its place
-        self.windows[id] = Some(moved);
+        set_column(&mut self.windows[id], moved.window.col);
         let grid = &mut self.grids[slot.root as usize];
         slot.window.put_next(grid, put);
         touch_cells(touched, &moved, origin, slot.window.col, 1);
@@ -394,5 +396,14 @@ impl Desk {
         ensures { spec.step self.now result ≡ spec.unchanged self.now id }
     {
         self.touchwin(id)
+    }
+}
+
+// Moves the cursor of a window to the column `col` of its line, and leaves all else in its place.
+fn set_column(window: &mut Option<Slot>, col: u16)
+    ensures { window.new ≡ option_map (spec.in_column col) window.old }
+{
+    if let Some(slot) = window {
+        slot.window.col = col;
     }
 }
