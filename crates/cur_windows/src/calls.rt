@@ -137,8 +137,8 @@ impl Desk {
     /// have scrolled, and nothing if the call is refused with anything but `NoScroll`. A character
     /// that becomes one cell of the cursor's line, but not in its last column, marks this cell
     /// alone, and the places between it and the marks already in its line.
-    // A program that writes cell by cell spends most of its time here. Behind a call of its own, all of the window was
-    // loaded and stored, and the character went through memory.
+    // A program that writes cell by cell spends most of its time here. Behind a call of its own, the character would go
+    // through memory.
     #[inline(always)]
     pub fn addch_marked(
         &mut self,
