@@ -14,27 +14,31 @@ use Rattle.cur_steps.specs.Beliefs.{Agrees, Turns, IsHere}
 use Rattle.cur_steps.specs.declared.beliefs.Belief.{Belief}
 use Rattle.cur_steps.specs.declared.beliefs.Place.{Place}
 use Rattle.cur_steps.specs.Pieces.{paints}
-use Rattle.cur_moves.specs.Erasures.{ErasedPart, Head, Part, Rest, erasure_row, is_erased, erased}
+use Rattle.cur_moves.specs.Erasures.{ErasedPart, Head, Part, Tail, Rest, erasure_row, is_erased, erased}
 use Rattle.cur_steps.proofs.Turns.{look_at-drawn, free_of, by_screen, calmly, drawn_look}
 
 starts_calmly : (e : ErasedPart) (rows cols : ℕ) (s : Screen) → IsCalm rows cols s → Starts rows cols (erasure_row e) s
 starts_calmly Head rows cols s h = h
 starts_calmly (Part n) rows cols s h = h
+starts_calmly Tail rows cols s h = h
 starts_calmly Rest rows cols s h = h
 
 blanks : (l : Looks) (e : ErasedPart) (s u : Screen) → Wants l (erasure_row e) s u → Blanks (is_erased e s.row s.col) s u
 blanks l Head s u h = h
 blanks l (Part n) s u h = h
+blanks l Tail s u h = h
 blanks l Rest s u h = h
 
 pub erasure_limit : (t : Table) (e : ErasedPart) → limit_of t (erasure_row e) ≤ t.longest.erasure
 erasure_limit t Head = omega arith
 erasure_limit t (Part n) = omega arith
+erasure_limit t Tail = omega arith
 erasure_limit t Rest = omega arith
 
 pub erasure_paints : (e : ErasedPart) → paints (erasure_row e) ≡ true
 erasure_paints Head = refl
 erasure_paints (Part n) = refl
+erasure_paints Tail = refl
 erasure_paints Rest = refl
 
 -- erased from where the cursor is known to be, in the plain brush

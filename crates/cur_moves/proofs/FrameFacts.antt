@@ -333,5 +333,5 @@ line_more n l = let e : (n + 1) * l ≡ n * l + l = grind arith in omega (arith,
 pub line_within : (n count l : ℕ) → n < count → n * l + l ≤ count * l
 line_within n count l lt = let e : (n + 1) * l ≡ n * l + l = grind arith in let h : (n + 1) * l ≤ count * l = times_grows (n + 1) count l (omega (arith, lt)) in omega (arith, e, h)
 
-pub region_enough : (count l m : ℕ) → (l + m) + (count * l + (l + m)) ≤ (count + 2) * l + 2 * m
+pub region_enough : (count l m : ℕ) → (l + m) + count * l + (l + m) ≤ (count + 2) * l + 2 * m
 region_enough count l m = let e : (count + 2) * l ≡ count * l + (l + l) = grind arith in omega (arith, e)

@@ -22,9 +22,13 @@ abbrev pub IsLeg : Table → Belief → (ℕ → ℕ → Ink) → ℕ → ℕ �
 IsLeg t b g row col (By line) = IsWay t (Some b.place) row col line
 IsLeg t b g row col (Over from) = IsGap t b g row from col
 
+-- the stop's row leads to it from a place
+abbrev pub LeadsFrom : ℕ → Place → Stop → Type 0
+LeadsFrom cols from stop = Moves cols (Some from) stop.place.row stop.place.col stop.line
+
 -- a line of the certificate leads to the stop, which is on the screen
 pub record IsStop (t : Table) (from : Place) (stop : Stop) : Type 0 where
-  pub moves : Moves t.cols (Some from) stop.place.row stop.place.col stop.line
+  pub moves : LeadsFrom t.cols from stop
   pub there : has t stop.line ≡ true
   pub row : stop.place.row < t.rows
   pub col : stop.place.col < t.cols

@@ -1,8 +1,8 @@
-//! Printing a cell and blanking the end of a line, each in as few single steps as its look needs.
+//! Printing a cell, in as few single steps as its look needs.
 ghost use Rattle.std.specs.Prelude.{◌≡◌, ◌<◌, ◌≤◌, ℕ, length, true, Some, None, OnOk, IfOk};
-ghost use Rattle.ti_rows.specs.declared.rows.Row.TheVariants.{El, Sgr0};
+ghost use Rattle.ti_rows.specs.declared.rows.Row.TheVariants.{Sgr0};
 ghost use Rattle.ti_conforms.specs.Certified.{IsChecked, cell_limit, text_of};
-ghost use Rattle.cur_steps.specs.Inks.{CanShow, IsInk, IsColored, put_at, tail_blank, plain_brush};
+ghost use Rattle.cur_steps.specs.Inks.{CanShow, IsInk, IsColored, put_at, plain_brush};
 ghost use Rattle.cur_steps.specs.Beliefs.{IsNext, plain_limit, colors_limit, brush_limit, ready_limit, stamp_limit};
 ghost use Rattle.cur_steps.specs.Beliefs.{ink_limit};
 ghost use Rattle.cur_steps.specs.Steps.{IsGoal, Keeps, KeepsFrom, Makes, MakesFrom};
@@ -11,9 +11,8 @@ use crate::reaches::reach;
 use crate::routes::is_alike;
 use crate::targets::Target;
 use cur_steps::{
-    Belief, Brush, Ink, Picture, Place, attributes_as, attributes_at_once, background_as,
-    colors_off, erase_tail, foreground_as, look_alike, print_at, resetting_line, same_attributes,
-    set_as, stands, strip,
+    Belief, Brush, Ground, Ink, Picture, Place, attributes_as, attributes_at_once, color_as,
+    colors_off, look_alike, print_at, resetting_line, same_attributes, set_as, stands, strip,
 };
 use cur_wires::{Wire, WireFault};
 use ti_conforms::Certificate;
@@ -64,8 +63,8 @@ fn colors_as<C: Certificate, W: Wire>(
         (colors_limit (C.table checked.now)) belief.old belief.new }
     ensures mode { OnOk result (belief.new.mode ≡ belief.old.mode) }
 {
-    foreground_as(checked, belief, wire, wanted.foreground)?;
-    background_as(checked, belief, wire, wanted.background)
+    color_as(checked, belief, wire, Ground::Fore, wanted.foreground)?;
+    color_as(checked, belief, wire, Ground::Back, wanted.background)
 }
 
 /// Whether the color `wanted` isn't the default one, or `now` is the default one already.
@@ -271,27 +270,4 @@ pub fn put_cell<C: Certificate, N: Picture, W: Wire>(
     let _ = target.checked.rows();
     approach(target, belief, wire, at)?;
     put_here(target.checked, belief, wire, at, ink)
-}
-
-/// Makes a line blank from `at` on, by `tail`, the string of `el`. The line must already show the target up to `at`.
-pub fn blank_tail<C: Certificate, N: Picture, W: Wire>(
-    target: &Target<'_, C, N>,
-    belief: &mut Belief,
-    wire: &mut W,
-    at: Place,
-    tail: &[u8],
-) -> Result<(), WireFault>
-    requires drawable { CanShow (C.table target.now.checked.now) (N.cells target.now.shown.now) }
-    requires row { at.row < (C.table target.now.checked.now).rows }
-    requires col { at.col < (C.table target.now.checked.now).cols }
-    requires tail { (C.table target.now.checked.now).line_of El ≡ Some tail.now }
-    ensures step { MakesFrom W.went W.failures wire.old wire.new result (C.table target.now.checked.now)
-        (cell_limit (C.table target.now.checked.now)) (N.cells target.now.shown.now) at (tail_blank at.row at.col)
-        belief.old belief.new }
-    ensures mode { OnOk result (belief.new.mode ≡ belief.old.mode) }
-{
-    // only this call's contract says that the certificate is verified
-    let _ = target.checked.rows();
-    reach_in_brush(target, belief, wire, at, Brush::plain())?;
-    erase_tail(target.checked, tail, belief, wire, at)
 }

@@ -1,4 +1,4 @@
-//! Erasures other than that of a line's end, each from a place and in the plain brush.
+//! Erasures, each from a place and in the plain brush.
 ghost use Rattle.std.specs.Prelude.{◌≡◌, ◌<◌, ℕ, Some, None, OnOk, IfSome};
 ghost use Rattle.ti_conforms.specs.Certified.{IsChecked, cell_limit};
 ghost use Rattle.cur_steps.specs.Inks.{CanShow, plain_brush};
@@ -21,47 +21,57 @@ pub enum ErasedPart {
     Head,
     /// This many cells of the cursor's line, from the cursor on.
     Part(u16),
+    /// The cursor's line from the cursor on.
+    Tail,
     /// The cursor's line from the cursor on, and all lines below.
     Rest,
 }
 
-/// The row whose line erases `erasure`.
-fn row_of_erasure(erasure: ErasedPart) -> Row
-    ensures { result ≡ erasure_row erasure }
+/// An erasure: the place of the cursor, and the part that is erased from there.
+#[derive(Clone, Copy)]
+pub struct Erasure {
+    pub at: Place,
+    pub part: ErasedPart,
+}
+
+/// The row whose line erases `part`.
+fn row_of_part(part: ErasedPart) -> Row
+    ensures { result ≡ erasure_row part }
 {
-    match erasure {
+    match part {
         ErasedPart::Head => Row::El1,
         ErasedPart::Part(count) => Row::Ech(count),
+        ErasedPart::Tail => Row::El,
         ErasedPart::Rest => Row::Ed,
     }
 }
 
-/// The line that erases `erasure`, if there is one.
-pub fn erasing_line<C: Certificate>(checked: &C, erasure: ErasedPart) -> Option<&[u8]>
-    ensures value { IfSome result (λ b. (C.table checked.now).line_of (erasure_row erasure) ≡ Some b.now) }
-    ensures none { result ≡ None → (C.table checked.now).line_of (erasure_row erasure) ≡ None }
+/// The line that erases `part`, if there is one.
+pub fn erasing_line<C: Certificate>(checked: &C, part: ErasedPart) -> Option<&[u8]>
+    ensures value { IfSome result (λ b. (C.table checked.now).line_of (erasure_row part) ≡ Some b.now) }
+    ensures none { result ≡ None → (C.table checked.now).line_of (erasure_row part) ≡ None }
 {
-    checked.line(row_of_erasure(erasure))
+    checked.line(row_of_part(part))
 }
 
-/// Erases `erasure` by its string `line`, from `at`, where the cursor must be known to be.
+/// Erases by `line`, the string for the part of `erasure`, at whose place the cursor must be known to be.
 fn erase_here<C: Certificate, W: Wire>(
     checked: &C,
-    line: &[u8],
     belief: &Belief,
     wire: &mut W,
-    at: Place,
-    erasure: ErasedPart,
+    erasure: Erasure,
+    line: &[u8],
 ) -> Result<(), WireFault>
     requires checked { IsChecked (C.table checked.now) }
-    requires col { at.col < (C.table checked.now).cols }
-    requires line { (C.table checked.now).line_of (erasure_row erasure) ≡ Some line.now }
-    requires place { belief.now.place ≡ at }
+    requires col { erasure.at.col < (C.table checked.now).cols }
+    requires line { (C.table checked.now).line_of (erasure_row erasure.part) ≡ Some line.now }
+    requires place { belief.now.place ≡ erasure.at }
     requires brush { belief.now.brush ≡ plain_brush }
     ensures step { Makes W.went W.failures wire.old wire.new result (C.table checked.now)
-        (C.table checked.now).longest.erasure (erased erasure at.row at.col) belief.now belief.now }
+        (C.table checked.now).longest.erasure (erased erasure.part erasure.at.row erasure.at.col)
+        belief.now belief.now }
 {
-    send_line(checked, row_of_erasure(erasure), line, wire)
+    send_line(checked, row_of_part(erasure.part), line, wire)
 }
 
 /// Moves the cursor to `at`, whatever is shown, and makes the brush plain.
@@ -82,48 +92,47 @@ fn reach_plainly<C: Certificate, W: Wire>(
     brush_as(checked, belief, wire, Brush::plain())
 }
 
-/// Erases `erasure` by its string `line`, from `at`. The line must already show the target up to `at`.
+/// Does `erasure` by `line`, the string for its part. The line must already show the target up to the erasure's place.
 pub fn erase_from<C: Certificate, N: Picture, W: Wire>(
     target: &Target<'_, C, N>,
     belief: &mut Belief,
     wire: &mut W,
-    at: Place,
-    erasure: ErasedPart,
+    erasure: Erasure,
     line: &[u8],
 ) -> Result<(), WireFault>
     requires drawable { CanShow (C.table target.now.checked.now) (N.cells target.now.shown.now) }
-    requires row { at.row < (C.table target.now.checked.now).rows }
-    requires col { at.col < (C.table target.now.checked.now).cols }
-    requires line { (C.table target.now.checked.now).line_of (erasure_row erasure) ≡ Some line.now }
+    requires row { erasure.at.row < (C.table target.now.checked.now).rows }
+    requires col { erasure.at.col < (C.table target.now.checked.now).cols }
+    requires line { (C.table target.now.checked.now).line_of (erasure_row erasure.part) ≡ Some line.now }
     ensures step { MakesFrom W.went W.failures wire.old wire.new result (C.table target.now.checked.now)
-        (cell_limit (C.table target.now.checked.now)) (N.cells target.now.shown.now) at (erased erasure at.row at.col)
-        belief.old belief.new }
+        (cell_limit (C.table target.now.checked.now)) (N.cells target.now.shown.now) erasure.at
+        (erased erasure.part erasure.at.row erasure.at.col) belief.old belief.new }
     ensures mode { OnOk result (belief.new.mode ≡ belief.old.mode) }
 {
     // only this call's contract says that the certificate is verified
     let _ = target.checked.rows();
-    reach_in_brush(target, belief, wire, at, Brush::plain())?;
-    erase_here(target.checked, line, belief, wire, at, erasure)
+    reach_in_brush(target, belief, wire, erasure.at, Brush::plain())?;
+    erase_here(target.checked, belief, wire, erasure, line)
 }
 
-/// Erases `erasure` by its string `line`, from `at`, whatever is shown.
+/// Does `erasure` by `line`, the string for its part, whatever is shown.
 pub fn erase_at<C: Certificate, W: Wire>(
     checked: &C,
     belief: &mut Belief,
     wire: &mut W,
-    at: Place,
-    erasure: ErasedPart,
+    erasure: Erasure,
     line: &[u8],
 ) -> Result<(), WireFault>
-    requires row { at.row < (C.table checked.now).rows }
-    requires col { at.col < (C.table checked.now).cols }
-    requires line { (C.table checked.now).line_of (erasure_row erasure) ≡ Some line.now }
+    requires row { erasure.at.row < (C.table checked.now).rows }
+    requires col { erasure.at.col < (C.table checked.now).cols }
+    requires line { (C.table checked.now).line_of (erasure_row erasure.part) ≡ Some line.now }
     ensures step { Makes W.went W.failures wire.old wire.new result (C.table checked.now)
-        (cell_limit (C.table checked.now)) (erased erasure at.row at.col) belief.old belief.new }
+        (cell_limit (C.table checked.now)) (erased erasure.part erasure.at.row erasure.at.col)
+        belief.old belief.new }
     ensures mode { OnOk result (belief.new.mode ≡ belief.old.mode) }
 {
     // only this call's contract says that the certificate is verified
     let _ = checked.rows();
-    reach_plainly(checked, belief, wire, at)?;
-    erase_here(checked, line, belief, wire, at, erasure)
+    reach_plainly(checked, belief, wire, erasure.at)?;
+    erase_here(checked, belief, wire, erasure, line)
 }

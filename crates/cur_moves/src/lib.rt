@@ -13,8 +13,8 @@ mod scrolls;
 mod targets;
 mod texts;
 
-pub use cells::{blank_tail, brush_as, make_plain, put_cell};
-pub use erasures::{ErasedPart, erase_at, erase_from, erasing_line};
+pub use cells::{brush_as, make_plain, put_cell};
+pub use erasures::{ErasedPart, Erasure, erase_at, erase_from, erasing_line};
 pub use pictures::Shifted;
 pub use reaches::{line_bytes, reach};
 pub use regions::scroll_lines;

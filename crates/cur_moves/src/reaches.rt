@@ -9,7 +9,7 @@ ghost use Rattle.cur_moves.specs.Routes.{IsLeg, IsStop, IsRoute, leg_bytes, at_s
 ghost use Rattle.cur_steps.specs.Steps.{IsGoal, Keeps, KeepsFrom};
 
 use crate::moves::shortest;
-use crate::routes::{Leg, Route, Stop, route_to};
+use crate::routes::{Leg, Route, Stop};
 use crate::targets::Target;
 use cur_steps::{Belief, Picture, Place, print_at, send_line, stands};
 use cur_wires::{Wire, WireFault};
@@ -142,7 +142,7 @@ pub fn reach<C: Certificate, N: Picture, W: Wire>(
     if stands(belief.place, at) {
         return Ok(());
     }
-    let route = route_to(target, belief, at);
+    let route = target.route_to(belief, at);
     follow_route(target, belief, wire, at, route)
 }
 

@@ -36,26 +36,6 @@ fn scroll_at_edge<C: Certificate, W: Wire>(
     Ok(())
 }
 
-/// Moves the region's lines as `scroll` says; then the margins are the whole screen, and the cursor is at the start of
-/// the line `row`.
-fn scroll_and_widen<C: Certificate, W: Wire>(
-    checked: &C,
-    wire: &mut W,
-    scroll: Scroll,
-    row: u16,
-) -> Result<(), WireFault>
-    requires checked { IsChecked (C.table checked.now) }
-    requires lines { CanScroll (C.table checked.now) scroll }
-    requires row { row < (C.table checked.now).rows }
-    ensures step { (g : ℕ → ℕ → Ink) (b : Belief) → Moves W.went W.failures wire.old wire.new result
-        (C.table checked.now) (scroll.count * (C.table checked.now).longest.scroll
-        + ((C.table checked.now).longest.scroll + (C.table checked.now).longest.cup))
-        (at_edge scroll g) (whole (C.table checked.now) (shifted scroll g) row) b }
-{
-    scroll_at_edge(checked, wire, scroll)?;
-    set_frame(checked, wire, 0, (checked.rows() - 1) as u16, row)
-}
-
 /// Moves the lines of the region of `scroll` from any margins, and leaves the margins at the whole screen and the
 /// cursor at the start of the line `row`.
 fn scroll_region<C: Certificate, W: Wire>(
@@ -73,7 +53,8 @@ fn scroll_region<C: Certificate, W: Wire>(
         f (whole (C.table checked.now) (shifted scroll f.cells) row) b }
 {
     set_frame(checked, wire, scroll.top, scroll.bottom, edge(scroll))?;
-    scroll_and_widen(checked, wire, scroll, row)
+    scroll_at_edge(checked, wire, scroll)?;
+    set_frame(checked, wire, 0, (checked.rows() - 1) as u16, row)
 }
 
 /// Moves the lines of the whole screen as `scroll` says, in the plain brush. The margins are whole already.

@@ -1,11 +1,9 @@
 //! The way to a place, chosen by its bytes: by a line, over the cells between, which are printed again, or first by a
 //! line to a stop.
-ghost use Rattle.std.specs.Prelude.{◌≡◌, ◌+◌, ◌<◌, ◌≤◌, ℕ, true, Option, Some, None, IfSome};
-ghost use Rattle.ti_conforms.specs.Certified.{IsChecked};
+ghost use Rattle.std.specs.Prelude.{◌≡◌, ◌+◌, ◌<◌, ◌≤◌, ℕ, true, IfSome};
 ghost use Rattle.cur_steps.specs.Gaps.{IsAlike, IsGap};
 ghost use Rattle.cur_steps.specs.declared.beliefs.Place.{Place};
-ghost use Rattle.cur_moves.specs.Moves.{Moves};
-ghost use Rattle.cur_moves.specs.Routes.{IsLeg, IsRoute, leg_bytes};
+ghost use Rattle.cur_moves.specs.Routes.{IsLeg, IsRoute, LeadsFrom, leg_bytes};
 ghost use Rattle.cur_steps.specs.Steps.{IsGoal};
 
 use crate::moves::shortest;
@@ -69,230 +67,164 @@ fn are_alike<N: Picture>(belief: &Belief, shown: &N, from: Place, count: usize) 
     true
 }
 
-/// The column of the cursor in the line of `at`, if the cells from there to `at` are fewer than `bytes`, the bytes of
-/// the move, and would be printed in the current brush and set.
-fn gap_start<C: Certificate, N: Picture>(
-    target: &Target<'_, C, N>,
-    belief: &Belief,
-    at: Place,
-    bytes: usize,
-) -> Option<usize>
-    requires goal { IsGoal (C.table target.now.checked.now) at }
-    requires bytes { bytes ≤ (C.table target.now.checked.now).longest.cup }
-    ensures gap { IfSome result
-        (λ from. IsGap (C.table target.now.checked.now) belief.now (N.cells target.now.shown.now) at.row from at.col) }
+impl<C: Certificate, N: Picture> Target<'_, C, N> {
+    /// The column of the cursor in the line of `at`, if the cells from there to `at` are fewer than `bytes`, the bytes
+    /// of the move, and would be printed in the current brush and set.
+    fn gap_start(&self, belief: &Belief, at: Place, bytes: usize) -> Option<usize>
+        requires goal { IsGoal (C.table self.now.checked.now) at }
+        requires bytes { bytes ≤ (C.table self.now.checked.now).longest.cup }
+        ensures gap { IfSome result
+            (λ from. IsGap (C.table self.now.checked.now) belief.now (N.cells self.now.shown.now) at.row from at.col) }
+    {
+        let from = belief.place;
+        if from.row != at.row || at.col <= from.col {
+            return None;
+        }
+        let count = at.col - from.col;
+        if count < bytes && are_alike(belief, self.shown, from, count) {
+            Some(from.col)
+        } else {
+            None
+        }
+    }
+
+    /// A leg to `at` from the believed place of the cursor.
+    fn leg_to(&self, belief: &Belief, at: Place) -> Measured
+        requires goal { IsGoal (C.table self.now.checked.now) at }
+        ensures leg { IsLeg (C.table self.now.checked.now) belief.now (N.cells self.now.shown.now)
+            at.row at.col result.leg }
+        ensures bytes { result.bytes ≡ leg_bytes (C.table self.now.checked.now) result.leg at.col }
+    {
+        let way = shortest(
+            self.checked,
+            Some(belief.place),
+            at.row as u16,
+            at.col as u16,
+        );
+        match self.gap_start(belief, at, way.bytes) {
+            Some(from) => Measured {
+                leg: Leg::Over(from),
+                bytes: at.col.saturating_sub(from),
+            },
+            None => Measured {
+                leg: Leg::By(way.line),
+                bytes: way.bytes,
+            },
+        }
+    }
+
+    /// A way to `at` without a stop.
+    fn direct(&self, belief: &Belief, at: Place) -> Route
+        requires goal { IsGoal (C.table self.now.checked.now) at }
+        ensures route { IsRoute (C.table self.now.checked.now) belief.now (N.cells self.now.shown.now)
+            at.row at.col result }
+    {
+        let whole = self.leg_to(belief, at);
+        Route {
+            stop: None,
+            leg: whole.leg,
+            bytes: whole.bytes,
+        }
+    }
+
+    /// The way to `at` with the stop `stop`, if there is one and that way is shorter than `best`.
+    fn with_stop(&self, belief: &Belief, at: Place, best: Route, stop: Option<Stop>) -> Route
+        requires goal { IsGoal (C.table self.now.checked.now) at }
+        requires best { IsRoute (C.table self.now.checked.now) belief.now (N.cells self.now.shown.now)
+            at.row at.col best }
+        requires moves { IfSome stop (λ stop. LeadsFrom (C.table self.now.checked.now).cols belief.now.place stop) }
+        ensures route { IsRoute (C.table self.now.checked.now) belief.now (N.cells self.now.shown.now)
+            at.row at.col result }
+    {
+        let Some(stop) = stop else {
+            return best;
+        };
+        if stop.place.row >= self.checked.rows() || stop.place.col >= self.checked.cols() {
+            return best;
+        }
+        let Some(line) = self.checked.line(stop.line) else {
+            return best;
+        };
+        if line.len() + 1 >= best.bytes {
+            return best;
+        }
+        let there = Belief {
+            place: stop.place,
+            ..*belief
+        };
+        let left = self.leg_to(&there, at);
+        if left.bytes < best.bytes - line.len() {
+            Route {
+                stop: Some(stop),
+                leg: left.leg,
+                bytes: line.len() + left.bytes,
+            }
+        } else {
+            best
+        }
+    }
+
+    /// A way of few bytes to `at`: without a stop, or with one at the start of the cursor's line, in the corner, or in
+    /// the line of `at`. A stop from which `cup` alone leads on is left out.
+    pub(crate) fn route_to(&self, belief: &Belief, at: Place) -> Route
+        requires goal { IsGoal (C.table self.now.checked.now) at }
+        ensures route { IsRoute (C.table self.now.checked.now) belief.now (N.cells self.now.shown.now)
+            at.row at.col result }
+    {
+        let from = belief.place;
+        let straight = self.direct(belief, at);
+        let stop = line_start(from, at, straight.bytes);
+        let short = self.with_stop(belief, at, straight, stop);
+        let stop = corner(at, short.bytes);
+        let best = self.with_stop(belief, at, short, stop);
+        let stop = same_column(self.checked, from, at, best.bytes);
+        self.with_stop(belief, at, best, stop)
+    }
+}
+
+/// The start of the line of `from`, where the cursor is, by `cr`: on the way to a place `at` of that line or of the
+/// first column, if a way of `bytes` bytes isn't short enough.
+fn line_start(from: Place, at: Place, bytes: usize) -> Option<Stop>
+    ensures moves { (cols : ℕ) → IfSome result (λ stop. LeadsFrom cols from stop) }
 {
-    let from = belief.place;
-    if from.row != at.row || at.col <= from.col {
+    if from.col == 0 || from.row != at.row && at.col > 0 || bytes <= LEAST {
         return None;
     }
-    let count = at.col - from.col;
-    if count < bytes && are_alike(belief, target.shown, from, count) {
-        Some(from.col)
-    } else {
-        None
-    }
-}
-
-/// A leg to `at` from the believed place of the cursor.
-fn leg_to<C: Certificate, N: Picture>(
-    target: &Target<'_, C, N>,
-    belief: &Belief,
-    at: Place,
-) -> Measured
-    requires goal { IsGoal (C.table target.now.checked.now) at }
-    ensures leg { IsLeg (C.table target.now.checked.now) belief.now (N.cells target.now.shown.now)
-        at.row at.col result.leg }
-    ensures bytes { result.bytes ≡ leg_bytes (C.table target.now.checked.now) result.leg at.col }
-{
-    let way = shortest(
-        target.checked,
-        Some(belief.place),
-        at.row as u16,
-        at.col as u16,
-    );
-    match gap_start(target, belief, at, way.bytes) {
-        Some(from) => Measured {
-            leg: Leg::Over(from),
-            bytes: at.col.saturating_sub(from),
-        },
-        None => Measured {
-            leg: Leg::By(way.line),
-            bytes: way.bytes,
-        },
-    }
-}
-
-/// A way to `at` without a stop.
-fn direct<C: Certificate, N: Picture>(
-    target: &Target<'_, C, N>,
-    belief: &Belief,
-    at: Place,
-) -> Route
-    requires goal { IsGoal (C.table target.now.checked.now) at }
-    ensures route { IsRoute (C.table target.now.checked.now) belief.now (N.cells target.now.shown.now)
-        at.row at.col result }
-{
-    let whole = leg_to(target, belief, at);
-    Route {
-        stop: None,
-        leg: whole.leg,
-        bytes: whole.bytes,
-    }
-}
-
-/// The way to `at` with the stop `stop`, if it is shorter than `best`.
-fn with_stop<C: Certificate, N: Picture>(
-    target: &Target<'_, C, N>,
-    belief: &Belief,
-    at: Place,
-    best: Route,
-    stop: Stop,
-) -> Route
-    requires goal { IsGoal (C.table target.now.checked.now) at }
-    requires best { IsRoute (C.table target.now.checked.now) belief.now (N.cells target.now.shown.now)
-        at.row at.col best }
-    requires moves { Moves (C.table target.now.checked.now).cols (Some belief.now.place)
-        stop.place.row stop.place.col stop.line }
-    ensures route { IsRoute (C.table target.now.checked.now) belief.now (N.cells target.now.shown.now)
-        at.row at.col result }
-{
-    if stop.place.row >= target.checked.rows() || stop.place.col >= target.checked.cols() {
-        return best;
-    }
-    let Some(line) = target.checked.line(stop.line) else {
-        return best;
-    };
-    if line.len() + 1 >= best.bytes {
-        return best;
-    }
-    let there = Belief {
-        place: stop.place,
-        ..*belief
-    };
-    let left = leg_to(target, &there, at);
-    if left.bytes < best.bytes - line.len() {
-        Route {
-            stop: Some(stop),
-            leg: left.leg,
-            bytes: line.len() + left.bytes,
-        }
-    } else {
-        best
-    }
-}
-
-/// The corner, by `home`.
-fn corner() -> Stop
-    ensures moves { (cols : ℕ) (from : Option Place) → Moves cols from result.place.row result.place.col result.line }
-{
-    Stop {
-        line: Row::Home,
-        place: Place { row: 0, col: 0 },
-    }
-}
-
-/// The start of the line of `from`, where the cursor is, by `cr`.
-fn line_start(from: Place) -> Stop
-    ensures moves { (cols : ℕ) → Moves cols (Some from) result.place.row result.place.col result.line }
-{
-    Stop {
+    Some(Stop {
         line: Row::Cr,
         place: Place {
             row: from.row,
             col: 0,
         },
-    }
+    })
 }
 
-/// The line `row` in the column of `from`, where the cursor is.
-fn same_column<C: Certificate>(checked: &C, from: Place, row: usize) -> Stop
-    requires checked { IsChecked (C.table checked.now) }
-    requires row { row < (C.table checked.now).rows }
-    requires col { from.col < (C.table checked.now).cols }
-    ensures moves { Moves (C.table checked.now).cols (Some from) result.place.row result.place.col result.line }
+/// The corner, by `home`: on the way to a place `at` of the first line or the first column, if a way of `bytes` bytes
+/// isn't short enough.
+fn corner(at: Place, bytes: usize) -> Option<Stop>
+    ensures moves { (cols : ℕ) (from : Place) → IfSome result (λ stop. LeadsFrom cols from stop) }
+{
+    if at.row > 0 && at.col > 0 || bytes <= LEAST {
+        return None;
+    }
+    Some(Stop {
+        line: Row::Home,
+        place: Place { row: 0, col: 0 },
+    })
+}
+
+/// The column of `from`, where the cursor is, in the line of `at`: on the way to a place `at` of another line, if a way
+/// of `bytes` bytes isn't short enough.
+fn same_column<C: Certificate>(checked: &C, from: Place, at: Place, bytes: usize) -> Option<Stop>
+    requires goal { IsGoal (C.table checked.now) at }
+    ensures moves { IfSome result (λ stop. LeadsFrom (C.table checked.now).cols from stop) }
 {
     let col = from.col;
-    Stop {
-        line: shortest(checked, Some(from), row as u16, col as u16).line,
-        place: Place { row, col },
+    if from.row == at.row || col >= checked.cols() || bytes <= LEAST {
+        return None;
     }
-}
-
-/// A way of few bytes to `at`: without a stop, or with one in the corner, at the start of the cursor's line, or in the
-/// line of `at`. A stop from which `cup` alone leads on is left out.
-pub(crate) fn route_to<C: Certificate, N: Picture>(
-    target: &Target<'_, C, N>,
-    belief: &Belief,
-    at: Place,
-) -> Route
-    requires goal { IsGoal (C.table target.now.checked.now) at }
-    ensures route { IsRoute (C.table target.now.checked.now) belief.now (N.cells target.now.shown.now)
-        at.row at.col result }
-{
-    let best = direct(target, belief, at);
-    let best = by_line_start(target, belief, at, best);
-    let best = by_corner(target, belief, at, best);
-    by_column(target, belief, at, best)
-}
-
-/// The way by the corner, if it is shorter than `best`: to a place of the first line or the first column.
-fn by_corner<C: Certificate, N: Picture>(
-    target: &Target<'_, C, N>,
-    belief: &Belief,
-    at: Place,
-    best: Route,
-) -> Route
-    requires goal { IsGoal (C.table target.now.checked.now) at }
-    requires best { IsRoute (C.table target.now.checked.now) belief.now (N.cells target.now.shown.now)
-        at.row at.col best }
-    ensures route { IsRoute (C.table target.now.checked.now) belief.now (N.cells target.now.shown.now)
-        at.row at.col result }
-{
-    if at.row > 0 && at.col > 0 || best.bytes <= LEAST {
-        return best;
-    }
-    with_stop(target, belief, at, best, corner())
-}
-
-/// The way by the start of the cursor's line, if it is shorter than `best`: to a place of that line or of the first
-/// column.
-fn by_line_start<C: Certificate, N: Picture>(
-    target: &Target<'_, C, N>,
-    belief: &Belief,
-    at: Place,
-    best: Route,
-) -> Route
-    requires goal { IsGoal (C.table target.now.checked.now) at }
-    requires best { IsRoute (C.table target.now.checked.now) belief.now (N.cells target.now.shown.now)
-        at.row at.col best }
-    ensures route { IsRoute (C.table target.now.checked.now) belief.now (N.cells target.now.shown.now)
-        at.row at.col result }
-{
-    let from = belief.place;
-    if from.col == 0 || from.row != at.row && at.col > 0 || best.bytes <= LEAST {
-        return best;
-    }
-    with_stop(target, belief, at, best, line_start(from))
-}
-
-/// The way by the cursor's column, if it is shorter than `best`: to a place of another line.
-fn by_column<C: Certificate, N: Picture>(
-    target: &Target<'_, C, N>,
-    belief: &Belief,
-    at: Place,
-    best: Route,
-) -> Route
-    requires goal { IsGoal (C.table target.now.checked.now) at }
-    requires best { IsRoute (C.table target.now.checked.now) belief.now (N.cells target.now.shown.now)
-        at.row at.col best }
-    ensures route { IsRoute (C.table target.now.checked.now) belief.now (N.cells target.now.shown.now)
-        at.row at.col result }
-{
-    let from = belief.place;
-    if from.row == at.row || from.col >= target.checked.cols() || best.bytes <= LEAST {
-        return best;
-    }
-    let stop = same_column(target.checked, from, at.row);
-    with_stop(target, belief, at, best, stop)
+    Some(Stop {
+        line: shortest(checked, Some(from), at.row as u16, col as u16).line,
+        place: Place { row: at.row, col },
+    })
 }

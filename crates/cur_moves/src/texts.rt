@@ -7,7 +7,7 @@ ghost use Rattle.cur_steps.specs.declared.inks.Ink.{Ink};
 
 use crate::routes::is_alike;
 use crate::targets::Target;
-use cur_steps::{Belief, Ink, Picture, Place, stands};
+use cur_steps::{Belief, Cells, Ink, Picture, Place, stands};
 use cur_wires::{Wire, WireFault, send_all};
 use ti_conforms::Certificate;
 
@@ -20,34 +20,36 @@ pub fn goes_on(belief: &Belief, at: Place, ink: Ink) -> bool
     stands(belief.place, at) && is_alike(belief, ink)
 }
 
-/// Prints the first `count` bytes of `text`, which are the characters of the target's line from `at` on. The cursor
-/// must be known to be at `at`, and all of them must be printed in the known brush and set.
+/// Prints `cells` of the target, whose characters are the first bytes of `text`. The cursor must be known to be at the
+/// first cell, and all of them must be printed in the known brush and set.
 pub fn print_text<C: Certificate, N: Picture, W: Wire>(
     target: &Target<'_, C, N>,
     belief: &mut Belief,
     wire: &mut W,
-    at: Place,
+    cells: Cells,
     text: &[u8],
-    count: usize,
 ) -> Result<(), WireFault>
     requires drawable { CanShow (C.table target.now.checked.now) (N.cells target.now.shown.now) }
-    requires row { at.row < (C.table target.now.checked.now).rows }
-    requires within { at.col + count ≤ (C.table target.now.checked.now).cols }
-    requires long { count ≤ length text.now }
-    requires place { belief.old.place ≡ at }
-    requires alike { (k : ℕ) → k < count → IsAlike belief.old (N.cells target.now.shown.now at.row (at.col + k)) }
-    requires bytes { (k : ℕ) → k < count → (N.cells target.now.shown.now at.row (at.col + k)).byte ≡ slice_index_or
-        text.now k 0 }
-    ensures belief { belief.new ≡ record belief.old { place = record { row = at.row; col = at.col + count } } }
+    requires row { cells.row < (C.table target.now.checked.now).rows }
+    requires within { cells.from + cells.count ≤ (C.table target.now.checked.now).cols }
+    requires long { cells.count ≤ length text.now }
+    requires place { belief.old.place ≡ record { row = cells.row; col = cells.from } }
+    requires alike { (k : ℕ) → k < cells.count
+        → IsAlike belief.old (N.cells target.now.shown.now cells.row (cells.from + k)) }
+    requires bytes { (k : ℕ) → k < cells.count
+        → (N.cells target.now.shown.now cells.row (cells.from + k)).byte ≡ slice_index_or text.now k 0 }
+    ensures belief { belief.new ≡ record belief.old {
+      place = record { row = cells.row; col = cells.from + cells.count };
+    } }
     ensures step { (old : ℕ → ℕ → Ink) → Acts W.went W.failures wire.old wire.new result
-        (C.table target.now.checked.now) count (mixed old (N.cells target.now.shown.now) at.row at.col)
-        (mixed old (N.cells target.now.shown.now) at.row (at.col + count)) belief.old belief.new }
+        (C.table target.now.checked.now) cells.count (mixed old (N.cells target.now.shown.now) cells.row cells.from)
+        (mixed old (N.cells target.now.shown.now) cells.row (cells.from + cells.count)) belief.old belief.new }
 {
     // only this call's contract says that the certificate is verified
     let _ = target.checked.rows();
     belief.place = Place {
-        row: at.row,
-        col: at.col + count,
+        row: cells.row,
+        col: cells.from + cells.count,
     };
-    send_all(wire, &text[..count])
+    send_all(wire, &text[..cells.count])
 }

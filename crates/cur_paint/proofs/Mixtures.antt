@@ -2,10 +2,10 @@
 use Rattle.std.proofs.Common.{◌≡◌, ℕ, ◌+◌, ◌-◌, ◌*◌, ◌<◌, ◌≤◌, inl, inr, Bool, true, false, if◌then◌else◌, zero, suc, refl, sym, ap, subst, ◌∙◌, arith}
 use Rattle.std.proofs.lemmas.Bool.Decides.{nat_tests}
 use Rattle.std.proofs.lemmas.Bool.{cases_lt}
-use Rattle.cur_steps.specs.Inks.{same, mixed, put_at, tail_blank, blank_ink}
+use Rattle.cur_steps.specs.Inks.{same, mixed, put_at, blank_ink}
 use Rattle.cur_steps.specs.Gaps.{BeginsAs, IsAlike}
 use Rattle.cur_moves.specs.Erasures.{erased}
-use Rattle.cur_moves.specs.declared.erasures.ErasedPart.TheVariants.{Head, Part, Rest}
+use Rattle.cur_moves.specs.declared.erasures.ErasedPart.TheVariants.{Head, Part, Tail, Rest}
 use Rattle.cur_paint.specs.Differ.{differs, span, all_differ}
 use Rattle.cur_paint.specs.Blanks.{IsBlankFrom}
 use Rattle.ti_conforms.specs.Certified.{Table}
@@ -26,7 +26,7 @@ mixed_put old new r c i j = grind (arith, nat_tests)
 pub mixed_same : (old new : ℕ → ℕ → Ink) (r c i j : ℕ) → old r c ≡ new r c → mixed old new r c i j ≡ mixed old new r (c + 1) i j
 mixed_same old new r c i j e = grind (arith, nat_tests)
 
-pub mixed_blank : (old new : ℕ → ℕ → Ink) (r c cols i j : ℕ) → j < cols → ((k : ℕ) → c ≤ k → k < cols → new r k ≡ blank_ink) → tail_blank r c (mixed old new r c) i j ≡ mixed old new r cols i j
+pub mixed_blank : (old new : ℕ → ℕ → Ink) (r c cols i j : ℕ) → j < cols → ((k : ℕ) → c ≤ k → k < cols → new r k ≡ blank_ink) → erased Tail r c (mixed old new r c) i j ≡ mixed old new r cols i j
 mixed_blank old new r c cols i j lt h = grind (arith, nat_tests, h j)
 
 -- the line is new up to the place
@@ -49,9 +49,9 @@ put_new old new r c x e i j = ap (λ (y : Ink). put_at r c y (mixed old new r c)
 pub found_same : (old new : ℕ → ℕ → Ink) (r c : ℕ) (a b : Ink) → a ≡ old r c → b ≡ new r c → true ≡ same a b → old r c ≡ new r c
 found_same old new r c a b p q e = sym p ∙ same_equal a b (sym e) ∙ q
 
-pub found_different : (old new : ℕ → ℕ → Ink) (r c : ℕ) (a b : Ink) → a ≡ old r c → b ≡ new r c → false ≡ same a b → differs old new r c ≡ 1
-found_different old new r c a b p q e =
-    let f : same (old r c) (new r c) ≡ false = ap (λ (x : Ink). same x (new r c)) (sym p) ∙ ap (λ (x : Ink). same a x) (sym q) ∙ sym e in
+pub found_different : (old new : ℕ → ℕ → Ink) (r c : ℕ) (b : Ink) → b ≡ new r c → false ≡ same (old r c) b → differs old new r c ≡ 1
+found_different old new r c b q e =
+    let f : same (old r c) (new r c) ≡ false = ap (λ (x : Ink). same (old r c) x) (sym q) ∙ sym e in
     ap (λ (x : Bool). if x then 0 else 1) f
 
 pub span_more : (old new : ℕ → ℕ → Ink) (i from n : ℕ) → span old new i from (n + 1) ≡ span old new i from n + differs old new i (from + n)

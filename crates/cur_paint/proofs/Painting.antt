@@ -2,6 +2,7 @@
 use Rattle.std.proofs.Common.{◌≡◌, true, ℕ, ◌+◌, ◌-◌, ◌*◌, ◌<◌, ◌≤◌, List, Result, Ok, Err, refl, ap, subst, ◌∙◌, arith}
 use Rattle.std.specs.Prelude.{OnOk}
 use Rattle.cur_wires.specs.Wire.{IsWire}
+use Rattle.cur_wires.specs.declared.wires.WireFault.{WireFault}
 use Rattle.cur_wires.proofs.Stops.{on_ok_map, steps_fail, steps_next, steps_nothing, steps_wider}
 use Rattle.ti_conforms.specs.Certified.{Table, IsChecked, IsLost, cell_limit}
 use Rattle.cur_steps.specs.Beliefs.{Agrees}
@@ -9,6 +10,7 @@ use Rattle.cur_steps.specs.Gaps.{BeginsAs}
 use Rattle.cur_steps.specs.Inks.{mixed, same}
 use Rattle.cur_steps.specs.Pieces.{IsPaint}
 use Rattle.cur_steps.specs.Steps.{Acts}
+use Rattle.cur_steps.specs.declared.inks.Cells.{Cells}
 use Rattle.cur_steps.specs.declared.inks.Ink.{Ink}
 use Rattle.cur_steps.proofs.Actions.{agrees_lost}
 use Rattle.cur_paint.specs.Differ.{span}
@@ -111,6 +113,11 @@ mends_by {table} {old} {new} {went} {failures} {a} {b} {answer} {n} {f} {g} limi
     }
 
 -- ---- cells of a line
+
+-- the first of some cells are mended
+pub record IsMendedTo {C O N W : Type 0} (table : C → Table) (old : O → ℕ → ℕ → Ink) (new : N → ℕ → ℕ → Ink) (went : W → W → List ℕ → Type 0) (failures : W → ℕ) (before after : Painter C O N W) (cells : Cells) (done : ℕ) : Type 0 where
+  pub within : done ≤ cells.count
+  pub mends : MendsCells {T = Unit {0}} {E = WireFault} table old new went failures before after (Ok tt) (record cells { count = done })
 
 -- cells, and those after them
 pub cells_then : {C O N W T E U F : Type 0} {table : C → Table} {old : O → ℕ → ℕ → Ink} {new : N → ℕ → ℕ → Ink} {went : W → W → List ℕ → Type 0} {failures : W → ℕ} {a b c : Painter C O N W} {v : U} {answer : Result T E} (row from n at k total : ℕ)

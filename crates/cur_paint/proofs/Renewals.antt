@@ -7,7 +7,7 @@ use Rattle.vt_term.specs.Grid.{drawn}
 use Rattle.vt_term.specs.Screen.{State}
 use Rattle.cur_wires.specs.Wire.{IsWire, StopsIn}
 use Rattle.cur_wires.specs.Leads.{Leads}
-use Rattle.cur_wires.specs.Steps.{then_kind}
+use Rattle.cur_wires.specs.Steps.{Steps, then_kind}
 use Rattle.cur_wires.proofs.Leads.{leads_then, leads_wider}
 use Rattle.cur_wires.proofs.Paints.{sends_then}
 use Rattle.cur_wires.proofs.Stops.{on_ok_map}
@@ -25,9 +25,9 @@ use Rattle.cur_steps.proofs.Turns.{free_of, by_screen, look_at-drawn, stands_at}
 use Rattle.cur_paint.specs.Cleared.{IsLeft, at_corner, at_start}
 use Rattle.cur_paint.specs.Rests.{EndsAt, IsRested, IsSet}
 use Rattle.cur_paint.specs.Limits.{fresh_limit, IsPlaced, IsWithin, paint_limit}
-use Rattle.cur_paint.specs.Modes.{OnlyPaints}
+use Rattle.cur_paint.specs.Modes.{OnlyPaints, shown_mode}
 use Rattle.cur_paint.specs.Scenes.{Sets}
-use Rattle.cur_paint.specs.Update.{Anew, Draws, IsFresh}
+use Rattle.cur_paint.specs.Update.{Anew, Begins, Draws, IsFresh, Meets, opening, refresh_limit}
 use Rattle.cur_paint.specs.declared.updates.Wanted.{Wanted}
 use Rattle.cur_paint.specs.declared.updates.Status.{Status}
 use Rattle.cur_paint.specs.declared.updates.Status.TheVariants.{Fresh, Known, Lost}
@@ -100,35 +100,34 @@ pub clear_leads : (t : Table) → IsChecked t → (line : List ℕ) → t.line_o
     → Leads (IsPiece t) (length line) (IsLost t) (Agrees t g b) line (Agrees t (λ i j. blank_ink) (at_corner b))
 clear_leads t checked line is g b plain = line_leads (IsPiece t) t checked Clear line is (Line Clear is) (length line) (omega arith) g (λ i j. blank_ink) b (at_corner b) (all_cleared t g b plain)
 
+-- bytes that draw, from the states that the status allows
+draws_by : {W T E : Type 0} {went : W → W → List ℕ → Type 0} {failures : W → ℕ} {a z : W} {answer : Result T E} (t : Table) (shown g : ℕ → ℕ → Ink) (w : Wanted) (clear : Bool) (status : Status) (b after : Belief)
+    (step : Steps went failures a z answer (IsPiece t) (refresh_limit t shown g status b (record w { clear = clear })) (IsLost t) (Meets t shown status b) (Agrees t g after)) → Begins t status clear step.bytes
+    → OnOk answer (OnlyPaints t (opening t status clear) (shown_mode status b.mode) w.cursor w.mode step.bytes) → IsWithin t w.cursor → OnOk answer (IsSet w after)
+    → Draws went failures a z answer t shown g (record w { clear = clear }) status b after
+draws_by {W} {T} {E} {went} {failures} {a} {z} {answer} t shown g w clear status b after step begins quiet within set = record {
+  step = step;
+  begins = begins;
+  there = on_ok_map answer (IsSet w after) (IsPlaced t.cols w.cursor after.place) (λ x. placed_at t w.cursor after.place within x.at) set;
+  at = on_ok_map answer (IsSet w after) (EndsAt w.cursor (refresh_limit t shown g status b (record w { clear = clear })) after.place) (λ x. inl x.at) set;
+  rested = on_ok_map answer (IsSet w after) (IsRested after) (λ x. x.rested) set;
+  mode = on_ok_map answer (IsSet w after) (after.mode ≡ Some w.mode) (λ x. x.mode) set;
+  quiet = quiet;
+}
+
 pub draws_fresh : {W T E : Type 0} (went : W → W → List ℕ → Type 0) (failures : W → ℕ) (a z : W) (answer : Result T E) (t : Table) (shown g : ℕ → ℕ → Ink) (w : Wanted) (status : Status) (b after : Belief) → status ≡ Fresh
     → Anew went failures a z answer t (fresh_limit t) (IsLeft t (Some Normal)) (Agrees t g after) t.resync (Some Normal) w → IsWithin t w.cursor → OnOk answer (IsSet w after) → Draws went failures a z answer t shown g w status b after
 draws_fresh went failures a z answer t shown g w status b after e h within set =
     let D : State → Type 0 = then_kind answer (Agrees t g after) (IsLost t) in
     let P : Status → Type 0 = λ x. Draws went failures a z answer t shown g w x b after in
-    subst P (sym e) (record {
-      step = record { bytes = h.step.bytes; leads = leads_wider (IsPiece t) (fresh_limit t) (fresh_limit t) (IsLost t) (IsLeft t (Some Normal)) D (IsFresh t) D h.step.bytes (omega arith) (λ s x. record { lost = x.lost; seen = x.visible }) (λ s x. x) h.step.leads; sends = h.step.sends };
-      begins = h.begins;
-      there = on_ok_map answer (IsSet w after) (IsPlaced t.cols w.cursor after.place) (λ x. placed_at t w.cursor after.place within x.at) set;
-      at = on_ok_map answer (IsSet w after) (EndsAt w.cursor _ after.place) (λ x. inl x.at) set;
-      rested = on_ok_map answer (IsSet w after) (IsRested after) (λ x. x.rested) set;
-      mode = on_ok_map answer (IsSet w after) (after.mode ≡ Some w.mode) (λ x. x.mode) set;
-      quiet = h.quiet;
-    })
+    subst P (sym e) (draws_by t shown g w w.clear Fresh b after (record { bytes = h.step.bytes; leads = leads_wider (IsPiece t) (fresh_limit t) (fresh_limit t) (IsLost t) (IsLeft t (Some Normal)) D (IsFresh t) D h.step.bytes (omega arith) (λ s x. record { lost = x.lost; seen = x.visible }) (λ s x. x) h.step.leads; sends = h.step.sends }) h.begins h.quiet within set)
 
 pub draws_lost : {W T E : Type 0} (went : W → W → List ℕ → Type 0) (failures : W → ℕ) (a z : W) (answer : Result T E) (t : Table) (shown g : ℕ → ℕ → Ink) (w : Wanted) (status : Status) (b after : Belief) → status ≡ Lost
     → Anew went failures a z answer t (fresh_limit t) (IsLeft t None) (Agrees t g after) t.resync None w → IsWithin t w.cursor → OnOk answer (IsSet w after) → Draws went failures a z answer t shown g w status b after
 draws_lost went failures a z answer t shown g w status b after e h within set =
     let D : State → Type 0 = then_kind answer (Agrees t g after) (IsLost t) in
     let P : Status → Type 0 = λ x. Draws went failures a z answer t shown g w x b after in
-    subst P (sym e) (record {
-      step = record { bytes = h.step.bytes; leads = leads_wider (IsPiece t) (fresh_limit t) (fresh_limit t) (IsLost t) (IsLeft t None) D (IsLost t) D h.step.bytes (omega arith) (λ s x. record { lost = x; seen = tt }) (λ s x. x) h.step.leads; sends = h.step.sends };
-      begins = h.begins;
-      there = on_ok_map answer (IsSet w after) (IsPlaced t.cols w.cursor after.place) (λ x. placed_at t w.cursor after.place within x.at) set;
-      at = on_ok_map answer (IsSet w after) (EndsAt w.cursor _ after.place) (λ x. inl x.at) set;
-      rested = on_ok_map answer (IsSet w after) (IsRested after) (λ x. x.rested) set;
-      mode = on_ok_map answer (IsSet w after) (after.mode ≡ Some w.mode) (λ x. x.mode) set;
-      quiet = h.quiet;
-    })
+    subst P (sym e) (draws_by t shown g w w.clear Lost b after (record { bytes = h.step.bytes; leads = leads_wider (IsPiece t) (fresh_limit t) (fresh_limit t) (IsLost t) (IsLeft t None) D (IsLost t) D h.step.bytes (omega arith) (λ s x. record { lost = x; seen = tt }) (λ s x. x) h.step.leads; sends = h.step.sends }) h.begins h.quiet within set)
 
 as_wanted : (w : Wanted) (x : Bool) → w.clear ≡ x → w ≡ record w { clear = x }
 as_wanted w x e = ap (λ (y : Bool). record w { clear = y }) e
@@ -137,15 +136,7 @@ as_wanted w x e = ap (λ (y : Bool). record w { clear = y }) e
 pub draws_sets : {W T E : Type 0} (went : W → W → List ℕ → Type 0) (failures : W → ℕ) (a z : W) (answer : Result T E) (t : Table) (shown g : ℕ → ℕ → Ink) (w : Wanted) (b after : Belief)
     → Sets went failures a z answer t (paint_limit t shown g b w.cursor w.mode) b.mode w.cursor w.mode (Agrees t shown b) (Agrees t g after)
     → IsWithin t w.cursor → OnOk answer (IsSet w after) → Draws went failures a z answer t shown g (record w { clear = false }) Known b after
-draws_sets went failures a z answer t shown g w b after h within set = record {
-  step = h.step;
-  begins = tt;
-  there = on_ok_map answer (IsSet w after) (IsPlaced t.cols w.cursor after.place) (λ x. placed_at t w.cursor after.place within x.at) set;
-  at = on_ok_map answer (IsSet w after) (EndsAt w.cursor _ after.place) (λ x. inl x.at) set;
-  rested = on_ok_map answer (IsSet w after) (IsRested after) (λ x. x.rested) set;
-  mode = on_ok_map answer (IsSet w after) (after.mode ≡ Some w.mode) (λ x. x.mode) set;
-  quiet = h.quiet;
-}
+draws_sets went failures a z answer t shown g w b after h within set = draws_by t shown g w false Known b after h.step tt h.quiet within set
 
 -- under other words for what is known and wanted
 pub draws_known : {W T E : Type 0} (went : W → W → List ℕ → Type 0) (failures : W → ℕ) (a z : W) (answer : Result T E) (t : Table) (shown g : ℕ → ℕ → Ink) (w : Wanted) (status : Status) (b after : Belief) → status ≡ Known → w.clear ≡ false
@@ -162,12 +153,5 @@ draws_clear went failures a z answer t shown g w status b after e f line is n le
     let P : Status → Type 0 = λ x. Draws went failures a z answer t shown g w x b after in
     let Q : Wanted → Type 0 = λ x. Draws went failures a z answer t shown g x Known b after in
     let D : State → Type 0 = then_kind answer (Agrees t g after) (IsLost t) in
-    subst P (sym e) (subst Q (sym (as_wanted w true f)) (record {
-      step = record { bytes = h.step.bytes; leads = leads_wider (IsPiece t) n (fresh_limit t) (IsLost t) (Agrees t shown b) D (Agrees t shown b) D h.step.bytes le (λ s x. x) (λ s x. x) h.step.leads; sends = h.step.sends };
-      begins = record { line = line; is = is; begins = h.begins };
-      there = on_ok_map answer (IsSet w after) (IsPlaced t.cols w.cursor after.place) (λ x. placed_at t w.cursor after.place within x.at) set;
-      at = on_ok_map answer (IsSet w after) (EndsAt w.cursor _ after.place) (λ x. inl x.at) set;
-      rested = on_ok_map answer (IsSet w after) (IsRested after) (λ x. x.rested) set;
-      mode = on_ok_map answer (IsSet w after) (after.mode ≡ Some w.mode) (λ x. x.mode) set;
-      quiet = subst (λ (l : List ℕ). OnOk answer (OnlyPaints t l b.mode w.cursor w.mode h.step.bytes)) (sym (ap or_nothing is)) h.quiet;
-    }))
+    subst P (sym e) (subst Q (sym (as_wanted w true f)) (draws_by t shown g w true Known b after (record { bytes = h.step.bytes; leads = leads_wider (IsPiece t) n (fresh_limit t) (IsLost t) (Agrees t shown b) D (Agrees t shown b) D h.step.bytes le (λ s x. x) (λ s x. x) h.step.leads; sends = h.step.sends }) (record { line = line; is = is; begins = h.begins })
+    (subst (λ (l : List ℕ). OnOk answer (OnlyPaints t l b.mode w.cursor w.mode h.step.bytes)) (sym (ap or_nothing is)) h.quiet) within set))

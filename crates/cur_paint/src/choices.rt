@@ -7,7 +7,6 @@ ghost use Rattle.cur_paint.specs.Scenes.{AreChanges, ClearSaves, IsDue, IsPainta
 
 use crate::changes::{Changes, Moved, Whole};
 use crate::clears::{may_become_blanks, saves};
-use crate::counts::{count_cells, differ_in_more, first_differs};
 use crate::screens::Screens;
 use crate::updates::Wanted;
 use cur_moves::{Scroll, Shifted, can_scroll};
@@ -19,31 +18,102 @@ use ti_rows::Row;
 /// twice, and moves.
 const BESIDE: usize = 4;
 
-/// Whether nothing has to be sent from a known state: no cell differs, and the cursor is where `wanted` says and in its
-/// mode.
-pub(crate) fn is_still<C: Certificate, O: Picture, N: Picture, D: Changes>(
-    screens: &Screens<'_, C, O, N>,
-    belief: Belief,
-    changes: &D,
-    wanted: Wanted,
-) -> bool
-    requires scene { IsPaintable (scene C.table O.cells N.cells screens.now) }
-    requires changes { AreChanges D.between changes.now (scene C.table O.cells N.cells screens.now) }
-    ensures there { result ≡ true → IsPlaced (C.table screens.now.checked.now).cols wanted.cursor belief.place }
-    ensures mode { result ≡ true → belief.mode ≡ Some wanted.mode }
-    ensures same { result ≡ true → all_changed (scene C.table O.cells N.cells screens.now) ≡ 0 }
-    ensures due { result ≡ false → IsDue (scene C.table O.cells N.cells screens.now) belief wanted }
-{
-    if !is_in_place(belief.place, screens.checked.cols(), wanted.cursor) {
-        return false;
+impl<C: Certificate, O: Picture, N: Picture> Screens<'_, C, O, N> {
+    /// Whether nothing has to be sent from a known state: no cell differs, and the cursor is where `wanted` says and in
+    /// its mode.
+    pub(crate) fn is_still<D: Changes>(&self, belief: Belief, changes: &D, wanted: Wanted) -> bool
+        requires scene { IsPaintable (scene C.table O.cells N.cells self.now) }
+        requires changes { AreChanges D.between changes.now (scene C.table O.cells N.cells self.now) }
+        ensures there { result ≡ true → IsPlaced (C.table self.now.checked.now).cols wanted.cursor belief.place }
+        ensures mode { result ≡ true → belief.mode ≡ Some wanted.mode }
+        ensures same { result ≡ true → all_changed (scene C.table O.cells N.cells self.now) ≡ 0 }
+        ensures due { result ≡ false → IsDue (scene C.table O.cells N.cells self.now) belief wanted }
+    {
+        if !is_in_place(belief.place, self.checked.cols(), wanted.cursor) {
+            return false;
+        }
+        if !is_mode(belief.mode, wanted.mode) {
+            return false;
+        }
+        if self.first_differs(changes) {
+            return false;
+        }
+        !self.differ_in_more(changes, 0)
     }
-    if !is_mode(belief.mode, wanted.mode) {
-        return false;
+
+    /// The scroll that `changes` names, if the terminal can do it, and it leaves fewer cells to mend: fewer by the
+    /// number of lines that it moves by, and 4 more.
+    pub(crate) fn useful_scroll<D: Changes>(&self, changes: &D) -> Option<Scroll>
+        requires scene { IsPaintable (scene C.table O.cells N.cells self.now) }
+        requires changes { AreChanges D.between changes.now (scene C.table O.cells N.cells self.now) }
+        ensures can { IfSome result (λ x. CanScroll (C.table self.now.checked.now) x) }
+        ensures saves { IfSome result (λ x. ScrollSaves (scene C.table O.cells N.cells self.now) x) }
+    {
+        self.useful(changes, changes.scroll()?)
     }
-    if first_differs(screens, changes) {
-        return false;
+
+    /// The `scroll`, if the terminal can do it and enough fewer cells differ after it. Counts the cells that differ
+    /// without it and after it.
+    #[inline(never)]
+    fn useful<D: Changes>(&self, changes: &D, scroll: Scroll) -> Option<Scroll>
+        requires scene { IsPaintable (scene C.table O.cells N.cells self.now) }
+        requires changes { AreChanges D.between changes.now (scene C.table O.cells N.cells self.now) }
+        ensures can { IfSome result (λ x. CanScroll (C.table self.now.checked.now) x) }
+        ensures saves { IfSome result (λ x. ScrollSaves (scene C.table O.cells N.cells self.now) x) }
+    {
+        if !can_scroll(self.checked, scroll) {
+            return None;
+        }
+        let moved = Shifted {
+            old: self.old,
+            scroll,
+        };
+        let then = Screens {
+            checked: self.checked,
+            old: &moved,
+            new: self.new,
+        };
+        let left = then.count_cells(&Moved { changes, scroll });
+        let by = usize::from(scroll.count) + (BESIDE - 1);
+        if self.differ_in_more(changes, left + by) {
+            Some(scroll)
+        } else {
+            None
+        }
     }
-    !differ_in_more(screens, changes, 0)
+
+    /// Whether clearing and painting everything is likely to take fewer bytes than mending the differences, and also
+    /// keeps within the bound.
+    pub(crate) fn is_better_cleared<D: Changes>(&self, changes: &D) -> bool
+        requires scene { IsPaintable (scene C.table O.cells N.cells self.now) }
+        requires changes { AreChanges D.between changes.now (scene C.table O.cells N.cells self.now) }
+        ensures saves { result ≡ true → ClearSaves (scene C.table O.cells N.cells self.now) }
+    {
+        let rows = self.checked.rows();
+        let cols = self.checked.cols();
+        may_become_blanks(self.new, changes, rows, cols) && self.takes_fewer_cleared(changes)
+    }
+
+    /// Slow path of `is_better_cleared`, for a screen on which many lines become blank: counts the cells that differ
+    /// before and after `clear`.
+    #[inline(never)]
+    fn takes_fewer_cleared<D: Changes>(&self, changes: &D) -> bool
+        requires scene { IsPaintable (scene C.table O.cells N.cells self.now) }
+        requires changes { AreChanges D.between changes.now (scene C.table O.cells N.cells self.now) }
+        ensures saves { result ≡ true → ClearSaves (scene C.table O.cells N.cells self.now) }
+    {
+        let clear = self.checked.line(Row::Clear).unwrap().len();
+        if !saves(self.checked, &Blank, self.old, self.new, clear) {
+            return false;
+        }
+        let anew = Screens {
+            checked: self.checked,
+            old: &Blank,
+            new: self.new,
+        };
+        let left = anew.count_cells(&Whole);
+        self.differ_in_more(changes, clear + left)
+    }
 }
 
 /// Whether the cursor is at the place `cursor`; true if there is none. `now` is its believed place on a screen of
@@ -65,91 +135,4 @@ fn is_seen(now: Place, cols: usize, at: Place) -> bool
     ensures counted { result ≡ false → last_move cols now (Some at) ≡ 1 }
 {
     now.row == at.row && now.col.min(cols.saturating_sub(1)) == at.col
-}
-
-/// The scroll that `changes` names, if the terminal can do it, and it leaves fewer cells to mend: fewer by the number
-/// of lines that it moves by, and 4 more.
-pub(crate) fn useful_scroll<C: Certificate, O: Picture, N: Picture, D: Changes>(
-    screens: &Screens<'_, C, O, N>,
-    changes: &D,
-) -> Option<Scroll>
-    requires scene { IsPaintable (scene C.table O.cells N.cells screens.now) }
-    requires changes { AreChanges D.between changes.now (scene C.table O.cells N.cells screens.now) }
-    ensures can { IfSome result (λ x. CanScroll (C.table screens.now.checked.now) x) }
-    ensures saves { IfSome result (λ x. ScrollSaves (scene C.table O.cells N.cells screens.now) x) }
-{
-    useful(screens, changes, changes.scroll()?)
-}
-
-/// The `scroll`, if the terminal can do it and enough fewer cells differ after it. Counts the cells that differ without
-/// it and after it.
-#[inline(never)]
-fn useful<C: Certificate, O: Picture, N: Picture, D: Changes>(
-    screens: &Screens<'_, C, O, N>,
-    changes: &D,
-    scroll: Scroll,
-) -> Option<Scroll>
-    requires scene { IsPaintable (scene C.table O.cells N.cells screens.now) }
-    requires changes { AreChanges D.between changes.now (scene C.table O.cells N.cells screens.now) }
-    ensures can { IfSome result (λ x. CanScroll (C.table screens.now.checked.now) x) }
-    ensures saves { IfSome result (λ x. ScrollSaves (scene C.table O.cells N.cells screens.now) x) }
-{
-    if !can_scroll(screens.checked, scroll) {
-        return None;
-    }
-    let moved = Shifted {
-        old: screens.old,
-        scroll,
-    };
-    let then = Screens {
-        checked: screens.checked,
-        old: &moved,
-        new: screens.new,
-    };
-    let left = count_cells(&then, &Moved { changes, scroll });
-    let by = usize::from(scroll.count) + (BESIDE - 1);
-    if differ_in_more(screens, changes, left + by) {
-        Some(scroll)
-    } else {
-        None
-    }
-}
-
-/// Whether clearing and painting everything is likely to take fewer bytes than mending the differences, and also keeps
-/// within the bound.
-pub(crate) fn is_better_cleared<C: Certificate, O: Picture, N: Picture, D: Changes>(
-    screens: &Screens<'_, C, O, N>,
-    changes: &D,
-) -> bool
-    requires scene { IsPaintable (scene C.table O.cells N.cells screens.now) }
-    requires changes { AreChanges D.between changes.now (scene C.table O.cells N.cells screens.now) }
-    ensures saves { result ≡ true → ClearSaves (scene C.table O.cells N.cells screens.now) }
-{
-    let rows = screens.checked.rows();
-    let cols = screens.checked.cols();
-    may_become_blanks(screens.new, changes, rows, cols) && takes_fewer_cleared(screens, changes)
-}
-
-/// Slow path of `is_better_cleared`, for a screen on which many lines become blank: counts the cells that differ before
-/// and after `clear`.
-#[inline(never)]
-fn takes_fewer_cleared<C: Certificate, O: Picture, N: Picture, D: Changes>(
-    screens: &Screens<'_, C, O, N>,
-    changes: &D,
-) -> bool
-    requires scene { IsPaintable (scene C.table O.cells N.cells screens.now) }
-    requires changes { AreChanges D.between changes.now (scene C.table O.cells N.cells screens.now) }
-    ensures saves { result ≡ true → ClearSaves (scene C.table O.cells N.cells screens.now) }
-{
-    let clear = screens.checked.line(Row::Clear).unwrap().len();
-    if !saves(screens.checked, &Blank, screens.old, screens.new, clear) {
-        return false;
-    }
-    let anew = Screens {
-        checked: screens.checked,
-        old: &Blank,
-        new: screens.new,
-    };
-    let left = count_cells(&anew, &Whole);
-    differ_in_more(screens, changes, clear + left)
 }

@@ -53,69 +53,65 @@ fn count_line<O: Picture, N: Picture, D: Changes>(
     count_columns(old, new, row, columns)
 }
 
-/// The number of cells in which the screens differ.
-pub(crate) fn count_cells<C: Certificate, O: Picture, N: Picture, D: Changes>(
-    screens: &Screens<'_, C, O, N>,
-    changes: &D,
-) -> usize
-    requires scene { IsPaintable (scene C.table O.cells N.cells screens.now) }
-    requires changes { D.between changes.now (O.cells screens.now.old.now) (N.cells screens.now.new.now) }
-    ensures value { result ≡ all_changed (scene C.table O.cells N.cells screens.now) }
-    ensures few { result ≤ 1000000 }
-{
-    let cols = screens.checked.cols();
-    let rows = screens.checked.rows();
-    let lines = changes.lines(rows, cols);
-    let mut count = 0;
-    for row in lines.from..lines.end {
-        count += count_line(screens.old, screens.new, changes, row, cols);
+impl<C: Certificate, O: Picture, N: Picture> Screens<'_, C, O, N> {
+    /// The number of cells in which the screens differ.
+    pub(crate) fn count_cells<D: Changes>(&self, changes: &D) -> usize
+        requires scene { IsPaintable (scene C.table O.cells N.cells self.now) }
+        requires changes { D.between changes.now (O.cells self.now.old.now) (N.cells self.now.new.now) }
+        ensures value { result ≡ all_changed (scene C.table O.cells N.cells self.now) }
+        ensures few { result ≤ 1000000 }
+    {
+        self.count_until(changes, 1_000_000)
     }
-    count
-}
 
-/// Whether the first line that may differ does so: a cheap look before all cells are compared.
-pub(crate) fn first_differs<C: Certificate, O: Picture, N: Picture, D: Changes>(
-    screens: &Screens<'_, C, O, N>,
-    changes: &D,
-) -> bool
-    requires scene { IsPaintable (scene C.table O.cells N.cells screens.now) }
-    requires changes { D.between changes.now (O.cells screens.now.old.now) (N.cells screens.now.new.now) }
-    ensures { result ≡ true → 0 < all_changed (scene C.table O.cells N.cells screens.now) }
-{
-    let cols = screens.checked.cols();
-    let lines = changes.lines(screens.checked.rows(), cols);
-    if lines.from == lines.end {
-        return false;
-    }
-    let columns = changes.columns(lines.from, cols);
-    let cells = Cells {
-        row: lines.from,
-        from: columns.from,
-        count: columns.end - columns.from,
-    };
-    differs_in(screens.old, screens.new, cells)
-}
-
-/// Whether the screens differ in more than `least` cells. Lines are compared until that is known.
-pub(crate) fn differ_in_more<C: Certificate, O: Picture, N: Picture, D: Changes>(
-    screens: &Screens<'_, C, O, N>,
-    changes: &D,
-    least: usize,
-) -> bool
-    requires scene { IsPaintable (scene C.table O.cells N.cells screens.now) }
-    requires changes { D.between changes.now (O.cells screens.now.old.now) (N.cells screens.now.new.now) }
-    ensures more { result ≡ true → least < all_changed (scene C.table O.cells N.cells screens.now) }
-    ensures within { result ≡ false → all_changed (scene C.table O.cells N.cells screens.now) ≤ least }
-{
-    let cols = screens.checked.cols();
-    let rows = screens.checked.rows();
-    let lines = changes.lines(rows, cols);
-    let mut count = 0;
-    for row in lines.from..lines.end {
-        count += count_line(screens.old, screens.new, changes, row, cols);
-        if count > least {
-            return true;
+    /// Counts the cells in which the screens differ, line by line, until there are more than `most`.
+    fn count_until<D: Changes>(&self, changes: &D, most: usize) -> usize
+        requires scene { IsPaintable (scene C.table O.cells N.cells self.now) }
+        requires changes { D.between changes.now (O.cells self.now.old.now) (N.cells self.now.new.now) }
+        ensures value { result ≤ most → result ≡ all_changed (scene C.table O.cells N.cells self.now) }
+        ensures within { result ≤ all_changed (scene C.table O.cells N.cells self.now) }
+        ensures few { result ≤ 1000000 }
+    {
+        let cols = self.checked.cols();
+        let rows = self.checked.rows();
+        let lines = changes.lines(rows, cols);
+        let mut count = 0;
+        for row in lines.from..lines.end {
+            count += count_line(self.old, self.new, changes, row, cols);
+            if count > most {
+                return count;
+            }
         }
+        count
     }
-    false
+
+    /// Whether the first line that may differ does so: a cheap look before all cells are compared.
+    pub(crate) fn first_differs<D: Changes>(&self, changes: &D) -> bool
+        requires scene { IsPaintable (scene C.table O.cells N.cells self.now) }
+        requires changes { D.between changes.now (O.cells self.now.old.now) (N.cells self.now.new.now) }
+        ensures { result ≡ true → 0 < all_changed (scene C.table O.cells N.cells self.now) }
+    {
+        let cols = self.checked.cols();
+        let lines = changes.lines(self.checked.rows(), cols);
+        if lines.from == lines.end {
+            return false;
+        }
+        let columns = changes.columns(lines.from, cols);
+        let cells = Cells {
+            row: lines.from,
+            from: columns.from,
+            count: columns.end - columns.from,
+        };
+        differs_in(self.old, self.new, cells)
+    }
+
+    /// Whether the screens differ in more than `least` cells.
+    pub(crate) fn differ_in_more<D: Changes>(&self, changes: &D, least: usize) -> bool
+        requires scene { IsPaintable (scene C.table O.cells N.cells self.now) }
+        requires changes { D.between changes.now (O.cells self.now.old.now) (N.cells self.now.new.now) }
+        ensures more { result ≡ true → least < all_changed (scene C.table O.cells N.cells self.now) }
+        ensures within { result ≡ false → all_changed (scene C.table O.cells N.cells self.now) ≤ least }
+    {
+        self.count_until(changes, least) > least
+    }
 }

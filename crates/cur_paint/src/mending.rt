@@ -1,19 +1,23 @@
 //! The painter at work: mends cells, parts of lines, lines and the screen where they differ from the wanted ones.
-ghost use Rattle.std.specs.Prelude.{◌<◌, ◌≡◌, ◌≤◌, Some, length, ℕ};
+ghost use Rattle.std.specs.Prelude.{◌<◌, ◌≡◌, ◌≤◌, OnOk, Some, length, ℕ};
+ghost use Rattle.cur_moves.specs.Erasures.{erased, erasure_row};
 ghost use Rattle.cur_paint.specs.Blanks.{IsBlankFrom};
 ghost use Rattle.cur_paint.specs.Differ.{IsSameOutside, differs};
-ghost use Rattle.cur_paint.specs.Scenes.{AreChanges, AreInked, IsBlankPast, IsOn, IsPaintable, IsSamePast, IsShort};
+ghost use Rattle.cur_paint.specs.Scenes.{AreChanges, AreInked, IsBlankPast, IsOn, IsPaintable, IsSame};
+ghost use Rattle.cur_paint.specs.Scenes.{IsSamePast, IsShort};
 ghost use Rattle.cur_paint.specs.Scenes.{MendsAll, MendsBelow, MendsCells, MendsFrom, MendsLine};
 ghost use Rattle.cur_paint.specs.Scenes.{changed_from, scene};
+ghost use Rattle.cur_steps.specs.Steps.{MakesFrom};
+ghost use Rattle.ti_conforms.specs.Certified.{cell_limit};
 ghost use Rattle.ti_rows.specs.declared.rows.Row.TheVariants.{Ed};
 
 use crate::changes::{Changes, Columns};
 use crate::painters::Painter;
 use crate::pieces::{TEXT, differs_in, is_led_on, piece_of};
 use crate::runs::{FEWEST, erases_runs, is_run, next_part};
-use crate::tails::{bottom_from, lesser, rest_line, short_tail, tail_from};
+use crate::tails::{lesser, rest_line, short_tail, tail_from};
 use cur_moves::{
-    ErasedPart, Target, blank_tail, erase_at, erase_from, erasing_line, print_text, put_cell,
+    ErasedPart, Erasure, Target, erase_at, erase_from, erasing_line, print_text, put_cell,
 };
 use cur_steps::{Cells, Ink, Picture, Place};
 use cur_wires::{Wire, WireFault};
@@ -34,7 +38,7 @@ impl<C: Certificate, O: Picture, N: Picture, W: Wire> Painter<'_, C, O, N, W> {
         for row in lines.from..lines.end {
             let columns = changes.columns(row, cols);
             let tail = tail_from(screens.new, row, columns, cols);
-            let bottom = bottom_from(screens, changes, Place { row, col: tail }, columns, solid);
+            let bottom = screens.bottom_from(changes, Place { row, col: tail }, columns, solid);
             solid = bottom.solid;
             match rest_line(screens.checked, bottom.col, cols) {
                 Some(line) => {
@@ -73,15 +77,38 @@ impl<C: Certificate, O: Picture, N: Picture, W: Wire> Painter<'_, C, O, N, W> {
             count: columns.end - columns.from,
         };
         self.mend_parts(cells)?;
+        self.erase(row, columns.end, ErasedPart::Rest, line)
+    }
+
+    /// Erases `part` by its string `line`, with the cursor in line `row` and column `col`. The line must be right
+    /// already up to there.
+    fn erase(
+        &mut self,
+        row: usize,
+        col: usize,
+        part: ErasedPart,
+        line: &[u8],
+    ) -> Result<(), WireFault>
+        requires scene { IsPaintable (scene C.table O.cells N.cells self.old.screens.now) }
+        requires row { row < (C.table self.old.screens.now.checked.now).rows }
+        requires col { col < (C.table self.old.screens.now.checked.now).cols }
+        requires line { (C.table self.old.screens.now.checked.now).line_of (erasure_row part) ≡ Some line.now }
+        ensures step { MakesFrom W.went W.failures self.old.wire.now self.new.wire.now result
+            (C.table self.old.screens.now.checked.now) (cell_limit (C.table self.old.screens.now.checked.now))
+            (N.cells self.old.screens.now.new.now) (record { row = row; col = col }) (erased part row col)
+            self.old.belief.now self.new.belief.now }
+        ensures mode { OnOk result (self.new.belief.now.mode ≡ self.old.belief.now.mode) }
+        ensures same { IsSame self.old self.new }
+    {
         let target = Target {
             checked: self.screens.checked,
             shown: self.screens.new,
         };
-        let at = Place {
-            row,
-            col: columns.end,
+        let erasure = Erasure {
+            at: Place { row, col },
+            part,
         };
-        erase_from(&target, self.belief, self.wire, at, ErasedPart::Rest, line)
+        erase_from(&target, self.belief, self.wire, erasure, line)
     }
 
     /// Mends the line `row`, which must differ only within `columns`. If `tail` is one of them, the new line must be
@@ -141,17 +168,7 @@ impl<C: Certificate, O: Picture, N: Picture, W: Wire> Painter<'_, C, O, N, W> {
             return self.mend_span(cells);
         }
         match short_tail(self.screens.checked, cells.count) {
-            Some(tail) => {
-                let target = Target {
-                    checked: self.screens.checked,
-                    shown: self.screens.new,
-                };
-                let at = Place {
-                    row,
-                    col: cells.from,
-                };
-                blank_tail(&target, self.belief, self.wire, at, tail)
-            }
+            Some(line) => self.erase(row, cells.from, ErasedPart::Tail, line),
             None => self.mend_span(cells),
         }
     }
@@ -221,14 +238,11 @@ impl<C: Certificate, O: Picture, N: Picture, W: Wire> Painter<'_, C, O, N, W> {
                     row: cells.row,
                     col: cells.from + cells.count - 1,
                 };
-                erase_at(
-                    self.screens.checked,
-                    self.belief,
-                    self.wire,
-                    last,
-                    ErasedPart::Head,
-                    line,
-                )
+                let erasure = Erasure {
+                    at: last,
+                    part: ErasedPart::Head,
+                };
+                erase_at(self.screens.checked, self.belief, self.wire, erasure, line)
             }
             None => self.mend_span(cells),
         }
@@ -245,17 +259,7 @@ impl<C: Certificate, O: Picture, N: Picture, W: Wire> Painter<'_, C, O, N, W> {
         }
         let part = ErasedPart::Part(cells.count as u16);
         match erasing_line(self.screens.checked, part) {
-            Some(line) => {
-                let target = Target {
-                    checked: self.screens.checked,
-                    shown: self.screens.new,
-                };
-                let at = Place {
-                    row: cells.row,
-                    col: cells.from,
-                };
-                erase_from(&target, self.belief, self.wire, at, part, line)
-            }
+            Some(line) => self.erase(cells.row, cells.from, part, line),
             None => self.mend_span(cells),
         }
     }
@@ -322,11 +326,7 @@ impl<C: Certificate, O: Picture, N: Picture, W: Wire> Painter<'_, C, O, N, W> {
                 checked: self.screens.checked,
                 shown: self.screens.new,
             };
-            let at = Place {
-                row: cells.row,
-                col: cells.from,
-            };
-            return print_text(&target, self.belief, self.wire, at, text, cells.count);
+            return print_text(&target, self.belief, self.wire, cells, text);
         }
         self.print_each(cells)
     }

@@ -22,100 +22,94 @@ pub(crate) struct Bottom {
     pub solid: usize,
 }
 
-/// The column of the place `tail`, if one `ed` from there on can erase the rest of the screen: everything there is to
-/// be blank, the end of the line's `columns` and the next line may differ, and `ed` is no longer than erasing line by
-/// line. The line `solid`, if it is below, isn't blank.
-pub(crate) fn bottom_from<C: Certificate, O: Picture, N: Picture, D: Changes>(
-    screens: &Screens<'_, C, O, N>,
-    changes: &D,
-    tail: Place,
-    columns: Columns,
-    solid: usize,
-) -> Bottom
-    requires scene { IsPaintable (scene C.table O.cells N.cells screens.now) }
-    requires row { tail.row < (C.table screens.now.checked.now).rows }
-    requires within { columns.end ≤ (C.table screens.now.checked.now).cols }
-    requires blank { tail.col < columns.end
-        → IsBlankPast (scene C.table O.cells N.cells screens.now) tail.row tail.col }
-    ensures differs { result.col < (C.table screens.now.checked.now).cols
-        → 0 < changed_from (scene C.table O.cells N.cells screens.now) tail.row result.col }
-    ensures blank { result.col < (C.table screens.now.checked.now).cols → IsBlankFrom (N.cells screens.now.new.now)
-        (C.table screens.now.checked.now).rows (C.table screens.now.checked.now).cols tail.row result.col }
-    ensures tail { result.col < (C.table screens.now.checked.now).cols → result.col ≡ tail.col }
-{
-    let rows = screens.checked.rows();
-    let cols = screens.checked.cols();
-    let row = tail.row;
-    if tail.col >= columns.end || row < solid || !may_differ(changes, row + 1, rows, cols) {
-        return Bottom { col: cols, solid };
-    }
-    if erasing_line(screens.checked, ErasedPart::Rest).is_none() {
-        return Bottom {
-            col: cols,
-            solid: rows,
-        };
-    }
-    let solid = first_solid(screens.new, row + 1, rows, cols);
-    let end = Cells {
-        row,
-        from: tail.col,
-        count: cols - tail.col,
-    };
-    if solid < rows || !differs_in(screens.old, screens.new, end) {
-        return Bottom { col: cols, solid };
-    }
-    if !rest_is_short(screens, row, tail.col) {
-        return Bottom { col: cols, solid };
-    }
-    Bottom {
-        col: tail.col,
-        solid,
-    }
-}
-
-/// Whether erasing everything from the line `row` and the column `tail` on takes no more bytes than erasing line by
-/// line.
-fn rest_is_short<C: Certificate, O: Picture, N: Picture>(
-    screens: &Screens<'_, C, O, N>,
-    row: usize,
-    tail: usize,
-) -> bool
-    requires scene { IsPaintable (scene C.table O.cells N.cells screens.now) }
-    requires row { row < (C.table screens.now.checked.now).rows }
-    requires tail { tail ≤ (C.table screens.now.checked.now).cols }
-{
-    let end = tail_bytes(screens.checked, screens.checked.cols() - tail);
-    match erasing_line(screens.checked, ErasedPart::Rest) {
-        Some(rest) => rest.len() <= end || lines_take(screens, row + 1, rest.len() - end),
-        None => false,
-    }
-}
-
-/// Whether it takes at least `bytes` bytes to make the differing lines from `from` on blank, one by one.
-fn lines_take<C: Certificate, O: Picture, N: Picture>(
-    screens: &Screens<'_, C, O, N>,
-    from: usize,
-    bytes: usize,
-) -> bool
-    requires scene { IsPaintable (scene C.table O.cells N.cells screens.now) }
-{
-    let cols = screens.checked.cols();
-    let line = tail_bytes(screens.checked, cols).saturating_add(1);
-    let mut left = bytes;
-    for row in from..screens.checked.rows() {
-        let cells = Cells {
+impl<C: Certificate, O: Picture, N: Picture> Screens<'_, C, O, N> {
+    /// The column of the place `tail`, if one `ed` from there on can erase the rest of the screen: everything there is
+    /// to be blank, the end of the line's `columns` and the next line may differ, and `ed` is no longer than erasing
+    /// line by line. The line `solid`, if it is below, isn't blank.
+    pub(crate) fn bottom_from<D: Changes>(
+        &self,
+        changes: &D,
+        tail: Place,
+        columns: Columns,
+        solid: usize,
+    ) -> Bottom
+        requires scene { IsPaintable (scene C.table O.cells N.cells self.now) }
+        requires row { tail.row < (C.table self.now.checked.now).rows }
+        requires within { columns.end ≤ (C.table self.now.checked.now).cols }
+        requires blank { tail.col < columns.end
+            → IsBlankPast (scene C.table O.cells N.cells self.now) tail.row tail.col }
+        ensures differs { result.col < (C.table self.now.checked.now).cols
+            → 0 < changed_from (scene C.table O.cells N.cells self.now) tail.row result.col }
+        ensures blank { result.col < (C.table self.now.checked.now).cols → IsBlankFrom (N.cells self.now.new.now)
+            (C.table self.now.checked.now).rows (C.table self.now.checked.now).cols tail.row result.col }
+        ensures tail { result.col < (C.table self.now.checked.now).cols → result.col ≡ tail.col }
+    {
+        let rows = self.checked.rows();
+        let cols = self.checked.cols();
+        let row = tail.row;
+        if tail.col >= columns.end || row < solid || !may_differ(changes, row + 1, rows, cols) {
+            return Bottom { col: cols, solid };
+        }
+        if erasing_line(self.checked, ErasedPart::Rest).is_none() {
+            return Bottom {
+                col: cols,
+                solid: rows,
+            };
+        }
+        let solid = first_solid(self.new, row + 1, rows, cols);
+        let end = Cells {
             row,
-            from: 0,
-            count: cols,
+            from: tail.col,
+            count: cols - tail.col,
         };
-        if differs_in(screens.old, screens.new, cells) {
-            left = left.saturating_sub(line);
+        if solid < rows || !differs_in(self.old, self.new, end) {
+            return Bottom { col: cols, solid };
         }
-        if left == 0 {
-            return true;
+        if !self.rest_is_short(row, tail.col) {
+            return Bottom { col: cols, solid };
+        }
+        Bottom {
+            col: tail.col,
+            solid,
         }
     }
-    false
+
+    /// Whether erasing everything from the line `row` and the column `tail` on takes no more bytes than erasing line by
+    /// line.
+    fn rest_is_short(&self, row: usize, tail: usize) -> bool
+        requires scene { IsPaintable (scene C.table O.cells N.cells self.now) }
+        requires row { row < (C.table self.now.checked.now).rows }
+        requires tail { tail ≤ (C.table self.now.checked.now).cols }
+    {
+        let end = tail_bytes(self.checked, self.checked.cols() - tail);
+        match erasing_line(self.checked, ErasedPart::Rest) {
+            Some(rest) => rest.len() <= end || self.lines_take(row + 1, rest.len() - end),
+            None => false,
+        }
+    }
+
+    /// Whether it takes at least `bytes` bytes to make the differing lines from `from` on blank, one by one.
+    fn lines_take(&self, from: usize, bytes: usize) -> bool
+        requires scene { IsPaintable (scene C.table O.cells N.cells self.now) }
+    {
+        let cols = self.checked.cols();
+        let line = tail_bytes(self.checked, cols).saturating_add(1);
+        let mut left = bytes;
+        for row in from..self.checked.rows() {
+            let cells = Cells {
+                row,
+                from: 0,
+                count: cols,
+            };
+            if differs_in(self.old, self.new, cells) {
+                left = left.saturating_sub(line);
+            }
+            if left == 0 {
+                return true;
+            }
+        }
+        false
+    }
 }
 
 /// The number of bytes that it takes to make the last `count` cells of a line blank.

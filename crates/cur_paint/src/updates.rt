@@ -18,7 +18,6 @@ ghost use Rattle.cur_steps.specs.Beliefs.{CanHide};
 ghost use Rattle.cur_steps.specs.Inks.{CanShow};
 
 use crate::changes::Changes;
-use crate::choices::{is_better_cleared, is_still, useful_scroll};
 use crate::lasting::Lasting;
 use crate::painters::Painter;
 use crate::screens::Screens;
@@ -49,32 +48,39 @@ pub fn update<C: Certificate, O: Picture, N: Picture, D: Changes, W: Wire>(
     let status = session.status;
     let mut belief = rested(session.cursor);
     session.status = Status::Lost;
-    draw_whole(screens, status, &mut belief, wire, changes, wanted)?;
+    let task = Task { status, wanted };
+    draw_whole(screens, &mut belief, wire, changes, task)?;
     session.cursor = cursor_of(belief);
     session.status = Status::Known;
     Ok(())
 }
 
+/// A refresh as a task: how much is known of the terminal before it, and the state that is wanted after it.
+#[derive(Clone, Copy)]
+struct Task {
+    status: Status,
+    wanted: Wanted,
+}
+
 /// Draws to the end even if the wire fails: only a prefix of all the bytes goes out then.
 fn draw_whole<C: Certificate, O: Picture, N: Picture, D: Changes, W: Wire>(
     screens: &Screens<'_, C, O, N>,
-    status: Status,
     belief: &mut Belief,
     wire: &mut W,
     changes: &D,
-    wanted: Wanted,
+    task: Task,
 ) -> Result<(), WireFault>
-    requires can { CanPaint (scene C.table O.cells N.cells screens.now) wanted }
+    requires can { CanPaint (scene C.table O.cells N.cells screens.now) task.wanted }
     requires changes { AreChanges D.between changes.now (scene C.table O.cells N.cells screens.now) }
     requires rested { IsRested belief.old }
     ensures made { Made W.went W.failures wire.old wire.new result (C.table screens.now.checked.now)
-        (O.cells screens.now.old.now) (N.cells screens.now.new.now) wanted status belief.old belief.new }
+        (O.cells screens.now.old.now) (N.cells screens.now.new.now) task.wanted task.status belief.old belief.new }
 {
     let mut lasting = Lasting {
         wire,
         failed: false,
     };
-    draw_on(screens, status, belief, &mut lasting, changes, wanted)?;
+    draw_on(screens, belief, &mut lasting, changes, task)?;
     if lasting.failed {
         return Err(WireFault);
     }
@@ -84,24 +90,23 @@ fn draw_whole<C: Certificate, O: Picture, N: Picture, D: Changes, W: Wire>(
 /// Draws with a painter for this wire.
 fn draw_on<C: Certificate, O: Picture, N: Picture, D: Changes, W: Wire>(
     screens: &Screens<'_, C, O, N>,
-    status: Status,
     belief: &mut Belief,
     wire: &mut W,
     changes: &D,
-    wanted: Wanted,
+    task: Task,
 ) -> Result<(), WireFault>
-    requires can { CanPaint (scene C.table O.cells N.cells screens.now) wanted }
+    requires can { CanPaint (scene C.table O.cells N.cells screens.now) task.wanted }
     requires changes { AreChanges D.between changes.now (scene C.table O.cells N.cells screens.now) }
     requires rested { IsRested belief.old }
     ensures draws { Draws W.went W.failures wire.old wire.new result (C.table screens.now.checked.now)
-        (O.cells screens.now.old.now) (N.cells screens.now.new.now) wanted status belief.old belief.new }
+        (O.cells screens.now.old.now) (N.cells screens.now.new.now) task.wanted task.status belief.old belief.new }
 {
     let mut painter = Painter {
         screens,
         belief,
         wire,
     };
-    painter.draw(status, changes, wanted)
+    painter.draw(task.status, changes, task.wanted)
 }
 
 impl<C: Certificate, O: Picture, N: Picture, W: Wire> Painter<'_, C, O, N, W> {
@@ -141,13 +146,13 @@ impl<C: Certificate, O: Picture, N: Picture, W: Wire> Painter<'_, C, O, N, W> {
             self.new.belief.now }
         ensures same { IsSame self.old self.new }
     {
-        if is_still(self.screens, *self.belief, changes, wanted) {
+        if self.screens.is_still(*self.belief, changes, wanted) {
             return Ok(());
         }
-        if let Some(scroll) = useful_scroll(self.screens, changes) {
+        if let Some(scroll) = self.screens.useful_scroll(changes) {
             return self.scroll_first(changes, scroll, wanted);
         }
-        if is_better_cleared(self.screens, changes) {
+        if self.screens.is_better_cleared(changes) {
             return self.clear_first(wanted);
         }
         self.paint(changes, wanted)

@@ -1,8 +1,11 @@
 -- Lines after options, limits, and the cursor's modes.
-use Rattle.std.proofs.Common.{◌≡◌, ℕ, ◌*◌, ◌≤◌, ◌==◌, ◌&&◌, Bool, true, false, zero, suc, if◌then◌else◌, List, [], Option, Some, None, Bor, IfSome, is_some, refl, subst, sym, ap, arith}
+use Rattle.std.proofs.Common.{◌≡◌, ℕ, ◌*◌, ◌≤◌, ◌==◌, ◌&&◌, ◌∙◌, Bool, true, false, zero, suc, if◌then◌else◌, List, [], Option, Some, None, Result, Bor, IfSome, is_some, refl, subst, sym, ap, arith}
+use Rattle.cur_wires.specs.Steps.{Spells}
+use Rattle.cur_wires.proofs.Stops.{spells_as}
 use Rattle.ti_rows.specs.declared.rows.Row.{Row}
-use Rattle.ti_conforms.specs.Certified.{Table, has}
-use Rattle.cur_steps.specs.Beliefs.{Place, moves, Mode, Hidden, Normal, Prominent, same_mode, changes, mode_text, setting_text}
+use Rattle.ti_conforms.specs.Certified.{Table, IsPiece, IsLost, has}
+use Rattle.cur_steps.specs.Beliefs.{Agrees, Belief, Place, moves, Mode, Hidden, Normal, Prominent, same_mode, changes, mode_text, modes_limit, setting_text}
+use Rattle.cur_steps.specs.declared.inks.Ink.{Ink}
 
 pub line_is : (t : Table) (row : Row) (o : Option (Bor (List ℕ))) (b : Bor (List ℕ)) → o ≡ Some b → IfSome o (λ b. t.line_of row ≡ Some b.now) → t.line_of row ≡ Some b.now
 line_is t row o b e h = subst (λ (o : Option (Bor (List ℕ))). IfSome o (λ b. t.line_of row ≡ Some b.now)) e h
@@ -48,3 +51,11 @@ text_changed t (Some n) m e = chosen (same_mode n m) (setting_text t m) e
     chosen : (b : Bool) (x : List ℕ) → ◌≡◌ {A = ℕ} (if b then 0 else 1) 1 → (if b then [] else x) ≡ x
     chosen true x e = absurd (omega arith)
     chosen false x e = refl
+
+-- a mode's text sent, where the mode that the cursor has isn't known to be it
+pub mode_spelled : {W T E : Type 0} {went : W → W → List ℕ → Type 0} {failures : W → ℕ} {a z : W} {answer : Result T E} {b c : Belief} (t : Table) (g : ℕ → ℕ → Ink) (now : Option Mode) (wanted m : Mode) (limit : ℕ)
+    → wanted ≡ m → changes now wanted ≡ 1 → limit ≤ modes_limit t → Spells went failures a z answer (setting_text t m) (IsPiece t) limit (IsLost t) (Agrees t g b) (Agrees t g c)
+    → Spells went failures a z answer (mode_text t now wanted) (IsPiece t) (changes now wanted * modes_limit t) (IsLost t) (Agrees t g b) (Agrees t g c)
+mode_spelled {W} {T} {E} {went} {failures} {a} {z} {answer} {b} {c} t g now wanted m limit is changed le h =
+    spells_as went failures a z answer (setting_text t m) (mode_text t now wanted) (IsPiece t) limit (changes now wanted * modes_limit t) (IsLost t) (Agrees t g b) (Agrees t g c)
+    (ap (setting_text t) (sym is) ∙ sym (text_changed t now wanted changed)) (omega (arith, le, once (changes now wanted) (modes_limit t) changed)) h

@@ -26,7 +26,7 @@ use Rattle.cur_steps.specs.Pieces.{IsPaint, Printed}
 use Rattle.cur_steps.specs.Inks.{rendition_of, look_of, put_at}
 use Rattle.cur_steps.specs.Beliefs.{Agrees, Belief, Place, IsHere, IsNext, IsSo}
 use Rattle.cur_steps.proofs.Actions.{agrees_lost}
-use Rattle.cur_steps.proofs.Turns.{drawn_look, look_at-drawn, one_place, stands_at, calmly}
+use Rattle.cur_steps.proofs.Turns.{drawn_look, look_at-drawn, one_place, placed, calmly}
 
 -- a token is run if nothing is open
 pub token_runs : (s : State) (token : List ℕ) (x : Screen) → s.rest ≡ [] → IsWhole token → act (function_of token) s.screen ≡ x → Runs s token (record { screen = x; rest = [] })
@@ -157,15 +157,7 @@ typed_agrees t g b r c x lr lc printed poised s h = by_place poised.place
         let pending : s.screen.pending ≡ true = at.2 ∙ itself t.cols in
         let up : s.screen.row + 1 ≡ r = omega (arith, at.0, e.1) in
         typed_from t g b r c x lc printed poised.brush poised.set s v h.ready.rest h.ready.sized (wraps s.screen r c x.byte pending up e.2 (omega (arith, lr, h.ready.sized.rows)) h.ready.whole.bottom)
-        (record {
-          ready = record { sized = sized_at t s r c lr lc h.ready.sized; rest = refl; tame = record { autowrap = h.ready.tame.autowrap; inserting = h.ready.tame.inserting }; whole = record { top = h.ready.whole.top; bottom = h.ready.whole.bottom }; settled = h.ready.settled; visible = h.ready.visible };
-          cells = h.cells;
-          place = stands_at t.cols r c lc;
-          brush = h.brush;
-          colored = h.colored;
-          set = h.set;
-          seen = h.seen;
-        })
+        (placed t g b r c lc s v h (sized_at t s r c lr lc h.ready.sized) refl refl)
 
 -- a prefix of one byte is nothing or that byte
 front_lost : (t : Table) (s : State) (x : ℕ) (front back : List ℕ) → x ∷ [] ≡ front ++ back → IsLost t s → s.rest ≡ [] → Ends s (x ∷ []) (IsLost t) → Ends s front (IsLost t)

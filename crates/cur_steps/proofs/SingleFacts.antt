@@ -54,19 +54,28 @@ joined false true z = refl
 joined false false true = refl
 joined false false false = refl
 
+-- a rendition with its marks in other words
+marks_as : (p : Rendition) (b f u k n c : Bool) → p.bold ≡ b → p.faint ≡ f → p.underline ≡ u → p.blink ≡ k → p.negative ≡ n → p.concealed ≡ c → p ≡ record p { bold = b; faint = f; underline = u; blink = k; negative = n; concealed = c }
+marks_as p b f u k n c bold faint underline blink negative concealed =
+    ap (λ (y : Bool). record p { bold = y }) bold
+    ∙ ap (λ (y : Bool). record p { bold = b; faint = y }) faint
+    ∙ ap (λ (y : Bool). record p { bold = b; faint = f; underline = y }) underline
+    ∙ ap (λ (y : Bool). record p { bold = b; faint = f; underline = u; blink = y }) blink
+    ∙ ap (λ (y : Bool). record p { bold = b; faint = f; underline = u; blink = k; negative = y }) negative
+    ∙ ap (λ (y : Bool). record p { bold = b; faint = f; underline = u; blink = k; negative = n; concealed = y }) concealed
+
+-- the rendition of a brush with standout
+abbrev stood_out : Looks → Brush → Rendition
+stood_out l x = rendition_of l (record x { attributes = record x.attributes { standout = true } })
+
 -- standout on top of the others
-standout_joined : (l : Looks) (x : Brush) → adding l.standout (rendition_of l x) ≡ rendition_of l (record x { attributes = record x.attributes { standout = true } })
+standout_joined : (l : Looks) (x : Brush) → adding l.standout (rendition_of l x) ≡ stood_out l x
 standout_joined l x =
     let a = x.attributes in
     let m = l.standout in
-    let p : Rendition = adding m (rendition_of l x) in
-    let q : Rendition = rendition_of l (record x { attributes = record a { standout = true } }) in
-    ap (λ (y : Bool). record p { bold = y }) (joined m.bold (a.bold && l.bold) a.standout)
-    ∙ ap (λ (y : Bool). record p { bold = q.bold; faint = y }) (joined m.faint (a.dim && l.dim) a.standout)
-    ∙ ap (λ (y : Bool). record p { bold = q.bold; faint = q.faint; underline = y }) (joined m.underline (a.underline && l.underline) a.standout)
-    ∙ ap (λ (y : Bool). record q { blink = y; negative = p.negative; concealed = p.concealed }) (joined m.blink (a.blink && l.blink) a.standout)
-    ∙ ap (λ (y : Bool). record q { negative = y; concealed = p.concealed }) (joined m.negative (a.reverse && l.reverse) a.standout)
-    ∙ ap (λ (y : Bool). record q { concealed = y }) (joined m.concealed (a.invisible && l.invisible) a.standout)
+    let q : Rendition = stood_out l x in
+    marks_as (adding m (rendition_of l x)) q.bold q.faint q.underline q.blink q.negative q.concealed (joined m.bold (a.bold && l.bold) a.standout) (joined m.faint (a.dim && l.dim) a.standout)
+    (joined m.underline (a.underline && l.underline) a.standout) (joined m.blink (a.blink && l.blink) a.standout) (joined m.negative (a.reverse && l.reverse) a.standout) (joined m.concealed (a.invisible && l.invisible) a.standout)
 
 pub single_set : (t : Table) → HasSingles t → (wanted : Attributes) (row : Row) → has_single row wanted ≡ true → has t row ≡ true → (g : ℕ → ℕ → Ink) (b : Belief) → b.graphic ≡ None
     → Turns t row g b g (with_attributes b (turned_on row b.brush.attributes))
@@ -102,18 +111,14 @@ unseen_last true z m e = refl
 unseen_last false true m e = refl
 unseen_last false false m e = sym e
 
-standout_unseen : (l : Looks) (x : Brush) → l.standout ≡ no_marks → rendition_of l x ≡ rendition_of l (record x { attributes = record x.attributes { standout = true } })
+standout_unseen : (l : Looks) (x : Brush) → l.standout ≡ no_marks → rendition_of l x ≡ stood_out l x
 standout_unseen l x e =
     let a = x.attributes in
     let m = l.standout in
-    let p : Rendition = rendition_of l x in
-    let q : Rendition = rendition_of l (record x { attributes = record a { standout = true } }) in
-    ap (λ (y : Bool). record p { bold = y }) (unseen_last (a.bold && l.bold) a.standout m.bold (ap (λ (n : Marks). n.bold) e))
-    ∙ ap (λ (y : Bool). record p { bold = q.bold; faint = y }) (unseen_last (a.dim && l.dim) a.standout m.faint (ap (λ (n : Marks). n.faint) e))
-    ∙ ap (λ (y : Bool). record p { bold = q.bold; faint = q.faint; underline = y }) (unseen_last (a.underline && l.underline) a.standout m.underline (ap (λ (n : Marks). n.underline) e))
-    ∙ ap (λ (y : Bool). record q { blink = y; negative = p.negative; concealed = p.concealed }) (unseen_last (a.blink && l.blink) a.standout m.blink (ap (λ (n : Marks). n.blink) e))
-    ∙ ap (λ (y : Bool). record q { negative = y; concealed = p.concealed }) (unseen_last (a.reverse && l.reverse) a.standout m.negative (ap (λ (n : Marks). n.negative) e))
-    ∙ ap (λ (y : Bool). record q { concealed = y }) (unseen_last (a.invisible && l.invisible) a.standout m.concealed (ap (λ (n : Marks). n.concealed) e))
+    let q : Rendition = stood_out l x in
+    marks_as (rendition_of l x) q.bold q.faint q.underline q.blink q.negative q.concealed (unseen_last (a.bold && l.bold) a.standout m.bold (ap (λ (n : Marks). n.bold) e)) (unseen_last (a.dim && l.dim) a.standout m.faint (ap (λ (n : Marks). n.faint) e))
+    (unseen_last (a.underline && l.underline) a.standout m.underline (ap (λ (n : Marks). n.underline) e)) (unseen_last (a.blink && l.blink) a.standout m.blink (ap (λ (n : Marks). n.blink) e))
+    (unseen_last (a.reverse && l.reverse) a.standout m.negative (ap (λ (n : Marks). n.negative) e)) (unseen_last (a.invisible && l.invisible) a.standout m.concealed (ap (λ (n : Marks). n.concealed) e))
 
 looks_same : (t : Table) → HasSingles t → (wanted : Attributes) (row : Row) → has_single row wanted ≡ true → has t row ≡ false → (x : Brush) → rendition_of t.looks x ≡ rendition_of t.looks (record x { attributes = turned_on row x.attributes })
 looks_same t k wanted Smul on none x = ap (λ (y : Bool). record (rendition_of t.looks x) { underline = y }) (unseen x.attributes.underline (x.attributes.standout && t.looks.standout.underline) t.looks.underline (k.underline ∙ none))
@@ -137,25 +142,16 @@ single_absent t k wanted row on none g b s h = record {
   seen = h.seen;
 }
 
-pub single_limit : (t : Table) (wanted : Attributes) (row : Row) → has_single row wanted ≡ true → limit_of t row ≤ length (text_of t row)
-single_limit t wanted Smul on = omega arith
-single_limit t wanted Rev on = omega arith
-single_limit t wanted Blink on = omega arith
-single_limit t wanted Dim on = omega arith
-single_limit t wanted Bold on = omega arith
-single_limit t wanted Invis on = omega arith
-single_limit t wanted Smso on = omega arith
-single_limit t wanted row on = absurd (false≢true on)
-
-pub single_paints : (wanted : Attributes) (row : Row) → has_single row wanted ≡ true → paints row ≡ true
-single_paints wanted Smul on = refl
-single_paints wanted Rev on = refl
-single_paints wanted Blink on = refl
-single_paints wanted Dim on = refl
-single_paints wanted Bold on = refl
-single_paints wanted Invis on = refl
-single_paints wanted Smso on = refl
-single_paints wanted row on = absurd (false≢true on)
+-- the string of an attribute paints, and has as many bytes as its limit says
+pub single_is : (t : Table) (wanted : Attributes) (row : Row) → has_single row wanted ≡ true → (paints row ≡ true) × (limit_of t row ≤ length (text_of t row))
+single_is t wanted Smul on = (refl, omega arith)
+single_is t wanted Rev on = (refl, omega arith)
+single_is t wanted Blink on = (refl, omega arith)
+single_is t wanted Dim on = (refl, omega arith)
+single_is t wanted Bold on = (refl, omega arith)
+single_is t wanted Invis on = (refl, omega arith)
+single_is t wanted Smso on = (refl, omega arith)
+single_is t wanted row on = absurd (false≢true on)
 
 -- from no attributes, all the wanted ones
 pub all_singles : (w : Attributes) → with_singles w singles no_attributes ≡ w
@@ -166,41 +162,18 @@ all_singles w =
     let x4 = record x3 { dim = w.dim } in
     let x5 = record x4 { bold = w.bold } in
     let x6 = record x5 { invisible = w.invisible } in
-    ap (λ (a : Attributes). with_singles w (Rev ∷ Blink ∷ Dim ∷ Bold ∷ Invis ∷ Smso ∷ []) a) (underlined w.underline no_attributes refl)
-    ∙ ap (λ (a : Attributes). with_singles w (Blink ∷ Dim ∷ Bold ∷ Invis ∷ Smso ∷ []) a) (reversed w.reverse x1 refl)
-    ∙ ap (λ (a : Attributes). with_singles w (Dim ∷ Bold ∷ Invis ∷ Smso ∷ []) a) (blinking w.blink x2 refl)
-    ∙ ap (λ (a : Attributes). with_singles w (Bold ∷ Invis ∷ Smso ∷ []) a) (dimmed w.dim x3 refl)
-    ∙ ap (λ (a : Attributes). with_singles w (Invis ∷ Smso ∷ []) a) (bolder w.bold x4 refl)
-    ∙ ap (λ (a : Attributes). with_singles w (Smso ∷ []) a) (hidden w.invisible x5 refl)
-    ∙ outstanding w.standout x6 refl
+    ap (λ (a : Attributes). with_singles w (Rev ∷ Blink ∷ Dim ∷ Bold ∷ Invis ∷ Smso ∷ []) a) (chosen w.underline (λ (b : Bool). record no_attributes { underline = b }) no_attributes refl)
+    ∙ ap (λ (a : Attributes). with_singles w (Blink ∷ Dim ∷ Bold ∷ Invis ∷ Smso ∷ []) a) (chosen w.reverse (λ (b : Bool). record x1 { reverse = b }) x1 refl)
+    ∙ ap (λ (a : Attributes). with_singles w (Dim ∷ Bold ∷ Invis ∷ Smso ∷ []) a) (chosen w.blink (λ (b : Bool). record x2 { blink = b }) x2 refl)
+    ∙ ap (λ (a : Attributes). with_singles w (Bold ∷ Invis ∷ Smso ∷ []) a) (chosen w.dim (λ (b : Bool). record x3 { dim = b }) x3 refl)
+    ∙ ap (λ (a : Attributes). with_singles w (Invis ∷ Smso ∷ []) a) (chosen w.bold (λ (b : Bool). record x4 { bold = b }) x4 refl)
+    ∙ ap (λ (a : Attributes). with_singles w (Smso ∷ []) a) (chosen w.invisible (λ (b : Bool). record x5 { invisible = b }) x5 refl)
+    ∙ chosen w.standout (λ (b : Bool). record x6 { standout = b }) x6 refl
   where
-    underlined : (b : Bool) (a : Attributes) → a.underline ≡ false → (if b then record a { underline = true } else a) ≡ record a { underline = b }
-    underlined true a e = refl
-    underlined false a e = ap (λ (x : Bool). record a { underline = x }) e
-
-    reversed : (b : Bool) (a : Attributes) → a.reverse ≡ false → (if b then record a { reverse = true } else a) ≡ record a { reverse = b }
-    reversed true a e = refl
-    reversed false a e = ap (λ (x : Bool). record a { reverse = x }) e
-
-    blinking : (b : Bool) (a : Attributes) → a.blink ≡ false → (if b then record a { blink = true } else a) ≡ record a { blink = b }
-    blinking true a e = refl
-    blinking false a e = ap (λ (x : Bool). record a { blink = x }) e
-
-    dimmed : (b : Bool) (a : Attributes) → a.dim ≡ false → (if b then record a { dim = true } else a) ≡ record a { dim = b }
-    dimmed true a e = refl
-    dimmed false a e = ap (λ (x : Bool). record a { dim = x }) e
-
-    bolder : (b : Bool) (a : Attributes) → a.bold ≡ false → (if b then record a { bold = true } else a) ≡ record a { bold = b }
-    bolder true a e = refl
-    bolder false a e = ap (λ (x : Bool). record a { bold = x }) e
-
-    hidden : (b : Bool) (a : Attributes) → a.invisible ≡ false → (if b then record a { invisible = true } else a) ≡ record a { invisible = b }
-    hidden true a e = refl
-    hidden false a e = ap (λ (x : Bool). record a { invisible = x }) e
-
-    outstanding : (b : Bool) (a : Attributes) → a.standout ≡ false → (if b then record a { standout = true } else a) ≡ record a { standout = b }
-    outstanding true a e = refl
-    outstanding false a e = ap (λ (x : Bool). record a { standout = x }) e
+    -- an attribute that is off becomes as wanted
+    chosen : (b : Bool) (f : Bool → Attributes) (a : Attributes) → a ≡ f false → (if b then f true else a) ≡ f b
+    chosen true f a e = refl
+    chosen false f a e = e
 
 -- some line of `sgr` is missing, so all are
 pub sgr_absent : (t : Table) → (has t (Sgr no_attributes) ≡ true → (a : Attributes) → has t (Sgr a) ≡ true) → (a : Attributes) → has t (Sgr a) ≡ false → has t (Sgr no_attributes) ≡ false

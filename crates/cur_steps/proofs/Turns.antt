@@ -1,7 +1,8 @@
 -- The effect of each line on a state that agrees with a belief.
 use Rattle.std.proofs.Common.{◌≡◌, ℕ, ◌<◌, ◌≤◌, ◌==◌, ◌&&◌, ◌⊎◌, Bool, true, false, nat_le, List, [], length, Option, Some, None, refl, sym, ap, subst, ◌∙◌, inl, inr, arith, if◌then◌else◌}
+use Rattle.std.proofs.lemmas.Bool.{false≢true}
 use Rattle.std.proofs.lemmas.Bool.Decides.{nat_tests}
-use Rattle.vt_term.specs.Look.{Rendition, Look, blank, space}
+use Rattle.vt_term.specs.Look.{Rendition, Look, space}
 use Rattle.vt_term.specs.Grid.{Grid, line_at, look_at, drawn}
 use Rattle.vt_term.specs.Screen.{Screen, State, IsOfSize, is_graphic}
 use Rattle.vt_term.specs.Color.{Color}
@@ -10,14 +11,15 @@ use Rattle.grids.specs.Grids.{is_in, one}
 use Rattle.ti_rows.specs.declared.rows.Attributes.{Attributes}
 use Rattle.cur_steps.specs.declared.inks.Brush.{Brush}
 use Rattle.cur_steps.specs.declared.inks.Ink.{Ink}
-use Rattle.ti_rows.specs.declared.rows.Row.TheVariants.{Cup, Sgr, Setaf, Setab, Op, Smacs, Rmacs, El, Civis, Cnorm, Cvvis}
+use Rattle.ti_rows.specs.declared.rows.Row.TheVariants.{Cup, Sgr, Setaf, Setab, Op, Smacs, Rmacs, Civis, Cnorm, Cvvis}
 use Rattle.ti_rows.specs.Starts.{IsAny, IsFree}
 use Rattle.ti_rows.specs.Wants.{marked, Renders, Appears}
 use Rattle.ti_rows.specs.Looks.{shown}
 use Rattle.ti_conforms.specs.Certified.{Table, IsReady, IsChecked, has, limit_of}
-use Rattle.cur_steps.specs.Inks.{rendition_of, look_of, IsColored, tail_blank, blank_ink, plain_brush}
+use Rattle.cur_steps.specs.Inks.{rendition_of, look_of, IsColored}
 use Rattle.cur_steps.specs.Pieces.{paints}
-use Rattle.cur_steps.specs.Beliefs.{Agrees, Belief, Place, Turns, IsHere, set_row, Mode, Hidden, Normal, Prominent, IsSeen, is_shown}
+use Rattle.cur_steps.specs.Beliefs.{Agrees, Belief, CanHide, Place, Passes, Turns, IsHere, set_row, Mode, Hidden, Normal, Prominent, IsSeen, is_shown, mode_row}
+use Rattle.cur_steps.specs.Grounds.{Ground, Fore, Back, color_limit, color_of, color_row, with_color}
 
 pub look_at-drawn : (f : ℕ → ℕ → Look → Look) (g : Grid) (i j : ℕ) → j < length (line_at g i) → look_at (drawn f g) i j ≡ f i j (look_at g i j)
 look_at-drawn f g i j lt = cell_at-drawn f space g i j lt
@@ -90,14 +92,14 @@ inked t g b x colored s u h sized closed e =
 colored_with : (t : Table) (b : Brush) → has t Op ≡ true → IsColored t b
 colored_with t b e = record { foreground = λ f. absurd (cc); background = λ f. absurd (cc) }
 
-pub foreground_set : (t : Table) → has t Op ≡ true → (g : ℕ → ℕ → Ink) (b : Belief) (c : Color) → Turns t (Setaf c) g b g (record b { brush = record b.brush { foreground = Some c } })
+foreground_set : (t : Table) → has t Op ≡ true → (g : ℕ → ℕ → Ink) (b : Belief) (c : Color) → Turns t (Setaf c) g b g (record b { brush = record b.brush { foreground = Some c } })
 foreground_set t is g b c = record {
   starts = λ s h. free_of t s h.ready;
   ends = λ s u h sized closed w. inked t g b (record b.brush { foreground = Some c }) (colored_with t _ is) s u h sized closed
       (w.wants ∙ ap (λ (r : Rendition). record s.screen { rendition = record r { foreground = Some c } }) h.brush);
 }
 
-pub background_set : (t : Table) → has t Op ≡ true → (g : ℕ → ℕ → Ink) (b : Belief) (c : Color) → Turns t (Setab c) g b g (record b { brush = record b.brush { background = Some c } })
+background_set : (t : Table) → has t Op ≡ true → (g : ℕ → ℕ → Ink) (b : Belief) (c : Color) → Turns t (Setab c) g b g (record b { brush = record b.brush { background = Some c } })
 background_set t is g b c = record {
   starts = λ s h. free_of t s h.ready;
   ends = λ s u h sized closed w. inked t g b (record b.brush { background = Some c }) (colored_with t _ is) s u h sized closed
@@ -115,7 +117,7 @@ colors_gone t g b = record {
 uncolored : (b : Brush) → b.foreground ≡ None → b.background ≡ None → b ≡ record b { foreground = None; background = None }
 uncolored b e f = ap (λ (c : Option Color). record b { foreground = c }) e ∙ ap (λ (c : Option Color). record b { foreground = None; background = c }) f
 
-pub brush_as : (t : Table) (g : ℕ → ℕ → Ink) (b : Belief) (x : Brush) → b.brush ≡ x → (s : State) → Agrees t g b s → Agrees t g (record b { brush = x }) s
+brush_as : (t : Table) (g : ℕ → ℕ → Ink) (b : Belief) (x : Brush) → b.brush ≡ x → (s : State) → Agrees t g b s → Agrees t g (record b { brush = x }) s
 brush_as t g b x e s h = let P : Brush → Type 0 = λ y. Agrees t g (record b { brush = y }) s in subst P e h
 
 pub no_colors : (t : Table) (g : ℕ → ℕ → Ink) (b : Belief) → b.brush.foreground ≡ None → b.brush.background ≡ None → (s : State) → Agrees t g b s → Agrees t g (record b { brush = record b.brush { foreground = None; background = None } }) s
@@ -198,30 +200,6 @@ choose t false x y = refl
 pub drawn_look : (t : Table) (p : Bool) (l y : Look) (x z : Ink) → l ≡ look_of t.looks x → y ≡ look_of t.looks z → (if p then l else y) ≡ look_of t.looks (if p then x else z)
 drawn_look t p l y x z e f = choice p l (look_of t.looks x) (look_of t.looks z) y e f ∙ choose t p x z
 
--- the line's end, erased from where the cursor is known to be, in the plain brush
-pub tail_erased : (t : Table) (g : ℕ → ℕ → Ink) (b : Belief) (r c : ℕ) → c < t.cols → b.place ≡ record { row = r; col = c } → b.brush ≡ plain_brush → Turns t El g b (tail_blank r c g) b
-tail_erased t g b r c lc p q = record {
-  starts = λ s h. (let at : (s.screen.row ≡ r) × (s.screen.col ≡ c) × (s.screen.pending ≡ false) = calmly t.cols (record { row = r; col = c }) s.screen.row s.screen.col s.screen.pending lc (subst (λ (o : Place). IsHere t.cols o s.screen.row s.screen.col s.screen.pending) p h.place) in
-      record { free = free_of t s h.ready; pending = at.2 });
-  ends = λ s u h sized closed w. (let at : (s.screen.row ≡ r) × (s.screen.col ≡ c) × (s.screen.pending ≡ false) = calmly t.cols (record { row = r; col = c }) s.screen.row s.screen.col s.screen.pending lc (subst (λ (o : Place). IsHere t.cols o s.screen.row s.screen.col s.screen.pending) p h.place) in
-      let so : s.screen.rendition ≡ rendition_of t.looks plain_brush = h.brush ∙ ap (λ (x : Brush). rendition_of t.looks x) q in
-      by_screen t (Agrees t (tail_blank r c g) b) u (record s.screen { grid = drawn (λ i j old. if (i == s.screen.row) && nat_le s.screen.col j then blank s.screen.rendition else old) s.screen.grid }) sized closed w.wants
-      (λ k. record {
-        ready = record { sized = k; rest = refl; tame = record { autowrap = h.ready.tame.autowrap; inserting = h.ready.tame.inserting }; whole = record { top = h.ready.whole.top; bottom = h.ready.whole.bottom }; settled = h.ready.settled; visible = h.ready.visible };
-        cells = λ i j li lj.
-            look_at-drawn (λ i j old. if (i == s.screen.row) && nat_le s.screen.col j then blank s.screen.rendition else old) s.screen.grid i j
-            (omega (arith, h.ready.sized.state.screen.columns i (omega (arith, h.ready.sized.rows)), h.ready.sized.cols))
-            ∙ ap (λ (n : ℕ). if (i == n) && nat_le s.screen.col j then blank s.screen.rendition else look_at s.screen.grid i j) at.0
-            ∙ ap (λ (n : ℕ). if (i == r) && nat_le n j then blank s.screen.rendition else look_at s.screen.grid i j) at.1
-            ∙ drawn_look t ((i == r) && nat_le c j) (blank s.screen.rendition) (look_at s.screen.grid i j) blank_ink (g i j) (ap (λ (x : Rendition). blank x) so) (h.cells i j li lj);
-        place = h.place;
-        brush = h.brush;
-        colored = h.colored;
-        set = h.set;
-        seen = h.seen;
-      }));
-}
-
 -- a wanted color has its lines
 pub colored_has : (x : Bool) (c : Color) → (x ≡ false → Some c ≡ None) → x ≡ true
 colored_has true c h = refl
@@ -264,13 +242,13 @@ visible_as t g b m needed s u h sized closed e =
       seen = refl;
     })
 
-pub hidden : (t : Table) → has t Cnorm ≡ true → (g : ℕ → ℕ → Ink) (b : Belief) → Turns t Civis g b g (record b { mode = Some Hidden })
+hidden : (t : Table) → has t Cnorm ≡ true → (g : ℕ → ℕ → Ink) (b : Belief) → Turns t Civis g b g (record b { mode = Some Hidden })
 hidden t is g b = record {
   starts = λ s h. free_of t s h.ready;
   ends = λ s u h sized closed w. visible_as t g b Hidden (λ e. absurd (cc)) s u h sized closed w.wants;
 }
 
-pub normal : (t : Table) (g : ℕ → ℕ → Ink) (b : Belief) → Turns t Cnorm g b g (record b { mode = Some Normal })
+normal : (t : Table) (g : ℕ → ℕ → Ink) (b : Belief) → Turns t Cnorm g b g (record b { mode = Some Normal })
 normal t g b = record {
   starts = λ s h. free_of t s h.ready;
   ends = λ s u h sized closed w. visible_as t g b Normal (λ e. refl) s u h sized closed w.wants;
@@ -280,21 +258,45 @@ normal t g b = record {
 pub mode_as : (t : Table) (g : ℕ → ℕ → Ink) (b : Belief) (m : Mode) (s : State) → s.screen.visible ≡ is_shown m → Agrees t g b s → Agrees t g (record b { mode = Some m }) s
 mode_as t g b m s e h = record { ready = h.ready; cells = h.cells; place = h.place; brush = h.brush; colored = h.colored; set = h.set; seen = e }
 
-pub always_normal : (t : Table) → has t Cnorm ≡ false → (g : ℕ → ℕ → Ink) (b : Belief) (s : State) → Agrees t g b s → Agrees t g (record b { mode = Some Normal }) s
+always_normal : (t : Table) → has t Cnorm ≡ false → (g : ℕ → ℕ → Ink) (b : Belief) (s : State) → Agrees t g b s → Agrees t g (record b { mode = Some Normal }) s
 always_normal t none g b s h = mode_as t g b Normal s (h.ready.visible none) h
 
 shown_so : (b : Belief) → b.mode ≡ Some Normal → (v : Bool) → IsSeen b.mode v → v ≡ true
 shown_so b e v h = subst (λ (o : Option Mode). IsSeen o v) e h
 
-pub stressed_without : (t : Table) (g : ℕ → ℕ → Ink) (b : Belief) → b.mode ≡ Some Normal → (s : State) → Agrees t g b s → Agrees t g (record b { mode = Some Prominent }) s
+stressed_without : (t : Table) (g : ℕ → ℕ → Ink) (b : Belief) → b.mode ≡ Some Normal → (s : State) → Agrees t g b s → Agrees t g (record b { mode = Some Prominent }) s
 stressed_without t g b e s h = mode_as t g b Prominent s (shown_so b e s.screen.visible h.seen) h
 
 appeared : (s u : Screen) → s.visible ≡ true → Appears s u → u ≡ record s { visible = true }
 appeared s u e (inl h) = h
 appeared s u e (inr h) = h ∙ ap (λ (v : Bool). record s { visible = v }) e
 
-pub stressed : (t : Table) (g : ℕ → ℕ → Ink) (b : Belief) → b.mode ≡ Some Normal → Turns t Cvvis g b g (record b { mode = Some Prominent })
+stressed : (t : Table) (g : ℕ → ℕ → Ink) (b : Belief) → b.mode ≡ Some Normal → Turns t Cvvis g b g (record b { mode = Some Prominent })
 stressed t g b e = record {
   starts = λ s h. free_of t s h.ready;
   ends = λ s u h sized closed w. visible_as t g b Prominent (λ x. refl) s u h sized closed (appeared s.screen u.screen (shown_so b e s.screen.visible h.seen) w.wants);
 }
+
+-- the string of a mode
+pub mode_set : (t : Table) (m : Mode) → CanHide t m → (g : ℕ → ℕ → Ink) (b : Belief) → (m ≡ Prominent → b.mode ≡ Some Normal) → Passes t (mode_row m) g b (record b { mode = Some m })
+mode_set t Hidden can g b shown = record { turns = λ there. hidden t can.1 g b; stays = λ none. absurd (false≢true (sym none ∙ can.0)) }
+mode_set t Normal can g b shown = record { turns = λ there. normal t g b; stays = λ none. always_normal t none g b }
+mode_set t Prominent can g b shown = record { turns = λ there. stressed t g b (shown refl); stays = λ none. stressed_without t g b (shown refl) }
+
+-- the string of a color
+pub color_set : (t : Table) → IsChecked t → has t Op ≡ true → (x : Ground) (g : ℕ → ℕ → Ink) (b : Belief) (c : Color) → Passes t (color_row x c) g b (record b { brush = with_color x (Some c) b.brush })
+color_set t checked is Fore g b c = record { turns = λ there. foreground_set t is g b c; stays = λ none. absurd (false≢true (sym none ∙ checked.foregrounds is c)) }
+color_set t checked is Back g b c = record { turns = λ there. background_set t is g b c; stays = λ none. absurd (false≢true (sym none ∙ checked.backgrounds is c)) }
+
+-- a color that the brush has may be believed
+pub color_kept : (t : Table) (x : Ground) (g : ℕ → ℕ → Ink) (b : Belief) (c : Option Color) → color_of x b.brush ≡ c → (s : State) → Agrees t g b s → Agrees t g (record b { brush = with_color x c b.brush }) s
+color_kept t Fore g b c e s h = brush_as t g b (record b.brush { foreground = c }) (ap (λ (f : Option Color). record b.brush { foreground = f }) e) s h
+color_kept t Back g b c e s h = brush_as t g b (record b.brush { background = c }) (ap (λ (f : Option Color). record b.brush { background = f }) e) s h
+
+pub color_within : (t : Table) (x : Ground) (c : Color) → limit_of t (color_row x c) ≤ color_limit t x
+color_within t Fore c = omega arith
+color_within t Back c = omega arith
+
+pub color_paints : (x : Ground) (c : Color) → paints (color_row x c) ≡ true
+color_paints Fore c = refl
+color_paints Back c = refl

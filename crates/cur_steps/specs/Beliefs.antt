@@ -54,6 +54,11 @@ pub record Turns (t : Table) (row : Row) (g : ℕ → ℕ → Ink) (b : Belief) 
   pub ends : (s u : State) → Agrees t g b s → IsOfSize t.rows t.cols u → u.rest ≡ []
       → Ended t row s.screen u.screen → Agrees t h c u
 
+-- a row's line leads from the first belief to the second; if there is no line, the second is true wherever the first is
+pub record Passes (t : Table) (row : Row) (g : ℕ → ℕ → Ink) (b c : Belief) : Type 0 where
+  pub turns : has t row ≡ true → Turns t row g b g c
+  pub stays : has t row ≡ false → (s : State) → Agrees t g b s → Agrees t g c s
+
 -- from each state that agrees with the first cells and belief, a run over the bytes leads to one that agrees with the
 -- second
 abbrev pub LeadsTo : Table → List ℕ → (ℕ → ℕ → Ink) → Belief → (ℕ → ℕ → Ink) → Belief → Type 0
@@ -105,6 +110,12 @@ same_mode Prominent Normal = false
 abbrev pub changes : Option Mode → Mode → ℕ
 changes None m = 1
 changes (Some n) m = if same_mode n m then 0 else 1
+
+-- the row whose line makes the cursor as a mode says; a very visible one is shown normally before
+abbrev pub mode_row : Mode → Row
+mode_row Hidden = Civis
+mode_row Normal = Cnorm
+mode_row Prominent = Cvvis
 
 -- for the mode that hides the cursor: the entry can hide it, and show it again
 abbrev pub CanHide : Table → Mode → Type 0

@@ -76,10 +76,6 @@ CanShow t g = (i j : ℕ) → IsInk t (g i j)
 abbrev pub put_at : ℕ → ℕ → Ink → (ℕ → ℕ → Ink) → ℕ → ℕ → Ink
 put_at r k x g i j = if (i == r) && (j == k) then x else g i j
 
--- a line becomes blank from a column on
-abbrev pub tail_blank : ℕ → ℕ → (ℕ → ℕ → Ink) → ℕ → ℕ → Ink
-tail_blank r k g i j = if (i == r) && nat_le k j then blank_ink else g i j
-
 -- the new cells before a place, line by line, and the old ones from there on
 abbrev pub mixed : (ℕ → ℕ → Ink) → (ℕ → ℕ → Ink) → ℕ → ℕ → ℕ → ℕ → Ink
 mixed old new r k i j = if nat_lt i r || ((i == r) && nat_lt j k) then new i j else old i j

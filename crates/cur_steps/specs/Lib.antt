@@ -1,6 +1,7 @@
 -- The definitions of looks, beliefs and single steps.
 pub mod Beliefs
 pub mod Gaps
+pub mod Grounds
 pub mod Inks
 pub mod Pieces
 pub mod Sets

@@ -14,6 +14,13 @@ pub struct Brush {
     pub background: Option<Color>,
 }
 
+/// One of the two colors of a brush: that of characters, or that behind them.
+#[derive(Clone, Copy)]
+pub enum Ground {
+    Fore,
+    Back,
+}
+
 /// The content of a place: a character of the plain or the graphic set, and how it is printed.
 #[derive(Clone, Copy)]
 pub struct Ink {

@@ -1,7 +1,7 @@
 //! The lines of a certificate: whether there is one, and sending it.
 ghost use Rattle.std.specs.Prelude.{◌≡◌, ◌≤◌, ℕ, length, Some, true};
 ghost use Rattle.ti_conforms.specs.Certified.{IsChecked, has, limit_of, text_of};
-ghost use Rattle.cur_steps.specs.Beliefs.{Belief, LeadsTo, Turns};
+ghost use Rattle.cur_steps.specs.Beliefs.{Belief, LeadsTo, Passes, Turns};
 ghost use Rattle.cur_steps.specs.Pieces.{paints};
 ghost use Rattle.cur_steps.specs.Steps.{Acts, KeepsBy};
 ghost use Rattle.cur_steps.specs.declared.inks.Ink.{Ink};
@@ -42,4 +42,25 @@ pub fn send_line<C: Certificate, W: Wire>(
         (text_of (C.table checked.now) row) b c }
 {
     send_all(wire, bytes)
+}
+
+/// Sends the line of `row`, if there is one. It leads from one belief to another if the line does so, and if without a
+/// line the second belief is true wherever the first one is. It is a step of a painter if the row paints.
+pub(crate) fn send_line_of<C: Certificate, W: Wire>(
+    checked: &C,
+    row: Row,
+    wire: &mut W,
+) -> Result<(), WireFault>
+    requires checked { IsChecked (C.table checked.now) }
+    ensures step { (n : ℕ) (g : ℕ → ℕ → Ink) (b c : Belief) → paints row ≡ true
+        → limit_of (C.table checked.now) row ≤ n → Passes (C.table checked.now) row g b c
+        → Acts W.went W.failures wire.old wire.new result (C.table checked.now) n g g b c }
+    ensures text { (b c : Belief) → ((g : ℕ → ℕ → Ink) → Passes (C.table checked.now) row g b c)
+        → KeepsBy W.went W.failures wire.old wire.new result (C.table checked.now) (limit_of (C.table checked.now) row)
+        (text_of (C.table checked.now) row) b c }
+{
+    match checked.line(row) {
+        Some(line) => send_line(checked, row, line, wire),
+        None => Ok(()),
+    }
 }

@@ -1,72 +1,44 @@
 //! The cursor's modes.
 ghost use Rattle.std.specs.Prelude.{◌≡◌, ◌*◌, ℕ, true, false, Some, OnOk};
-ghost use Rattle.ti_rows.specs.declared.rows.Row.TheVariants.{Civis, Cnorm, Cvvis};
-ghost use Rattle.ti_conforms.specs.Certified.{IsChecked, has, text_of};
-ghost use Rattle.cur_steps.specs.Beliefs.{CanHide, Hidden, Normal, Prominent, changes, mode_text, modes_limit};
+ghost use Rattle.ti_conforms.specs.Certified.{IsChecked, limit_of, text_of};
+ghost use Rattle.cur_steps.specs.Beliefs.{CanHide, Normal, Prominent, changes, mode_row, mode_text, modes_limit};
 ghost use Rattle.cur_steps.specs.Beliefs.{setting_text};
 ghost use Rattle.cur_steps.specs.Steps.{KeepsBy};
 
 use crate::beliefs::{Belief, Mode};
-use crate::lines::send_line;
+use crate::lines::send_line_of;
 use cur_wires::{Wire, WireFault};
 use ti_conforms::Certificate;
 use ti_rows::Row;
 
-/// Hides the cursor.
-fn hide<C: Certificate, W: Wire>(
-    checked: &C,
-    belief: &mut Belief,
-    wire: &mut W,
-) -> Result<(), WireFault>
-    requires checked { IsChecked (C.table checked.now) }
-    requires line { has (C.table checked.now) Civis ≡ true }
-    requires back { has (C.table checked.now) Cnorm ≡ true }
-    ensures belief { belief.new ≡ record belief.old { mode = Some Hidden } }
-    ensures step { KeepsBy W.went W.failures wire.old wire.new result (C.table checked.now)
-        (C.table checked.now).longest.civis (text_of (C.table checked.now) Civis) belief.old belief.new }
+/// The row whose line makes the cursor as `mode` says.
+fn row_of_mode(mode: Mode) -> Row
+    ensures { result ≡ mode_row mode }
 {
-    belief.mode = Some(Mode::Hidden);
-    match checked.line(Row::Civis) {
-        Some(line) => send_line(checked, Row::Civis, line, wire),
-        None => Ok(()),
+    match mode {
+        Mode::Hidden => Row::Civis,
+        Mode::Normal => Row::Cnorm,
+        Mode::Prominent => Row::Cvvis,
     }
 }
 
-/// Shows the cursor.
-fn show<C: Certificate, W: Wire>(
+/// Makes the cursor as `mode` says, by one string. A cursor that is to be very visible must be shown normally already.
+fn change_mode<C: Certificate, W: Wire>(
     checked: &C,
     belief: &mut Belief,
     wire: &mut W,
+    mode: Mode,
 ) -> Result<(), WireFault>
     requires checked { IsChecked (C.table checked.now) }
-    ensures belief { belief.new ≡ record belief.old { mode = Some Normal } }
+    requires lines { CanHide (C.table checked.now) mode }
+    requires shown { mode ≡ Prominent → belief.old.mode ≡ Some Normal }
+    ensures belief { belief.new ≡ record belief.old { mode = Some mode } }
     ensures step { KeepsBy W.went W.failures wire.old wire.new result (C.table checked.now)
-        (C.table checked.now).longest.cnorm (text_of (C.table checked.now) Cnorm) belief.old belief.new }
+        (limit_of (C.table checked.now) (mode_row mode)) (text_of (C.table checked.now) (mode_row mode))
+        belief.old belief.new }
 {
-    belief.mode = Some(Mode::Normal);
-    match checked.line(Row::Cnorm) {
-        Some(line) => send_line(checked, Row::Cnorm, line, wire),
-        None => Ok(()),
-    }
-}
-
-/// Makes the cursor very visible; it must be shown already.
-fn make_prominent<C: Certificate, W: Wire>(
-    checked: &C,
-    belief: &mut Belief,
-    wire: &mut W,
-) -> Result<(), WireFault>
-    requires checked { IsChecked (C.table checked.now) }
-    requires shown { belief.old.mode ≡ Some Normal }
-    ensures belief { belief.new ≡ record belief.old { mode = Some Prominent } }
-    ensures step { KeepsBy W.went W.failures wire.old wire.new result (C.table checked.now)
-        (C.table checked.now).longest.cvvis (text_of (C.table checked.now) Cvvis) belief.old belief.new }
-{
-    belief.mode = Some(Mode::Prominent);
-    match checked.line(Row::Cvvis) {
-        Some(line) => send_line(checked, Row::Cvvis, line, wire),
-        None => Ok(()),
-    }
+    belief.mode = Some(mode);
+    send_line_of(checked, row_of_mode(mode), wire)
 }
 
 /// Shows the cursor and makes it very visible.
@@ -80,8 +52,8 @@ fn show_prominently<C: Certificate, W: Wire>(
     ensures step { KeepsBy W.went W.failures wire.old wire.new result (C.table checked.now)
         (modes_limit (C.table checked.now)) (setting_text (C.table checked.now) Prominent) belief.old belief.new }
 {
-    show(checked, belief, wire)?;
-    make_prominent(checked, belief, wire)
+    change_mode(checked, belief, wire, Mode::Normal)?;
+    change_mode(checked, belief, wire, Mode::Prominent)
 }
 
 /// Whether the mode `now` is known and is `wanted`.
@@ -116,8 +88,8 @@ pub fn show_as<C: Certificate, W: Wire>(
         return Ok(());
     }
     match wanted {
-        Mode::Hidden => hide(checked, belief, wire),
-        Mode::Normal => show(checked, belief, wire),
+        Mode::Hidden => change_mode(checked, belief, wire, Mode::Hidden),
+        Mode::Normal => change_mode(checked, belief, wire, Mode::Normal),
         Mode::Prominent => show_prominently(checked, belief, wire),
     }
 }

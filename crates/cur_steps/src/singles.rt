@@ -9,7 +9,7 @@ ghost use Rattle.cur_steps.specs.Steps.{Keeps};
 
 use crate::beliefs::Belief;
 use crate::inks::Brush;
-use crate::lines::send_line;
+use crate::lines::{send_line, send_line_of};
 use crate::sets::set_behind;
 use cur_wires::{Wire, WireFault};
 use ti_conforms::Certificate;
@@ -139,10 +139,7 @@ fn add_single<C: Certificate, W: Wire>(
         return Ok(());
     }
     belief.brush.attributes = turned_on(belief.brush.attributes, row);
-    match checked.line(row) {
-        Some(line) => send_line(checked, row, line, wire),
-        None => Ok(()),
-    }
+    send_line_of(checked, row, wire)
 }
 
 /// Turns on each attribute that is `wanted` and has its string among `rows`.

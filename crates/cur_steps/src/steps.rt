@@ -1,19 +1,20 @@
 //! The single steps of a painter. Each sends at most one line or one character, but attributes may take several lines
 //! if the entry has no `sgr`.
-ghost use Rattle.std.specs.Prelude.{◌≡◌, ◌+◌, ◌<◌, ℕ, Bool, true, false, Option, Some, None, IfSome, OnOk};
+ghost use Rattle.std.specs.Prelude.{◌≡◌, ◌+◌, ℕ, Bool, true, false, Option, Some, None, IfSome, OnOk};
 ghost use Rattle.vt_term.specs.Color.{Color};
 ghost use Rattle.vt_term.specs.Look.{IsPrinted};
-ghost use Rattle.ti_rows.specs.declared.rows.Row.TheVariants.{Op, El, Sgr, Smacs};
+ghost use Rattle.ti_rows.specs.declared.rows.Row.TheVariants.{Op, Sgr, Smacs};
 ghost use Rattle.ti_conforms.specs.Certified.{IsChecked, has};
-ghost use Rattle.cur_steps.specs.Inks.{put_at, tail_blank, plain_brush};
+ghost use Rattle.cur_steps.specs.Inks.{put_at};
 ghost use Rattle.cur_steps.specs.Beliefs.{moves, IsNext, set_row};
+ghost use Rattle.cur_steps.specs.Grounds.{color_limit, color_of, color_row, with_color};
 ghost use Rattle.cur_steps.specs.Sets.{EndsUncolored, FixesRendition};
 ghost use Rattle.cur_steps.specs.declared.inks.Brush.{Brush};
 ghost use Rattle.cur_steps.specs.Steps.{IsGoal, Keeps, Makes};
 
 use crate::beliefs::{Belief, Place};
-use crate::inks::{Brush, Ink, same_color};
-use crate::lines::send_line;
+use crate::inks::{Brush, Ground, Ink, same_color};
+use crate::lines::{send_line, send_line_of};
 use crate::looks::look_alike;
 use crate::sets::{fixes_rendition, set_behind};
 use crate::singles::attributes_singly;
@@ -49,10 +50,7 @@ pub fn colors_off<C: Certificate, W: Wire>(
     if plain {
         return Ok(());
     }
-    match checked.line(Row::Op) {
-        Some(line) => send_line(checked, Row::Op, line, wire),
-        None => Ok(()),
-    }
+    send_line_of(checked, Row::Op, wire)
 }
 
 /// Whether `brush` has the default colors.
@@ -138,60 +136,62 @@ pub fn attributes_at_once<C: Certificate, W: Wire>(
     send_line(checked, Row::Sgr(wanted), line, wire)
 }
 
-/// Makes the foreground the color `wanted`. If that is none, the foreground must be the default one already.
-pub fn foreground_as<C: Certificate, W: Wire>(
-    checked: &C,
-    belief: &mut Belief,
-    wire: &mut W,
-    wanted: Option<Color>,
-) -> Result<(), WireFault>
-    requires checked { IsChecked (C.table checked.now) }
-    requires now { wanted ≡ None → belief.old.brush.foreground ≡ None }
-    requires colors { has (C.table checked.now) Op ≡ false → wanted ≡ None }
-    ensures belief { belief.new ≡ record belief.old { brush = record belief.old.brush { foreground = wanted } } }
-    ensures step { Keeps W.went W.failures wire.old wire.new result (C.table checked.now)
-        (C.table checked.now).longest.setaf belief.old belief.new }
+/// The color of `brush` that `ground` names.
+fn color_of(brush: Brush, ground: Ground) -> Option<Color>
+    ensures { result ≡ color_of ground brush }
 {
-    let same = same_color(belief.brush.foreground, wanted);
-    belief.brush.foreground = wanted;
-    if same {
-        return Ok(());
-    }
-    let Some(color) = wanted else {
-        return Ok(());
-    };
-    match checked.line(Row::Setaf(color)) {
-        Some(line) => send_line(checked, Row::Setaf(color), line, wire),
-        None => Ok(()),
+    match ground {
+        Ground::Fore => brush.foreground,
+        Ground::Back => brush.background,
     }
 }
 
-/// Makes the background the color `wanted`. If that is none, the background must be the default one already.
-pub fn background_as<C: Certificate, W: Wire>(
+/// The `brush` with `color` as the color that `ground` names.
+fn with_color(brush: Brush, ground: Ground, color: Option<Color>) -> Brush
+    ensures { result ≡ with_color ground color brush }
+{
+    let mut brush = brush;
+    match ground {
+        Ground::Fore => brush.foreground = color,
+        Ground::Back => brush.background = color,
+    }
+    brush
+}
+
+/// The row whose line sets `color` as the color that `ground` names.
+fn row_of_color(ground: Ground, color: Color) -> Row
+    ensures { result ≡ color_row ground color }
+{
+    match ground {
+        Ground::Fore => Row::Setaf(color),
+        Ground::Back => Row::Setab(color),
+    }
+}
+
+/// Makes the color that `ground` names `wanted`. If that is none, the color must be the default one already.
+pub fn color_as<C: Certificate, W: Wire>(
     checked: &C,
     belief: &mut Belief,
     wire: &mut W,
+    ground: Ground,
     wanted: Option<Color>,
 ) -> Result<(), WireFault>
     requires checked { IsChecked (C.table checked.now) }
-    requires now { wanted ≡ None → belief.old.brush.background ≡ None }
+    requires now { wanted ≡ None → color_of ground belief.old.brush ≡ None }
     requires colors { has (C.table checked.now) Op ≡ false → wanted ≡ None }
-    ensures belief { belief.new ≡ record belief.old { brush = record belief.old.brush { background = wanted } } }
+    ensures belief { belief.new ≡ record belief.old { brush = with_color ground wanted belief.old.brush } }
     ensures step { Keeps W.went W.failures wire.old wire.new result (C.table checked.now)
-        (C.table checked.now).longest.setab belief.old belief.new }
+        (color_limit (C.table checked.now) ground) belief.old belief.new }
 {
-    let same = same_color(belief.brush.background, wanted);
-    belief.brush.background = wanted;
+    let same = same_color(color_of(belief.brush, ground), wanted);
+    belief.brush = with_color(belief.brush, ground, wanted);
     if same {
         return Ok(());
     }
     let Some(color) = wanted else {
         return Ok(());
     };
-    match checked.line(Row::Setab(color)) {
-        Some(line) => send_line(checked, Row::Setab(color), line, wire),
-        None => Ok(()),
-    }
+    send_line_of(checked, row_of_color(ground, color), wire)
 }
 
 /// Makes the graphic set active if `graphic`, else the plain one; sends nothing if it is known to be active.
@@ -211,11 +211,7 @@ pub fn set_as<C: Certificate, W: Wire>(
         return Ok(());
     }
     belief.graphic = Some(graphic);
-    let row = row_of_set(graphic);
-    match checked.line(row) {
-        Some(line) => send_line(checked, row, line, wire),
-        None => Ok(()),
-    }
+    send_line_of(checked, row_of_set(graphic), wire)
 }
 
 /// The row whose line makes a set active: the graphic set if `graphic`, else the plain one.
@@ -255,23 +251,4 @@ pub fn print_at<C: Certificate, W: Wire>(
         col: at.col + 1,
     };
     send_all(wire, &[ink.byte])
-}
-
-/// Erases the rest of the line from `at` on by `tail`, the string of `el`. The cursor must be known to be at `at`.
-pub fn erase_tail<C: Certificate, W: Wire>(
-    checked: &C,
-    tail: &[u8],
-    belief: &Belief,
-    wire: &mut W,
-    at: Place,
-) -> Result<(), WireFault>
-    requires checked { IsChecked (C.table checked.now) }
-    requires col { at.col < (C.table checked.now).cols }
-    requires tail { (C.table checked.now).line_of El ≡ Some tail.now }
-    requires place { belief.now.place ≡ at }
-    requires brush { belief.now.brush ≡ plain_brush }
-    ensures step { Makes W.went W.failures wire.old wire.new result (C.table checked.now)
-        (C.table checked.now).longest.erasure (tail_blank at.row at.col) belief.now belief.now }
-{
-    send_line(checked, Row::El, tail, wire)
 }

@@ -5,3 +5,4 @@ pub mod Likeness
 pub mod MarkedLines
 pub mod Plainly
 pub mod Findings
+pub mod Notes

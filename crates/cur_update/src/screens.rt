@@ -31,12 +31,7 @@ impl<'a> Picture for PrintedScreen<'a> {
         ensures value { result ≡ ink_at_with self.now.means.now
             self.now.screen.now row col }
     {
-        let (rows, cols) = self.screen.size();
-        if row >= rows as usize || col >= cols as usize {
-            return Ink::blank();
-        }
-        let cell = self.screen.row(row as u16)[col];
-        ink_of(self.means, self.screen.pair(cell.pair()), cell)
+        ink_on(self.screen, self.means, row, col)
     }
 
     fn shows(&self, row: usize, col: usize, ink: Ink) -> bool {
@@ -77,11 +72,44 @@ impl<'a> Picture for PrintedScreen<'a> {
             self.line_shows(&line[stretch.from..end], ink, text, shown);
             return;
         }
-        for n in 0..stretch.count {
-            let byte = text[n];
-            shown[n] = self.shows(stretch.row, stretch.from + n, Ink { byte, ..ink });
-        }
+        let each = Inks {
+            screen: self.screen,
+            means: self.means,
+        };
+        each.shows_text(stretch, ink, text, shown);
     }
+}
+
+/// The inks of a `PrintedScreen`, asked for one after another.
+#[derive(Drop)]
+struct Inks<'a> {
+    screen: &'a Virtual,
+    means: &'a Means,
+}
+
+impl<'a> Picture for Inks<'a> {
+    ghost use Rattle.cur_update.specs.Inks.{ink_at_with};
+
+    ghost cells = { λ s. ink_at_with s.means.now s.screen.now };
+
+    fn at(&self, row: usize, col: usize) -> Ink
+        ensures value { result ≡ ink_at_with self.now.means.now
+            self.now.screen.now row col }
+    {
+        ink_on(self.screen, self.means, row, col)
+    }
+}
+
+/// The ink of `screen` in line `row` and column `col`, by `means`; outside the screen, a blank one.
+fn ink_on(screen: &Virtual, means: &Means, row: usize, col: usize) -> Ink
+    ensures { result ≡ ink_at_with means.now screen.now row col }
+{
+    let (rows, cols) = screen.size();
+    if row >= rows as usize || col >= cols as usize {
+        return Ink::blank();
+    }
+    let cell = screen.row(row as u16)[col];
+    ink_of(means, screen.pair(cell.pair()), cell)
 }
 
 impl<'a> PrintedScreen<'a> {
@@ -149,15 +177,11 @@ impl<'a> PrintedScreen<'a> {
         ensures room { length text.new ≡ length text.old }
         ensures found { IsTextLike (ink_at_with self.now.means.now self.now.screen.now) stretch like result text.new }
     {
-        let mut n = 0;
-        while n < stretch.count && n < text.len() {
-            match self.byte_like(stretch.row, stretch.from + n, like) {
-                Some(byte) => text[n] = byte,
-                None => return n,
-            }
-            n += 1;
-        }
-        n
+        let each = Inks {
+            screen: self.screen,
+            means: self.means,
+        };
+        each.text_like(stretch, like, text)
     }
 
     /// Whether the screen's `cell` is printed like `ink`.

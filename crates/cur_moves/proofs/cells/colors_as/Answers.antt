@@ -6,17 +6,17 @@ use Rattle.cur_steps.specs.Pieces.{IsPaint}
 use Rattle.cur_steps.specs.Beliefs.{Agrees, colors_limit}
 use Rattle.cur_moves.proofs.cells.colors_as.Goals as goal
 
-pub returns-in_err-foreground_as-clause-step : goal.returns-in_err-foreground_as-clause-step
-returns-in_err-foreground_as-clause-step g c h =
+pub returns-in_err-color_as-clause-step : goal.returns-in_err-color_as-clause-step
+returns-in_err-color_as-clause-step g c h =
     let e = err_from_is_err_and c.from_residual.result c.from_residual.ensures.1 in
     let t = g.C.Certificate.table c.args.checked.now in
     let b = c.args.belief.now in
-    rw e.1 (steps_fail g.W.Wire.went g.W.Wire.failures c.args.wire.now c.foreground_as.new.wire _ _ (IsPaint t) (t.longest.setaf) (colors_limit t) (IsLost t) (Agrees t h b) (Agrees t h c.foreground_as.new.belief) (Agrees t h c.foreground_as.new.belief)
-    (omega arith) (c.in_err-foreground_as.ensures.step h))
+    rw e.1 (steps_fail g.W.Wire.went g.W.Wire.failures c.args.wire.now c.color_as.new.wire _ _ (IsPaint t) (t.longest.setaf) (colors_limit t) (IsLost t) (Agrees t h b) (Agrees t h c.color_as.new.belief) (Agrees t h c.color_as.new.belief)
+    (omega arith) (c.in_err-color_as.ensures.step h))
 
 pub returns-clause-step : goal.returns-clause-step
 returns-clause-step g c h =
     let t = g.C.Certificate.table c.args.checked.now in
     let b = c.args.belief.now in
-    steps_next g.W.Wire.went g.W.Wire.failures g.met.W.Wire.lawful c.args.wire.now c.foreground_as.new.wire c.background_as.new.wire _ c.background_as.result (IsPaint t) (t.longest.setaf) (t.longest.setab) (colors_limit t) (IsLost t)
-    (Agrees t h b) (Agrees t h c.foreground_as.new.belief) (Agrees t h c.background_as.new.belief) (omega arith) (c.in_ok-foreground_as.ensures.step h) (c.background_as.ensures.step h)
+    steps_next g.W.Wire.went g.W.Wire.failures g.met.W.Wire.lawful c.args.wire.now c.color_as.new.wire c.color_as-2.new.wire _ c.color_as-2.result (IsPaint t) (t.longest.setaf) (t.longest.setab) (colors_limit t) (IsLost t)
+    (Agrees t h b) (Agrees t h c.color_as.new.belief) (Agrees t h c.color_as-2.new.belief) (omega arith) (c.in_ok-color_as.ensures.step h) (c.color_as-2.ensures.step h)

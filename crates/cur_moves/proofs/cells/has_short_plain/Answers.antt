@@ -1,7 +1,7 @@
 use Rattle.std.proofs.Common.{◌≡◌, ℕ, ◌≤◌, List, length, true, nat_le, ap, arith}
 use Rattle.std.proofs.lemmas.Bool.Decides.{nat_tests}
 use Rattle.ti_rows.specs.declared.rows.Row.TheVariants.{Sgr, Sgr0}
-use Rattle.ti_conforms.specs.Certified.{or_nothing, text_of}
+use Rattle.ti_conforms.specs.Certified.{or_nothing}
 use Rattle.cur_steps.proofs.Answers.{line_is}
 use Rattle.cur_moves.proofs.cells.has_short_plain.Goals as goal
 

@@ -8,5 +8,5 @@ returns g c =
     let b = c.args.belief.now in
     let e = c.args.erasure in
     record {
-      step = λ h. rw c.row_of_erasure.ensures at c.send_line.ensures.step t.longest.erasure h (erased e c.args.at.row c.args.at.col h) b b (erasure_paints e) (erasure_limit t e) (turns_erased t h b e c.args.at.row c.args.at.col c.requires.col c.requires.place c.requires.brush);
+      step = λ h. rw c.row_of_part.ensures at c.send_line.ensures.step t.longest.erasure h (erased e.part e.at.row e.at.col h) b b (erasure_paints e.part) (erasure_limit t e.part) (turns_erased t h b e.part e.at.row e.at.col c.requires.col c.requires.place c.requires.brush);
     }

@@ -6,7 +6,8 @@ use Rattle.cur_moves.proofs.texts.print_text.Goals as goal
 pub returns-clause-step : goal.returns-clause-step
 returns-clause-step g c old =
     let t = g.C.Certificate.table c.args.target.now.checked.now in
-    let n = c.args.count in
+    let x = c.args.cells in
+    let n = x.count in
     let text = c.args.text.now in
-    text_steps g.W.Wire.went g.W.Wire.failures c.args.wire.now c.send_all.new.wire c.send_all.result t c.rows.ensures.checked old (g.N.Picture.cells c.args.target.now.shown.now) c.requires.drawable c.args.belief.now c.args.at.row c.args.at.col n (take n text)
+    text_steps g.W.Wire.went g.W.Wire.failures c.args.wire.now c.send_all.new.wire c.send_all.result t c.rows.ensures.checked old (g.N.Picture.cells c.args.target.now.shown.now) c.requires.drawable c.args.belief.now x.row x.from n (take n text)
     (omega (arith, length-take n text, c.requires.long)) c.requires.row c.requires.within c.requires.alike (λ k lt. c.requires.bytes k lt ∙ sym (get_or-take n text k 0 lt)) c.requires.place c.send_all.ensures.sends

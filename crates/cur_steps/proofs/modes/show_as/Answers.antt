@@ -1,9 +1,9 @@
-use Rattle.std.proofs.Common.{◌≡◌, ◌*◌, [], ap, sym, ◌∙◌, arith, refl}
+use Rattle.std.proofs.Common.{◌*◌, [], refl, sym, arith}
 use Rattle.cur_wires.proofs.Stops.{spells_as, spells_nothing}
 use Rattle.ti_conforms.specs.Certified.{IsPiece, IsLost}
-use Rattle.cur_steps.specs.Beliefs.{Agrees, Hidden, Normal, Prominent, changes, mode_text, modes_limit, setting_text}
+use Rattle.cur_steps.specs.Beliefs.{Agrees, Hidden, Normal, Prominent, changes, mode_text, modes_limit}
 use Rattle.cur_steps.proofs.Actions.{agrees_lost}
-use Rattle.cur_steps.proofs.Answers.{once, text_changed, text_same}
+use Rattle.cur_steps.proofs.Answers.{mode_spelled, text_same}
 use Rattle.cur_steps.proofs.modes.show_as.Goals as goal
 
 pub returns-then-is_mode-clause-step : goal.returns-then-is_mode-clause-step
@@ -18,26 +18,14 @@ returns-then-is_mode-clause-step g c h =
 pub returns-in-Hidden-clause-step : goal.returns-in-Hidden-clause-step
 returns-in-Hidden-clause-step g c h =
     let t = g.C.Certificate.table c.args.checked.now in
-    let b = c.args.belief.now in
-    let changed = c.if-is_mode.ensures.counted refl in
-    let so : setting_text t Hidden ≡ mode_text t b.mode c.args.wanted = ap (setting_text t) (sym c.in-Hidden.is) ∙ sym (text_changed t b.mode c.args.wanted changed) in
-    spells_as g.W.Wire.went g.W.Wire.failures c.args.wire.now c.hide.new.wire c.hide.result (setting_text t Hidden) (mode_text t b.mode c.args.wanted) (IsPiece t) t.longest.civis (changes b.mode c.args.wanted * modes_limit t) (IsLost t) (Agrees t h b) (Agrees t h c.hide.new.belief)
-    so (omega (arith, once _ (modes_limit t) changed)) (c.hide.ensures.step h)
+    mode_spelled t h c.args.belief.now.mode c.args.wanted Hidden t.longest.civis c.in-Hidden.is (c.if-is_mode.ensures.counted refl) (omega arith) (c.change_mode.ensures.step h)
 
 pub returns-in-Normal-clause-step : goal.returns-in-Normal-clause-step
 returns-in-Normal-clause-step g c h =
     let t = g.C.Certificate.table c.args.checked.now in
-    let b = c.args.belief.now in
-    let changed = c.if-is_mode.ensures.counted refl in
-    let so : setting_text t Normal ≡ mode_text t b.mode c.args.wanted = ap (setting_text t) (sym c.in-Normal.is) ∙ sym (text_changed t b.mode c.args.wanted changed) in
-    spells_as g.W.Wire.went g.W.Wire.failures c.args.wire.now c.show.new.wire c.show.result (setting_text t Normal) (mode_text t b.mode c.args.wanted) (IsPiece t) t.longest.cnorm (changes b.mode c.args.wanted * modes_limit t) (IsLost t) (Agrees t h b) (Agrees t h c.show.new.belief)
-    so (omega (arith, once _ (modes_limit t) changed)) (c.show.ensures.step h)
+    mode_spelled t h c.args.belief.now.mode c.args.wanted Normal t.longest.cnorm c.in-Normal.is (c.if-is_mode.ensures.counted refl) (omega arith) (c.change_mode-in-Normal.ensures.step h)
 
 pub returns-in-Prominent-clause-step : goal.returns-in-Prominent-clause-step
 returns-in-Prominent-clause-step g c h =
     let t = g.C.Certificate.table c.args.checked.now in
-    let b = c.args.belief.now in
-    let changed = c.if-is_mode.ensures.counted refl in
-    let so : setting_text t Prominent ≡ mode_text t b.mode c.args.wanted = ap (setting_text t) (sym c.in-Prominent.is) ∙ sym (text_changed t b.mode c.args.wanted changed) in
-    spells_as g.W.Wire.went g.W.Wire.failures c.args.wire.now c.show_prominently.new.wire c.show_prominently.result (setting_text t Prominent) (mode_text t b.mode c.args.wanted) (IsPiece t) (modes_limit t) (changes b.mode c.args.wanted * modes_limit t) (IsLost t) (Agrees t h b) (Agrees t h c.show_prominently.new.belief)
-    so (omega (arith, once _ (modes_limit t) changed)) (c.show_prominently.ensures.step h)
+    mode_spelled t h c.args.belief.now.mode c.args.wanted Prominent (modes_limit t) c.in-Prominent.is (c.if-is_mode.ensures.counted refl) (omega arith) (c.show_prominently.ensures.step h)

@@ -6,16 +6,16 @@ use Rattle.ti_conforms.specs.Certified.{IsPiece, IsLost, text_of}
 use Rattle.cur_steps.specs.Beliefs.{Agrees, modes_limit}
 use Rattle.cur_steps.proofs.modes.show_prominently.Goals as goal
 
-pub returns-in_err-show-clause-step : goal.returns-in_err-show-clause-step
-returns-in_err-show-clause-step g c h =
+pub returns-in_err-change_mode-clause-step : goal.returns-in_err-change_mode-clause-step
+returns-in_err-change_mode-clause-step g c h =
     let e = err_from_is_err_and c.from_residual.result c.from_residual.ensures.1 in
     let t = g.C.Certificate.table c.args.checked.now in
     let b = c.args.belief.now in
-    rw e.1 (spells_fail g.W.Wire.went g.W.Wire.failures c.args.wire.now c.show.new.wire _ _ (text_of t Cnorm) (text_of t Cvvis) (IsPiece t) t.longest.cnorm (modes_limit t) (IsLost t) (Agrees t h b) (Agrees t h c.show.new.belief) (Agrees t h c.show.new.belief) (omega arith) (c.in_err-show.ensures.step h))
+    rw e.1 (spells_fail g.W.Wire.went g.W.Wire.failures c.args.wire.now c.change_mode.new.wire _ _ (text_of t Cnorm) (text_of t Cvvis) (IsPiece t) t.longest.cnorm (modes_limit t) (IsLost t) (Agrees t h b) (Agrees t h c.change_mode.new.belief) (Agrees t h c.change_mode.new.belief) (omega arith) (c.in_err-change_mode.ensures.step h))
 
 pub returns-clause-step : goal.returns-clause-step
 returns-clause-step g c h =
     let t = g.C.Certificate.table c.args.checked.now in
     let b = c.args.belief.now in
-    spells_next g.W.Wire.went g.W.Wire.failures g.met.W.Wire.lawful c.args.wire.now c.show.new.wire c.make_prominent.new.wire _ c.make_prominent.result (text_of t Cnorm) (text_of t Cvvis) (IsPiece t) t.longest.cnorm t.longest.cvvis (modes_limit t) (IsLost t)
-    (Agrees t h b) (Agrees t h c.show.new.belief) (Agrees t h c.make_prominent.new.belief) (omega arith) (c.in_ok-show.ensures.step h) (c.make_prominent.ensures.step h)
+    spells_next g.W.Wire.went g.W.Wire.failures g.met.W.Wire.lawful c.args.wire.now c.change_mode.new.wire c.change_mode-2.new.wire _ c.change_mode-2.result (text_of t Cnorm) (text_of t Cvvis) (IsPiece t) t.longest.cnorm t.longest.cvvis (modes_limit t) (IsLost t)
+    (Agrees t h b) (Agrees t h c.change_mode.new.belief) (Agrees t h c.change_mode-2.new.belief) (omega arith) (c.in_ok-change_mode.ensures.step h) (c.change_mode-2.ensures.step h)

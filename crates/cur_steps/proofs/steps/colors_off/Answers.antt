@@ -1,8 +1,6 @@
 use Rattle.std.proofs.Common.{None, arith, refl}
-use Rattle.ti_rows.specs.declared.rows.Row.TheVariants.{Op}
 use Rattle.cur_steps.specs.Beliefs.{Belief}
 use Rattle.cur_steps.proofs.Actions.{acts_nothing}
-use Rattle.cur_steps.proofs.Answers.{has_none}
 use Rattle.cur_steps.proofs.Turns.{colors_gone, no_colors, no_color_lines}
 use Rattle.cur_steps.proofs.steps.colors_off.Goals as goal
 
@@ -13,15 +11,8 @@ returns-then-plain-clause-step g c h =
     let d : Belief = record b { brush = record b.brush { foreground = None; background = None } } in
     acts_nothing g.W.Wire.went g.W.Wire.failures g.met.W.Wire.lawful c.args.wire.now t c.requires.checked _ h h b d (no_colors t h b (c.is_uncolored-plain.ensures.foreground c.if-plain.true) (c.is_uncolored-plain.ensures.background c.if-plain.true))
 
-pub returns-in-Some-clause-step : goal.returns-in-Some-clause-step
-returns-in-Some-clause-step g c h =
+pub returns-clause-step : goal.returns-clause-step
+returns-clause-step g c h =
     let t = g.C.Certificate.table c.args.checked.now in
     let b = c.args.belief.now in
-    c.send_line.ensures.step t.longest.op h h b _ refl (omega arith) (colors_gone t h b)
-
-pub returns-in-None-clause-step : goal.returns-in-None-clause-step
-returns-in-None-clause-step g c h =
-    let t = g.C.Certificate.table c.args.checked.now in
-    let b = c.args.belief.now in
-    let d : Belief = record b { brush = record b.brush { foreground = None; background = None } } in
-    acts_nothing g.W.Wire.went g.W.Wire.failures g.met.W.Wire.lawful c.args.wire.now t c.requires.checked _ h h b d (no_color_lines t h b (has_none t Op (c.in-None.ensures.none refl)))
+    c.send_line_of.ensures.step t.longest.op h b _ refl (omega arith) (record { turns = λ there. colors_gone t h b; stays = λ none. no_color_lines t h b none })

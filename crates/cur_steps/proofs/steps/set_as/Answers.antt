@@ -1,7 +1,6 @@
-use Rattle.std.proofs.Common.{Some, refl}
-use Rattle.cur_steps.specs.Beliefs.{Belief, set_row}
+use Rattle.std.proofs.Common.{Some}
+use Rattle.cur_steps.specs.Beliefs.{Passes, set_row}
 use Rattle.cur_steps.proofs.Actions.{acts_nothing}
-use Rattle.cur_steps.proofs.Answers.{has_none}
 use Rattle.cur_steps.proofs.Turns.{set_chosen, set_limit, set_paints, set_absent}
 use Rattle.cur_steps.proofs.steps.set_as.Goals as goal
 
@@ -11,16 +10,10 @@ returns-then-is_active-clause-step g c h =
     let b = c.args.belief.now in
     acts_nothing g.W.Wire.went g.W.Wire.failures g.met.W.Wire.lawful c.args.wire.now t c.requires.checked _ h h b b (λ s x. x)
 
-pub returns-in-Some-clause-step : goal.returns-in-Some-clause-step
-returns-in-Some-clause-step g c h =
+pub returns-clause-step : goal.returns-clause-step
+returns-clause-step g c h =
     let t = g.C.Certificate.table c.args.checked.now in
     let b = c.args.belief.now in
-    c.send_line.ensures.step t.longest.sets h h b (record b { graphic = Some c.args.graphic }) (rw c.row_of_set-row.ensures (set_paints c.args.graphic)) (rw c.row_of_set-row.ensures (set_limit t c.args.graphic)) (rw c.row_of_set-row.ensures (set_chosen t h b c.args.graphic))
-
-pub returns-in-None-clause-step : goal.returns-in-None-clause-step
-returns-in-None-clause-step g c h =
-    let t = g.C.Certificate.table c.args.checked.now in
-    let b = c.args.belief.now in
-    let d : Belief = record b { graphic = Some c.args.graphic } in
-    let none = rw c.row_of_set-row.ensures at c.in-None.ensures.none refl in
-    acts_nothing g.W.Wire.went g.W.Wire.failures g.met.W.Wire.lawful c.args.wire.now t c.requires.checked _ h h b d (set_absent t c.requires.checked c.args.graphic c.requires.lines (has_none t (set_row c.args.graphic) none) h b)
+    let set = c.args.graphic in
+    let passes : Passes t (set_row set) h b (record b { graphic = Some set }) = record { turns = λ there. set_chosen t h b set; stays = λ none. set_absent t c.requires.checked set c.requires.lines none h b } in
+    c.send_line_of.ensures.step t.longest.sets h b (record b { graphic = Some set }) (rw c.row_of_set.ensures (set_paints set)) (rw c.row_of_set.ensures (set_limit t set)) (rw c.row_of_set.ensures passes)

@@ -1,4 +1,4 @@
-use Rattle.std.proofs.Common.{◌*◌, ◌≤◌, refl, arith}
+use Rattle.std.proofs.Common.{◌*◌, ◌≤◌, arith}
 use Rattle.std.proofs.lemmas.Result.{err_from_is_err_and}
 use Rattle.ti_conforms.specs.Certified.{cell_limit}
 use Rattle.cur_moves.specs.Erasures.{erased}
@@ -26,9 +26,9 @@ returns g c =
     let at = g.C.Certificate.table c.mend_parts.new.self.screens.now.checked.now in
     let limit = cell_limit at in
     let one : limit ≤ 1 * limit = omega arith in
-    let erases : Mends g.C.Certificate.table g.O.Picture.cells g.N.Picture.cells g.W.Wire.went g.W.Wire.failures c.mend_parts.new.self _ c.erase_from.result (λ s. 1) (λ s. mended s row col) (λ s. erased Rest row col (mended s row col)) =
-    mends_by limit (erased Rest row col (mixed there then row col)) (c.erase_from.ensures.step (mixed there then row col) (mixed_before there then row col)) one (itself at (erased Rest row col (mixed there then row col)))
-    c.erase_from.ensures.mode (record { screens = refl; belief = refl; wire = refl }) in
+    let erases : Mends g.C.Certificate.table g.O.Picture.cells g.N.Picture.cells g.W.Wire.went g.W.Wire.failures c.mend_parts.new.self _ c.erase.result (λ s. 1) (λ s. mended s row col) (λ s. erased Rest row col (mended s row col)) =
+    mends_by limit (erased Rest row col (mixed there then row col)) (c.erase.ensures.step (mixed there then row col) (mixed_before there then row col)) one (itself at (erased Rest row col (mixed there then row col)))
+    c.erase.ensures.mode c.erase.ensures.same in
     record {
       mends = mends_as (line_then c.args.row c.args.columns.from c.args.columns.end g.met.W.Wire.lawful c.in_ok-mend_parts.ensures.mends erases c.requires.start (omega (arith, c.requires.col)) (omega (arith, c.requires.differs)) c.requires.before)
           (omega arith) (itself t (mixed old new row 0)) (λ i j li lj. rest_new old new t.rows t.cols row col i j li lj c.requires.blank);

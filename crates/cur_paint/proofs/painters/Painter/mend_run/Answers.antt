@@ -11,4 +11,4 @@ returns-in-Some g c =
     let new = g.N.Picture.cells c.args.self.now.screens.now.new.now in
     let run = c.if-not-is_run.ensures in
     let x = c.args.cells in
-    record { mends = cells_by x.row x.from x.count (erased (Part x.count) x.row x.from) c.erase_from.ensures.step (run.differs refl) (λ i j li lj. mixed_run old new x.row x.from x.count i j (run.blank refl)) c.erase_from.ensures.mode (record { screens = refl; belief = refl; wire = refl }) }
+    record { mends = cells_by x.row x.from x.count (erased (Part x.count) x.row x.from) c.erase.ensures.step (run.differs refl) (λ i j li lj. mixed_run old new x.row x.from x.count i j (run.blank refl)) c.erase.ensures.mode c.erase.ensures.same }

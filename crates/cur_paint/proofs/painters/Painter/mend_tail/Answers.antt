@@ -1,6 +1,8 @@
 use Rattle.std.proofs.Common.{ℕ, ◌-◌, ◌<◌, refl, subst, arith}
 use Rattle.ti_conforms.specs.Certified.{cell_limit}
-use Rattle.cur_steps.specs.Inks.{mixed, tail_blank}
+use Rattle.cur_moves.specs.Erasures.{erased}
+use Rattle.cur_moves.specs.declared.erasures.ErasedPart.TheVariants.{Tail}
+use Rattle.cur_steps.specs.Inks.{mixed}
 use Rattle.cur_paint.specs.Differ.{span}
 use Rattle.cur_paint.proofs.Mixtures.{mixed_before, mixed_blank, mixed_rest, some_times}
 use Rattle.cur_paint.proofs.Painting.{cells_from, mends_by, mends_none}
@@ -33,6 +35,6 @@ returns-in-Some g c =
     let P : ℕ → Type 0 = λ n. 0 < span old new row from (n - from) in
     let some : 0 < span old new row from (t.cols - from) = subst P c.cols.ensures.value (c.if-not-differs_in.ensures refl) in
     record {
-      mends = mends_by (cell_limit t) (tail_blank row from (mixed old new row from)) (c.blank_tail.ensures.step (mixed old new row from) (mixed_before old new row from))
-          (some_times _ (cell_limit t) some) (λ i j li lj. mixed_blank old new row from t.cols i j lj (c.requires.blank (omega (arith, c.requires.order, c.if-columns.false)))) c.blank_tail.ensures.mode (record { screens = refl; belief = refl; wire = refl });
+      mends = mends_by (cell_limit t) (erased Tail row from (mixed old new row from)) (c.erase.ensures.step (mixed old new row from) (mixed_before old new row from))
+          (some_times _ (cell_limit t) some) (λ i j li lj. mixed_blank old new row from t.cols i j lj (c.requires.blank (omega (arith, c.requires.order, c.if-columns.false)))) c.erase.ensures.mode c.erase.ensures.same;
     }

@@ -25,9 +25,7 @@ loop-done-preserved-then-shows g c =
 pub print_cell-requires-clause-changed : goal.print_cell-requires-clause-changed
 print_cell-requires-clause-changed g c =
     let p = c.loop-done.self.screens.now in
-    let old = g.O.Picture.cells p.old.now in
-    let at = c.args.cells.from + c.loop-done.done in
-    found_different old (g.N.Picture.cells p.new.now) c.args.cells.row at (old c.args.cells.row at) c.at-ink.result refl c.at-ink.ensures.value c.if-shows.ensures.value
+    found_different (g.O.Picture.cells p.old.now) (g.N.Picture.cells p.new.now) c.args.cells.row (c.args.cells.from + c.loop-done.done) c.at-ink.result c.at-ink.ensures.value c.if-shows.ensures.value
 
 pub returns-in_err-print_cell : goal.returns-in_err-print_cell
 returns-in_err-print_cell g c =

@@ -3,9 +3,9 @@ use Rattle.std.proofs.lemmas.Bool.{cases_lt}
 use Rattle.std.proofs.lemmas.List.{get_or_read_under, get_or-set_other, length-set}
 use Rattle.cur_drawing.specs.Cells.{Content, space}
 use Rattle.cur_steps.specs.Inks.{same}
-use Rattle.cur_steps.proofs.StretchFacts.{one_more}
 use Rattle.cur_screens.specs.VirtualScreen.{colors_at}
 use Rattle.cur_update.specs.Inks.{is_other, printed_cell}
+use Rattle.cur_update.proofs.Notes.{note_more}
 use Rattle.cur_update.proofs.Plainly.{other_told, told_other}
 use Rattle.cur_update.proofs.screens.PrintedScreen.line_shows.Goals as goal
 
@@ -37,8 +37,7 @@ loop-n-preserved c =
     let one = c.shows_cell.result in
     record {
       size = length-set c.loop-n.shown n one ∙ c.loop-n.invariant.size;
-      found = one_more (λ k a. a ≡ same (printed_cell s.means.now s.screen.now (slice_index_or c.args.line.now k space)) (record c.args.ink { byte = slice_index_or c.args.text.now k 0 })) c.loop-n.shown n one false
-          (omega (arith, c.loop-n-test.true, c.requires.room, c.loop-n.invariant.size)) c.loop-n.invariant.found
-          (subst (λ (x : Content). one ≡ same (printed_cell s.means.now s.screen.now x) (record c.args.ink { byte = slice_index_or c.args.text.now n 0 })) (get_or_read_under c.args.line.now n (length c.args.line.now) c.index-line-n.result space c.index-line-n.is c.loop-n-test.true refl) c.shows_cell.ensures);
+      found = note_more s.means.now s.screen.now c.args.line.now c.args.ink c.args.text.now c.loop-n.shown n c.index-line-n.result one
+          (omega (arith, c.loop-n-test.true, c.requires.room, c.loop-n.invariant.size)) c.loop-n.invariant.found (get_or_read_under c.args.line.now n (length c.args.line.now) c.index-line-n.result space c.index-line-n.is c.loop-n-test.true refl) c.shows_cell.ensures;
       rest = λ k past lt. get_or-set_other c.loop-n.shown n k one false (λ (e : k ≡ n). absurd (omega (arith, e, past))) ∙ c.loop-n.invariant.rest k (omega (arith, past)) lt;
     }

@@ -1,13 +1,13 @@
 use Rattle.std.proofs.Common.{◌+◌, arith}
 use Rattle.cur_paint.proofs.Mixtures.{all_grows, all_more}
 use Rattle.cur_paint.proofs.Ranges.{span_within}
-use Rattle.cur_paint.proofs.counts.first_differs.Goals as goal
+use Rattle.cur_paint.proofs.screens.Screens.first_differs.Goals as goal
 
 pub returns : goal.returns
 returns g c e =
-    let t = g.C.Certificate.table c.args.screens.now.checked.now in
-    let old = g.O.Picture.cells c.args.screens.now.old.now in
-    let new = g.N.Picture.cells c.args.screens.now.new.now in
+    let t = g.C.Certificate.table c.args.self.now.checked.now in
+    let old = g.O.Picture.cells c.args.self.now.old.now in
+    let new = g.N.Picture.cells c.args.self.now.new.now in
     let row = c.lines-lines.result.from in
     let x = c.columns-columns.result in
     let cols = c.cols-cols.result in
