@@ -92,10 +92,7 @@ impl<'a> Picture for Inks<'a> {
 
     ghost cells = { λ s. ink_at_with s.means.now s.screen.now };
 
-    fn at(&self, row: usize, col: usize) -> Ink
-        ensures value { result ≡ ink_at_with self.now.means.now
-            self.now.screen.now row col }
-    {
+    fn at(&self, row: usize, col: usize) -> Ink {
         ink_on(self.screen, self.means, row, col)
     }
 }
