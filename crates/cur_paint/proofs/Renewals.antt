@@ -24,14 +24,14 @@ use Rattle.cur_steps.specs.declared.beliefs.Mode.TheVariants.{Normal}
 use Rattle.cur_steps.proofs.Turns.{free_of, by_screen, look_at-drawn, stands_at}
 use Rattle.cur_paint.specs.Cleared.{IsLeft, at_corner, at_start}
 use Rattle.cur_paint.specs.Rests.{EndsAt, IsRested, IsSet}
-use Rattle.cur_paint.specs.Limits.{fresh_limit, IsPlaced, IsWithin, paint_limit}
+use Rattle.cur_paint.specs.Limits.{fresh_limit, IsPlaced, IsWithin, paint_limit, renewal_limit}
 use Rattle.cur_paint.specs.Modes.{OnlyPaints, shown_mode}
 use Rattle.cur_paint.specs.Scenes.{Sets}
 use Rattle.cur_paint.specs.Update.{Anew, Begins, Draws, IsFresh, Meets, opening, refresh_limit}
 use Rattle.cur_paint.specs.declared.updates.Wanted.{Wanted}
 use Rattle.cur_paint.specs.declared.updates.Status.{Status}
 use Rattle.cur_paint.specs.declared.updates.Status.TheVariants.{Fresh, Known, Lost}
-use Rattle.cur_steps.proofs.Actions.{line_leads}
+use Rattle.cur_steps.proofs.Actions.{agrees_lost, line_leads}
 use Rattle.cur_paint.proofs.Bounds.{placed_at}
 use Rattle.cur_paint.proofs.ModeFacts.{quiet_first}
 use Rattle.cur_paint.proofs.Agreeing.{blank_agrees}
@@ -100,6 +100,34 @@ pub clear_leads : (t : Table) → IsChecked t → (line : List ℕ) → t.line_o
     → Leads (IsPiece t) (length line) (IsLost t) (Agrees t g b) line (Agrees t (λ i j. blank_ink) (at_corner b))
 clear_leads t checked line is g b plain = line_leads (IsPiece t) t checked Clear line is (Line Clear is) (length line) (omega arith) g (λ i j. blank_ink) b (at_corner b) (all_cleared t g b plain)
 
+one_line : (o : Option (List ℕ)) (a b : List ℕ) → o ≡ Some a → o ≡ Some b → a ≡ b
+one_line o a b e f = cc
+
+-- the string that clears was cut short; whichever line is meant, it is the one that was sent
+pub clear_cut : {W F : Type 0} (went : W → W → List ℕ → Type 0) (failures : W → ℕ) (a z : W) (u : F) (t : Table) (sent line : List ℕ) (shown new : ℕ → ℕ → Ink) (b : Belief) (w : Wanted)
+    → IsChecked t → t.line_of Clear ≡ Some sent → t.line_of Clear ≡ Some line → b.brush ≡ plain_brush → StopsIn went failures a z sent
+    → Anew {T = Unit {0}} {E = F} went failures a z (Err u) t (length line + renewal_limit t (λ i j. blank_ink) new) (Agrees t shown b) (Agrees t new (at_corner b)) line b.mode w
+clear_cut {W} {F} went failures a z u t sent line shown new b w checked its is plain stops =
+    let blank : ℕ → ℕ → Ink = λ i j. blank_ink in
+    let limit : ℕ = renewal_limit t blank new in
+    let P : List ℕ → Type 0 = λ l. Anew {T = Unit {0}} {E = F} went failures a z (Err u) t (length l + limit) (Agrees t shown b) (Agrees t new (at_corner b)) l b.mode w in
+    subst P (one_line (t.line_of Clear) sent line its is)
+    (anew_failed went failures a z u t (length sent + limit) (Agrees t shown b) (Agrees t blank (at_corner b)) (Agrees t new (at_corner b)) sent b.mode w (agrees_lost t checked blank (at_corner b)) (omega arith)
+    (clear_leads t checked sent its shown b plain) stops)
+
+-- it went out, and all was painted
+pub clear_then : {W T E : Type 0} (went : W → W → List ℕ → Type 0) (failures : W → ℕ) → IsWire went failures → (a m z : W) (answer : Result T E) (t : Table) (sent line : List ℕ) (shown new : ℕ → ℕ → Ink) (b after : Belief) (w : Wanted)
+    → IsChecked t → t.line_of Clear ≡ Some sent → t.line_of Clear ≡ Some line → b.brush ≡ plain_brush → went a m sent
+    → Sets went failures m z answer t (renewal_limit t (λ i j. blank_ink) new) b.mode w.cursor w.mode (Agrees t (λ i j. blank_ink) (at_corner b)) (Agrees t new after)
+    → Anew went failures a z answer t (length line + renewal_limit t (λ i j. blank_ink) new) (Agrees t shown b) (Agrees t new after) line b.mode w
+clear_then went failures laws a m z answer t sent line shown new b after w checked its is plain goes rest =
+    let blank : ℕ → ℕ → Ink = λ i j. blank_ink in
+    let limit : ℕ = renewal_limit t blank new in
+    let P : List ℕ → Type 0 = λ l. Anew went failures a z answer t (length l + limit) (Agrees t shown b) (Agrees t new after) l b.mode w in
+    subst P (one_line (t.line_of Clear) sent line its is)
+    (anew_then went failures laws a m z answer t (length sent + limit) (Agrees t shown b) (Agrees t blank (at_corner b)) (Agrees t new after) sent b.mode w limit (omega arith)
+    (clear_leads t checked sent its shown b plain) goes rest)
+
 -- bytes that draw, from the states that the status allows
 draws_by : {W T E : Type 0} {went : W → W → List ℕ → Type 0} {failures : W → ℕ} {a z : W} {answer : Result T E} (t : Table) (shown g : ℕ → ℕ → Ink) (w : Wanted) (clear : Bool) (status : Status) (b after : Belief)
     (step : Steps went failures a z answer (IsPiece t) (refresh_limit t shown g status b (record w { clear = clear })) (IsLost t) (Meets t shown status b) (Agrees t g after)) → Begins t status clear step.bytes
@@ -115,16 +143,16 @@ draws_by {W} {T} {E} {went} {failures} {a} {z} {answer} t shown g w clear status
   quiet = quiet;
 }
 
-pub draws_fresh : {W T E : Type 0} (went : W → W → List ℕ → Type 0) (failures : W → ℕ) (a z : W) (answer : Result T E) (t : Table) (shown g : ℕ → ℕ → Ink) (w : Wanted) (status : Status) (b after : Belief) → status ≡ Fresh
+pub draws_fresh : {W T E : Type 0} {went : W → W → List ℕ → Type 0} {failures : W → ℕ} {a z : W} {answer : Result T E} {t : Table} {shown g : ℕ → ℕ → Ink} {w : Wanted} {status : Status} {b after : Belief} → status ≡ Fresh
     → Anew went failures a z answer t (fresh_limit t) (IsLeft t (Some Normal)) (Agrees t g after) t.resync (Some Normal) w → IsWithin t w.cursor → OnOk answer (IsSet w after) → Draws went failures a z answer t shown g w status b after
-draws_fresh went failures a z answer t shown g w status b after e h within set =
+draws_fresh {W} {T} {E} {went} {failures} {a} {z} {answer} {t} {shown} {g} {w} {status} {b} {after} e h within set =
     let D : State → Type 0 = then_kind answer (Agrees t g after) (IsLost t) in
     let P : Status → Type 0 = λ x. Draws went failures a z answer t shown g w x b after in
     subst P (sym e) (draws_by t shown g w w.clear Fresh b after (record { bytes = h.step.bytes; leads = leads_wider (IsPiece t) (fresh_limit t) (fresh_limit t) (IsLost t) (IsLeft t (Some Normal)) D (IsFresh t) D h.step.bytes (omega arith) (λ s x. record { lost = x.lost; seen = x.visible }) (λ s x. x) h.step.leads; sends = h.step.sends }) h.begins h.quiet within set)
 
-pub draws_lost : {W T E : Type 0} (went : W → W → List ℕ → Type 0) (failures : W → ℕ) (a z : W) (answer : Result T E) (t : Table) (shown g : ℕ → ℕ → Ink) (w : Wanted) (status : Status) (b after : Belief) → status ≡ Lost
+pub draws_lost : {W T E : Type 0} {went : W → W → List ℕ → Type 0} {failures : W → ℕ} {a z : W} {answer : Result T E} {t : Table} {shown g : ℕ → ℕ → Ink} {w : Wanted} {status : Status} {b after : Belief} → status ≡ Lost
     → Anew went failures a z answer t (fresh_limit t) (IsLeft t None) (Agrees t g after) t.resync None w → IsWithin t w.cursor → OnOk answer (IsSet w after) → Draws went failures a z answer t shown g w status b after
-draws_lost went failures a z answer t shown g w status b after e h within set =
+draws_lost {W} {T} {E} {went} {failures} {a} {z} {answer} {t} {shown} {g} {w} {status} {b} {after} e h within set =
     let D : State → Type 0 = then_kind answer (Agrees t g after) (IsLost t) in
     let P : Status → Type 0 = λ x. Draws went failures a z answer t shown g w x b after in
     subst P (sym e) (draws_by t shown g w w.clear Lost b after (record { bytes = h.step.bytes; leads = leads_wider (IsPiece t) (fresh_limit t) (fresh_limit t) (IsLost t) (IsLeft t None) D (IsLost t) D h.step.bytes (omega arith) (λ s x. record { lost = x; seen = tt }) (λ s x. x) h.step.leads; sends = h.step.sends }) h.begins h.quiet within set)
@@ -133,23 +161,23 @@ as_wanted : (w : Wanted) (x : Bool) → w.clear ≡ x → w ≡ record w { clear
 as_wanted w x e = ap (λ (y : Bool). record w { clear = y }) e
 
 -- a known screen was mended
-pub draws_sets : {W T E : Type 0} (went : W → W → List ℕ → Type 0) (failures : W → ℕ) (a z : W) (answer : Result T E) (t : Table) (shown g : ℕ → ℕ → Ink) (w : Wanted) (b after : Belief)
+pub draws_sets : {W T E : Type 0} {went : W → W → List ℕ → Type 0} {failures : W → ℕ} {a z : W} {answer : Result T E} {t : Table} {shown g : ℕ → ℕ → Ink} {b after : Belief} (w : Wanted)
     → Sets went failures a z answer t (paint_limit t shown g b w.cursor w.mode) b.mode w.cursor w.mode (Agrees t shown b) (Agrees t g after)
     → IsWithin t w.cursor → OnOk answer (IsSet w after) → Draws went failures a z answer t shown g (record w { clear = false }) Known b after
-draws_sets went failures a z answer t shown g w b after h within set = draws_by t shown g w false Known b after h.step tt h.quiet within set
+draws_sets {W} {T} {E} {went} {failures} {a} {z} {answer} {t} {shown} {g} {b} {after} w h within set = draws_by t shown g w false Known b after h.step tt h.quiet within set
 
 -- under other words for what is known and wanted
-pub draws_known : {W T E : Type 0} (went : W → W → List ℕ → Type 0) (failures : W → ℕ) (a z : W) (answer : Result T E) (t : Table) (shown g : ℕ → ℕ → Ink) (w : Wanted) (status : Status) (b after : Belief) → status ≡ Known → w.clear ≡ false
+pub draws_known : {W T E : Type 0} {went : W → W → List ℕ → Type 0} {failures : W → ℕ} {a z : W} {answer : Result T E} {t : Table} {shown g : ℕ → ℕ → Ink} {w : Wanted} {status : Status} {b after : Belief} → status ≡ Known → w.clear ≡ false
     → Draws went failures a z answer t shown g (record w { clear = false }) Known b after → Draws went failures a z answer t shown g w status b after
-draws_known went failures a z answer t shown g w status b after e f h =
+draws_known {W} {T} {E} {went} {failures} {a} {z} {answer} {t} {shown} {g} {w} {status} {b} {after} e f h =
     let P : Status → Type 0 = λ x. Draws went failures a z answer t shown g w x b after in
     let Q : Wanted → Type 0 = λ x. Draws went failures a z answer t shown g x Known b after in
     subst P (sym e) (subst Q (sym (as_wanted w false f)) h)
 
-pub draws_clear : {W T E : Type 0} (went : W → W → List ℕ → Type 0) (failures : W → ℕ) (a z : W) (answer : Result T E) (t : Table) (shown g : ℕ → ℕ → Ink) (w : Wanted) (status : Status) (b after : Belief) → status ≡ Known → w.clear ≡ true
-    → (line : List ℕ) → t.line_of Clear ≡ Some line → (n : ℕ) → n ≤ fresh_limit t → Anew went failures a z answer t n (Agrees t shown b) (Agrees t g after) line b.mode w
+pub draws_clear : {W T E : Type 0} {went : W → W → List ℕ → Type 0} {failures : W → ℕ} {a z : W} {answer : Result T E} {t : Table} {shown g : ℕ → ℕ → Ink} {w : Wanted} {status : Status} {b after : Belief} {line : List ℕ} {n : ℕ} → status ≡ Known → w.clear ≡ true
+    → t.line_of Clear ≡ Some line → n ≤ fresh_limit t → Anew went failures a z answer t n (Agrees t shown b) (Agrees t g after) line b.mode w
     → IsWithin t w.cursor → OnOk answer (IsSet w after) → Draws went failures a z answer t shown g w status b after
-draws_clear went failures a z answer t shown g w status b after e f line is n le h within set =
+draws_clear {W} {T} {E} {went} {failures} {a} {z} {answer} {t} {shown} {g} {w} {status} {b} {after} {line} {n} e f is le h within set =
     let P : Status → Type 0 = λ x. Draws went failures a z answer t shown g w x b after in
     let Q : Wanted → Type 0 = λ x. Draws went failures a z answer t shown g x Known b after in
     let D : State → Type 0 = then_kind answer (Agrees t g after) (IsLost t) in

@@ -1,21 +1,25 @@
 -- The end of a refresh, after other steps of the painter.
-use Rattle.std.proofs.Common.{◌≡◌, false, ℕ, ◌+◌, ◌≤◌, List, Option, Some, Result, Ok, Err, subst, ap, ◌∙◌}
+use Rattle.std.proofs.Common.{◌≡◌, false, ℕ, ◌+◌, ◌≤◌, List, Option, Some, Result, Ok, Err, inr, subst, ap, ◌∙◌}
 use Rattle.std.specs.Prelude.{OnOk}
 use Rattle.cur_wires.specs.Wire.{IsWire}
-use Rattle.ti_conforms.specs.Certified.{Table}
+use Rattle.ti_conforms.specs.Certified.{Table, IsChecked}
 use Rattle.cur_steps.specs.Beliefs.{Agrees}
 use Rattle.cur_steps.specs.Steps.{Acts}
 use Rattle.cur_steps.specs.declared.beliefs.Belief.{Belief}
 use Rattle.cur_steps.specs.declared.beliefs.Mode.{Mode}
 use Rattle.cur_steps.specs.declared.inks.Ink.{Ink}
+use Rattle.cur_steps.proofs.Actions.{agrees_lost}
+use Rattle.cur_paint.specs.Differ.{all_differ}
 use Rattle.cur_paint.specs.Rests.{IsAt, IsRested, IsSet}
 use Rattle.cur_paint.specs.Scenes.{Ends, IsSame, Scene, Sets, scene}
 use Rattle.cur_paint.specs.declared.painters.Painter.{Painter}
 use Rattle.cur_paint.specs.declared.updates.Status.TheVariants.{Known}
 use Rattle.cur_paint.specs.declared.updates.Wanted.{Wanted}
-use Rattle.cur_paint.specs.Limits.{IsWithin, paint_limit}
+use Rattle.cur_paint.specs.Limits.{IsPlaced, IsWithin, paint_limit}
 use Rattle.cur_paint.specs.Update.{Draws}
-use Rattle.cur_paint.proofs.ModeFacts.{sets_after, sets_cut, sets_wider}
+use Rattle.cur_paint.proofs.Bounds.{none_due}
+use Rattle.cur_paint.proofs.Mixtures.{agrees_as, all_same}
+use Rattle.cur_paint.proofs.ModeFacts.{sets_after, sets_cut, sets_nothing, sets_wider}
 use Rattle.cur_paint.proofs.Painting.{same_then}
 use Rattle.cur_paint.proofs.Renewals.{draws_sets}
 
@@ -72,5 +76,14 @@ draws_ends {table} {old} {new} {went} {failures} {a} {c} {answer} {limit} {w} en
     let s : Scene = scene table old new a.screens.now in
     let t : Table = s.table in
     let b = a.belief.now in
-    draws_sets went failures a.wire.now c.wire.now answer t s.old s.new w b c.belief.now
+    draws_sets w
     (sets_wider went failures a.wire.now c.wire.now answer t (limit s) (paint_limit t s.old s.new b w.cursor w.mode) b.mode w.cursor w.mode (Agrees t s.old b) (Agrees t s.new c.belief.now) le ends.step) within ends.set
+
+-- nothing differs, and the cursor is as wanted: nothing is sent
+pub draws_still : {W E : Type 0} {went : W → W → List ℕ → Type 0} {failures : W → ℕ} {a : W} {t : Table} {old new : ℕ → ℕ → Ink} {b : Belief} (w : Wanted)
+    → IsWire went failures → IsChecked t → all_differ old new t.cols t.rows ≡ 0 → IsPlaced t.cols w.cursor b.place → b.mode ≡ Some w.mode → IsRested b
+    → Draws {T = Unit {0}} {E = E} went failures a a (Ok tt) t old new (record w { clear = false }) Known b b
+draws_still {W} {E} {went} {failures} {a} {t} {old} {new} {b} w laws checked none there mode rested =
+    let sets = sets_nothing went failures laws a tt t (paint_limit t old new b w.cursor w.mode) b.mode w.cursor w.mode (Agrees t old b) (Agrees t new b)
+    mode (λ s x. x.ready.rest) (agrees_as t old new b (all_same old new t.cols t.rows none)) (agrees_lost t checked old b) in
+    record { step = sets.step; begins = tt; there = there; at = inr (none_due t old new b w.cursor w.mode none there mode); rested = rested; mode = mode; quiet = sets.quiet }

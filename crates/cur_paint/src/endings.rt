@@ -3,8 +3,7 @@ ghost use Rattle.std.specs.Prelude.{◌≡◌};
 ghost use Rattle.cur_wires.specs.Wire.{Sends};
 ghost use Rattle.ti_conforms.specs.Certified.{text_of};
 ghost use Rattle.cur_paint.specs.declared.updates.Status.TheVariants.{Lost};
-ghost use Rattle.cur_paint.specs.Finish.{Finishes, end_text, finish_text, from_cnorm_text, from_cup_text};
-ghost use Rattle.cur_paint.specs.Finish.{from_rmacs_text};
+ghost use Rattle.cur_paint.specs.Finish.{Finishes, end_text, finish_text, texts_of};
 
 use crate::updates::{Knowledge, Status};
 use cur_wires::{Wire, WireFault, send_all};
@@ -21,37 +20,28 @@ fn send_row<C: Certificate, W: Wire>(checked: &C, row: Row, wire: &mut W) -> Res
     }
 }
 
-/// Makes the cursor visible, and brings back the screen from before.
-fn send_from_cnorm<C: Certificate, W: Wire>(checked: &C, wire: &mut W) -> Result<(), WireFault>
-    ensures sends { Sends W.went W.failures wire.old wire.new (from_cnorm_text (C.table checked.now)) result }
+/// Sends the strings for `rows`, one after another, as far as there are any.
+fn send_rows<C: Certificate, W: Wire>(
+    checked: &C,
+    rows: &[Row],
+    wire: &mut W,
+) -> Result<(), WireFault>
+    ensures sends { Sends W.went W.failures wire.old wire.new (texts_of (C.table checked.now) rows.now) result }
 {
-    send_row(checked, Row::Cnorm, wire)?;
-    send_row(checked, Row::Rmcup, wire)
+    for row in rows {
+        send_row(checked, *row, wire)?;
+    }
+    Ok(())
 }
 
-/// Moves the cursor to the last line, and continues as `send_from_cnorm` does.
-fn send_from_cup<C: Certificate, W: Wire>(checked: &C, wire: &mut W) -> Result<(), WireFault>
-    ensures sends { Sends W.went W.failures wire.old wire.new (from_cup_text (C.table checked.now)) result }
-{
-    let row = Row::Cup(checked.rows() as u16 - 1, 0);
-    send_row(checked, row, wire)?;
-    send_from_cnorm(checked, wire)
-}
-
-/// Makes the plain set the active one, and goes on as `send_from_cup` does.
-fn send_from_rmacs<C: Certificate, W: Wire>(checked: &C, wire: &mut W) -> Result<(), WireFault>
-    ensures sends { Sends W.went W.failures wire.old wire.new (from_rmacs_text (C.table checked.now)) result }
-{
-    send_row(checked, Row::Rmacs, wire)?;
-    send_from_cup(checked, wire)
-}
-
-/// Turns all attributes off, and goes on as `send_from_rmacs` does.
+/// Turns all attributes off, makes the plain set the active one, moves the cursor to the last line, makes it visible,
+/// and brings back the screen from before.
 fn send_end<C: Certificate, W: Wire>(checked: &C, wire: &mut W) -> Result<(), WireFault>
     ensures sends { Sends W.went W.failures wire.old wire.new (end_text (C.table checked.now)) result }
 {
-    send_row(checked, Row::Sgr0, wire)?;
-    send_from_rmacs(checked, wire)
+    let last = Row::Cup(checked.rows() as u16 - 1, 0);
+    let rows = [Row::Sgr0, Row::Rmacs, last, Row::Cnorm, Row::Rmcup];
+    send_rows(checked, &rows, wire)
 }
 
 /// Resynchronizes, and goes on as `send_end` does.

@@ -1,17 +1,13 @@
-use Rattle.std.proofs.lemmas.Result.{err_from_is_err_and}
-use Rattle.cur_wires.proofs.Paints.{sends_then, stops_more}
-use Rattle.ti_rows.specs.declared.rows.Row.TheVariants.{Sgr0}
+use Rattle.std.proofs.Common.{◌++◌, ◌-◌, ℕ, List, ap, subst}
+use Rattle.std.proofs.lemmas.List.{append-nil}
+use Rattle.cur_wires.specs.Wire.{Sends}
+use Rattle.ti_rows.specs.declared.rows.Row.TheVariants.{Cup, Sgr0, Rmacs, Cnorm, Rmcup}
 use Rattle.ti_conforms.specs.Certified.{text_of}
-use Rattle.cur_paint.specs.Finish.{from_rmacs_text}
 use Rattle.cur_paint.proofs.endings.send_end.Goals as goal
-
-pub returns-in_err-send_row : goal.returns-in_err-send_row
-returns-in_err-send_row g c =
-    let e = err_from_is_err_and c.from_residual.result c.from_residual.ensures.1 in
-    let t = g.C.Certificate.table c.args.checked.now in
-    rw e.1 (record { sends = stops_more g.W.Wire.went g.W.Wire.failures c.args.wire.now c.send_row.new.wire (text_of t Sgr0) (from_rmacs_text t) c.in_err-send_row.ensures.sends })
 
 pub returns : goal.returns
 returns g c =
     let t = g.C.Certificate.table c.args.checked.now in
-    record { sends = sends_then g.W.Wire.went g.W.Wire.failures g.met.W.Wire.lawful c.args.wire.now c.send_row.new.wire c.send_from_rmacs.new.wire (text_of t Sgr0) (from_rmacs_text t) c.send_from_rmacs.result c.in_ok-send_row.ensures.sends c.send_from_rmacs.ensures.sends }
+    let all : List ℕ → List ℕ = λ l. text_of t Sgr0 ++ (text_of t Rmacs ++ (text_of t (Cup (t.rows - 1) 0) ++ (text_of t Cnorm ++ l))) in
+    let P : List ℕ → Type 0 = λ l. Sends g.W.Wire.went g.W.Wire.failures c.args.wire.now c.send_rows.new.wire l c.send_rows.result in
+    record { sends = subst P (ap all (append-nil (text_of t Rmcup))) (rw c.rows.ensures.value at c.send_rows.ensures.sends) }

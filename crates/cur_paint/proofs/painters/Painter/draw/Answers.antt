@@ -1,7 +1,6 @@
-use Rattle.std.proofs.Common.{ℕ, ◌+◌, ◌≤◌, length}
+use Rattle.std.proofs.Common.{ℕ, ◌≤◌, length}
 use Rattle.cur_steps.specs.declared.inks.Ink.{Ink}
 use Rattle.cur_steps.specs.Inks.{blank_ink}
-use Rattle.cur_paint.specs.Limits.{renewal_limit}
 use Rattle.cur_paint.proofs.Bounds.{fresh_enough}
 use Rattle.ti_rows.specs.declared.rows.Row.TheVariants.{Clear}
 use Rattle.cur_paint.proofs.Agreeing.{IsThere, there}
@@ -16,29 +15,13 @@ returns-in-Known-true-clause-draws g c =
     let k : IsThere (t.line_of Clear) = there (t.line_of Clear) c.requires.can.scene.checked.clears in
     let short : length k.bytes ≤ length t.resync = (c.requires.can.scene.checked.lines Clear k.bytes k.is).short in
     let blank : ℕ → ℕ → Ink = λ i j. blank_ink in
-    draws_clear g.W.Wire.went g.W.Wire.failures c.args.self.now.wire.now c.clear_first.new.self.wire.now c.clear_first.result t old new c.args.wanted c.args.status c.args.self.now.belief.now c.clear_first.new.self.belief.now
-    c.in-Known-true.is-0 c.in-Known-true.is-1 k.bytes k.is (length k.bytes + renewal_limit t blank new) (fresh_enough t (length k.bytes) blank new short) (c.clear_first.ensures.step k.bytes k.is old) c.requires.can.cursor c.clear_first.ensures.set
+    draws_clear c.in-Known-true.is-0 c.in-Known-true.is-1 k.is (fresh_enough t (length k.bytes) blank new short) (c.clear_first.ensures.step k.bytes k.is old) c.requires.can.cursor c.clear_first.ensures.set
 
 pub returns-in-Known-false-clause-draws : goal.returns-in-Known-false-clause-draws
-returns-in-Known-false-clause-draws g c =
-    let t = g.C.Certificate.table c.args.self.now.screens.now.checked.now in
-    let old = g.O.Picture.cells c.args.self.now.screens.now.old.now in
-    let new = g.N.Picture.cells c.args.self.now.screens.now.new.now in
-    draws_known g.W.Wire.went g.W.Wire.failures c.args.self.now.wire.now c.mend.new.self.wire.now c.mend.result t old new c.args.wanted c.args.status c.args.self.now.belief.now c.mend.new.self.belief.now
-    c.in-Known-false.is-0 c.in-Known-false.is-1 c.mend.ensures.draws
+returns-in-Known-false-clause-draws g c = draws_known c.in-Known-false.is-0 c.in-Known-false.is-1 c.mend.ensures.draws
 
 pub returns-in-Fresh-default-clause-draws : goal.returns-in-Fresh-default-clause-draws
-returns-in-Fresh-default-clause-draws g c =
-    let t = g.C.Certificate.table c.args.self.now.screens.now.checked.now in
-    let old = g.O.Picture.cells c.args.self.now.screens.now.old.now in
-    let new = g.N.Picture.cells c.args.self.now.screens.now.new.now in
-    draws_fresh g.W.Wire.went g.W.Wire.failures c.args.self.now.wire.now c.repaint.new.self.wire.now c.repaint.result t old new c.args.wanted c.args.status c.args.self.now.belief.now c.repaint.new.self.belief.now
-    c.in-Fresh-default.is-0 c.repaint.ensures.step c.requires.can.cursor c.repaint.ensures.set
+returns-in-Fresh-default-clause-draws g c = draws_fresh c.in-Fresh-default.is-0 c.repaint.ensures.step c.requires.can.cursor c.repaint.ensures.set
 
 pub returns-in-Lost-default-clause-draws : goal.returns-in-Lost-default-clause-draws
-returns-in-Lost-default-clause-draws g c =
-    let t = g.C.Certificate.table c.args.self.now.screens.now.checked.now in
-    let old = g.O.Picture.cells c.args.self.now.screens.now.old.now in
-    let new = g.N.Picture.cells c.args.self.now.screens.now.new.now in
-    draws_lost g.W.Wire.went g.W.Wire.failures c.args.self.now.wire.now c.repaint-in-Lost-default.new.self.wire.now c.repaint-in-Lost-default.result t old new c.args.wanted c.args.status c.args.self.now.belief.now c.repaint-in-Lost-default.new.self.belief.now
-    c.in-Lost-default.is-0 c.repaint-in-Lost-default.ensures.step c.requires.can.cursor c.repaint-in-Lost-default.ensures.set
+returns-in-Lost-default-clause-draws g c = draws_lost c.in-Lost-default.is-0 c.repaint-in-Lost-default.ensures.step c.requires.can.cursor c.repaint-in-Lost-default.ensures.set
