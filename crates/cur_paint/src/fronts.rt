@@ -70,9 +70,24 @@ impl<C: Certificate, O: Picture, N: Picture, W: Wire> Painter<'_, C, O, N, W> {
         ensures ends { Ends C.table O.cells N.cells W.went W.failures self.old self.new result
             (λ s. renewal_limit s.table (λ i j. blank_ink) s.new) (λ s i j. blank_ink) wanted }
     {
+        self.paint_over(&Blank, &Whole, wanted)
+    }
+
+    /// Paints onto a terminal that shows `old`, which must differ from the new screen as `changes` says.
+    fn paint_over<P: Picture, D: Changes>(
+        &mut self,
+        old: &P,
+        changes: &D,
+        wanted: Wanted,
+    ) -> Result<(), WireFault>
+        requires can { CanPaint (scene C.table O.cells N.cells self.old.screens.now) wanted }
+        requires changes { D.between changes.now (P.cells old.now) (N.cells self.old.screens.now.new.now) }
+        ensures ends { Ends C.table O.cells N.cells W.went W.failures self.old self.new result
+            (λ s. renewal_limit s.table (P.cells old.now) s.new) (λ s. P.cells old.now) wanted }
+    {
         let screens = Screens {
             checked: self.screens.checked,
-            old: &Blank,
+            old,
             new: self.screens.new,
         };
         let mut painter = Painter {
@@ -80,7 +95,7 @@ impl<C: Certificate, O: Picture, N: Picture, W: Wire> Painter<'_, C, O, N, W> {
             belief: self.belief,
             wire: self.wire,
         };
-        painter.paint(&Whole, wanted)
+        painter.paint(changes, wanted)
     }
 
     /// Scrolls from a known state as `scroll` says, and mends the cells that then differ.
@@ -103,16 +118,6 @@ impl<C: Certificate, O: Picture, N: Picture, W: Wire> Painter<'_, C, O, N, W> {
             old: self.screens.old,
             scroll,
         };
-        let screens = Screens {
-            checked: self.screens.checked,
-            old: &moved,
-            new: self.screens.new,
-        };
-        let mut painter = Painter {
-            screens: &screens,
-            belief: self.belief,
-            wire: self.wire,
-        };
-        painter.paint(&Moved { changes, scroll }, wanted)
+        self.paint_over(&moved, &Moved { changes, scroll }, wanted)
     }
 }

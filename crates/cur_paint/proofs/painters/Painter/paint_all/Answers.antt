@@ -1,6 +1,4 @@
-use Rattle.std.proofs.Common.{refl}
 use Rattle.cur_paint.proofs.painters.Painter.paint_all.Goals as goal
 
 pub returns : goal.returns
-returns g c =
-    record { ends = record { step = c.paint.ensures.ends.step; set = c.paint.ensures.ends.set; same = record { screens = refl; belief = refl; wire = refl } } }
+returns g c = record { ends = record { step = c.paint_over.ensures.ends.step; set = c.paint_over.ensures.ends.set; same = c.paint_over.ensures.ends.same } }

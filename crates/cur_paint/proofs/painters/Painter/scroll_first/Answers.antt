@@ -35,16 +35,17 @@ returns g c =
     let w = c.args.wanted in
     let moved : ℕ → ℕ → Ink = shifted c.args.scroll old in
     let a : Belief = c.scroll_lines.new.belief in
-    let z = c.paint.new.self in
+    let z = c.paint_over.new.self in
+    let x = c.paint_over.ensures.ends.same in
     let k : ℕ = c.args.scroll.count + 4 in
-    let P : Option Mode → Type 0 = λ o. Sets g.W.Wire.went g.W.Wire.failures c.scroll_lines.new.wire z.wire.now c.paint.result t (renewal_limit t moved new) o w.cursor w.mode (Agrees t moved a) (Agrees t new z.belief.now) in
+    let P : Option Mode → Type 0 = λ o. Sets g.W.Wire.went g.W.Wire.failures c.scroll_lines.new.wire z.wire.now c.paint_over.result t (renewal_limit t moved new) o w.cursor w.mode (Agrees t moved a) (Agrees t new z.belief.now) in
     record {
       ends = record {
-        step = sets_after g.W.Wire.went g.W.Wire.failures g.met.W.Wire.lawful c.args.self.now.wire.now c.scroll_lines.new.wire z.wire.now _ c.paint.result t
+        step = sets_after g.W.Wire.went g.W.Wire.failures g.met.W.Wire.lawful c.args.self.now.wire.now c.scroll_lines.new.wire z.wire.now _ c.paint_over.result t
             (k * cell_limit t) (renewal_limit t moved new) (paint_limit t old new b w.cursor w.mode) b.mode w.cursor w.mode
             (Agrees t old b) (Agrees t moved a) (Agrees t new z.belief.now)
-            (scrolled_enough t k moved old new b w.cursor w.mode (omega arith) c.requires.saves) (c.in_ok-scroll_lines.ensures.step old) (subst P c.in_ok-scroll_lines.ensures.mode c.paint.ensures.ends.step);
-        set = c.paint.ensures.ends.set;
-        same = record { screens = refl; belief = refl; wire = refl };
+            (scrolled_enough t k moved old new b w.cursor w.mode (omega arith) c.requires.saves) (c.in_ok-scroll_lines.ensures.step old) (subst P c.in_ok-scroll_lines.ensures.mode c.paint_over.ensures.ends.step);
+        set = c.paint_over.ensures.ends.set;
+        same = record { screens = x.screens; belief = x.belief; wire = x.wire };
       };
     }
