@@ -1,5 +1,5 @@
 //! The codes of a parameter string, one at a time.
-ghost use Rattle.std.specs.Prelude.{◌≡◌, ◌<◌, ◌≤◌, IfOk, length};
+ghost use Rattle.std.specs.Prelude.{◌≡◌, ◌<◌, ◌≤◌, IfOk, IfSome, Ok, length};
 ghost use Rattle.ti_parm.specs.Codes.{character_code, code_at, format_code, number_code, parameter_code, percent_code};
 ghost use Rattle.ti_parm.specs.Codes.{short_code, variable, variable_code};
 ghost use Rattle.ti_parm.specs.Fault.{Answers};
@@ -261,5 +261,25 @@ pub fn next_code(text: &[u8]) -> Result<(Code, &[u8]), ParmFault>
         [b'%', rest @ ..] => behind_percent(rest),
         [byte, rest @ ..] => Ok((Code::Act(Action::Literal(*byte)), rest)),
         [] => Err(ParmFault::BadCode),
+    }
+}
+
+/// The first code of `text` and the rest, if it is one that nearly all strings have: a byte to write, a parameter, or
+/// `%?`, `%t` or `%;`. The compiler makes no value of type `Code` for these.
+#[tactic(auto, unfolding(crate::specs::Codes::code_at))]
+#[inline(always)]
+pub fn frequent_code(text: &[u8]) -> Option<(Code, &[u8])>
+    ensures code { IfSome result (λ x. code_at text.now ≡ Ok (x.0, x.1.now)) }
+    ensures shorter { IfSome result (λ x. length x.1.now < length text.now) }
+{
+    match text {
+        [b'%', b'p', digit @ b'1'..=b'9', rest @ ..] => {
+            Some((Code::Act(Action::Parameter(*digit - b'1')), rest))
+        }
+        [b'%', b'?', rest @ ..] => Some((Code::If, rest)),
+        [b'%', b't', rest @ ..] => Some((Code::Of(Mark::Then), rest)),
+        [b'%', b';', rest @ ..] => Some((Code::Of(Mark::End), rest)),
+        [b'%', ..] | [] => None,
+        [byte, rest @ ..] => Some((Code::Act(Action::Literal(*byte)), rest)),
     }
 }

@@ -1,5 +1,5 @@
 //! The state of a run, and the effect of each code on it.
-ghost use Rattle.std.specs.Prelude.{◌≡◌, ◌↔◌, ℕ, List, [], ◌≤◌, IfErr, IfOk, IsTrue, length, pos, slice_index_or};
+ghost use Rattle.std.specs.Prelude.{◌≡◌, ◌↔◌, ℕ, List, [], ◌<◌, ◌≤◌, IfErr, IfOk, IsTrue, length, pos, slice_index_or};
 ghost use Rattle.std.specs.Prelude.{slice_set};
 ghost use Rattle.ti_parm.specs.Fault.{Answers, Extends, FailsBy, Gives};
 ghost use Rattle.ti_parm.specs.Value.{nine, values_of, value_of, zeros};
@@ -10,7 +10,7 @@ ghost use Rattle.ti_parm.specs.Conditionals.{judged};
 ghost use Rattle.ti_parm.specs.Runs.{judged_ahead, judged_behind, run_ahead};
 ghost use Rattle.ti_parm.specs.Syntax.{HasEnd, ahead, before};
 
-use crate::code::{Action, Code, Mark, Variable};
+use crate::code::{Action, Code, Mark, Variable, frequent_code, next_code};
 use crate::fault::ParmFault;
 use crate::formats::{Conversion, Format};
 use crate::judge::first_fault;
@@ -67,11 +67,11 @@ impl<'a> Machine<'a> {
     /// The state at the start of a run.
     #[tactic(auto, unfolding(crate::specs::Value::zeros))]
     #[inline(always)]
-    pub fn new(alloc: Global, given: &[Param<'a>], statics: &Statics) -> Self
+    pub fn new(alloc: Global, given: &'a [Param<'a>], statics: &Statics) -> Self
         ensures { state_of result [] ≡ start_of (values_of given.now) statics.now }
     {
         Machine {
-            params: Params::new(alloc, given),
+            params: Params::new(given),
             dynamics: [0; 26],
             statics: statics.numbers(),
             first_uses: [FirstUse::Unused; 26],
@@ -86,10 +86,36 @@ impl<'a> Machine<'a> {
         reads_first(&self.first_uses)
     }
 
+    /// Runs the first code of `text`, which must not be empty, and returns the text to go on with. Checks the syntax on
+    /// the way, and that of the whole rest if the run meets a fault.
+    ///
+    /// The codes that nearly all strings have come first, since the compiler leaves of `step` only what these need.
+    #[inline(always)]
+    pub fn advance<'s>(
+        &mut self,
+        text: &'s [u8],
+        nest: &mut Nest,
+        out: &mut Vec<u8>,
+    ) -> Result<&'s [u8], ParmFault>
+        requires { 0 < length text.now }
+        ensures ok { IfOk result (λ rest. judged_ahead (ahead rest.now) nest.new (state_of self.new out.new.items) ≡
+            judged_ahead (ahead text.now) nest.old (state_of self.old out.old.items)) }
+        ensures fault { IfErr result (λ e.
+            FailsBy e (judged_ahead (ahead text.now) nest.old (state_of self.old out.old.items))) }
+        ensures shorter { IfOk result (λ rest. length rest.now < length text.now) }
+        ensures grows { Extends out.old.items out.new.items }
+    {
+        if let Some((code, behind)) = frequent_code(text) {
+            return self.step(code, behind, nest, out);
+        }
+        let (code, behind) = next_code(text)?;
+        self.step(code, behind, nest, out)
+    }
+
     /// Runs `code`, with the text `behind` after it, and returns the text to go on with. Checks the syntax on the
     /// way, and that of the whole rest if the run meets a fault.
     #[inline(always)]
-    pub fn step<'s>(
+    fn step<'s>(
         &mut self,
         code: Code,
         behind: &'s [u8],
@@ -120,6 +146,7 @@ impl<'a> Machine<'a> {
     }
 
     /// The text to go on with after `mark`: `behind` it, or after the parts to skip.
+    #[inline(always)]
     fn pass<'s>(
         &mut self,
         mark: Mark,
@@ -148,6 +175,7 @@ impl<'a> Machine<'a> {
     }
 
     /// Pops a number, and returns whether it is other than 0.
+    #[inline(always)]
     fn pop_test(&mut self) -> Result<bool, ParmFault>
         ensures { (output : List ℕ) →
             Gives (λ holds. (holds, state_of self.new output)) result
@@ -160,7 +188,7 @@ impl<'a> Machine<'a> {
     /// Runs one code that acts by itself.
     #[tactic(auto, unfolding(crate::specs::Meaning::act))]
     #[inline(always)]
-    pub fn act(&mut self, action: Action, out: &mut Vec<u8>) -> Result<(), ParmFault>
+    fn act(&mut self, action: Action, out: &mut Vec<u8>) -> Result<(), ParmFault>
         ensures meant { Gives (λ _. state_of self.new out.new.items) result
             (act action (state_of self.old out.old.items)) }
         ensures grows { Extends out.old.items out.new.items }
@@ -223,8 +251,7 @@ impl<'a> Machine<'a> {
     {
         let first = one_more(self.params.get(0))?;
         let second = one_more(self.params.get(1))?;
-        self.params.set(0, first);
-        self.params.set(1, second);
+        self.params.set_first(first, second);
         Ok(())
     }
 

@@ -1,8 +1,6 @@
 //! Parameters as callers pass them, and as a run keeps them.
 ghost use Rattle.std.specs.Prelude.{◌≡◌, pos, slice_index_or};
 
-use smallvec::SmallVec;
-use std::alloc::Global;
 use std::marker::Model;
 
 /// A parameter of an expansion.
@@ -23,18 +21,21 @@ impl Default for Param<'_> {
     }
 }
 
-/// The nine parameters of a run.
+/// The nine parameters of a run: those passed, of which `%i` replaces the first two.
 #[derive(Drop)]
 pub struct Params<'a> {
-    values: SmallVec<Param<'a>, 9>,
+    first: Param<'a>,
+    second: Param<'a>,
+    given: &'a [Param<'a>],
 }
 
 impl<'a> Model for Params<'a> {
-    ghost use Rattle.ti_parm.specs.Value.{Values, values_of};
+    ghost use Rattle.std.specs.Prelude.{◌∷◌, drop};
+    ghost use Rattle.ti_parm.specs.Value.{Values, nine, value_of, values_of};
 
     ghost Value = { Values };
 
-    ghost view = { λ p. values_of p.values.items };
+    ghost view = { λ p. value_of p.first ∷ value_of p.second ∷ drop 2 (nine (values_of p.given.now)) };
 }
 
 /// The parameter passed at `index`, or 0.
@@ -51,40 +52,34 @@ impl<'a> Params<'a> {
 
     /// The first nine parameters passed, and 0 for those that aren't.
     #[inline(always)]
-    pub fn new(alloc: Global, given: &[Param<'a>]) -> Self
+    pub fn new(given: &'a [Param<'a>]) -> Self
         ensures { result ≡ nine (values_of given.now) }
     {
         Params {
-            values: SmallVec::from_buf(
-                alloc,
-                [
-                    given_or_zero(given, 0),
-                    given_or_zero(given, 1),
-                    given_or_zero(given, 2),
-                    given_or_zero(given, 3),
-                    given_or_zero(given, 4),
-                    given_or_zero(given, 5),
-                    given_or_zero(given, 6),
-                    given_or_zero(given, 7),
-                    given_or_zero(given, 8),
-                ],
-            ),
+            first: given_or_zero(given, 0),
+            second: given_or_zero(given, 1),
+            given,
         }
     }
 
     /// The parameter at `index`, from 0 on.
+    #[inline(always)]
     pub fn get(&self, index: u8) -> Param<'a>
         ensures { value_of result ≡ slice_index_or self.now index (Number (pos 0)) }
     {
-        given_or_zero(self.values.as_slice(), usize::from(index))
+        match index {
+            0 => self.first,
+            1 => self.second,
+            2..=8 => given_or_zero(self.given, usize::from(index)),
+            _ => Param::Number(0),
+        }
     }
 
-    /// Sets the parameter at `index`.
-    pub fn set(&mut self, index: usize, value: Param<'a>)
-        ensures { self.new ≡ slice_set self.old index (value_of value.entry) }
+    /// Sets the first two parameters.
+    pub fn set_first(&mut self, first: Param<'a>, second: Param<'a>)
+        ensures { self.new ≡ slice_set (slice_set self.old 0 (value_of first.entry)) 1 (value_of second.entry) }
     {
-        if let Some(place) = self.values.get_mut(index) {
-            *place = value;
-        }
+        self.first = first;
+        self.second = second;
     }
 }

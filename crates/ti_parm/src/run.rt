@@ -10,7 +10,6 @@ ghost use Rattle.ti_parm.specs.Spellings.{IsAnswer, Spells};
 ghost use Rattle.ti_parm.specs.Syntax.{IsPlain, Parts, syntax};
 ghost use Rattle.ti_parm.specs.Value.{Value, values_of, zeros};
 
-use crate::code::next_code;
 use crate::delays::strip_from;
 use crate::fault::ParmFault;
 use crate::machine::Machine;
@@ -34,8 +33,7 @@ fn run(
     let mut nest = Nest::new(alloc);
     let mut rest = string;
     while !rest.is_empty() {
-        let (code, behind) = next_code(rest)?;
-        rest = machine.step(code, behind, &mut nest, out)?;
+        rest = machine.advance(rest, &mut nest, out)?;
     }
     nest.end()
 }

@@ -27,7 +27,6 @@ fn depth_behind(code: Code, depth: usize, to_else: bool) -> Option<usize>
 
 /// The text after the `%;` of the conditional in which `text` begins or, if `to_else`, after its first `%e`. Checks
 /// the syntax on the way.
-#[inline(always)]
 pub fn skip<'s>(nest: &mut Nest, text: &'s [u8], to_else: bool) -> Result<&'s [u8], ParmFault>
     ensures judged { IfOk result (λ rest. judged (ahead rest.now).behind nest.new ≡
         judged (ahead text.now).behind nest.old) }
