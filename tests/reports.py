@@ -22,7 +22,7 @@ MEMBERS = {
     "version": (int,), "wanted": TEXT,
 }  # fmt: skip
 OF_FAULTS = [
-    "another_kind", "bytes", "capability", "judged", "line", "seen", "source_entry", "source_entry_hex", "start", "string", "string_hex",
+    "another_kind", "bytes", "capability", "judged", "line", "seen", "source_entry", "source_entry_hex", "source_file", "start", "string", "string_hex",
     "suggestion", "suggestion_hex", "wanted",
 ]  # fmt: skip
 # with these the string may be right

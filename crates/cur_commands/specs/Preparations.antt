@@ -24,8 +24,8 @@ pub record Prepared (held : Held) (words : ScriptWords) (height width : ℕ) (ch
   pub entry : Content
   pub gives : GivesEntry held words.entry.now entry
   pub conforms : Conforms entry height width
-  pub hands_out : HandsOut (held words.certificate.now) entry height width checked
-  pub whole : AreBytesOf (held words.script.now) text
+  pub hands_out : HandsOut (held.at words.certificate.now) entry height width checked
+  pub whole : AreBytesOf (held.at words.script.now) text
   pub short : length text ≤ 1048576
 
 -- the script's file can't be read, and everything before it is right

@@ -1,5 +1,5 @@
 -- Why the parser gives no matches.
-use Rattle.std.proofs.Common.{◌≡◌, ◌⊎◌, Bool, List, Option, Result, Ok, Err, IfOk, true, ap, ◌∙◌, inl, inr, refl, subst}
+use Rattle.std.proofs.Common.{◌≡◌, ◌⊎◌, Bool, List, Option, Result, Ok, Err, IfOk, true, ap, map, ◌∙◌, inl, inr, refl, subst}
 use Rattle.std.specs.Prelude.{codes, option_map}
 use Rattle.clap.proofs.OnLiterals.{clap_on_literals}
 use Rattle.clap.specs.Faults.{fault_of, is_simple_and_free}
@@ -10,7 +10,7 @@ use Rattle.clap.specs.Walk.{Row, Text}
 use Rattle.clap.specs.declared.error.Error.{Error}
 use Rattle.clap.specs.declared.error.kind.ErrorKind.{ErrorKind}
 use Rattle.clap.specs.declared.error.kind.ErrorKind.TheVariants as kind
-use Rattle.ti_arguments.specs.Requests.{Asks, AsksWith, IsAnswer, IsTold, has_switch, option_of}
+use Rattle.ti_arguments.specs.Requests.{Asks, AsksWith, IsAnswer, IsTold, has_switch, option_of, options_of}
 use Rattle.ti_arguments.specs.Line.{line}
 use Rattle.ti_arguments.specs.declared.parser.Asked.{Asked}
 use Rattle.ti_arguments.specs.declared.parser.ParsedLine.{ParsedLine}
@@ -26,8 +26,8 @@ unfolding clap_on_literals
 line_has_matches = refl
 
 -- the arguments found for the command that the words choose
-pub asked : {X : Type 0} (a : App) (words : List Text) (rows : Option (Text × List Row)) (found : Asked) → a ≡ line → (is_simple a ≡ true → X × (rows ≡ subcommand_of a words)) → Asks rows found.request → found.joins ≡ has_switch (codes "join") rows → found.fixes ≡ has_switch (codes "fix") rows → found.sarif ≡ has_switch (codes "sarif") rows → option_map (λ b. b.now) found.baseline ≡ option_of (codes "baseline") rows → AsksWith (subcommand_of line words) found
-asked a words rows found q h asks join fix sarif baseline = subst (λ (r : Option (Text × List Row)). AsksWith r found) ((h (ap is_simple q ∙ line_has_matches)).1 ∙ ap (λ (b : App). subcommand_of b words) q) (record { asks = asks; join = join; fix = fix; sarif = sarif; baseline = baseline })
+pub asked : {X : Type 0} (a : App) (words : List Text) (rows : Option (Text × List Row)) (found : Asked) → a ≡ line → (is_simple a ≡ true → X × (rows ≡ subcommand_of a words)) → Asks rows found.request → found.joins ≡ has_switch (codes "join") rows → map (λ f. f.now) found.further.items ≡ options_of (codes "with") rows → found.fixes ≡ has_switch (codes "fix") rows → found.sarif ≡ has_switch (codes "sarif") rows → option_map (λ b. b.now) found.baseline ≡ option_of (codes "baseline") rows → AsksWith (subcommand_of line words) found
+asked a words rows found q h asks join further fix sarif baseline = subst (λ (r : Option (Text × List Row)). AsksWith r found) ((h (ap is_simple q ∙ line_has_matches)).1 ∙ ap (λ (b : App). subcommand_of b words) q) (record { asks = asks; join = join; further = further; fix = fix; sarif = sarif; baseline = baseline })
 
 -- the error is of a kind that the first failing step has
 pub failed : (a : App) (words : List Text) (e : Error) → a ≡ line → (is_simple_and_free a ≡ true → HasKind (fault_of a words) e) → HasKind (fault_of line words) e

@@ -1,5 +1,5 @@
 -- Standard input, whose path is `-`: whether a request reads or writes it.
-use Rattle.std.specs.Prelude.{◌≡◌, ◌≤◌, ◌==◌, ℕ, Bool, false, List, [], ◌∷◌, Option, None, Some, codes, if◌then◌else◌}
+use Rattle.std.specs.Prelude.{◌≡◌, ◌≤◌, ◌==◌, ◌&&◌, ◌||◌, not, ℕ, Bool, true, false, List, [], ◌∷◌, Option, None, Some, codes, if◌then◌else◌}
 use Rattle.std.specs.Prelude.{map, unwrap_or}
 use Rattle.std.specs.List.{count_by}
 use Rattle.std.specs.Str.{bytes_eq}
@@ -64,12 +64,23 @@ writes_input (Tic entry out) = is_input_path out
 writes_input (Check words) = is_input_path words.out
 writes_input _ = false
 
--- at most one of the files read is standard input, and the file written isn't
-pub record TakesInput (request : Request) : Type 0 where
+-- the files of `--with` are read once for each entry that a request compares
+abbrev pub reads_twice : Request → Bool
+reads_twice (Common first second) = true
+reads_twice (Neither first second) = true
+reads_twice _ = false
+
+-- whether standard input is read at most once, if it is so often among the further files and so often among the others
+abbrev pub is_read_once : ℕ → ℕ → Bool → Bool
+is_read_once further own twice = (further == 0) || ((further == 1) && ((own == 0) && not twice))
+
+-- at most one of the files read is standard input, those of `--with` among them, and the file written isn't
+pub record TakesInput (request : Request) (further : List (List ℕ)) : Type 0 where
   pub once : input_count (paths_read request) ≤ 1
+  pub beside : is_read_once (input_count further) (input_count (paths_read request)) (reads_twice request) ≡ true
   pub unwritten : writes_input request ≡ false
 
 -- if the answer is a request, it takes standard input as allowed
 abbrev pub AnswersWithInput : ParsedLine → Type 0
-AnswersWithInput (answers.Request asked) = TakesInput asked.request
+AnswersWithInput (answers.Request asked) = TakesInput asked.request (map (λ f. f.now) asked.further.items)
 AnswersWithInput (answers.Text text) = Unit {0}

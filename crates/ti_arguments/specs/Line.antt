@@ -70,12 +70,20 @@ feed_rules =
 abbrev pub with_join_rule : App → App
 with_join_rule a = with_rule a (long_switch_rule (codes "join"))
 
+-- `--with FILE`, as often as there are further files
+abbrev pub beside_rule : Rule
+beside_rule = record (new_rule (codes "with")) { long = Some (codes "with"); action = Some Append; value_names = 1 }
+
+-- how sources are read
+abbrev pub with_source_rules : App → App
+with_source_rules a = with_rule (with_join_rule a) beside_rule
+
 abbrev pub tic_rules : App
-tic_rules = with_rule (with_rule (with_join_rule (new_app (codes "tic"))) out_rule) (positional_rule (codes "ENTRY"))
+tic_rules = with_rule (with_rule (with_source_rules (new_app (codes "tic"))) out_rule) (positional_rule (codes "ENTRY"))
 
 abbrev pub infocmp_rules : App
 infocmp_rules =
-    with_rule (with_join_rule (with_rule (with_rule (new_app (codes "infocmp")) (switch_rule (codes "c") 99))
+    with_rule (with_source_rules (with_rule (with_rule (new_app (codes "infocmp")) (switch_rule (codes "c") 99))
     (switch_rule (codes "n") 110))) (several_rule (codes "ENTRY"))
 
 -- the source text with suggested strings in it
@@ -89,12 +97,12 @@ with_sarif_rule a = with_rule a (long_switch_rule (codes "sarif"))
 abbrev pub check_rules : App
 check_rules =
     with_size_rules
-    (with_rule (with_rule (with_join_rule (with_fix_rule (with_sarif_rule (with_report_rules (new_app (codes "check")))))) out_rule)
+    (with_rule (with_rule (with_source_rules (with_fix_rule (with_sarif_rule (with_report_rules (new_app (codes "check")))))) out_rule)
     (positional_rule (codes "ENTRY")))
 
 abbrev pub verify_rules : App
 verify_rules =
-    with_rule (with_size_rules (with_rule (with_join_rule (new_app (codes "verify"))) (positional_rule (codes "ENTRY"))))
+    with_rule (with_size_rules (with_rule (with_source_rules (new_app (codes "verify"))) (positional_rule (codes "ENTRY"))))
     (positional_rule (codes "CERT"))
 
 -- the words of a run of a script
@@ -125,7 +133,7 @@ abbrev pub survey_rules : App
 survey_rules =
     with_rule
     (with_size_rules
-    (with_join_rule (with_baseline_rule (with_fail_rule (with_sarif_rule (with_report_rules (new_app (codes "survey"))))))))
+    (with_source_rules (with_baseline_rule (with_fail_rule (with_sarif_rule (with_report_rules (new_app (codes "survey"))))))))
     (several_rule (codes "FILE"))
 
 -- the program alone: its own name is not among the words, and a command must follow

@@ -134,11 +134,17 @@ abbrev pub option_of : Text → Option (Text × List Row) → Option Text
 option_of id None = None
 option_of id (Some chosen) = first_of id chosen.1
 
--- the request; whether fields of a source may continue on further lines, whether its text is to be mended, whether the
--- report is one of SARIF, and the earlier report
+-- all words behind an option of the chosen command
+abbrev pub options_of : Text → Option (Text × List Row) → List Text
+options_of id None = []
+options_of id (Some chosen) = words_of id chosen.1
+
+-- the request; whether fields of a source may continue on further lines, the further files, whether the source's text is
+-- to be mended, whether the report is one of SARIF, and the earlier report
 pub record AsksWith (chosen : Option (Text × List Row)) (asked : Asked) : Type 0 where
   pub asks : Asks chosen asked.request
   pub join : asked.joins ≡ has_switch (codes "join") chosen
+  pub further : map (λ f. f.now) asked.further.items ≡ options_of (codes "with") chosen
   pub fix : asked.fixes ≡ has_switch (codes "fix") chosen
   pub sarif : asked.sarif ≡ has_switch (codes "sarif") chosen
   pub baseline : option_map (λ b. b.now) asked.baseline ≡ option_of (codes "baseline") chosen

@@ -8,7 +8,7 @@ ghost use Rattle.ti_arguments.specs.Line.{out_rule, params_rule, play_rules, pos
 ghost use Rattle.ti_arguments.specs.Line.{show_rules, survey_rules, switch_rule, tic_rules, verify_rules, with_fix_rule};
 ghost use Rattle.ti_arguments.specs.Line.{with_join_rule, with_plays, with_script_rules, with_case_rule, with_fail_rule};
 ghost use Rattle.ti_arguments.specs.Line.{baseline_rule, with_baseline_rule, with_plain_rule, with_report_rules};
-ghost use Rattle.ti_arguments.specs.Line.{with_sarif_rule, with_size_rules, with_verdicts};
+ghost use Rattle.ti_arguments.specs.Line.{beside_rule, with_sarif_rule, with_size_rules, with_source_rules, with_verdicts};
 
 use crate::help;
 use clap::{Arg, ArgAction, Command};
@@ -221,6 +221,15 @@ fn with_join<'a>(alloc: Global, command: Command<'a>) -> Result<Command<'a>, All
     ))
 }
 
+/// `command` with the switch and the option that say how sources are read.
+fn with_sources<'a>(alloc: Global, command: Command<'a>) -> Result<Command<'a>, AllocError>
+    requires { (out-Command command).has_globals ≡ false }
+    ensures shape { IfOk result (λ c. app_of c ≡ with_source_rules (app_of command.entry)) }
+    ensures local { IfOk result (λ c. (out-Command c).has_globals ≡ false) }
+{
+    with_join(alloc, command)?.arg(beside_option(alloc))
+}
+
 fn tic_command<'a>(alloc: Global) -> Result<Command<'a>, AllocError>
     ensures shape { IfOk result (λ c. app_of c ≡ tic_rules) }
     ensures local { IfOk result (λ c. (out-Command c).has_globals ≡ false) }
@@ -228,7 +237,7 @@ fn tic_command<'a>(alloc: Global) -> Result<Command<'a>, AllocError>
     let command = Command::new(alloc, "tic")
         .about(help::TIC)
         .after_help(help::TIC_MORE);
-    with_join(alloc, command)?
+    with_sources(alloc, command)?
         .arg(out_option(alloc, "Write the entry's compiled form to this file"))?
         .arg(entry(alloc))
 }
@@ -252,7 +261,7 @@ fn infocmp_command<'a>(alloc: Global) -> Result<Command<'a>, AllocError>
             'n',
             "List the capabilities that neither entry has",
         ))?;
-    with_join(alloc, command)?.arg(several(
+    with_sources(alloc, command)?.arg(several(
         alloc,
         "ENTRY",
         "FILE:NAME of a source file, or a compiled FILE",
@@ -279,14 +288,14 @@ fn check_command<'a>(alloc: Global) -> Result<Command<'a>, AllocError>
 fn with_check_switches<'a>(alloc: Global, command: Command<'a>) -> Result<Command<'a>, AllocError>
     requires { (out-Command command).has_globals ≡ false }
     ensures shape { IfOk result (λ c. app_of c
-        ≡ with_join_rule (with_fix_rule (with_sarif_rule (with_report_rules (app_of command.entry))))) }
+        ≡ with_source_rules (with_fix_rule (with_sarif_rule (with_report_rules (app_of command.entry))))) }
     ensures local { IfOk result (λ c. (out-Command c).has_globals ≡ false) }
 {
     let all = "List all faults of the entry, and write no certificate";
     let json = "Report in JSON, an object a line, and write no certificate";
     let command = with_reports(alloc, command, all, json)?;
     let command = with_fix(alloc, command)?;
-    with_join(alloc, command)
+    with_sources(alloc, command)
 }
 
 /// `command` with the switch for a mended source.
@@ -309,7 +318,7 @@ fn verify_command<'a>(alloc: Global) -> Result<Command<'a>, AllocError>
     let command = Command::new(alloc, "verify")
         .about(help::VERIFY)
         .after_help(help::VERIFY_MORE);
-    let command = with_join(alloc, command)?.arg(entry(alloc))?;
+    let command = with_sources(alloc, command)?.arg(entry(alloc))?;
     with_size(alloc, command)?.arg(positional(alloc, "CERT", "The certificate"))
 }
 
@@ -412,7 +421,7 @@ fn with_news<'a>(alloc: Global, command: Command<'a>) -> Result<Command<'a>, All
 /// `command` with the switches and the option of `survey`.
 fn with_survey_switches<'a>(alloc: Global, command: Command<'a>) -> Result<Command<'a>, AllocError>
     requires { (out-Command command).has_globals ≡ false }
-    ensures shape { IfOk result (λ c. app_of c ≡ with_join_rule (with_baseline_rule (with_fail_rule
+    ensures shape { IfOk result (λ c. app_of c ≡ with_source_rules (with_baseline_rule (with_fail_rule
         (with_sarif_rule (with_report_rules (app_of command.entry)))))) }
     ensures local { IfOk result (λ c. (out-Command c).has_globals ≡ false) }
 {
@@ -420,7 +429,7 @@ fn with_survey_switches<'a>(alloc: Global, command: Command<'a>) -> Result<Comma
     let json = "Report in JSON, an object a line";
     let command = with_reports(alloc, command, all, json)?;
     let command = with_news(alloc, command)?;
-    with_join(alloc, command)
+    with_sources(alloc, command)
 }
 
 fn long_switch<'a>(alloc: Global, name: &'a str, help: &'a str) -> Arg<'a>
@@ -442,6 +451,19 @@ fn out_option<'a>(alloc: Global, help: &'a str) -> Arg<'a>
         .value_name("FILE")
         .action(ArgAction::Set)
         .help(help)
+}
+
+fn beside_option<'a>(alloc: Global) -> Arg<'a>
+    ensures rule { rule_of result ≡ beside_rule }
+    ensures local { result.global ≡ false }
+{
+    Arg::new(alloc, "with")
+        .long("with")
+        .value_name("FILE")
+        .action(ArgAction::Append)
+        .help(
+            "Take entries that `use=` names and FILE doesn't have from this file too; several, in order",
+        )
 }
 
 fn baseline_option<'a>(alloc: Global) -> Arg<'a>

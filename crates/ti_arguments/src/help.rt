@@ -114,6 +114,13 @@ the next line goes on in the field, without its leading white space. Each place 
 such a field by its first line. The text that `check --fix --join` writes has each field on one line, and blank lines in
 place of those that went on in it. A compiled file, and a certificate, is read as it is.
 
+With --with FILE, which the same commands take, as often as there are files, an entry of a source may use those of other
+files too: a name leads to the first entry that has it, in the entry's own file or else in these, in order. Such a FILE is
+a source, or a compiled file, whose entry is one that gives each of its values itself. Each place names the file that it
+is in; a compiled file has no lines. Notes and hints are those of the entry's own file. If one of these files can't be
+read, or has a fault, the command is refused. `survey` reads each entry of these files by itself, and lists those of its own
+files alone. A compiled ENTRY uses no other, and the files are not read.
+
 Exit status: 0 done; 1 refused, with a line `refused: KIND` on standard error; 2 usage error; 3 a file could
 not be read or written, or is too long; 4 out of memory.
 
@@ -126,7 +133,7 @@ KIND is one of, for a source file (with `line N:` before it):
   BadEscape    a `\\` or `^` ends its field or line
   TooLong      the names or a string have more than 4095 bytes
 for an entry of it:
-  NoSuchEntry NAME  no entry has this name
+  NoSuchEntry NAME  no entry has this name; --with names files that have more
   Cycle NAME        the entry uses itself, perhaps through others
   TooMany NAME      more than 64 other entries are used
 for a compiled file:
@@ -200,12 +207,12 @@ for each kind of answer), entry (the first name), aliases (the others), part (wh
 by others), size (rows and cols), capability, parameters, cause, bytes (what the string sends, in hexadecimal), start,
 wanted and seen (the words of the lines that begin so), explanation (the lines below the fault, or the words of the
 advice), file (its path), line (on which the value stands, or what can't be read), source_entry (the first name of the
-entry that has the value), string and, with --all, suggestion (the string at fault and the one that would be right, as a
-source has them) and suggested_with (the fields that are to be given with it), judged (whether the string could be judged)
-and, with --all, another_kind (whether the entry seems to be for a terminal of another kind). entry_hex, aliases_hex,
-source_entry_hex, string_hex and suggestion_hex have the bytes in hexadecimal. Where a member doesn't apply, it is null,
-or an empty list. Characters outside 32 to 126 are escapes of JSON. The notes, the line `refused: ` and the exit status
-are those of the form without --json.
+entry that has the value), source_file (the file that has it; line is of it), string and, with --all, suggestion (the
+string at fault and the one that would be right, as a source has them) and suggested_with (the fields that are to be given
+with it), judged (whether the string could be judged) and, with --all, another_kind (whether the entry seems to be for a
+terminal of another kind). entry_hex, aliases_hex, source_entry_hex, string_hex and suggestion_hex have the bytes in
+hexadecimal. Where a member doesn't apply, it is null, or an empty list. Characters outside 32 to 126 are escapes of JSON.
+The notes, the line `refused: ` and the exit status are those of the form without --json.
 
 With --sarif the output is one file of SARIF 2.1.0, which code hosts show at the lines of FILE: a result for each object
 of --json --all but a yes. ruleId is the rule. The level is error for what was shown to be wrong and for what can't be
@@ -217,7 +224,8 @@ is taken: the field is replaced where it stands, in the entry that --all names, 
 field of the entry; nothing else of the text is changed. With --out it is written to FILE, whole or not at all; only here
 FILE may be the source itself. Standard error has a line `kept CAP: REASON` for each of these strings that isn't taken: no
 place for its field was found, or an entry of the source would lose its yes. The text is judged again: standard error has
-a line `left: no CAP P..: CAUSE` for each fault that is left, and the first of them after `refused: `.
+a line `left: no CAP P..: CAUSE` for each fault that is left, and the first of them after `refused: `. One file is mended:
+--with is refused as SeveralFiles.
 
 A certificate has at most 67108864 bytes. The limits of a source file and of a compiled file are those of
 `ticurses tic --help`.
@@ -246,6 +254,7 @@ CAUSE is one of:
 KIND is one of:
   BadSize      ROWS is not 2 to 200, or COLS is not 2 to 500
   NoSource     with --fix: the entry is that of a compiled file
+  SeveralFiles  with --fix: there are files of --with
 and for the entry each KIND of `ticurses tic --help`.
 
 Example:

@@ -1,7 +1,8 @@
 //! Standard input as a file: the path `-`.
 
 ghost use Rattle.std.specs.Prelude.{◌≡◌, OnOk, map};
-ghost use Rattle.ti_arguments.specs.Inputs.{TakesInput, entry_path, input_count, paths_read, writes_input};
+ghost use Rattle.ti_arguments.specs.Inputs.{TakesInput, entry_path, input_count, is_read_once, paths_read, reads_twice};
+ghost use Rattle.ti_arguments.specs.Inputs.{writes_input};
 
 use crate::parser::UsageFault;
 use std::alloc::Global;
@@ -10,11 +11,13 @@ use ti_requests::{CheckWords, Request};
 /// The path that is standard input.
 const INPUT: &str = "-";
 
-/// Refuses a `request` that would read standard input twice, or write a file named `-`.
-pub fn judge_input(alloc: Global, request: &Request<'_>) -> Result<(), UsageFault>
-    ensures { OnOk result (TakesInput request.now) }
+/// Refuses a `request` that would read standard input twice, with the `further` files of `--with`, or write a file
+/// named `-`.
+pub fn judge_input(alloc: Global, request: &Request<'_>, further: &[&str]) -> Result<(), UsageFault>
+    ensures { OnOk result (TakesInput request.now (map (λ f. f.now) further.now)) }
 {
-    if reads(request) > 1 {
+    let own = reads(request);
+    if own > 1 || !is_read_once(of_paths(further), own, reads_twice(request)) {
         return Err(UsageFault::Usage(String::from_str(
             alloc,
             "error: '-' is standard input, which can be read once; a file of that name is './-'\n\n\
@@ -29,6 +32,35 @@ pub fn judge_input(alloc: Global, request: &Request<'_>) -> Result<(), UsageFaul
         )?));
     }
     Ok(())
+}
+
+/// Whether standard input is read at most once, if it is so often among the `further` files and among the others.
+fn is_read_once(further: usize, own: usize, twice: bool) -> bool
+    ensures { result ≡ is_read_once further own twice }
+{
+    further == 0 || (further == 1 && own == 0 && !twice)
+}
+
+/// Whether the files of `--with` are read for two entries.
+fn reads_twice(request: &Request<'_>) -> bool
+    ensures { result ≡ reads_twice request.now }
+{
+    match request {
+        Request::Common { .. } | Request::Neither { .. } => true,
+        Request::Expand(_)
+        | Request::Feed { .. }
+        | Request::FeedAs(_)
+        | Request::Tic { .. }
+        | Request::Check(_)
+        | Request::CheckAll(_)
+        | Request::CheckJson { .. }
+        | Request::Verify(_)
+        | Request::Play(_)
+        | Request::Show(_)
+        | Request::Survey(_)
+        | Request::SurveyJson(_)
+        | Request::Print { .. } => false,
+    }
 }
 
 /// How many of the paths that `request` reads are standard input.

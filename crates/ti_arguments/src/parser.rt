@@ -6,7 +6,7 @@ ghost use Rattle.clap.specs.Walk.{first_of, rows_of};
 ghost use Rattle.clap.specs.Words.{found_of, kind_of, subcommand_rows_of};
 ghost use Rattle.ti_arguments.specs.Inputs.{AnswersWithInput};
 ghost use Rattle.ti_arguments.specs.Requests.{Asks, AsksFor, HasForm, IsAnswer, IsTold, Plays, has_switch, is_on};
-ghost use Rattle.ti_arguments.specs.Requests.{lists_of, option_of, reports_of, word_of, words_of};
+ghost use Rattle.ti_arguments.specs.Requests.{lists_of, option_of, options_of, reports_of, word_of, words_of};
 
 use crate::commands::command_line;
 use crate::inputs::judge_input;
@@ -25,6 +25,8 @@ pub struct Asked<'a> {
     pub request: Request<'a>,
     /// Whether the line has `--join`: a field of a source may continue on further lines.
     pub joins: bool,
+    /// The paths behind `--with`, in order: files whose entries those of a source may use.
+    pub further: Vec<&'a str>,
     /// Whether the line has `--fix`: the `check` is to write a mended source text.
     pub fixes: bool,
     /// Whether the line has `--sarif`: the report is to be a file of SARIF.
@@ -70,7 +72,8 @@ pub fn parse_line<'a>(alloc: Global, words: &'a [String]) -> Result<ParsedLine<'
     match command.try_get_matches_from(words) {
         Ok(matches) => {
             let request = request_of(alloc, &matches)?;
-            judge_input(alloc, &request)?;
+            let further = option_words(alloc, &matches, "with")?;
+            judge_input(alloc, &request, further.as_slice())?;
             let joins = has_switch(&matches, "join");
             let fixes = has_switch(&matches, "fix");
             let sarif = has_switch(&matches, "sarif");
@@ -78,6 +81,7 @@ pub fn parse_line<'a>(alloc: Global, words: &'a [String]) -> Result<ParsedLine<'
             Ok(ParsedLine::Request(Asked {
                 request,
                 joins,
+                further,
                 fixes,
                 sarif,
                 baseline,
@@ -138,6 +142,33 @@ fn option_word<'a>(matches: &ArgMatches<'a>, id: &str) -> Option<&'a str>
         Some((_name, words)) => first_word(words, id),
         None => None,
     }
+}
+
+/// All words behind the option `id` of the chosen command.
+fn option_words<'a>(
+    alloc: Global,
+    matches: &ArgMatches<'a>,
+    id: &str,
+) -> Result<Vec<&'a str>, AllocError>
+    ensures { IfOk result (λ all. map (λ w. w.now) all.items ≡ options_of id.now (subcommand_rows_of matches.now)) }
+{
+    match matches.subcommand() {
+        Some((_name, words)) => all_words(alloc, words, id),
+        None => Ok(Vec::new(alloc)),
+    }
+}
+
+/// All words for the argument `id`.
+#[tactic(auto, using(crate::proofs::Rows::all_in_rows))]
+fn all_words<'a>(
+    alloc: Global,
+    words: &ArgMatches<'a>,
+    id: &str,
+) -> Result<Vec<&'a str>, AllocError>
+    ensures { IfOk result (λ all. map (λ w. w.now) all.items ≡ words_of id.now (rows_of (found_of words.now))) }
+{
+    let all = words.get_strs(id).unwrap_or(&[]);
+    Vec::from_slice(alloc, all)
 }
 
 #[tactic(auto, using(crate::proofs::Rows::all_in_rows))]

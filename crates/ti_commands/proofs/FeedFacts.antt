@@ -33,7 +33,7 @@ file_told held rows cols path height width given (File told) h = ((height, width
 file_told held rows cols path height width given Output h = absurd h
 file_told held rows cols path height width given NoMemory h = tt
 
-stuck_at : (held : Held) (rows cols path : List ℕ) (height width : ℕ) → SizeGiven rows cols height width → (bytes : List ℕ) (e : Failure) → AreBytesOf (held path) bytes → length bytes ≤ longest_file → IsStuckFailure height width bytes e → FailsToFeed held rows cols path e
+stuck_at : (held : Held) (rows cols path : List ℕ) (height width : ℕ) → SizeGiven rows cols height width → (bytes : List ℕ) (e : Failure) → AreBytesOf (held.at path) bytes → length bytes ≤ longest_file → IsStuckFailure height width bytes e → FailsToFeed held rows cols path e
 stuck_at held rows cols path height width given bytes (Refused (refusals.Stuck stuck)) whole short h =
     record { height = height; width = width; given = given; sticks = record { bytes = bytes; whole = whole; short = short; holds = h } }
 stuck_at held rows cols path height width given bytes (Refused refusals.Size) whole short h = absurd h
@@ -50,11 +50,11 @@ stuck_at held rows cols path height width given bytes (File told) whole short h 
 stuck_at held rows cols path height width given bytes Output whole short h = absurd h
 stuck_at held rows cols path height width given bytes NoMemory whole short h = tt
 
-pub stuck_told : (held : Held) (rows cols path : List ℕ) (height width : ℕ) → SizeGiven rows cols height width → (bytes slice : List ℕ) (e : Failure) → AreBytesOf (held path) bytes → length bytes ≤ longest_file → slice ≡ bytes → IsStuckFailure height width slice e → FailsToFeed held rows cols path e
+pub stuck_told : (held : Held) (rows cols path : List ℕ) (height width : ℕ) → SizeGiven rows cols height width → (bytes slice : List ℕ) (e : Failure) → AreBytesOf (held.at path) bytes → length bytes ≤ longest_file → slice ≡ bytes → IsStuckFailure height width slice e → FailsToFeed held rows cols path e
 stuck_told held rows cols path height width given bytes slice e whole short s told =
     stuck_at held rows cols path height width given bytes e whole short (subst (λ (l : List ℕ). IsStuckFailure height width l e) s told)
 
-pub screen_shown : (held : Held) (rows cols path : List ℕ) (height width : ℕ) → SizeGiven rows cols height width → (bytes slice text : List ℕ) (reply : Reply) → AreBytesOf (held path) bytes → length bytes ≤ longest_file → slice ≡ bytes → ShowsAfter height width slice text → reply.notes.items ≡ [] → reply.text.items ≡ text → reply.failure ≡ None → ShowsScreen held rows cols path reply
+pub screen_shown : (held : Held) (rows cols path : List ℕ) (height width : ℕ) → SizeGiven rows cols height width → (bytes slice text : List ℕ) (reply : Reply) → AreBytesOf (held.at path) bytes → length bytes ≤ longest_file → slice ≡ bytes → ShowsAfter height width slice text → reply.notes.items ≡ [] → reply.text.items ≡ text → reply.failure ≡ None → ShowsScreen held rows cols path reply
 screen_shown held rows cols path height width given bytes slice text reply whole short s shows notes t done = record {
   height = height;
   width = width;

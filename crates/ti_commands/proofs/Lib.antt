@@ -1,3 +1,4 @@
+pub mod FurtherFacts
 pub mod Params
 pub mod Listings
 pub mod Expansions

@@ -1,9 +1,15 @@
 -- The contents of a command's files, as far as they are known.
-use Rattle.std.specs.Prelude.{◌≡◌, ◌≢◌, ◌≤◌, ℕ, List, Option, Some, IfSome, length, take}
+use Rattle.std.specs.Prelude.{◌≡◌, ◌≢◌, ◌≤◌, ℕ, List, [], Option, Some, None, IfSome, length, take}
 
--- the bytes at each path, if they are known
-abbrev pub Held : Type 0
-Held = List ℕ → Option (List ℕ)
+-- the files of a command: the bytes at each path, if they are known, and the paths of the files of `--with`, whose
+-- entries those of a source may use
+pub record Held : Type 0 where
+  pub at : List ℕ → Option (List ℕ)
+  pub with_paths : List (List ℕ)
+
+-- files of which nothing is known, without `--with`
+abbrev pub nothing_held : Held
+nothing_held = record { at = λ path. None; with_paths = [] }
 
 -- `bytes` are the known ones, if they are known
 abbrev pub AreBytesOf : Option (List ℕ) → List ℕ → Type 0
@@ -30,5 +36,6 @@ pub record HasBytes (held : Option (List ℕ)) (limit : ℕ) (P : List ℕ → T
 
 -- the path holds these bytes now, and every other path what it held before
 pub record Stored (before after : Held) (path bytes : List ℕ) : Type 0 where
-  pub there : AreBytesOf (after path) bytes
-  pub others : (other : List ℕ) → other ≢ path → after other ≡ before other
+  pub there : AreBytesOf (after.at path) bytes
+  pub others : (other : List ℕ) → other ≢ path → after.at other ≡ before.at other
+  pub with_kept : after.with_paths ≡ before.with_paths

@@ -32,7 +32,7 @@ pub record ShowsScreen (held : Held) (rows cols path : List ℕ) (reply : Reply)
   pub height : ℕ
   pub width : ℕ
   pub given : SizeGiven rows cols height width
-  pub shows : HasBytes (held path) longest_file (λ bytes. ShowsAfter height width bytes reply.text.items)
+  pub shows : HasBytes (held.at path) longest_file (λ bytes. ShowsAfter height width bytes reply.text.items)
   pub notes : reply.notes.items ≡ []
   pub done : reply.failure ≡ None
 
@@ -41,7 +41,7 @@ pub record SticksAt (held : Held) (rows cols path : List ℕ) (at : ℕ) : Type 
   pub height : ℕ
   pub width : ℕ
   pub given : SizeGiven rows cols height width
-  pub sticks : HasBytes (held path) longest_file (λ bytes. SticksIn height width bytes at)
+  pub sticks : HasBytes (held.at path) longest_file (λ bytes. SticksIn height width bytes at)
 
 -- wrong words come first, then the size, then the file, then its bytes
 abbrev pub FailsToFeed : Held → List ℕ → List ℕ → List ℕ → Failure → Type 0

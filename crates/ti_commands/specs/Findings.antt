@@ -16,6 +16,7 @@ use Rattle.ti_source.specs.declared.types.NoteKind.TheVariants.{UnknownName, Dup
 use Rattle.ti_source.specs.declared.types.RawEntry.{RawEntry}
 use Rattle.ti_commands.specs.Failures.{IsFileFailure}
 use Rattle.ti_commands.specs.Contents.{AreBytesOf, HasBytes, Held, longest_file}
+use Rattle.ti_commands.specs.Further.{ArePutTogether, FailsFurther, Together}
 use Rattle.ti_commands.specs.declared.failure.Failure.{Failure}
 use Rattle.ti_commands.specs.declared.failure.Failure.TheVariants.{Refused, NoMemory}
 use Rattle.ti_commands.specs.declared.failure.CommandRefusal.{CommandRefusal}
@@ -59,20 +60,25 @@ FitsTo packed (Ok entry) = fit_of packed ≡ Ok entry
 FitsTo packed (Err (Pack fault)) = fit_of packed ≡ Err fault
 FitsTo packed (Err _) = ⊥
 
--- the entry of this name in a source text, and the notes of the whole text
-pub record IsOfSource (bytes name notes : List ℕ) (entry : Result Content CommandRefusal) : Type 0 where
-  pub raws : List RawEntry
-  pub reads : source_of bytes ≡ Ok raws
-  pub tells : notes ≡ notes_text raws
-  pub gives : ResolvesTo raws name entry
+-- the entry of this name in a source text with the files of `--with`, and the notes of the text
+pub record IsOfSource (held : Held) (bytes name notes : List ℕ) (entry : Result Content CommandRefusal) : Type 0 where
+  pub own : List RawEntry
+  pub reads : source_of bytes ≡ Ok own
+  pub tells : notes ≡ notes_text own
+  pub all : Together
+  pub together : ArePutTogether held own all
+  pub gives : ResolvesTo all.raws name entry
 
--- a source text in the file at a path, its entries, and the one of this name
-pub record IsOfText (held : Held) (path name text : List ℕ) (raws : List RawEntry)
+-- A source text in the file at a path, its entries and those of the files of `--with`, and the one of this name. A name
+-- leads to the first entry that has it, in the order of the files.
+pub record IsOfText (held : Held) (path name text : List ℕ) (all : Together)
     (entry : Result Content CommandRefusal) : Type 0 where
-  pub whole : AreBytesOf (held path) text
+  pub whole : AreBytesOf (held.at path) text
   pub short : length text ≤ longest_file
-  pub reads : source_of text ≡ Ok raws
-  pub gives : ResolvesTo raws name entry
+  pub own : List RawEntry
+  pub reads : source_of text ≡ Ok own
+  pub together : ArePutTogether held own all
+  pub gives : ResolvesTo all.raws name entry
 
 -- the entry of a compiled file
 pub record IsOfFile (bytes notes : List ℕ) (entry : Result Content CommandRefusal) : Type 0 where
@@ -85,8 +91,8 @@ pub record IsOfFile (bytes notes : List ℕ) (entry : Result Content CommandRefu
 abbrev pub Finds : Held → List ℕ → List ℕ → Result Content CommandRefusal → Type 0
 Finds held word notes entry =
     ((path : List ℕ) × (name : List ℕ) × IsPathAndName word path name
-    × HasBytes (held path) longest_file (λ bytes. IsOfSource bytes name notes entry))
-    ⊎ (IsPath word × HasBytes (held word) 131072 (λ bytes. IsOfFile bytes notes entry))
+    × HasBytes (held.at path) longest_file (λ bytes. IsOfSource held bytes name notes entry))
+    ⊎ (IsPath word × HasBytes (held.at word) 131072 (λ bytes. IsOfFile bytes notes entry))
 
 -- the source text has a fault
 abbrev pub IsSourceFailure : List ℕ → Failure → Type 0
@@ -101,14 +107,21 @@ IsPackFailure bytes (Refused (Pack fault)) = read_of bytes ≡ Err fault
 IsPackFailure bytes NoMemory = Unit {0}
 IsPackFailure bytes _ = ⊥
 
--- the file at a path can't be read, or its content has a fault
+-- the text is a source, but a file of `--with` gives no entries, for this reason
+pub record IsFurtherFailure (held : Held) (bytes : List ℕ) (failure : Failure) : Type 0 where
+  pub own : List RawEntry
+  pub reads : source_of bytes ≡ Ok own
+  pub further : FailsFurther held held.with_paths failure
+
+-- the file at a path can't be read, or its content has a fault, or else a file of `--with` has one
 abbrev pub FailsInSource : Held → List ℕ → Failure → Type 0
 FailsInSource held path failure =
-    IsFileFailure path failure ⊎ HasBytes (held path) longest_file (λ bytes. IsSourceFailure bytes failure)
+    IsFileFailure path failure
+    ⊎ HasBytes (held.at path) longest_file (λ bytes. IsSourceFailure bytes failure ⊎ IsFurtherFailure held bytes failure)
 
 abbrev pub FailsInFile : Held → List ℕ → Failure → Type 0
 FailsInFile held path failure =
-    IsFileFailure path failure ⊎ HasBytes (held path) 131072 (λ bytes. IsPackFailure bytes failure)
+    IsFileFailure path failure ⊎ HasBytes (held.at path) 131072 (λ bytes. IsPackFailure bytes failure)
 
 abbrev pub FailsToFind : Held → List ℕ → Failure → Type 0
 FailsToFind held word failure =

@@ -6,6 +6,7 @@ pub mod Sizes
 pub mod Listings
 pub mod Expansions
 pub mod Feeds
+pub mod Further
 pub mod Findings
 pub mod Replies
 pub mod Sources

@@ -64,7 +64,7 @@ pub record ShowsStates (held : Held) (words : FeedWords) (reply : Reply) : Type 
   pub height : ℕ
   pub width : ℕ
   pub given : SizeGiven words.rows.now words.cols.now height width
-  pub replies : HasBytes (held words.file.now) longest_file (λ bytes. Replies words height width bytes reply)
+  pub replies : HasBytes (held.at words.file.now) longest_file (λ bytes. Replies words height width bytes reply)
 
 abbrev pub line_text : ℕ → List ℕ
 line_text line = codes "line " ++ (decimal line ++ codes ": BadLine")
@@ -93,7 +93,7 @@ pub record FileFails (held : Held) (words : FeedWords) (failure : Failure) : Typ
   pub height : ℕ
   pub width : ℕ
   pub given : SizeGiven words.rows.now words.cols.now height width
-  pub fails : HasBytes (held words.file.now) longest_file (λ bytes. FailsWith words.form height width (fed_of words.plain_text bytes) failure)
+  pub fails : HasBytes (held.at words.file.now) longest_file (λ bytes. FailsWith words.form height width (fed_of words.plain_text bytes) failure)
 
 -- wrong words come first, then the size, then the file, then its bytes
 abbrev pub FailsToShow : Held → FeedWords → Failure → Type 0

@@ -22,7 +22,7 @@ pub fn read_whole<F: Files>(
     limit: u32,
     remarks: &mut Remarks,
 ) -> Result<Vec<u8>, Failure>
-    ensures whole { IfOk result (λ bytes. AreBytesOf (F.holds files.old path.now) bytes.items) }
+    ensures whole { IfOk result (λ bytes. AreBytesOf ((F.holds files.old).at path.now) bytes.items) }
     ensures short { IfOk result (λ bytes. vec_len bytes ≤ limit) }
     ensures failure { IfErr result (λ e. IsFileFailure path.now e) }
     ensures kept { F.holds files.new ≡ F.holds files.old }
@@ -44,7 +44,7 @@ fn read_up_to<F: Files>(
     path: &str,
     count: u64,
 ) -> Result<Vec<u8>, FileFault>
-    ensures bytes { IfOk result (λ bytes. AreFirstBytesOf (F.holds files.old path.now) count bytes.items) }
+    ensures bytes { IfOk result (λ bytes. AreFirstBytesOf ((F.holds files.old).at path.now) count bytes.items) }
     ensures kept { F.holds files.new ≡ F.holds files.old }
 {
     let file = files.reader(path)?;

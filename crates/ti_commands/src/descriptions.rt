@@ -10,7 +10,7 @@ ghost use Rattle.ti_commands.specs.Replies.{GivesEntry, IsCompared, IsCompiled, 
 ghost use Rattle.ti_commands.specs.Replies.{Stores};
 
 use crate::contents::file_fault;
-use crate::entries::{Found, find_entry, note_lines};
+use crate::entries::{Found, find_entry};
 use crate::failure::{CommandRefusal, Failure, Reply};
 use crate::files::{FileFault, Files};
 use std::alloc::{AllocError, Global};
@@ -33,9 +33,13 @@ pub fn compile_entry<F: Files>(
     ensures failure { IfErr result (λ e. FailsToFind (F.holds files.old) word.now e ⊎ (e ≡ Failure.NoMemory)) }
     ensures kept { OnErr result (F.holds files.new ≡ F.holds files.old) }
 {
-    let Found { text, raws, entry } = find_entry(alloc, files, word, remarks)?;
+    let Found {
+        text,
+        notes,
+        all: _all,
+        entry,
+    } = find_entry(alloc, files, word, remarks)?;
     hint_carets(alloc, text.as_slice(), remarks);
-    let notes = note_lines(alloc, raws.as_slice())?;
     let unknown = unknown_names(alloc, text.as_slice())?;
     let failure = stored(alloc, files, out, entry, remarks)?;
     remarks.add_words(unknown.as_slice());
@@ -150,7 +154,8 @@ pub fn entry_of<F: Files>(
 {
     let Found {
         text,
-        raws: _raws,
+        notes: _notes,
+        all: _all,
         entry,
     } = find_entry(alloc, files, word, remarks)?;
     hint_carets(alloc, text.as_slice(), remarks);

@@ -8,10 +8,12 @@ ghost use Rattle.ti_commands.specs.Contents.{HasBytes, longest_file};
 ghost use Rattle.ti_commands.specs.Findings.{FailsInFile, FailsInSource, FailsToFind, Finds, FitsTo, IsOfFile};
 ghost use Rattle.ti_commands.specs.Findings.{IsOfSource, IsOfText, IsPath, IsPathAndName, ResolvesAt, ResolvesTo};
 ghost use Rattle.ti_commands.specs.Findings.{IsPackFailure, IsSourceFailure, note_line, note_name, notes_text};
+ghost use Rattle.ti_commands.specs.Further.{together_in};
 
 use crate::contents::{LONGEST_FILE, read_whole};
 use crate::failure::{CommandRefusal, Failure};
 use crate::files::Files;
+use crate::further::{PutTogether, put_together};
 use std::alloc::{AllocError, Global};
 use ti_caps::Entry;
 use ti_compiled::{PackFault, Packed, decode};
@@ -28,8 +30,11 @@ const COMPILED_LIMIT: u32 = 131_072;
 pub struct Found {
     /// The text of the source file; empty for a compiled file.
     pub text: Vec<u8>,
-    /// All entries of that text, as they were read.
-    pub raws: Vec<RawEntry>,
+    /// A line for each note of that text.
+    pub notes: Vec<u8>,
+    /// All entries of that text as they were read, and those of the files of `--with` behind them; none for a compiled
+    /// file.
+    pub all: PutTogether,
     /// The entry, or the reason why there is none.
     pub entry: Result<Entry, CommandRefusal>,
 }
@@ -42,7 +47,7 @@ pub fn find_entry<F: Files>(
     remarks: &mut Remarks,
 ) -> Result<Found, Failure>
     ensures found { IfOk result
-        (λ found. Finds (F.holds files.old) word.now (notes_text found.raws.items) found.entry) }
+        (λ found. Finds (F.holds files.old) word.now found.notes.items found.entry) }
     ensures failure { IfErr result (λ e. FailsToFind (F.holds files.old) word.now e) }
     ensures kept { F.holds files.new ≡ F.holds files.old }
 {
@@ -60,7 +65,7 @@ pub(crate) fn path_and_name(word: &str) -> Option<(&str, &str)>
     word.rsplit_once(':')
 }
 
-/// Reads the source file at `path`, and finds the entry `name` in it.
+/// Reads the source file at `path` and the files of `--with`, and finds the entry `name` in them.
 pub(crate) fn find_in_source<F: Files>(
     alloc: Global,
     files: &mut F,
@@ -68,49 +73,63 @@ pub(crate) fn find_in_source<F: Files>(
     name: &str,
     remarks: &mut Remarks,
 ) -> Result<Found, Failure>
-    ensures found { IfOk result (λ found. HasBytes (F.holds files.old path.now) longest_file
-        (λ bytes. IsOfSource bytes name.now (notes_text found.raws.items) found.entry)) }
+    ensures found { IfOk result (λ found. HasBytes ((F.holds files.old).at path.now) longest_file
+        (λ bytes. IsOfSource (F.holds files.old) bytes name.now found.notes.items found.entry)) }
     ensures text { IfOk result (λ found. IsOfText (F.holds files.old) path.now name.now found.text.items
-        found.raws.items found.entry) }
+        (together_in found.all) found.entry) }
     ensures failure { IfErr result (λ e. FailsInSource (F.holds files.old) path.now e) }
     ensures kept { F.holds files.new ≡ F.holds files.old }
 {
     let text = read_whole(alloc, files, path, LONGEST_FILE, remarks)?;
-    match find_in_text(alloc, text.as_slice(), name) {
-        Ok((raws, entry)) => {
-            if let Err(CommandRefusal::Resolve(fault)) = &entry {
-                explain_resolving(alloc, path, fault, remarks);
-            }
-            Ok(Found { text, raws, entry })
+    let own = own_entries(alloc, path, text.as_slice(), remarks)?;
+    let notes = note_lines(alloc, own.as_slice())?;
+    let all = put_together(alloc, files, own, remarks)?;
+    let entry = resolved_entry(alloc, all.raws.as_slice(), name.as_bytes())?;
+    if let Err(CommandRefusal::Resolve(fault)) = &entry {
+        explain_resolving(alloc, path, fault, remarks);
+        if all.files.is_empty() {
+            hint_with(name.as_bytes(), fault, remarks);
         }
-        Err(failure) => {
-            if let Failure::Refused(CommandRefusal::Source(fault)) = &failure {
-                explain_source(alloc, path, text.as_slice(), *fault, remarks);
-            }
-            Err(failure)
+    }
+    Ok(Found {
+        text,
+        notes,
+        all,
+        entry,
+    })
+}
+
+/// Says which option would help if an entry that another one uses is in another file; the `asked` entry itself is sought
+/// in the file that the line names.
+fn hint_with(asked: &[u8], fault: &ResolveFault, remarks: &mut Remarks) {
+    if let ResolveFault::NoSuchEntry(name) = fault {
+        if name.as_slice() != asked {
+            remarks.add_words(
+                b"check, infocmp, survey, tic and verify take --with FILE, a file whose entries can be used too",
+            );
         }
     }
 }
 
-/// The entries of the source text `text`, and the one named `name`, or the reason why there is none.
-fn find_in_text(
+/// The entries of the source text `text` at `path`, whose fault `remarks` explain.
+fn own_entries(
     alloc: Global,
+    path: &str,
     text: &[u8],
-    name: &str,
-) -> Result<(Vec<RawEntry>, Result<Entry, CommandRefusal>), Failure>
-    ensures found { IfOk result (λ found. IsOfSource text.now name.now (notes_text found.0.items) found.1) }
-    ensures reads { IfOk result (λ found. source_of text.now ≡ Ok found.0.items) }
-    ensures gives { IfOk result (λ found. ResolvesTo found.0.items name.now found.1) }
+    remarks: &mut Remarks,
+) -> Result<Vec<RawEntry>, Failure>
+    ensures reads { IfOk result (λ raws. source_of text.now ≡ Ok raws.items) }
+    ensures fit { IfOk result (λ raws. AllByRecursion IsRaw raws.items) }
     ensures failure { IfErr result (λ e. IsSourceFailure text.now e) }
 {
     match read(alloc, text) {
-        Ok(raws) => {
-            let entry = resolved_entry(alloc, raws.as_slice(), name.as_bytes())?;
-            Ok((raws, entry))
-        }
+        Ok(raws) => Ok(raws),
         Err(fault) => match fault.kind {
             FaultKind::NoMemory => Err(Failure::NoMemory),
-            _ => Err(Failure::Refused(CommandRefusal::Source(fault))),
+            _ => {
+                explain_source(alloc, path, text, fault, remarks);
+                Err(Failure::Refused(CommandRefusal::Source(fault)))
+            }
         },
     }
 }
@@ -197,8 +216,8 @@ fn unpack<F: Files>(
     path: &str,
     remarks: &mut Remarks,
 ) -> Result<Found, Failure>
-    ensures found { IfOk result (λ found. HasBytes (F.holds files.old path.now) 131072
-        (λ bytes. IsOfFile bytes (notes_text found.raws.items) found.entry)) }
+    ensures found { IfOk result (λ found. HasBytes ((F.holds files.old).at path.now) 131072
+        (λ bytes. IsOfFile bytes found.notes.items found.entry)) }
     ensures failure { IfErr result (λ e. FailsInFile (F.holds files.old) path.now e) }
     ensures kept { F.holds files.new ≡ F.holds files.old }
 {
@@ -209,7 +228,12 @@ fn unpack<F: Files>(
     }
     Ok(Found {
         text: Vec::new(alloc),
-        raws: Vec::new(alloc),
+        notes: Vec::new(alloc),
+        all: PutTogether {
+            raws: Vec::new(alloc),
+            files: Vec::new(alloc),
+            counts: Vec::new(alloc),
+        },
         entry: entry?,
     })
 }

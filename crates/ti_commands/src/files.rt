@@ -1,7 +1,8 @@
 //! The files that a command reads and writes.
 
-ghost use Rattle.std.specs.Prelude.{◌≡◌, ◌≢◌, ℕ, List, Option, None, IfOk, OnErr, OnOk};
-ghost use Rattle.ti_commands.specs.Contents.{AreBytesOf, IsLeft};
+ghost use Rattle.std.specs.Prelude.{◌≡◌, ◌≢◌, ℕ, List, IfOk, OnErr, OnOk};
+ghost use Rattle.ti_commands.specs.Contents.{AreBytesOf, Held, IsLeft, nothing_held};
+ghost use Rattle.ti_commands.specs.Words.{texts_of};
 
 use std::io;
 use std::io::{ErrorKind, Read};
@@ -70,16 +71,20 @@ impl FileFault {
 
 /// The files of a command: the system's, or a test's own in memory.
 pub trait Files {
-    /// The bytes of the file at a path, if they are known.
-    ghost holds: { Self → List ℕ → Option (List ℕ) } = { λ _ _. None };
+    /// The bytes of the file at each path, if they are known, and the paths of `--with`.
+    ghost holds: { Self → Held } = { λ _. nothing_held };
 
     /// An opened file, read from its start.
     type File: Read + Drop;
 
     /// Opens the file at `path` for reading: the reader has all of its bytes left.
     fn reader(&mut self, path: &str) -> Result<Self::File, FileFault>
-        ensures bytes { IfOk result (λ file. IsLeft (holds self.old path.now) (Self.File.remaining file)) }
+        ensures bytes { IfOk result (λ file. IsLeft ((holds self.old).at path.now) (Self.File.remaining file)) }
         ensures kept { holds self.new ≡ holds self.old };
+
+    /// The paths of the files of `--with`, whose entries those of a source may use, in order.
+    fn with_paths(&self) -> &[&str]
+        ensures { texts_of result.now ≡ (holds self.now).with_paths };
 
     /// The expected length in bytes of the file that was opened last, so that room is made at once;
     /// 0 if it isn't known. The bytes that are read don't depend on it.
@@ -90,8 +95,9 @@ pub trait Files {
     /// Makes the file at `path` hold just `bytes`, and changes no other file. After an error each
     /// file is as before.
     fn store(&mut self, path: &str, bytes: &[u8]) -> Result<(), FileFault>
-        ensures stored { OnOk result (AreBytesOf (holds self.new path.now) bytes.now) }
+        ensures stored { OnOk result (AreBytesOf ((holds self.new).at path.now) bytes.now) }
         ensures others { OnOk result ((other : List ℕ) → other ≢ path.now
-            → holds self.new other ≡ holds self.old other) }
+            → (holds self.new).at other ≡ (holds self.old).at other) }
+        ensures with_kept { OnOk result ((holds self.new).with_paths ≡ (holds self.old).with_paths) }
         ensures kept { OnErr result (holds self.new ≡ holds self.old) };
 }

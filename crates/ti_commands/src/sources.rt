@@ -9,8 +9,10 @@ use crate::descriptions::entry_of;
 use crate::entries::{Found, find_in_source, path_and_name};
 use crate::failure::Failure;
 use crate::files::Files;
+use crate::further::PutTogether;
 use std::alloc::Global;
 use ti_caps::Entry;
+use ti_further::FurtherFile;
 use ti_hints::hint_entry;
 use ti_source::RawEntry;
 use ti_words::Remarks;
@@ -24,8 +26,12 @@ pub struct SourceText<'a> {
     pub name: &'a str,
     /// The file's text.
     pub text: Vec<u8>,
-    /// All entries of the text, as they were read.
+    /// All entries of the text as they were read, and those of the files of `--with` behind them.
     pub raws: Vec<RawEntry>,
+    /// The files of `--with`.
+    pub further: Vec<FurtherFile>,
+    /// How many of the entries each file has, the source first.
+    pub counts: Vec<usize>,
 }
 
 /// An entry, and its source.
@@ -57,11 +63,21 @@ pub fn sourced_entry<'a, F: Files>(
             source: None,
         });
     };
-    let Found { text, raws, entry } = find_in_source(alloc, files, path, name, remarks)?;
+    let Found {
+        text,
+        notes: _notes,
+        all,
+        entry,
+    } = find_in_source(alloc, files, path, name, remarks)?;
+    let PutTogether {
+        raws,
+        files: further,
+        counts,
+    } = all;
     hint_entry(
         alloc,
         text.as_slice(),
-        raws.as_slice(),
+        own_raws(raws.as_slice(), counts.as_slice()),
         name.as_bytes(),
         remarks,
     );
@@ -73,8 +89,18 @@ pub fn sourced_entry<'a, F: Files>(
                 name,
                 text,
                 raws,
+                further,
+                counts,
             }),
         }),
         Err(refusal) => Err(Failure::Refused(refusal)),
+    }
+}
+
+/// The entries of the first file, by the `counts` of entries of each file.
+fn own_raws<'a>(raws: &'a [RawEntry], counts: &[usize]) -> &'a [RawEntry] {
+    match counts {
+        [own, ..] if *own <= raws.len() => raws.split_at(*own).0,
+        _ => raws,
     }
 }

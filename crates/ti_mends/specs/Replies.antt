@@ -1,5 +1,5 @@
 -- The reply of `check --fix`.
-use Rattle.std.specs.Prelude.{ℕ, ◌≡◌, ◌⊎◌, List, [], ◌∷◌, Option, Some, None, codes}
+use Rattle.std.specs.Prelude.{ℕ, ◌≡◌, ◌≢◌, ◌⊎◌, List, [], ◌∷◌, Option, Some, None, codes}
 use Rattle.ti_caps.specs.Entry.{Content}
 use Rattle.ti_checker.specs.declared.causes.No.{No}
 use Rattle.ti_commands.specs.Contents.{Held}
@@ -81,6 +81,16 @@ pub record LacksSource (held : Held) (words : CheckWords) (failure : Failure) : 
   pub gives : IsSourced held words.entry.now entry None
   pub tells : IsVerdict (codes "NoSource") failure
 
+-- the entry may use those of further files, and only one file is mended
+pub record HasSeveral (held : Held) (words : CheckWords) (failure : Failure) : Type 0 where
+  pub sized : HasSize words.rows.now words.cols.now
+  pub several : held.with_paths ≢ []
+  pub entry : Content
+  pub source : SourceText
+  pub gives : IsSourced held words.entry.now entry (Some source)
+  pub tells : IsVerdict (codes "SeveralFiles") failure
+
 abbrev pub FailsToFix : Held → CheckWords → Failure → Type 0
 FailsToFix held words failure =
     FailsForEntry held words.rows.now words.cols.now words.entry.now failure ⊎ LacksSource held words failure
+    ⊎ HasSeveral held words failure

@@ -42,6 +42,16 @@ fn sourceless(alloc: Global) -> Failure
     }
 }
 
+/// The failure for an entry that may use those of further files.
+fn several(alloc: Global) -> Failure
+    ensures { IsVerdict (codes "SeveralFiles") result }
+{
+    match Vec::from_slice(alloc, b"SeveralFiles") {
+        Ok(words) => Failure::Refused(CommandRefusal::Verdict(words)),
+        Err(_) => Failure::NoMemory,
+    }
+}
+
 /// The text after each suggestion for the faults `nos` of the entry was taken or left.
 fn treated_text(
     alloc: Global,
@@ -177,7 +187,8 @@ fn stored_reply(alloc: Global, notes: Vec<u8>, nos: &[No], stored: Option<Failur
 /// of these faults.
 ///
 /// # Errors
-/// The words give no size or no entry; `NoSource` for the entry of a compiled file; out of memory.
+/// The words give no size or no entry; `NoSource` for the entry of a compiled file; `SeveralFiles` with files of `--with`;
+/// out of memory.
 pub fn fix_entry<F: Files>(
     alloc: Global,
     words: &CheckWords<'_>,
@@ -199,7 +210,15 @@ pub fn fix_entry<F: Files>(
         name,
         text,
         raws,
+        further,
+        counts: _,
     } = source;
+    if !further.is_empty() {
+        remarks.add_words(
+            b"--fix mends the text of one file: without --fix, check --all lists the suggestions for each file",
+        );
+        return Err(several(alloc));
+    }
     let asked = Asked {
         name: name.as_bytes(),
         size,

@@ -27,8 +27,17 @@ uri_byte b = if is_plain b then b ∷ [] else 37 ∷ upper_digit (b / 16) ∷ up
 abbrev pub uri_text : List ℕ → List ℕ
 uri_text path = flat_map uri_byte path
 
+-- the first path, or the second one if it is empty
+abbrev pub path_or : List ℕ → List ℕ → List ℕ
+path_or [] other = other
+path_or (b ∷ rest) other = b ∷ rest
+
+-- the file that has the field, or else that of the entry
+abbrev pub path_in : Data → List ℕ
+path_in report = path_or (text_in (codes "source_file") report) (text_in (codes "file") report)
+
 abbrev pub artifact_data : Data → Data
-artifact_data report = object (member (codes "uri") (string (uri_text (text_in (codes "file") report))) no_members)
+artifact_data report = object (member (codes "uri") (string (uri_text (path_in report))) no_members)
 
 -- ---- the field
 

@@ -75,11 +75,23 @@ fn uri_text(alloc: Global, path: &[u8]) -> Result<String, AllocError>
     Ok(text)
 }
 
+/// The path of the file that has the field of `report`, or else of that of its entry.
+fn path_in(report: &Value) -> &str
+    ensures { result.now ≡ spec.path_in (view report.now) }
+{
+    let path = text_in(report, "source_file");
+    if path.is_empty() {
+        text_in(report, "file")
+    } else {
+        path
+    }
+}
+
 /// The file of `report`.
 pub(crate) fn artifact_value(alloc: Global, report: &Value) -> Result<Value, AllocError>
     ensures { IfOk result (λ value. view value ≡ spec.artifact_data (view report.now)) }
 {
-    let uri = uri_text(alloc, text_in(report, "file").as_bytes())?;
+    let uri = uri_text(alloc, path_in(report).as_bytes())?;
     json!(in alloc; { "uri": uri.as_str() })
 }
 

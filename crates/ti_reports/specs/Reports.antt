@@ -1,4 +1,4 @@
--- A report and its JSON: an object that always has the same twenty-eight members, null where one doesn't apply.
+-- A report and its JSON: an object that always has the same twenty-nine members, null where one doesn't apply.
 use Rattle.std.specs.Prelude.{◌≡◌, ℕ, Bool, List, [], ◌∷◌, ◌++◌, Option, Some, None, String, codes, map, string_bytes}
 use Rattle.std.specs.declared.alloc.Global.{Global}
 use Rattle.serde_json.specs.Data.{Data, Members, no_members, member, array, boolean, null, number, object, put, string}
@@ -38,6 +38,7 @@ pub record IsNothing (finding : Finding) : Type 0 where
   pub bare : IsBare finding
   pub line : finding.place.line ≡ None
   pub source_entry : finding.place.entry ≡ None
+  pub source_file : finding.place.file ≡ None
 
 -- ---- the JSON
 
@@ -111,6 +112,7 @@ report_data report = object (
     (member (codes "size") (size_data report.rows report.cols)
     (member (codes "source_entry") (written_data report.finding.place.entry)
     (member (codes "source_entry_hex") (hex_data report.finding.place.entry)
+    (member (codes "source_file") (text_data report.finding.place.file)
     (member (codes "start") (text_data report.finding.run.start)
     (member (codes "string") (written_data report.finding.string)
     (member (codes "string_hex") (hex_data report.finding.string)
@@ -119,7 +121,7 @@ report_data report = object (
     (member (codes "suggestion_hex") (hex_data report.finding.suggestion)
     (member (codes "verdict") (string (word_of report.verdict))
     (member (codes "version") version
-    (member (codes "wanted") (text_data report.finding.run.wanted) no_members))))))))))))))))))))))))))))
+    (member (codes "wanted") (text_data report.finding.run.wanted) no_members)))))))))))))))))))))))))))))
 
 -- the object without a space, in characters that can be printed, and the end of the line
 abbrev pub report_line : Report → List ℕ
@@ -146,12 +148,13 @@ with_verdict report ms =
 
 abbrev pub with_value : Finding → Members → Members
 with_value finding ms =
-    put (codes "source_entry_hex") (hex_data finding.place.entry)
+    put (codes "source_file") (text_data finding.place.file)
+    (put (codes "source_entry_hex") (hex_data finding.place.entry)
     (put (codes "source_entry") (written_data finding.place.entry)
     (put (codes "line") (number_data finding.place.line)
     (put (codes "bytes") (text_data finding.bytes)
     (put (codes "parameters") (numbers_data finding.parameters.items)
-    (put (codes "capability") (text_data finding.capability) ms)))))
+    (put (codes "capability") (text_data finding.capability) ms))))))
 
 abbrev pub with_strings : Finding → Members → Members
 with_strings finding ms =

@@ -1,5 +1,6 @@
 -- The place of a value in a source text.
-use Rattle.std.specs.Prelude.{◌≡◌, ◌<◌, ⊤, ℕ, List, Option, Some, None, length, option_map}
+use Rattle.std.specs.Prelude.{◌≡◌, ◌<◌, ◌==◌, ⊤, ℕ, List, Option, Some, None, if◌then◌else◌, length, option_map}
+use Rattle.std.specs.String.{string_bytes}
 use Rattle.ti_commands.specs.declared.failure.CommandRefusal.{CommandRefusal}
 use Rattle.ti_commands.specs.declared.failure.CommandRefusal.TheVariants as refusals
 use Rattle.ti_commands.specs.declared.sources.SourceText.{SourceText}
@@ -12,7 +13,8 @@ use Rattle.ti_resolve.specs.Origins.{IsOrigin, IsOriginAt}
 use Rattle.ti_resolve.specs.Uses.{names_at}
 use Rattle.ti_resolve.specs.declared.origins.Origin.{Origin}
 use Rattle.ti_source.specs.declared.types.RawEntry.{RawEntry}
-use Rattle.ti_verdicts.specs.Locations.{PlaceInSource, first_name, line_of_field, place_in}
+use Rattle.ti_verdicts.specs.Locations.{PlaceInSource, first_name, place_in}
+use Rattle.ti_verdicts.specs.Spots.{Line, PutFiles, files_of, line_among}
 
 -- the origin of an entry: no source, a source that gives it by its name, or a place of a source
 pub data Whereabouts : Type 0 where
@@ -35,31 +37,41 @@ abbrev pub HasHolder : List RawEntry → Option Origin → Option Written → Ty
 HasHolder raws (Some origin) name = HasName (first_name (names_at raws origin.entry)) name
 HasHolder raws None name = name ≡ None
 
--- the line of the field at this origin, in a text with these entries, and the entry that has it
-pub record IsFieldPlace (text : List ℕ) (raws : List RawEntry) (origin : Option Origin) (place : ValuePlace)
+-- the number of a line, if its file has lines
+abbrev pub number_of : Line → Option ℕ
+number_of line = if line.number == 0 then None else Some line.number
+
+-- the path of the file, and the line in it, if there is a field
+abbrev pub HasLine : Option Line → ValuePlace → Type 0
+HasLine None place = (place.line ≡ None) × (place.file ≡ None)
+HasLine (Some line) place =
+    (place.line ≡ number_of line) × (option_map (λ f. string_bytes f) place.file ≡ Some line.path)
+
+-- the file and the line of the field at this origin, among the entries of these files, and the entry that has it
+pub record IsFieldPlace (files : PutFiles) (raws : List RawEntry) (origin : Option Origin) (place : ValuePlace)
     : Type 0 where
-  pub line : place.line ≡ option_map (line_of_field text) origin
+  pub line : HasLine (option_map (line_among files) origin) place
   pub holder : HasHolder raws origin place.entry
 
 -- for private clauses: a field on this line, and the entry that has it
-pub record IsHeldAt (line : ℕ) (raws : List RawEntry) (origin : Origin) (place : ValuePlace) : Type 0 where
-  pub line_is : place.line ≡ Some line
+pub record IsHeldAt (line : Line) (raws : List RawEntry) (origin : Origin) (place : ValuePlace) : Type 0 where
+  pub line_is : HasLine (Some line) place
   pub holder : HasHolder raws (Some origin) place.entry
 
 -- the place of the first field about the capability, among the entry's own and those that it uses, if there is a value
 pub record IsPlaceIn (source : SourceText) (cap : ℕ) (place : ValuePlace) : Type 0 where
   pub origin : Option Origin
   pub first : IsOrigin source.raws.items source.name.now cap origin
-  pub says : IsFieldPlace source.text.items source.raws.items origin place
+  pub says : IsFieldPlace (files_of source) source.raws.items origin place
 
 -- the place for the entry at a place of the source, whatever other entries have its names
 pub record IsPlaceAt (stands : PlaceInSource) (cap : ℕ) (place : ValuePlace) : Type 0 where
   pub origin : Option Origin
   pub first : IsOriginAt stands.raws stands.place cap origin
-  pub says : IsFieldPlace stands.text stands.raws origin place
+  pub says : IsFieldPlace stands.files stands.raws origin place
 
 abbrev pub IsNowhere : ValuePlace → Type 0
-IsNowhere place = (place.line ≡ None) × (place.entry ≡ None)
+IsNowhere place = (place.line ≡ None) × (place.file ≡ None) × (place.entry ≡ None)
 
 abbrev pub IsValuePlace : Whereabouts → ℕ → ValuePlace → Type 0
 IsValuePlace Nowhere cap place = IsNowhere place
@@ -68,9 +80,9 @@ IsValuePlace (ByPlace stands) cap place = IsPlaceAt stands cap place
 
 -- ---- a refusal
 
--- a line of the text, whichever entry has it
+-- a line of the text, whichever file and entry has it
 abbrev pub IsOnLine : ℕ → ValuePlace → Type 0
-IsOnLine line place = (place.line ≡ Some line) × (place.entry ≡ None)
+IsOnLine line place = (place.line ≡ Some line) × (place.file ≡ None) × (place.entry ≡ None)
 
 -- The place at which a refusal finds its reason: a fault of a source text has its line; the others say nothing of a
 -- line.

@@ -14,10 +14,9 @@ use std::alloc::{AllocError, Global};
 use ti_caps::Entry;
 use ti_checker::No;
 use ti_commands::{Failure, Files, Reply, SourceText, Sourced, size_words, sourced_entry};
-use ti_entries::LinedText;
 use ti_requests::FaultsWords;
 use ti_resolve::Index;
-use ti_verdicts::{NamedSource, explain_no, no_failure, notes_on};
+use ti_verdicts::{LinedFiles, NamedSource, explain_no, no_failure, notes_on, source_files};
 use ti_words::Remarks;
 use vt_term::Size;
 
@@ -105,10 +104,13 @@ fn source_reply<'x>(
         asked.lists_all source.now.path.now (by_name (Some source.now)) nos.now reply) }
 {
     let index = Index::new(alloc, source.raws.as_slice())?;
-    let lined = LinedText::new(alloc, source.text.as_slice())?;
+    let files = source_files(alloc, source)?;
     let named = NamedSource {
         source,
-        lined: &lined,
+        files: LinedFiles {
+            files: files.as_slice(),
+            counts: source.counts.as_slice(),
+        },
         index: &index,
     };
     named_reply(alloc, asked, entry, &named, notes, nos)

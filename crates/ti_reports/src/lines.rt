@@ -1,10 +1,11 @@
 //! The place of a value in a source text.
 
-ghost use Rattle.std.specs.Prelude.{◌≡◌, ◌<◌, IfOk, IfSome, length};
+ghost use Rattle.std.specs.Prelude.{◌≡◌, ◌<◌, ◌==◌, IfOk, IfSome, None, Some, if◌then◌else◌, length};
 ghost use Rattle.ti_reports.specs.Names.{IsNameOf};
 ghost use Rattle.ti_reports.specs.Sources as spec;
 ghost use Rattle.ti_resolve.specs.Uses.{names_at};
 ghost use Rattle.ti_verdicts.specs.Locations.{first_name, place_if, place_in};
+ghost use Rattle.ti_verdicts.specs.Spots.{line_of};
 
 use crate::forms::Written;
 use crate::names::name_of;
@@ -13,7 +14,7 @@ use ti_caps::Cap;
 use ti_commands::CommandRefusal;
 use ti_resolve::Origin;
 use ti_source::RawEntry;
-use ti_verdicts::{NamedSource, SourcePlace, first_name};
+use ti_verdicts::{FieldPlace, NamedSource, SourcePlace, first_name};
 
 /// The origin of an entry.
 #[derive(Drop)]
@@ -29,8 +30,10 @@ pub enum Standing<'a, 'b> {
 /// The place of a capability's value in a source text.
 #[derive(Debug, Drop)]
 pub struct ValuePlace {
-    /// The line of the field that gives the value; `None` if there is no source or no value.
+    /// The line of the field that gives the value; `None` if there is no source or no value, or if the file is compiled.
     pub line: Option<usize>,
+    /// The path of the file that has this field.
+    pub file: Option<String>,
     /// The first name of the entry that has this field.
     pub entry: Option<Written>,
 }
@@ -42,16 +45,18 @@ impl ValuePlace {
     {
         ValuePlace {
             line: None,
+            file: None,
             entry: None,
         }
     }
 
-    /// A line, whichever entry has it.
+    /// A line, whichever file and entry has it.
     pub fn on_line(line: usize) -> ValuePlace
         ensures { spec.IsOnLine line result }
     {
         ValuePlace {
             line: Some(line),
+            file: None,
             entry: None,
         }
     }
@@ -126,19 +131,27 @@ fn place_at(alloc: Global, there: &SourcePlace<'_, '_>, cap: Cap) -> Result<Valu
     }
 }
 
-/// The place of the field at `origin`, which is on the line `line`, among the entries `raws`.
+/// The place of the field at `origin`, which is on the line at `there`, among the entries `raws`.
 fn field_place(
     alloc: Global,
-    line: usize,
+    there: FieldPlace<'_>,
     raws: &[RawEntry],
     origin: Origin,
 ) -> Result<ValuePlace, AllocError>
-    ensures { IfOk result (λ place. spec.IsHeldAt line raws.now origin place) }
+    ensures { IfOk result (λ place. spec.IsHeldAt (line_of there.entry) raws.now origin place) }
 {
     Ok(ValuePlace {
-        line: Some(line),
+        line: number_of(there.line),
+        file: Some(String::from_str(alloc, there.path)?),
         entry: Some(holder(alloc, raws, origin)?),
     })
+}
+
+/// The number of a line, if its file has lines.
+fn number_of(line: usize) -> Option<usize>
+    ensures { result ≡ (if line == 0 then None else Some line) }
+{
+    if line == 0 { None } else { Some(line) }
 }
 
 /// The first name of the entry of `raws` that has the field at `origin`.

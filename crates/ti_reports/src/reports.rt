@@ -194,12 +194,14 @@ fn put_value(
     let bytes = text_value(alloc, &finding.bytes)?;
     let holder = written_value(alloc, &finding.place.entry)?;
     let holder_hex = hex_value(alloc, &finding.place.entry)?;
+    let file = text_value(alloc, &finding.place.file)?;
     put(members, alloc, "capability", capability)?;
     put(members, alloc, "parameters", parameters)?;
     put(members, alloc, "bytes", bytes)?;
     put(members, alloc, "line", number_value(finding.place.line))?;
     put(members, alloc, "source_entry", holder)?;
-    put(members, alloc, "source_entry_hex", holder_hex)
+    put(members, alloc, "source_entry_hex", holder_hex)?;
+    put(members, alloc, "source_file", file)
 }
 
 /// Puts the string of `finding`, and the one that would be right, into `members`.

@@ -1,7 +1,7 @@
 //! The command `survey --json`.
 
 ghost use Rattle.std.specs.Prelude.{◌≡◌, IfErr, IfOk};
-ghost use Rattle.ti_commands.specs.Sizes.{LacksSize};
+ghost use Rattle.ti_surveys.specs.Together.{FailsToSurvey};
 ghost use Rattle.ti_reports.specs.Surveys as spec;
 ghost use Rattle.ti_surveys.specs.Heard.{Hears};
 
@@ -30,7 +30,7 @@ pub fn survey_reports<F: Files, W: Watcher>(
 ) -> Result<Reply, Failure>
     ensures reply { IfOk result (λ reply. spec.AreSurveyed (F.holds files.old) words.now remarks.new
         (Hears W.heard W.has_failed watcher.old watcher.new) reply) }
-    ensures failure { IfErr result (λ e. LacksSize words.now.rows.now words.now.cols.now e) }
+    ensures failure { IfErr result (λ e. FailsToSurvey (F.holds files.old) words.now.rows.now words.now.cols.now e) }
     ensures kept { F.holds files.new ≡ F.holds files.old }
 {
     let size = size_words(alloc, words.rows, words.cols, remarks)?;

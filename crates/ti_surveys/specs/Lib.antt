@@ -4,5 +4,6 @@ pub mod Heard
 pub mod Strict
 pub mod Surveys
 pub mod Told
+pub mod Together
 pub mod Lines
 pub mod Faultless

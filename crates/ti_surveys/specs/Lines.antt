@@ -1,7 +1,7 @@
 -- The lines of a survey: the statements about each entry of a file, in order.
-use Rattle.std.specs.Prelude.{◌≡◌, ◌≢◌, ◌⊎◌, ◌==◌, ◌&&◌, ◌||◌, ℕ, Bool, true, false, List, ◌∷◌, Option, Some, None}
+use Rattle.std.specs.Prelude.{◌≡◌, ◌≢◌, ◌⊎◌, ◌==◌, ◌&&◌, ◌||◌, ℕ, Bool, true, false, List, [], ◌∷◌, Option, Some, None}
 use Rattle.std.specs.Prelude.{Result, Ok, Err, length, slice_get}
-use Rattle.std.specs.List.{range_with_len}
+use Rattle.std.specs.List.{AllByRecursion, range_with_len}
 use Rattle.ti_caps.specs.Entry.{Content}
 use Rattle.ti_compiled.specs.Contents.{read_of}
 use Rattle.ti_compiled.specs.declared.types.PackFault.{PackFault}
@@ -9,6 +9,7 @@ use Rattle.ti_entries.specs.Resolution.{IsResolvedApart, IsUnread}
 use Rattle.ti_resolve.specs.Walk.{walk_at}
 use Rattle.ti_resolve.specs.declared.faults.ResolveFault.TheVariants as resolve_faults
 use Rattle.ti_source.specs.Apart.{IsApart, apart_of}
+use Rattle.ti_source.specs.Fitting.{FieldsFit, NamesFit}
 use Rattle.ti_source.specs.Source.{FailsBy}
 use Rattle.ti_source.specs.declared.types.FaultKind.TheVariants as fault_kinds
 use Rattle.ti_source.specs.declared.types.RawEntry.{RawEntry}
@@ -16,8 +17,12 @@ use Rattle.ti_source.specs.declared.types.SourceFault.{SourceFault}
 use Rattle.ti_commands.specs.Findings.{FitsTo}
 use Rattle.ti_commands.specs.declared.failure.CommandRefusal.{CommandRefusal}
 use Rattle.ti_commands.specs.declared.failure.CommandRefusal.TheVariants.{Pack, Resolve, Source}
+use Rattle.ti_further.specs.declared.files.FurtherFile.{FurtherFile}
+use Rattle.ti_surveys.specs.Together.{AllApart, ArePutApart, OneApart, all_in}
+use Rattle.ti_surveys.specs.declared.together.ApartTogether.{ApartTogether}
 use Rattle.ti_surveys.specs.Told.{IsToldOfEach, Told}
 use Rattle.ti_verdicts.specs.Locations.{PlaceInSource, first_name}
+use Rattle.ti_verdicts.specs.Spots.{PutFiles, texts_of_files}
 
 -- the statements allowed about an entry, by the path of its file, its place in a source, its name and its contents
 abbrev pub Saying : Type 1
@@ -49,14 +54,15 @@ ResolvesApart raws faults place (Err (Resolve fault)) =
     (walk_at raws place ≡ Err fault) × (fault ≢ resolve_faults.NoMemory)
 ResolvesApart raws faults place (Err _) = ⊥
 
--- the lines of an entry of a source text by its place, whatever other entries have its names
-pub record IsSourcePart (Says : Saying) (Refuses : Refusing) (path text : List ℕ) (raws : List RawEntry)
+-- the lines of an entry of a source text by its place among the entries of these files, whatever other entries have its
+-- names
+pub record IsSourcePart (Says : Saying) (Refuses : Refusing) (path : List ℕ) (files : PutFiles) (raws : List RawEntry)
     (faults : List (Option SourceFault)) (place : ℕ) (said : Told) : Type 0 where
   pub raw : RawEntry
   pub there : slice_get raws place ≡ Some raw
   pub entry : Result Content CommandRefusal
   pub resolves : ResolvesApart raws faults place entry
-  pub told : IsTold Says Refuses entry path (Some (record { path = path; text = text; raws = raws; place = place }))
+  pub told : IsTold Says Refuses entry path (Some (record { files = files; raws = raws; place = place }))
       (first_name raw.names) said
 
 -- the lines of the entry of a compiled file
@@ -85,12 +91,19 @@ pub record IsFaultyFile (Refuses : Refusing) (path bytes : List ℕ) (said : Tol
   pub faulty : read_of bytes ≡ Err fault
   pub told : Refuses path None None (Pack fault) said
 
--- the statements about the entries of a source text, each read by itself
-pub record HasEntries (Says : Saying) (Refuses : Refusing) (path bytes : List ℕ) (said : Told) : Type 0 where
-  pub raws : List RawEntry
-  pub faults : List (Option SourceFault)
-  pub reads : IsApart bytes raws faults
-  pub each : IsToldOfEach (IsSourcePart Says Refuses path bytes raws faults) (range_with_len 0 (length raws)) said
+-- the files of entries that were put together: a source, and the others
+abbrev pub files_beside : List ℕ → List ℕ → List FurtherFile → List ℕ → PutFiles
+files_beside path text others counts = record { texts = texts_of_files path text others; counts = counts }
+
+-- the statements about the entries of a source text, each read by itself; they may use those of the other files
+pub record HasEntries (Says : Saying) (Refuses : Refusing) (others : List FurtherFile) (path bytes : List ℕ)
+    (said : Told) : Type 0 where
+  pub own : OneApart
+  pub reads : IsApart bytes own.raws own.faults
+  pub all : AllApart
+  pub together : ArePutApart own others all
+  pub each : IsToldOfEach
+      (IsSourcePart Says Refuses path (files_beside path bytes others all.counts) all.raws all.faults) (range_with_len 0 (length own.raws)) said
 
 -- the statement about a source text that is too long, or has a fault before its first entry
 pub record LacksEntries (Refuses : Refusing) (path bytes : List ℕ) (said : Told) : Type 0 where
@@ -99,12 +112,31 @@ pub record LacksEntries (Refuses : Refusing) (path bytes : List ℕ) (said : Tol
   pub claims : fault.kind ≢ fault_kinds.NoMemory
   pub told : Refuses path None None (Source fault) said
 
-abbrev pub AreLinesBy : Bool → Saying → Refusing → List ℕ → List ℕ → Told → Type 0
-AreLinesBy true Says Refuses path bytes said =
+abbrev pub AreLinesBy : Bool → Saying → Refusing → List FurtherFile → List ℕ → List ℕ → Told → Type 0
+AreLinesBy true Says Refuses others path bytes said =
     HasEntry Says Refuses path bytes said ⊎ IsFaultyFile Refuses path bytes said
-AreLinesBy false Says Refuses path bytes said =
-    HasEntries Says Refuses path bytes said ⊎ LacksEntries Refuses path bytes said
+AreLinesBy false Says Refuses others path bytes said =
+    HasEntries Says Refuses others path bytes said ⊎ LacksEntries Refuses path bytes said
 
--- the lines of a file: its first bytes show whether it is compiled
-abbrev pub AreLines : Saying → Refusing → List ℕ → List ℕ → Told → Type 0
-AreLines Says Refuses path bytes said = AreLinesBy (is_compiled bytes) Says Refuses path bytes said
+-- the lines of a file, whose entries may use those of the other files: its first bytes show whether it is compiled
+abbrev pub AreLines : Saying → Refusing → List FurtherFile → List ℕ → List ℕ → Told → Type 0
+AreLines Says Refuses others path bytes said = AreLinesBy (is_compiled bytes) Says Refuses others path bytes said
+
+-- (Serves the code alone.) how many entries the first file has
+abbrev pub first_count : List ℕ → ℕ
+first_count [] = 0
+first_count (count ∷ counts) = count
+
+-- (Serves the code alone.) the entries of a text and of other files, which can be resolved
+pub record IsAllRead (text : List ℕ) (others : List FurtherFile) (all : AllApart) : Type 0 where
+  pub own : OneApart
+  pub reads : IsApart text own.raws own.faults
+  pub together : ArePutApart own others all
+  pub fit : AllByRecursion FieldsFit all.raws
+  pub named : NamesFit all.raws all.faults
+  pub beside : length all.faults ≡ length all.raws
+
+-- (Serves the code alone.) or the fault that hides all entries of the text
+abbrev pub AreAllRead : List ℕ → List FurtherFile → Result ApartTogether SourceFault → Type 0
+AreAllRead text others (Ok all) = IsAllRead text others (all_in all)
+AreAllRead text others (Err fault) = FailsBy fault.kind fault (apart_of text) × (fault.kind ≢ fault_kinds.NoMemory)

@@ -4,11 +4,13 @@ use Rattle.std.specs.String.{string_bytes}
 use Rattle.ti_caps.specs.Entry.{Content}
 use Rattle.ti_checker.specs.declared.causes.No.{No}
 use Rattle.ti_commands.specs.Contents.{HasBytes, Held, longest_file}
+use Rattle.ti_commands.specs.Further.{AreHeld}
 use Rattle.ti_commands.specs.Sizes.{SizeGiven}
 use Rattle.ti_commands.specs.Words.{texts_of}
 use Rattle.ti_commands.specs.declared.failure.Failure.{Failure}
 use Rattle.ti_commands.specs.declared.failure.Failure.TheVariants.{File}
 use Rattle.ti_commands.specs.declared.failure.Reply.{Reply}
+use Rattle.ti_further.specs.declared.files.FurtherFile.{FurtherFile}
 use Rattle.ti_surveys.specs.Answers.{IsRefused, SaysBy, SaysNothing}
 use Rattle.ti_verdicts.specs.Counts.{answers_line}
 use Rattle.ti_surveys.specs.Lines.{AreLines, Leaving}
@@ -24,7 +26,7 @@ OfFile = List ℕ → List ℕ → Told → Type 0
 
 -- the statement about the file at a path
 abbrev pub HasLines : OfFile → Held → List ℕ → Told → Type 0
-HasLines Are held path told = HasBytes (held path) longest_file (λ bytes. Are path bytes told)
+HasLines Are held path told = HasBytes (held.at path) longest_file (λ bytes. Are path bytes told)
 
 -- the remark about a further file that can't be read
 abbrev pub further : List ℕ → List ℕ
@@ -42,11 +44,14 @@ AreNamed [] failed remarks = failed ≡ None
 AreNamed (first ∷ others) failed remarks =
     Blames first failed × (before : List (List ℕ)) × (remarks ≡ before ++ map further others)
 
--- each path has its lines, one after another, or is named as one that can't be read and has the lines for that
-pub record EndsPaths (Are : OfFile) (Leaves : Leaving) (held : Held) (paths : List (List ℕ)) (told : Told)
-    (failed : Option Failure) (remarks : List (List ℕ)) : Type 0 where
+-- Each path has its lines, one after another, or is named as one that can't be read and has the lines for that. The
+-- entries of its file may use those of the files of `--with`.
+pub record EndsPaths (Are : List FurtherFile → OfFile) (Leaves : Leaving) (held : Held) (paths : List (List ℕ))
+    (told : Told) (failed : Option Failure) (remarks : List (List ℕ)) : Type 0 where
+  pub others : List FurtherFile
+  pub beside : AreHeld held held.with_paths others
   pub unread : List (List ℕ)
-  pub each : IsToldOrLeft (HasLines Are held) Leaves paths told unread
+  pub each : IsToldOrLeft (HasLines (Are others) held) Leaves paths told unread
   pub named : AreNamed unread failed remarks
 
 -- The lines of each path are heard, and the reply has the number of lines with each answer; its notes are the places of

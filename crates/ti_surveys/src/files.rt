@@ -1,48 +1,62 @@
 //! The statements about the entries of a file, one after another.
 
-ghost use Rattle.std.specs.Prelude.{◌≡◌, ◌≢◌, ◌<◌, IfOk, IfSome, OnOk, Some, false, length, option_map, slice_get};
-ghost use Rattle.std.specs.Prelude.{None, true};
+ghost use Rattle.std.specs.Prelude.{◌≡◌, ◌≢◌, ◌<◌, ◌≤◌, ◌⊎◌, IfErr, IfOk, IfSome, OnOk, Some, false, length};
+ghost use Rattle.std.specs.Prelude.{List, None, option_map, slice_get, true};
 ghost use Rattle.std.specs.List.{AllByRecursion, range_with_len};
-ghost use Rattle.ti_source.specs.Apart.{IsApart};
+ghost use Rattle.ti_further.specs.declared.files.FurtherFile.{FurtherFile};
 ghost use Rattle.ti_source.specs.Fitting.{FieldsFit, NamesFit};
 ghost use Rattle.ti_surveys.specs.Heard.{Hears};
 ghost use Rattle.ti_surveys.specs.Lines as spec;
 ghost use Rattle.ti_verdicts.specs.Locations.{place_if};
+ghost use Rattle.ti_verdicts.specs.Spots.{put_files};
+ghost use Rattle.ti_surveys.specs.Together.{FailsApartly, all_in};
 ghost use Rattle.ti_surveys.specs.Told.{IsToldOfEach, told_of};
 
 use crate::said::Said;
 use crate::speakers::{FileEntry, Lacking, Speaker};
+use crate::together::{ApartTogether, all_apart};
 use crate::watchers::{Watcher, pass_on};
 use std::alloc::{AllocError, Global};
 use ti_caps::Entry;
-use ti_commands::{CommandRefusal, unpacked_entry};
+use ti_commands::{CommandRefusal, Failure, unpacked_entry};
 use ti_compiled::{Packed, decode};
-use ti_entries::{ApartFault, LinedText, resolve_apart};
+use ti_entries::{ApartFault, resolve_apart};
+use ti_further::FurtherFile;
 use ti_hints::hint_entries;
 use ti_resolve::{Index, ResolveFault};
-use ti_source::{Apart, FaultKind, RawEntry, SourceFault, read_apart};
-use ti_verdicts::{SourcePlace, first_name};
+use ti_source::{FaultKind, RawEntry, SourceFault, read_apart};
+use ti_verdicts::{LinedFiles, SourcePlace, first_name, lined_files};
 use ti_words::Remarks;
 
-/// The statements of the `speaker` about the file at `path` with these `bytes`: a compiled one, as its first two bytes
-/// show, or a source. The `watcher` hears the lines of each entry once they are known. Hints about a source go to
-/// `remarks`, if the speaker gives them.
-pub fn file_lines<S: Speaker, W: Watcher>(
+/// A survey: the speaker that reports, and the files of `--with`.
+#[derive(Drop)]
+pub(crate) struct Surveying<'a, S> {
+    /// The speaker.
+    pub(crate) speaker: &'a S,
+    /// The files whose entries may be used too.
+    pub(crate) further: &'a [FurtherFile],
+}
+
+/// The statements of the survey's speaker about the file at `path` with these `bytes`: a compiled one, as its first two
+/// bytes show, or a source, whose entries may use those of the survey's further files. The `watcher` hears the lines of
+/// each entry once they are known. Hints about a source go to `remarks`, if the speaker gives them.
+pub(crate) fn file_lines<S: Speaker, W: Watcher>(
     alloc: Global,
-    speaker: &S,
+    survey: &Surveying<'_, S>,
     path: &str,
     bytes: &[u8],
     watcher: &mut W,
     remarks: &mut Remarks,
-) -> Result<Said, AllocError>
-    ensures told { IfOk result (λ said. spec.AreLines (S.says speaker.now) (S.refuses speaker.now)
-        path.now bytes.now (told_of said)) }
+) -> Result<Said, Failure>
+    ensures told { IfOk result (λ said. spec.AreLines (S.says survey.now.speaker.now) (S.refuses survey.now.speaker.now)
+        survey.now.further.now path.now bytes.now (told_of said)) }
     ensures heard { IfOk result (λ said. Hears W.heard W.has_failed watcher.old watcher.new said.lines.items) }
+    ensures failure { IfErr result (λ e. FailsApartly survey.now.further.now e ⊎ (e ≡ Failure.NoMemory)) }
 {
     if is_compiled(bytes) {
-        compiled_lines(alloc, speaker, path, bytes, watcher)
+        Ok(compiled_lines(alloc, survey.speaker, path, bytes, watcher)?)
     } else {
-        text_lines(alloc, speaker, path, bytes, watcher, remarks)
+        text_lines(alloc, survey, path, bytes, watcher, remarks)
     }
 }
 
@@ -64,8 +78,8 @@ fn compiled_lines<S: Speaker, W: Watcher>(
     bytes: &[u8],
     watcher: &mut W,
 ) -> Result<Said, AllocError>
-    ensures told { IfOk result (λ said. spec.AreLinesBy true (S.says speaker.now) (S.refuses speaker.now)
-        path.now bytes.now (told_of said)) }
+    ensures told { (others : List FurtherFile) → IfOk result (λ said. spec.AreLinesBy true (S.says speaker.now)
+        (S.refuses speaker.now) others path.now bytes.now (told_of said)) }
     ensures heard { IfOk result (λ said. Hears W.heard W.has_failed watcher.old watcher.new said.lines.items) }
 {
     let said = compiled_said(alloc, speaker, path, bytes)?;
@@ -80,8 +94,8 @@ fn compiled_said<S: Speaker>(
     path: &str,
     bytes: &[u8],
 ) -> Result<Said, AllocError>
-    ensures { IfOk result (λ said. spec.AreLinesBy true (S.says speaker.now) (S.refuses speaker.now)
-        path.now bytes.now (told_of said)) }
+    ensures { (others : List FurtherFile) → IfOk result (λ said. spec.AreLinesBy true (S.says speaker.now)
+        (S.refuses speaker.now) others path.now bytes.now (told_of said)) }
 {
     match decode(bytes) {
         Ok(packed) => packed_lines(alloc, speaker, path, &packed),
@@ -107,32 +121,50 @@ fn packed_lines<S: Speaker>(
 /// The statements about the source text at `path` with these `bytes`.
 fn text_lines<S: Speaker, W: Watcher>(
     alloc: Global,
-    speaker: &S,
+    survey: &Surveying<'_, S>,
     path: &str,
     bytes: &[u8],
     watcher: &mut W,
     remarks: &mut Remarks,
-) -> Result<Said, AllocError>
-    ensures told { IfOk result (λ said. spec.AreLinesBy false (S.says speaker.now) (S.refuses speaker.now)
-        path.now bytes.now (told_of said)) }
+) -> Result<Said, Failure>
+    ensures told { IfOk result (λ said. spec.AreLinesBy false (S.says survey.now.speaker.now)
+        (S.refuses survey.now.speaker.now) survey.now.further.now path.now bytes.now (told_of said)) }
     ensures heard { IfOk result (λ said. Hears W.heard W.has_failed watcher.old watcher.new said.lines.items) }
+    ensures failure { IfErr result (λ e. FailsApartly survey.now.further.now e ⊎ (e ≡ Failure.NoMemory)) }
+{
+    match all_read(alloc, survey, path, bytes, remarks)? {
+        Ok(all) => Ok(apart_lines(alloc, survey, path, bytes, &all, watcher)?),
+        Err(fault) => {
+            let refusal = CommandRefusal::Source(fault);
+            Ok(unread_lines(alloc, survey.speaker, path, &refusal, watcher)?)
+        }
+    }
+}
+
+/// The entries of the source text at `path` with these `bytes`, each read by itself, and behind them those of the
+/// survey's further files; or the fault that hides all entries of the text. Hints go to `remarks`, if the speaker gives
+/// them.
+#[tactic(auto, using(crate::proofs::SaidFacts::faults_beside))]
+fn all_read<S: Speaker>(
+    alloc: Global,
+    survey: &Surveying<'_, S>,
+    path: &str,
+    bytes: &[u8],
+    remarks: &mut Remarks,
+) -> Result<Result<ApartTogether, SourceFault>, Failure>
+    ensures read { IfOk result (λ read. spec.AreAllRead bytes.now survey.now.further.now read) }
+    ensures failure { IfErr result (λ e. FailsApartly survey.now.further.now e ⊎ (e ≡ Failure.NoMemory)) }
 {
     match read_apart(alloc, bytes) {
         Ok(apart) => {
-            if speaker.hints() {
+            if survey.speaker.hints() {
                 hint_entries(alloc, path, bytes, apart.raws.as_slice(), remarks);
             }
-            apart_lines(alloc, speaker, path, bytes, &apart, watcher)
+            Ok(Ok(all_apart(alloc, apart, survey.further, remarks)?))
         }
         Err(fault) => {
             must_claim(fault.kind)?;
-            unread_lines(
-                alloc,
-                speaker,
-                path,
-                &CommandRefusal::Source(fault),
-                watcher,
-            )
+            Ok(Err(fault))
         }
     }
 }
@@ -169,47 +201,58 @@ fn must_claim(kind: FaultKind) -> Result<(), AllocError>
     }
 }
 
-/// A source text whose entries were read one by one.
+/// A source text whose entries were read one by one, with those of further files behind them.
 #[derive(Drop)]
 struct SourceEntries<'a, 'b> {
     path: &'a str,
-    text: &'b [u8],
-    /// The entries by their names and places.
+    /// How many entries the source itself has.
+    own: usize,
+    /// All entries by their names and places.
     index: &'a Index<'b>,
     /// For each entry the reason why it can't be read, if it can't.
     faults: &'a [Option<SourceFault>],
-    /// The text with the lines of all fields.
-    lined: &'a LinedText<'b>,
-    ghost same_text: { lined.now ≡ text.now },
+    /// The files, with the lines of all fields.
+    files: LinedFiles<'a, 'b>,
 }
 
-/// The lines of the entries `apart` of the source `text` at `path`, in order. The `watcher` hears those of each entry.
-#[tactic(auto, using(crate::proofs::SaidFacts::faults_beside))]
-fn apart_lines<'a, S: Speaker, W: Watcher>(
+/// The lines of the entries of the source `text` at `path`, in order; `all` has them first, and then those of the
+/// survey's further files. The `watcher` hears the lines of each entry.
+fn apart_lines<'b, S: Speaker, W: Watcher>(
     alloc: Global,
-    speaker: &S,
-    path: &str,
-    text: &'a [u8],
-    apart: &'a Apart,
+    survey: &Surveying<'b, S>,
+    path: &'b str,
+    text: &'b [u8],
+    all: &'b ApartTogether,
     watcher: &mut W,
 ) -> Result<Said, AllocError>
-    requires reads { IsApart text.now apart.now.raws.items apart.now.faults.items }
-    requires fit { AllByRecursion FieldsFit apart.now.raws.items }
-    requires names { NamesFit apart.now.raws.items apart.now.faults.items }
-    ensures told { IfOk result (λ said. spec.HasEntries (S.says speaker.now) (S.refuses speaker.now)
-        path.now text.now (told_of said)) }
+    requires { spec.IsAllRead text.now survey.now.further.now (all_in all.now) }
+    ensures told { IfOk result (λ said. spec.HasEntries (S.says survey.now.speaker.now) (S.refuses survey.now.speaker.now)
+        survey.now.further.now path.now text.now (told_of said)) }
     ensures heard { IfOk result (λ said. Hears W.heard W.has_failed watcher.old watcher.new said.lines.items) }
 {
-    let index = Index::new(alloc, apart.raws.as_slice())?;
-    let lined = LinedText::new(alloc, text)?;
+    let index = Index::new(alloc, all.raws.as_slice())?;
+    let files = lined_files(alloc, path, text, survey.further)?;
     let source = SourceEntries {
         path,
-        text,
+        own: first_count(all.counts.as_slice()),
         index: &index,
-        faults: apart.faults.as_slice(),
-        lined: &lined,
+        faults: all.faults.as_slice(),
+        files: LinedFiles {
+            files: files.as_slice(),
+            counts: all.counts.as_slice(),
+        },
     };
-    source_lines(alloc, speaker, &source, watcher)
+    source_lines(alloc, survey.speaker, &source, watcher)
+}
+
+/// How many entries the first file has.
+fn first_count(counts: &[usize]) -> usize
+    ensures { result ≡ spec.first_count counts.now }
+{
+    match counts {
+        [first, ..] => *first,
+        [] => 0,
+    }
 }
 
 /// The lines of the entries of `source`, in order. The `watcher` hears those of each entry once they are known.
@@ -222,17 +265,18 @@ fn source_lines<S: Speaker, W: Watcher>(
     requires fit { AllByRecursion FieldsFit source.now.index.now.raws.now }
     requires names { NamesFit source.now.index.now.raws.now source.now.faults.now }
     requires beside { length source.now.faults.now ≡ length source.now.index.now.raws.now }
+    requires own { source.now.own ≤ length source.now.index.now.raws.now }
     ensures told { IfOk result (λ said. IsToldOfEach
-        (spec.IsSourcePart (S.says speaker.now) (S.refuses speaker.now) source.now.path.now source.now.text.now
-        source.now.index.now.raws.now source.now.faults.now)
-        (range_with_len 0 (length source.now.index.now.raws.now)) (told_of said)) }
+        (spec.IsSourcePart (S.says speaker.now) (S.refuses speaker.now) source.now.path.now
+        (put_files source.now.files) source.now.index.now.raws.now source.now.faults.now)
+        (range_with_len 0 source.now.own) (told_of said)) }
     ensures heard { IfOk result (λ said. Hears W.heard W.has_failed watcher.old watcher.new said.lines.items) }
 {
     let raws = source.index.raws;
     let mut said = Said::new(alloc);
-    for place in 0..raws.len() {
+    for place in 0..source.own {
         let name = first_name(raw_at(raws, place).names.as_slice());
-        watcher.begins(place, raws.len(), name);
+        watcher.begins(place, source.own, name);
         let own = source_part(alloc, speaker, source, place)?;
         pass_on(watcher, &own);
         said.add(&own)?;
@@ -252,7 +296,7 @@ fn source_part<S: Speaker>(
     requires beside { length source.now.faults.now ≡ length source.now.index.now.raws.now }
     requires there { place < length source.now.index.now.raws.now }
     ensures { IfOk result (λ said. spec.IsSourcePart (S.says speaker.now) (S.refuses speaker.now)
-        source.now.path.now source.now.text.now source.now.index.now.raws.now source.now.faults.now place
+        source.now.path.now (put_files source.now.files) source.now.index.now.raws.now source.now.faults.now place
         (told_of said)) }
 {
     let raws = source.index.raws;
@@ -260,11 +304,9 @@ fn source_part<S: Speaker>(
     let entry = entry_apart(alloc, source.index, source.faults, place)?;
     let name = first_name(raw.names.as_slice());
     let stands = Some(SourcePlace {
-        path: source.path,
-        text: source.text,
+        files: source.files,
         raws,
         place,
-        lined: source.lined,
         index: source.index,
     });
     entry_lines(alloc, speaker, source.path, &stands, name, &entry)

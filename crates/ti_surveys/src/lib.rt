@@ -9,6 +9,7 @@ mod said;
 mod speakers;
 mod strict;
 mod surveys;
+mod together;
 mod unread;
 mod watchers;
 

@@ -1,22 +1,22 @@
 //! The command `survey`, and the common part of all surveys.
 
-ghost use Rattle.std.specs.Prelude.{◌≡◌, ◌++◌, IfErr, IfOk, OnOk};
-ghost use Rattle.ti_commands.specs.Sizes.{LacksSize};
+ghost use Rattle.std.specs.Prelude.{◌≡◌, ◌++◌, ◌⊎◌, IfErr, IfOk, OnOk};
 ghost use Rattle.ti_commands.specs.Words.{texts_of};
 ghost use Rattle.ti_surveys.specs.Heard.{Hears};
 ghost use Rattle.ti_surveys.specs.Lines.{AreLines};
 ghost use Rattle.ti_surveys.specs.Surveys as spec;
+ghost use Rattle.ti_surveys.specs.Together.{FailsApartly, FailsBeside, FailsToSurvey};
 ghost use Rattle.ti_surveys.specs.Told.{IsEither, IsToldOrLeft, followed_by, left_if, told_of};
 
 use crate::asked::Asked;
-use crate::files::file_lines;
+use crate::files::{Surveying, file_lines};
 use crate::said::Said;
 use crate::speakers::Speaker;
 use crate::strict::strict_failure;
 use crate::unread::named;
 use crate::watchers::{Watcher, pass_on};
 use std::alloc::{AllocError, Global};
-use ti_commands::{Failure, Files, LONGEST_FILE, Reply, read_whole, size_words};
+use ti_commands::{Failure, Files, LONGEST_FILE, Reply, further_files, read_whole, size_words};
 use ti_requests::SurveyWords;
 use ti_verdicts::{Certifier, answers_line};
 use ti_words::Remarks;
@@ -39,8 +39,8 @@ pub struct Surveyed {
 /// receives reports of how far the survey has come.
 ///
 /// # Errors
-/// The reason why the words give no size, before any line is known; out of memory, after the `watcher` has passed on
-/// the lines of the entries before.
+/// The reason why the words give no size, or a file of `--with` that can't be read, before any line is known; a file of
+/// `--with` that hides all its entries; out of memory, after the `watcher` has passed on the lines of the entries before.
 pub fn survey_files<C: Certifier, F: Files, W: Watcher>(
     alloc: Global,
     certifier: &C,
@@ -51,7 +51,7 @@ pub fn survey_files<C: Certifier, F: Files, W: Watcher>(
 ) -> Result<Reply, Failure>
     ensures reply { IfOk result (λ reply. spec.IsSurveyed (C.certifies certifier.now) (C.refuses certifier.now)
         (F.holds files.old) words.now remarks.new (Hears W.heard W.has_failed watcher.old watcher.new) reply) }
-    ensures failure { IfErr result (λ e. LacksSize words.now.rows.now words.now.cols.now e) }
+    ensures failure { IfErr result (λ e. FailsToSurvey (F.holds files.old) words.now.rows.now words.now.cols.now e) }
     ensures kept { F.holds files.new ≡ F.holds files.old }
 {
     let size = size_words(alloc, words.rows, words.cols, remarks)?;
@@ -88,7 +88,8 @@ pub fn survey_files<C: Certifier, F: Files, W: Watcher>(
 /// has come.
 ///
 /// # Errors
-/// Out of memory, after the `watcher` has passed on the lines of the entries before.
+/// A file of `--with` that can't be read or hides all its entries; out of memory. The `watcher` has then passed on the
+/// lines of the entries before.
 pub fn survey_paths<S: Speaker, F: Files, W: Watcher>(
     alloc: Global,
     speaker: &S,
@@ -96,15 +97,21 @@ pub fn survey_paths<S: Speaker, F: Files, W: Watcher>(
     files: &mut F,
     watcher: &mut W,
     remarks: &mut Remarks,
-) -> Result<Surveyed, AllocError>
+) -> Result<Surveyed, Failure>
     ensures told { IfOk result (λ surveyed. spec.EndsPaths (AreLines (S.says speaker.now) (S.refuses speaker.now))
         (S.leaves speaker.now) (F.holds files.old) (texts_of paths.now) (told_of surveyed.said) surveyed.failure
         remarks.new) }
     ensures heard { IfOk result (λ surveyed. Hears W.heard W.has_failed watcher.old watcher.new
         surveyed.said.lines.items) }
+    ensures failure { IfErr result (λ e. FailsBeside (F.holds files.old) e) }
     ensures kept { F.holds files.new ≡ F.holds files.old }
 {
-    let parted = paths_said(alloc, speaker, paths, files, watcher, remarks);
+    let further = further_files(alloc, files, remarks)?;
+    let survey = Surveying {
+        speaker,
+        further: further.as_slice(),
+    };
+    let parted = paths_said(alloc, &survey, paths, files, watcher, remarks);
     watcher.ends();
     let Parted { said, unread } = parted?;
     let failure = named(alloc, unread.as_slice(), remarks)?;
@@ -142,20 +149,22 @@ struct Own {
     is_left: bool,
 }
 
-/// The statements of the `speaker` about all `paths`, whose lines the `watcher` hears.
+/// The statements of the survey's speaker about all `paths`, whose lines the `watcher` hears.
 fn paths_said<'a, S: Speaker, F: Files, W: Watcher>(
     alloc: Global,
-    speaker: &S,
+    survey: &Surveying<'_, S>,
     paths: &[&'a str],
     files: &mut F,
     watcher: &mut W,
     remarks: &mut Remarks,
-) -> Result<Parted<'a>, AllocError>
+) -> Result<Parted<'a>, Failure>
     ensures told { IfOk result (λ parted. IsToldOrLeft
-        (spec.HasLines (AreLines (S.says speaker.now) (S.refuses speaker.now)) (F.holds files.old))
-        (S.leaves speaker.now) (texts_of paths.now) (told_of parted.said) (texts_of parted.unread.items)) }
+        (spec.HasLines (AreLines (S.says survey.now.speaker.now) (S.refuses survey.now.speaker.now)
+        survey.now.further.now) (F.holds files.old)) (S.leaves survey.now.speaker.now) (texts_of paths.now)
+        (told_of parted.said) (texts_of parted.unread.items)) }
     ensures heard { IfOk result (λ parted. Hears W.heard W.has_failed watcher.old watcher.new
         parted.said.lines.items) }
+    ensures failure { IfErr result (λ e. FailsApartly survey.now.further.now e ⊎ (e ≡ Failure.NoMemory)) }
     ensures kept { F.holds files.new ≡ F.holds files.old }
 {
     let mut parted = Parted {
@@ -164,36 +173,38 @@ fn paths_said<'a, S: Speaker, F: Files, W: Watcher>(
     };
     for (done, path) in paths.iter().enumerate() {
         watcher.begins(done, paths.len(), path.as_bytes());
-        let own = path_said(alloc, speaker, path, files, watcher, remarks)?;
+        let own = path_said(alloc, survey, path, files, watcher, remarks)?;
         parted.add(*path, &own)?;
     }
     Ok(parted)
 }
 
-/// The statements of the `speaker` about `path`, whose lines the `watcher` hears.
+/// The statements of the survey's speaker about `path`, whose lines the `watcher` hears.
 fn path_said<S: Speaker, F: Files, W: Watcher>(
     alloc: Global,
-    speaker: &S,
+    survey: &Surveying<'_, S>,
     path: &str,
     files: &mut F,
     watcher: &mut W,
     remarks: &mut Remarks,
-) -> Result<Own, AllocError>
+) -> Result<Own, Failure>
     ensures told { IfOk result (λ own. IsEither
-        (spec.HasLines (AreLines (S.says speaker.now) (S.refuses speaker.now)) (F.holds files.old))
-        (S.leaves speaker.now) own.is_left path.now (told_of own.said)) }
+        (spec.HasLines (AreLines (S.says survey.now.speaker.now) (S.refuses survey.now.speaker.now)
+        survey.now.further.now) (F.holds files.old)) (S.leaves survey.now.speaker.now) own.is_left path.now
+        (told_of own.said)) }
     ensures heard { IfOk result (λ own. Hears W.heard W.has_failed watcher.old watcher.new own.said.lines.items) }
+    ensures failure { IfErr result (λ e. FailsApartly survey.now.further.now e ⊎ (e ≡ Failure.NoMemory)) }
     ensures kept { F.holds files.new ≡ F.holds files.old }
 {
     match read_whole(alloc, files, path, LONGEST_FILE, remarks) {
         Ok(bytes) => {
-            let said = file_lines(alloc, speaker, path, bytes.as_slice(), watcher, remarks)?;
+            let said = file_lines(alloc, survey, path, bytes.as_slice(), watcher, remarks)?;
             Ok(Own {
                 said,
                 is_left: false,
             })
         }
-        Err(Failure::NoMemory) => Err(AllocError),
+        Err(Failure::NoMemory) => Err(Failure::NoMemory),
         Err(
             Failure::Refused(_)
             | Failure::RefusedUnwritten(_)
@@ -201,7 +212,7 @@ fn path_said<S: Speaker, F: Files, W: Watcher>(
             | Failure::File(_)
             | Failure::Output,
         ) => {
-            let said = left_said(alloc, speaker, path, watcher)?;
+            let said = left_said(alloc, survey.speaker, path, watcher)?;
             Ok(Own {
                 said,
                 is_left: true,

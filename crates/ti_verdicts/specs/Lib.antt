@@ -2,6 +2,7 @@
 pub mod Refusals
 pub mod Verifications
 pub mod Checks
+pub mod Spots
 pub mod Locations
 pub mod Starts
 pub mod Remedies

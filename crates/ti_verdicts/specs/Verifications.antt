@@ -36,7 +36,7 @@ pub record GivesConforming (held : Held) (words : VerifyWords) : Type 0 where
   pub gives : GivesEntry held words.entry.now entry
   pub conforms : Conforms entry height width
   pub checked : CheckedTable
-  pub hands_out : HandsOut (held words.certificate.now) entry height width checked
+  pub hands_out : HandsOut (held.at words.certificate.now) entry height width checked
 
 -- the reply is yes
 pub record IsVerified (held : Held) (words : VerifyWords) (reply : Reply) : Type 0 where
@@ -65,7 +65,7 @@ pub record FailsAtCertificate (held : Held) (words : VerifyWords) (failure : Fai
   pub given : SizeGiven words.rows.now words.cols.now height width
   pub entry : Content
   pub gives : GivesEntry held words.entry.now entry
-  pub lacks : LacksCertificate (held words.certificate.now) height width entry words.certificate.now failure
+  pub lacks : LacksCertificate (held.at words.certificate.now) height width entry words.certificate.now failure
 
 abbrev pub FailsToVerify : Held → VerifyWords → Failure → Type 0
 FailsToVerify held words failure =

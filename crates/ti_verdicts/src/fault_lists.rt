@@ -14,11 +14,11 @@ use crate::reasons::explain_no;
 use crate::refusals::{no_failure, no_words};
 use crate::remedies::{note_another_kind, note_left_out, suggestion_lines};
 use crate::source_places::NamedSource;
+use crate::spots::{LinedFiles, source_files};
 use std::alloc::{AllocError, Global};
 use ti_caps::Entry;
 use ti_checker::No;
 use ti_commands::{Failure, Files, Reply, SourceText, Sourced, size_words, sourced_entry};
-use ti_entries::LinedText;
 use ti_faults::{Mended, faults};
 use ti_hints::{advise, advise_unchecked};
 use ti_requests::FaultsWords;
@@ -118,12 +118,15 @@ fn source_text<'x>(
     ensures { IfOk result (λ text. spec.IsFaultsText entry.now (Some source.now) mended.now nos.now text.items) }
 {
     let index = Index::new(alloc, source.raws.as_slice())?;
-    let lined = LinedText::new(alloc, source.text.as_slice())?;
+    let files = source_files(alloc, source)?;
     let located = Located {
         entry,
         source: Some(NamedSource {
             source,
-            lined: &lined,
+            files: LinedFiles {
+                files: files.as_slice(),
+                counts: source.counts.as_slice(),
+            },
             index: &index,
         }),
     };

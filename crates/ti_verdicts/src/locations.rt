@@ -4,14 +4,16 @@ ghost use Rattle.std.specs.Prelude.{◌≡◌, ◌<◌, ◌==◌, IfOk, IfSome, 
 ghost use Rattle.std.specs.List as List;
 ghost use Rattle.ti_resolve.specs.Uses.{names_at};
 ghost use Rattle.ti_verdicts.specs.Locations as spec;
+ghost use Rattle.ti_verdicts.specs.Spots.{line_of};
 
 use crate::refusals::no_words;
 use crate::source_places::{NamedSource, SourcePlace};
+use crate::spots::FieldPlace;
 use std::alloc::{AllocError, Global};
 use ti_caps::{Cap, name};
 use ti_checker::No;
 use ti_resolve::Origin;
-use ti_source::{RawEntry, field_lines};
+use ti_source::RawEntry;
 use ti_words::push_shown;
 
 /// The end of the first of `names`, if another follows.
@@ -68,30 +70,40 @@ fn place_line(
 {
     let source = named.source;
     let names = names_of(source.raws.as_slice(), origin.entry);
-    let words = place_words(alloc, source.path, named.line(origin), cap, names)?;
+    let words = place_words(alloc, named.line(origin), cap, names)?;
     let mut line = Vec::new(alloc);
     push_shown(&mut line, words.as_slice())?;
     line.push(b'\n')?;
     Ok(line)
 }
 
-/// `FILE:LINE: CAP of NAME` of a field on the line `number`, which is about `cap`, of the entry with these `names`.
+/// `FILE:LINE: CAP of NAME` of a field at `place`, which is about `cap`, of the entry with these `names`.
 #[tactic(auto, unfolding(crate::specs::Locations::numbered_text))]
 fn place_words(
     alloc: Global,
-    path: &str,
-    number: usize,
+    place: FieldPlace<'_>,
     cap: Cap,
     names: &[u8],
 ) -> Result<Vec<u8>, AllocError>
-    ensures { IfOk result (λ words. words.items ≡ spec.numbered_text path.now number cap names.now) }
+    ensures { IfOk result (λ words. words.items ≡ spec.numbered_text (line_of place.entry) cap names.now) }
 {
-    let mut words = Vec::from_slice(alloc, path.as_bytes())?;
-    words.extend_from_slice(format!(in alloc; ":{number}: ")?.as_bytes())?;
+    let mut words = Vec::from_slice(alloc, place.path.as_bytes())?;
+    words.extend_from_slice(number_words(alloc, place.line)?.as_slice())?;
+    words.extend_from_slice(b": ")?;
     words.extend_from_slice(name(cap))?;
     words.extend_from_slice(b" of ")?;
     words.extend_from_slice(first_name(names))?;
     Ok(words)
+}
+
+/// A colon and the number of a line; nothing for 0, in a file without lines.
+fn number_words(alloc: Global, number: usize) -> Result<Vec<u8>, AllocError>
+    ensures { IfOk result (λ words. words.items ≡ spec.number_text number) }
+{
+    if number == 0 {
+        return Ok(Vec::new(alloc));
+    }
+    Vec::from_slice(alloc, format!(in alloc; ":{number}")?.as_bytes())
 }
 
 /// The line with the place of the value that `no` is about, and the words of `no` about the entry of this name at the
@@ -140,7 +152,7 @@ fn placed_line(
         ≡ spec.placed_text (spec.place_in stands.now) name.now no.now (Some origin)) }
 {
     let names = names_of(stands.raws, origin.entry);
-    let mut words = place_words(alloc, stands.path, stands.line(origin), no.cap, names)?;
+    let mut words = place_words(alloc, stands.line(origin), no.cap, names)?;
     words.extend_from_slice(b": ")?;
     words.extend_from_slice(name)?;
     words.extend_from_slice(b" ")?;
@@ -149,18 +161,6 @@ fn placed_line(
     push_shown(&mut line, words.as_slice())?;
     line.push(b'\n')?;
     Ok(line)
-}
-
-/// The line of `text` that has the field at `origin`.
-#[tactic(auto, unfolding(crate::specs::Locations::line_of_field))]
-pub fn line_of_field(alloc: Global, text: &[u8], origin: Origin) -> Result<usize, AllocError>
-    ensures { IfOk result (λ line. line ≡ spec.line_of_field text.now origin) }
-{
-    let lines = field_lines(alloc, text, origin.entry)?;
-    match lines.get(origin.field) {
-        Some(field) => Ok(field.line),
-        None => Ok(0),
-    }
 }
 
 /// The names of the entry at `place`.

@@ -2,37 +2,34 @@
 
 ghost use Rattle.std.specs.Prelude.{◌≡◌, ◌<◌, IfOk, length};
 ghost use Rattle.ti_resolve.specs.Origins.{IsOrigin, IsOriginAt};
+ghost use Rattle.ti_verdicts.specs.Spots.{files_of, put_files};
 
+use crate::spots::{FieldPlace, LinedFiles};
 use std::alloc::{AllocError, Global};
 use ti_caps::Cap;
 use ti_commands::SourceText;
-use ti_entries::{LinedText, place_named};
+use ti_entries::place_named;
 use ti_resolve::{Index, Origin, origin_from};
 use ti_source::RawEntry;
 
 /// The place of an entry in a source text.
 #[derive(Drop)]
 pub struct SourcePlace<'a, 'b> {
-    /// The file's path.
-    pub path: &'a str,
-    /// The file's text.
-    pub text: &'b [u8],
-    /// All entries of the text, as they were read.
+    /// The file and those of `--with`, with the lines of all fields.
+    pub files: LinedFiles<'a, 'b>,
+    /// All entries of these files, as they were read.
     pub raws: &'b [RawEntry],
     /// The place of the entry in `raws`.
     pub place: usize,
-    /// The text with the lines of all fields.
-    pub lined: &'a LinedText<'b>,
     /// The entries with the index of their names.
     pub index: &'a Index<'b>,
-    ghost same_text: { lined.now ≡ text.now },
     ghost same_raws: { index.now.raws.now ≡ raws.now },
 }
 
-impl SourcePlace<'_, '_> {
+impl<'b> SourcePlace<'_, 'b> {
     ghost use Rattle.std.specs.Prelude.{◌≡◌, ◌<◌, IfOk, length};
     ghost use Rattle.ti_resolve.specs.Origins.{IsOriginAt};
-    ghost use Rattle.ti_verdicts.specs.Locations.{line_of_field};
+    ghost use Rattle.ti_verdicts.specs.Spots.{files_of, line_among, line_of, put_files};
 
     /// The field that gives the entry its value of `cap`; `None` if it has none.
     ///
@@ -45,11 +42,11 @@ impl SourcePlace<'_, '_> {
         origin_by(alloc, self.index, self.place, cap)
     }
 
-    /// The line of the text that has the field at `origin`.
-    pub fn line(&self, origin: Origin) -> usize
-        ensures { result ≡ line_of_field self.now.text.now origin }
+    /// The file and the line that have the field at `origin`.
+    pub fn line(&self, origin: Origin) -> FieldPlace<'b>
+        ensures { line_of result ≡ line_among (put_files self.now.files) origin }
     {
-        self.lined.line(origin)
+        self.files.line(origin)
     }
 }
 
@@ -75,18 +72,18 @@ fn origin_by(
 pub struct NamedSource<'a, 'b> {
     /// The source, and the name.
     pub source: &'b SourceText<'b>,
-    /// The text with the lines of all fields.
-    pub lined: &'a LinedText<'b>,
+    /// The file and those of `--with`, with the lines of all fields.
+    pub files: LinedFiles<'a, 'b>,
     /// The entries with the index of their names.
     pub index: &'a Index<'b>,
-    ghost same_text: { lined.now ≡ source.now.text.items },
+    ghost same_files: { put_files files ≡ files_of source.now },
     ghost same_raws: { index.now.raws.now ≡ source.now.raws.items },
 }
 
-impl NamedSource<'_, '_> {
+impl<'b> NamedSource<'_, 'b> {
     ghost use Rattle.std.specs.Prelude.{◌≡◌, IfOk};
     ghost use Rattle.ti_resolve.specs.Origins.{IsOrigin};
-    ghost use Rattle.ti_verdicts.specs.Locations.{line_of_field};
+    ghost use Rattle.ti_verdicts.specs.Spots.{files_of, line_among, line_of, put_files};
 
     /// The field that gives the entry its value of `cap`; `None` if it has none.
     ///
@@ -98,11 +95,11 @@ impl NamedSource<'_, '_> {
         origin_named(alloc, self.index, self.source.name.as_bytes(), cap)
     }
 
-    /// The line of the text that has the field at `origin`.
-    pub fn line(&self, origin: Origin) -> usize
-        ensures { result ≡ line_of_field self.now.source.now.text.items origin }
+    /// The file and the line that have the field at `origin`.
+    pub fn line(&self, origin: Origin) -> FieldPlace<'b>
+        ensures { line_of result ≡ line_among (files_of self.now.source.now) origin }
     {
-        self.lined.line(origin)
+        self.files.line(origin)
     }
 }
 

@@ -47,9 +47,9 @@ pub fn checked_at<F: Files>(
 ) -> Result<Checked, Failure>
     ensures conforms { IfOk result (λ _. Conforms entry.now size.rows size.cols) }
     ensures hands_out { IfOk result
-        (λ checked. HandsOut (F.holds files.old path.now) entry.now size.rows size.cols checked) }
+        (λ checked. HandsOut ((F.holds files.old).at path.now) entry.now size.rows size.cols checked) }
     ensures failure { IfErr result
-        (λ e. LacksCertificate (F.holds files.old path.now) size.rows size.cols entry.now path.now e) }
+        (λ e. LacksCertificate ((F.holds files.old).at path.now) size.rows size.cols entry.now path.now e) }
     ensures kept { F.holds files.new ≡ F.holds files.old }
 {
     let file = match files.reader(path) {

@@ -2,7 +2,8 @@
 use Rattle.std.specs.Prelude.{ℕ, ◌==◌, ◌&&◌, ◌||◌, not, nat_eq, nat_le, Bool, false, List, ◌∷◌, codes, length}
 use Rattle.std.specs.Prelude.{if◌then◌else◌}
 use Rattle.std.specs.List.{starts_with}
-use Rattle.ti_commands.specs.Contents.{longest_file}
+use Rattle.std.specs.Prelude.{option_map}
+use Rattle.ti_commands.specs.Contents.{Held, longest_file}
 use Rattle.ti_joins.specs.Joins.{joined_text}
 
 -- a compiled file begins with a magic number (term(5)): octal 432, or 1036 for numbers of 32 bits
@@ -21,3 +22,11 @@ is_source bytes = nat_le (length bytes) longest_file && not (is_compiled bytes) 
 -- what the bytes of a file are read as: a source text is joined, and everything else stays as it is
 unfoldable pub read_as : List ℕ → List ℕ
 read_as bytes = if is_source bytes then joined_text bytes else bytes
+
+-- the same files, each read so
+abbrev pub joined_held : Held → Held
+joined_held held = record { at = λ path. option_map read_as (held.at path); with_paths = held.with_paths }
+
+-- the same files, of which those at these paths are the files of `--with`
+abbrev pub held_beside : List (List ℕ) → Held → Held
+held_beside paths held = record { at = held.at; with_paths = paths }

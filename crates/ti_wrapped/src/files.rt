@@ -1,7 +1,8 @@
 //! The files of a command, in which source texts are joined.
 
-ghost use Rattle.std.specs.Prelude.{◌≡◌, option_map};
-ghost use Rattle.ti_wrapped.specs.Wrapped.{read_as};
+ghost use Rattle.std.specs.Prelude.{◌≡◌};
+ghost use Rattle.ti_commands.specs.Words.{texts_of};
+ghost use Rattle.ti_wrapped.specs.Wrapped.{joined_held};
 
 use crate::fronts::read_front;
 use crate::texts::{read_as, reads_as_is};
@@ -25,7 +26,7 @@ impl<'a, F> Wrapped<'a, F> {
 }
 
 impl<F: Files> Files for Wrapped<'_, F> {
-    ghost holds = { λ wrapped path. option_map read_as (F.holds wrapped.files.now path) };
+    ghost holds = { λ wrapped. joined_held (F.holds wrapped.files.now) };
 
     type File = Chain<Cursor<Vec<u8>>, F::File>;
 
@@ -36,6 +37,10 @@ impl<F: Files> Files for Wrapped<'_, F> {
             return Err(FileFault::NoMemory);
         };
         Ok(Cursor::new(text).chain(file))
+    }
+
+    fn with_paths(&self) -> &[&str] {
+        self.files.with_paths()
     }
 
     fn length_hint(&self) -> u64 {

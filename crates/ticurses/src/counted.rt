@@ -28,6 +28,10 @@ impl<F: Files> Files for Counted<'_, F> {
         self.files.reader(path)
     }
 
+    fn with_paths(&self) -> &[&str] {
+        self.files.with_paths()
+    }
+
     fn length_hint(&self) -> u64 {
         self.files.length_hint()
     }

@@ -23,7 +23,7 @@ use ti_source::FaultKind;
 use ti_surveys::survey_files;
 use ti_verdicts::{Checker, check_all, check_entry, verify_certificate};
 use ti_words::Remarks;
-use ti_wrapped::Wrapped;
+use ti_wrapped::{Beside, Wrapped};
 
 /// Carries out the `words` after the program's own name. The answer goes to `out`, notes and the
 /// lines of a failure to `err`. Returns the exit status: 0 done, 1 refused, 2 a usage error, 3 a
@@ -196,11 +196,12 @@ fn reply_by<F: Files + Sources, O: Output, E: Write + IsTerminal>(
     if asked.fixes {
         files.allow_source();
     }
+    let mut beside = Beside::new(files, asked.further.as_slice());
     if asked.joins {
-        let mut joined = Wrapped::new(alloc, files);
+        let mut joined = Wrapped::new(alloc, &mut beside);
         reply_to(alloc, asked, &mut joined, out, err, remarks)
     } else {
-        reply_to(alloc, asked, files, out, err, remarks)
+        reply_to(alloc, asked, &mut beside, out, err, remarks)
     }
 }
 

@@ -30,11 +30,11 @@ pub struct Stored<'a, R, I> {
     rt: &'a R,
     /// Standard input, until it is opened.
     input: Option<I>,
-    /// The file that was opened last, by its device and its number there.
-    last_read: Option<(u64, u64)>,
+    /// The files that were opened, by their devices and their numbers there.
+    were_read: Vec<(u64, u64)>,
     /// The length of the file that was opened last, if it has one.
     last_length: u64,
-    /// Whether the file that was opened last can't be stored to.
+    /// Whether the files that were opened can't be stored to.
     keeps_source: bool,
 }
 
@@ -45,7 +45,7 @@ impl<'a, R: rt::Files, I> Stored<'a, R, I> {
             alloc,
             rt,
             input: Some(input),
-            last_read: None,
+            were_read: Vec::new(alloc),
             last_length: 0,
             keeps_source: true,
         }
@@ -53,12 +53,21 @@ impl<'a, R: rt::Files, I> Stored<'a, R, I> {
 
     /// Standard input, unless it was opened before.
     fn open_input(&mut self) -> Result<I, FileFault> {
-        let metadata = fs::metadata(self.rt, INPUT_FILE);
-        self.last_read = metadata.ok().map(|metadata| identity(&metadata));
+        if let Ok(metadata) = fs::metadata(self.rt, INPUT_FILE) {
+            self.remember(&metadata)?;
+        }
         self.last_length = 0;
         match self.input.take() {
             Some(input) => Ok(input),
             None => Err(FileFault::Failed(FileCause::Other)),
+        }
+    }
+
+    /// Remembers a file that was opened.
+    fn remember(&mut self, metadata: &Metadata) -> Result<(), FileFault> {
+        match self.were_read.push(identity(metadata)) {
+            Ok(()) => Ok(()),
+            Err(_) => Err(FileFault::NoMemory),
         }
     }
 
@@ -155,9 +164,13 @@ impl<R: rt::Files, I: Read + Drop> Files for Stored<'_, R, I> {
         }
         let file = fs::open(self.rt, path)?;
         let metadata = file.metadata()?;
-        self.last_read = Some(identity(&metadata));
+        self.remember(&metadata)?;
         self.last_length = metadata.len();
         Ok(Opened::File(file))
+    }
+
+    fn with_paths(&self) -> &[&str] {
+        &[]
     }
 
     fn length_hint(&self) -> u64 {
@@ -168,9 +181,9 @@ impl<R: rt::Files, I: Read + Drop> Files for Stored<'_, R, I> {
     /// pipe, is written to.
     fn store(&mut self, path: &str, bytes: &[u8]) -> Result<(), FileFault> {
         match fs::metadata(self.rt, path) {
-            Ok(metadata) if self.keeps_source && self.last_read == Some(identity(&metadata)) => {
-                Err(FileFault::Failed(FileCause::Source))
-            }
+            Ok(metadata)
+                if self.keeps_source && self.were_read.as_slice().contains(&identity(&metadata)) =>
+                { Err(FileFault::Failed(FileCause::Source)) }
             Ok(metadata) if metadata.is_file() => {
                 let target = self.rt.canonicalize(self.alloc, path)?.into_string();
                 self.replace(target.as_str(), Some(metadata.permissions()), bytes)

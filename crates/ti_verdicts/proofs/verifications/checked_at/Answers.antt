@@ -6,7 +6,7 @@ use Rattle.ti_verdicts.proofs.verifications.checked_at.Goals as goal
 pub returns-in-Ok-verify_from-clause-hands_out : goal.returns-in-Ok-verify_from-clause-hands_out
 returns-in-Ok-verify_from-clause-hands_out g c =
     let e = c.in-Ok-verify_from.ensures in
-    let known = g.F.Files.holds c.args.files.now c.args.path.now in
+    let known = (g.F.Files.holds c.args.files.now).at c.args.path.now in
     record {
       rows = e.rows;
       cols = e.cols;
@@ -18,6 +18,6 @@ returns-in-Ok-verify_from-clause-hands_out g c =
 
 pub returns-in-Err-Cert-clause-failure : goal.returns-in-Err-Cert-clause-failure
 returns-in-Err-Cert-clause-failure g c =
-    let known = g.F.Files.holds c.args.files.now c.args.path.now in
+    let known = (g.F.Files.holds c.args.files.now).at c.args.path.now in
     cert_lacks known (g.F.File.Read.remaining c.in-Ok.file) c.args.size.rows c.args.size.cols c.args.entry.now c.args.path.now _ c.in-Err-Cert.field-0 c.in-Err-Cert.fault c.cert_failure.result c.in-Err-Cert.field-0-is c.in-Ok.ensures.bytes
     (λ text left. c.in-Err-Cert.ensures.refused text (ap g.F.File.Read.remaining c.new-reader.ensures ∙ left)) c.cert_failure.ensures
