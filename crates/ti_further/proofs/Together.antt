@@ -1,5 +1,5 @@
 -- Entries of several files put together.
-use Rattle.std.proofs.Common.{◌≡◌, ◌∙◌, ◌<◌, ◌≤◌, ◌+◌, ℕ, Bool, true, false, List, [], ◌∷◌, ◌++◌, Option, Some, None, length, refl, sym, ap, append-nil, append_assoc, arith, cond, not, suc, zero}
+use Rattle.std.proofs.Common.{◌≡◌, ◌∙◌, ◌<◌, ◌≤◌, ◌+◌, ℕ, Bool, true, false, List, [], ◌∷◌, ◌++◌, Some, length, refl, sym, ap, append-nil, append_assoc, arith, cond, not, suc, zero}
 use Rattle.std.specs.Prelude.{◌-◌, if◌then◌else◌, map, nat_lt, slice_get, slice_index_or}
 use Rattle.std.specs.List.{position, position_or_len}
 use Rattle.std.proofs.lemmas.Bool.{ltb-true}
