@@ -1,6 +1,6 @@
 -- The entries of the files of `--with`, one file after another.
 use Rattle.std.proofs.Common.{◌≡◌, ◌∙◌, ◌<◌, ◌+◌, ℕ, suc, List, [], ◌∷◌, ◌++◌, ap, append-nil, append_assoc, drop, drop-cons, get_or, inl, inr, length, refl, sym, subst, take}
-use Rattle.std.specs.Prelude.{String, map, string_bytes}
+use Rattle.std.specs.Prelude.{String, string_bytes}
 use Rattle.std.specs.declared.alloc.Global.{Global}
 use Rattle.std.proofs.lemmas.List.{map-append, take-append-drop, take_more}
 use Rattle.ti_commands.specs.Contents.{Held}
@@ -29,7 +29,7 @@ further_end held [] path files lists file raws h is =
 further_end held (first ∷ paths) path files lists file raws h is =
     (h.0, h.1 ++ file ∷ [], h.2, h.3 ++ raws ∷ [], ap (λ (fs : List FurtherFile). fs ++ file ∷ []) h.4, ap (λ (ls : List (List RawEntry)). ls ++ raws ∷ []) h.5, h.6, further_end held paths path h.1 h.3 file raws h.7 is)
 
-together_end : (lists : List (List RawEntry)) (raws : List RawEntry) → together (lists ++ raws ∷ []) ≡ together lists ++ raws
+pub together_end : (lists : List (List RawEntry)) (raws : List RawEntry) → together (lists ++ raws ∷ []) ≡ together lists ++ raws
 together_end [] raws = append-nil raws
 together_end (first ∷ lists) raws = ap (λ (l : List RawEntry). first ++ l) (together_end lists raws) ∙ sym (append_assoc first (together lists) raws)
 

@@ -1,4 +1,5 @@
 pub mod FurtherFacts
+pub mod Storings
 pub mod Params
 pub mod Listings
 pub mod Expansions

@@ -1,5 +1,6 @@
 -- The contents of a command's files, as far as they are known.
-use Rattle.std.specs.Prelude.{◌≡◌, ◌≢◌, ◌≤◌, ℕ, List, [], Option, Some, None, IfSome, length, take}
+use Rattle.std.specs.Prelude.{◌≡◌, ◌≢◌, ◌≤◌, ℕ, List, [], ◌∷◌, Option, Some, None, IfSome, length, string_bytes, take}
+use Rattle.ti_commands.specs.declared.files.NewFile.{NewFile}
 
 -- the files of a command: the bytes at each path, if they are known, and the paths of the files of `--with`, whose
 -- entries those of a source may use
@@ -38,4 +39,20 @@ pub record HasBytes (held : Option (List ℕ)) (limit : ℕ) (P : List ℕ → T
 pub record Stored (before after : Held) (path bytes : List ℕ) : Type 0 where
   pub there : AreBytesOf (after.at path) bytes
   pub others : (other : List ℕ) → other ≢ path → after.at other ≡ before.at other
+  pub with_kept : after.with_paths ≡ before.with_paths
+
+-- each of these paths holds its bytes
+unfoldable pub AreStored : Held → List NewFile → Type 0
+AreStored held [] = Unit {0}
+AreStored held (file ∷ files) = AreBytesOf (held.at (string_bytes file.path)) file.bytes.items × AreStored held files
+
+-- the path is that of none of these files
+unfoldable pub IsNoneOf : List ℕ → List NewFile → Type 0
+IsNoneOf path [] = Unit {0}
+IsNoneOf path (file ∷ files) = (path ≢ string_bytes file.path) × IsNoneOf path files
+
+-- each of these paths holds its bytes now, and every other path what it held before
+pub record StoredAll (before after : Held) (files : List NewFile) : Type 0 where
+  pub there : AreStored after files
+  pub others : (other : List ℕ) → IsNoneOf other files → after.at other ≡ before.at other
   pub with_kept : after.with_paths ≡ before.with_paths

@@ -77,6 +77,7 @@ pub(crate) fn find_in_source<F: Files>(
         (λ bytes. IsOfSource (F.holds files.old) bytes name.now found.notes.items found.entry)) }
     ensures text { IfOk result (λ found. IsOfText (F.holds files.old) path.now name.now found.text.items
         (together_in found.all) found.entry) }
+    ensures fit { IfOk result (λ found. AllByRecursion IsRaw found.all.raws.items) }
     ensures failure { IfErr result (λ e. FailsInSource (F.holds files.old) path.now e) }
     ensures kept { F.holds files.new ≡ F.holds files.old }
 {

@@ -1,7 +1,7 @@
 //! The files that a command reads and writes.
 
 ghost use Rattle.std.specs.Prelude.{◌≡◌, ◌≢◌, ℕ, List, IfOk, OnErr, OnOk};
-ghost use Rattle.ti_commands.specs.Contents.{AreBytesOf, Held, IsLeft, nothing_held};
+ghost use Rattle.ti_commands.specs.Contents.{AreBytesOf, Held, IsLeft, StoredAll, nothing_held};
 ghost use Rattle.ti_commands.specs.Words.{texts_of};
 
 use std::io;
@@ -69,6 +69,15 @@ impl FileFault {
     }
 }
 
+/// A file to be stored.
+#[derive(Debug, Drop)]
+pub struct NewFile {
+    /// Its path.
+    pub path: String,
+    /// All of its bytes.
+    pub bytes: Vec<u8>,
+}
+
 /// The files of a command: the system's, or a test's own in memory.
 pub trait Files {
     /// The bytes of the file at each path, if they are known, and the paths of `--with`.
@@ -100,4 +109,17 @@ pub trait Files {
             → (holds self.new).at other ≡ (holds self.old).at other) }
         ensures with_kept { OnOk result ((holds self.new).with_paths ≡ (holds self.old).with_paths) }
         ensures kept { OnErr result (holds self.new ≡ holds self.old) };
+
+    /// Makes each of these files hold just its bytes, and changes no other file. After an error each file is as before.
+    /// Files that can't do that for several refuse it.
+    fn store_all(&mut self, new_files: &[NewFile]) -> Result<(), FileFault>
+        ensures stored { OnOk result (StoredAll (holds self.old) (holds self.new) new_files.now) }
+        ensures kept { OnErr result (holds self.new ≡ holds self.old) }
+    {
+        match new_files {
+            [] => Ok(()),
+            [only] => self.store(only.path.as_str(), only.bytes.as_slice()),
+            [_, _, ..] => Err(FileFault::Failed(FileCause::Other)),
+        }
+    }
 }

@@ -1,9 +1,11 @@
 //! An entry together with its source text.
 
-ghost use Rattle.std.specs.Prelude.{◌≡◌, IfErr, IfOk};
+ghost use Rattle.std.specs.Prelude.{◌≡◌, IfErr, IfOk, IfSome};
+ghost use Rattle.std.specs.List.{AllByRecursion};
 ghost use Rattle.ti_commands.specs.Findings.{LacksEntry};
 ghost use Rattle.ti_commands.specs.Replies.{GivesEntry};
 ghost use Rattle.ti_commands.specs.Sources.{IsSourced};
+ghost use Rattle.ti_source.specs.Raw.{IsRaw};
 
 use crate::descriptions::entry_of;
 use crate::entries::{Found, find_in_source, path_and_name};
@@ -53,6 +55,7 @@ pub fn sourced_entry<'a, F: Files>(
 ) -> Result<Sourced<'a>, Failure>
     ensures entry { IfOk result (λ found. IsSourced (F.holds files.old) word.entry.now found.entry found.source) }
     ensures gives { IfOk result (λ found. GivesEntry (F.holds files.old) word.entry.now found.entry) }
+    ensures fit { IfOk result (λ found. IfSome found.source (λ source. AllByRecursion IsRaw source.raws.items)) }
     ensures failure { IfErr result (λ e. LacksEntry (F.holds files.old) word.entry.now e) }
     ensures kept { F.holds files.new ≡ F.holds files.old }
 {
