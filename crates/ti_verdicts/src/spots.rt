@@ -145,7 +145,6 @@ pub fn source_line<'b>(
 }
 
 /// The line of the file at `spot` that has the field at this place of the entry there.
-#[tactic(auto, using(crate::proofs::SpotFacts::further_at))]
 fn file_line<'b>(
     alloc: Global,
     source: &'b SourceText<'b>,
@@ -162,7 +161,21 @@ fn file_line<'b>(
     if spot.file == 0 {
         return text_line(alloc, source.path, source.text.as_slice(), origin);
     }
-    match source.further.get(spot.file - 1) {
+    let further = source.further.as_slice();
+    further_line(alloc, further, spot.file - 1, origin)
+}
+
+/// The line of the further file with this `number` that has the field at `origin`.
+fn further_line<'b>(
+    alloc: Global,
+    further: &'b [FurtherFile],
+    number: usize,
+    origin: Origin,
+) -> Result<FieldPlace<'b>, AllocError>
+    ensures { IfOk result (λ place. spec.line_of place
+        ≡ spec.line_in (slice_get (map spec.further_text further.now) number) origin) }
+{
+    match further.get(number) {
         Some(file) => text_line(alloc, file.path.as_str(), file.text(), origin),
         None => Ok(FieldPlace { path: "", line: 0 }),
     }
