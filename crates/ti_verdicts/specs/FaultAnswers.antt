@@ -1,5 +1,4 @@
 -- The answer that a fault is counted as.
-use Rattle.std.specs.Prelude.{[]}
 use Rattle.ti_checker.specs.declared.causes.No.{No}
 use Rattle.ti_verdicts.specs.declared.answers.Answer.{Answer}
 use Rattle.ti_verdicts.specs.declared.answers.Answer.TheVariants as answers
