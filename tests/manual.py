@@ -155,6 +155,9 @@ def judge_refused(script, files):
         (["show", "--", "-", "2", "2", "cert", "-"], TWICE),
         (["infocmp", "-c", "-", "-"], TWICE),
         (["survey", "2", "2", "-", "mini", "-"], TWICE),
+        (["survey", "--json", "--baseline", "-", "--", "2", "2", "-"], TWICE),
+        (["survey", "--json", "--baseline", "-", "--with", "-", "2", "2", "mini"], TWICE),
+        (["survey", "--with", "-", "--with", "-", "2", "2", "mini"], TWICE),
         (["tic", "mini:mini", "--out", "-"], UNWRITTEN),
         (["check", "mini:mini", "2", "2", "--out", "-"], UNWRITTEN),
     ]

@@ -18,7 +18,7 @@ TEXT, NUMBER, TRUTH = (str, type(None)), (int, type(None)), (bool, type(None))
 MEMBERS = {
     "aliases": (list,), "aliases_hex": (list,), "another_kind": TRUTH, "bytes": TEXT, "capability": TEXT, "cause": TEXT,
     "entry": TEXT, "entry_hex": TEXT, "explanation": (list,), "file": (str,), "judged": TRUTH, "line": NUMBER, "parameters": (list,), "part": TRUTH, "rule": TEXT, "seen": TEXT, "size": (dict,),
-    "source_entry": TEXT, "source_entry_hex": TEXT, "start": TEXT, "string": TEXT, "string_hex": TEXT, "suggested_with": (list,), "suggestion": TEXT, "suggestion_hex": TEXT, "verdict": (str,),
+    "source_entry": TEXT, "source_entry_hex": TEXT, "source_file": TEXT, "start": TEXT, "string": TEXT, "string_hex": TEXT, "suggested_with": (list,), "suggestion": TEXT, "suggestion_hex": TEXT, "verdict": (str,),
     "version": (int,), "wanted": TEXT,
 }  # fmt: skip
 OF_FAULTS = [
@@ -48,7 +48,9 @@ ABSENT["explanation"] = ["cup is missing"]
 ADVICE = {"verdict": "advice", "rule": "Advice", "capability": "sgr", "explanation": ["bold is never shown"]}
 
 # and an entry that can't be read
-UNREAD = {"verdict": "refused", "part": None, "rule": "Refused", "cause": "line 5: BadEscape", "line": 5}
+UNREAD = {"verdict": "refused", "part": None, "rule": "Refused", "cause": "line 5: BadEscape", "line": 5, "source_file": "a.ti"}
+# or in one of several files
+BESIDE = {**UNREAD, "line": None, "source_file": None}
 
 # strings with a byte above 127, and with the characters that spell it
 SPELLING = rb"""one|the byte,
@@ -87,7 +89,9 @@ REFUSED_BY_SCHEMA = [
     {**ABSENT, "explanation": []},
     {"verdict": "refused", "part": None, "cause": "NoSuchEntry a", "rule": None},
     {"verdict": "refused", "part": None, "cause": "NoSuchEntry a", "rule": "Refused", "line": 5},
-    {"verdict": "refused", "part": None, "cause": "line 5: BadEscape", "rule": "Refused"},
+    {**UNREAD, "source_file": None},
+    {**UNREAD, "cause": "NoSuchEntry a"},
+    {"source_file": "a.ti"},
     {**ADVICE, "line": 5},
     {"version": 2},
     {"entry_hex": "6"},
@@ -120,7 +124,7 @@ def judge_schema():
     """The schema accepts a yes, and refuses objects that no report may be."""
     yes = {**{key: [] if list in kinds else None for key, kinds in MEMBERS.items()}, "entry": "a", "entry_hex": "61", "file": "a.ti"}
     yes |= {"size": {"cols": COLS, "rows": ROWS}, "part": False, "verdict": "yes", "version": 1}
-    for right in (yes, {**yes, **ABSENT}, {**yes, **ADVICE}, {**yes, **UNREAD}):
+    for right in (yes, {**yes, **ABSENT}, {**yes, **ADVICE}, {**yes, **UNREAD}, {**yes, **BESIDE}):
         if not SCHEMA.is_valid(right):
             fail(f"the schema refuses {right}")
     for other in REFUSED_BY_SCHEMA:
@@ -142,7 +146,7 @@ def objects(told, size=(ROWS, COLS)):
             fail(f"not as docs/report.schema.json says: {line}: {error.message}")
         if one["size"] != {"cols": size[1], "rows": size[0]}:
             fail(f"not the size that was given: {line}")
-        said_of = {"advice": ("capability",), "refused": ("line",)}.get(one["verdict"], ())
+        said_of = {"advice": ("capability",), "refused": ("line", "source_file")}.get(one["verdict"], ())
         if one["verdict"] != "no" and any(one[key] is not None for key in OF_FAULTS if key not in said_of):
             fail(f"a fault of an entry without one: {line}")
         judge_forms(one)
@@ -188,6 +192,9 @@ def judge_forms(one):
         unread = re.match(r"line (\d+): ", one["cause"])
         if one["line"] != (int(unread[1]) if unread else None):
             fail(f"not the line of the refusal: {one}")
+    # none of these runs has further files
+    if one["source_file"] != (one["file"] if one["line"] else None):
+        fail(f"not the file of the line: {one}")
 
 
 def said(one):

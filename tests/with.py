@@ -34,7 +34,7 @@ more|and more of them,
 PLANTED = {
     "el": ("own.ti", 2, "own", r"\E[1K", r"\E[K"),
     "home": ("own.ti", 2, "own", r"\E[2H", r"\E[H"),
-    "bel": ("own.ti", 3, "own", r"\E[", "^G"),
+    "bel": ("own.ti", 3, "own", r"\E[", r"\007"),
     "ed": ("base.ti", 4, "base", r"\E[1J", r"\E[J"),
     "el1": ("base.ti", 4, "base", r"\E[K", r"\E[1K"),
     "ech": ("base.ti", 7, "more", r"\E[%p1%dP", r"\E[%p1%dX"),
@@ -186,6 +186,7 @@ def judge_refusals():
         (["tic", "own.ti:own"], 1, b"refused: NoSuchEntry base\n", True, None),
         (["infocmp", "--with", "own.ti", "own.ti:own"], 1, b"refused: NoSuchEntry base\n", False, None),
         (["check", "--with", "bad.ti", *ENTRY], 1, b"refused: line 2: BadNumber\n", False, b"bad.ti"),
+        (["check", "--json", "--with", "bad.ti", *ENTRY], 1, b"refused: line 2: BadNumber\n", False, b"bad.ti"),
         (["check", "--with", "nobody.ti", *ENTRY], 3, b"file: nobody.ti\n", False, None),
         (["check", "--with", "nobody.ti", "own.ti:own", "1", "1"], 1, b"refused: BadSize\n", False, None),
         (["check", "--with", "nobody.ti", "gone.ti:own", *SIZE], 3, b"file: gone.ti\n", False, None),
@@ -202,6 +203,11 @@ def judge_refusals():
             fail(f"{words}: {one.status} {one.err}")
         if named is not None and named not in one.err.split(line)[1]:
             fail(f"{words} doesn't name {named}: {one.err}")
+    # the line may be one of any of these files, so none is told
+    for words, line in ((["--with", "bad.ti"], None), ([], 2)):
+        one = json.loads(run(["check", "--json", *words, "bad.ti:base" if line else "own.ti:own", *SIZE], FILES | bad).out)
+        if (one["verdict"], one["cause"], one["line"]) != ("refused", "line 2: BadNumber", line) or one["source_file"] != (line and "bad.ti"):
+            fail(f"check --json {words}: {one}")
     given = run(["infocmp", "--with", "-", "own.ti:own"], FILES, BASE)
     if (given.status, given.out) != (0, run(["infocmp", *WITH, "own.ti:own"], FILES).out):
         fail(f"a further file on standard input: {given.status} {given.err}")
@@ -218,6 +224,15 @@ def judge_survey():
     want = b"good yes\nbad refused: line 4: BadNumber\nlast refused: NoSuchEntry nobody\ntotal 3, yes 1, refused 2\n"
     if (told.status, told.out) != (0, want):
         fail(f"survey --with: {told.status} {told.out} {told.err}")
+    ones = [json.loads(line) for line in run(["survey", "--json", "--with", "b.ti", *SIZE, "a.ti"], data).out.splitlines()]
+    found = {it["entry"]: (it["verdict"], it["file"], it["source_file"], it["line"]) for it in ones if it["verdict"] != "advice"}
+    hidden = {"good": ("yes", "a.ti", None, None), "bad": ("refused", "a.ti", "b.ti", 4), "last": ("refused", "a.ti", None, None)}
+    if found != hidden:
+        fail(f"survey --json --with: {found}")
+    sarif = json.loads(run(["survey", "--sarif", "--with", "b.ti", *SIZE, "a.ti"], data).out)
+    places = [it["locations"][0]["physicalLocation"] for it in sarif["runs"][0]["results"] if it["ruleId"] == "Refused"]
+    if [(it["artifactLocation"]["uri"], it.get("region", {}).get("startLine")) for it in places] != [("b.ti", 4), ("a.ti", None)]:
+        fail(f"survey --sarif --with: {places}")
     every = run(["survey", "--all", *WITH, *SIZE, "own.ti"], FILES)
     places = every.err.decode().splitlines()
     for cap, (name, line, entry, _, _) in PLANTED.items():

@@ -2,3 +2,4 @@ mod Colons
 pub mod Rows
 pub mod Faults
 pub mod Switches
+pub mod Counts

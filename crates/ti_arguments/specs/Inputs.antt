@@ -1,8 +1,9 @@
--- Standard input, whose path is `-`: whether a request reads or writes it.
-use Rattle.std.specs.Prelude.{◌≡◌, ◌≤◌, ◌==◌, ◌&&◌, ◌||◌, not, ℕ, Bool, true, false, List, [], ◌∷◌, Option, None, Some, codes, if◌then◌else◌}
+-- Standard input, whose path is `-`: whether a line reads or writes it.
+use Rattle.std.specs.Prelude.{◌≡◌, ◌≤◌, ◌==◌, ◌++◌, ℕ, Bool, false, List, [], ◌∷◌, Option, None, Some, codes, if◌then◌else◌}
 use Rattle.std.specs.Prelude.{map, unwrap_or}
 use Rattle.std.specs.List.{count_by}
 use Rattle.std.specs.Str.{bytes_eq}
+use Rattle.ti_arguments.specs.declared.parser.Asked.{Asked}
 use Rattle.ti_arguments.specs.declared.parser.ParsedLine.{ParsedLine}
 use Rattle.ti_arguments.specs.declared.parser.ParsedLine.TheVariants as answers
 use Rattle.ti_requests.specs.declared.request.Request.{Request}
@@ -64,23 +65,29 @@ writes_input (Tic entry out) = is_input_path out
 writes_input (Check words) = is_input_path words.out
 writes_input _ = false
 
--- the files of `--with` are read once for each entry that a request compares
-abbrev pub reads_twice : Request → Bool
-reads_twice (Common first second) = true
-reads_twice (Neither first second) = true
-reads_twice _ = false
+-- the files of `--with`, which are read once for each entry that a request compares
+abbrev pub further_read : Request → List (List ℕ) → List (List ℕ)
+further_read (Common first second) further = further ++ further
+further_read (Neither first second) further = further ++ further
+further_read _ further = further
 
--- whether standard input is read at most once, if it is so often among the further files and so often among the others
-abbrev pub is_read_once : ℕ → ℕ → Bool → Bool
-is_read_once further own twice = (further == 0) || ((further == 1) && ((own == 0) && not twice))
+-- the earlier report, if a line names one
+abbrev pub earlier_read : Option (Bor (List ℕ)) → List (List ℕ)
+earlier_read None = []
+earlier_read (Some path) = path.now ∷ []
 
--- at most one of the files read is standard input, those of `--with` among them, and the file written isn't
-pub record TakesInput (request : Request) (further : List (List ℕ)) : Type 0 where
-  pub once : input_count (paths_read request) ≤ 1
-  pub beside : is_read_once (input_count further) (input_count (paths_read request)) (reads_twice request) ≡ true
-  pub unwritten : writes_input request ≡ false
+-- the paths of all files that a line reads
+abbrev pub all_read : Asked → List (List ℕ)
+all_read asked =
+    paths_read asked.request ++ (further_read asked.request (map (λ f. f.now) asked.further.items)
+    ++ earlier_read asked.baseline)
+
+-- at most one of the files read is standard input, and the file written isn't
+pub record TakesInput (asked : Asked) : Type 0 where
+  pub once : input_count (all_read asked) ≤ 1
+  pub unwritten : writes_input asked.request ≡ false
 
 -- if the answer is a request, it takes standard input as allowed
 abbrev pub AnswersWithInput : ParsedLine → Type 0
-AnswersWithInput (answers.Request asked) = TakesInput asked.request (map (λ f. f.now) asked.further.items)
+AnswersWithInput (answers.Request asked) = TakesInput asked
 AnswersWithInput (answers.Text text) = Unit {0}

@@ -207,11 +207,12 @@ for each kind of answer), entry (the first name), aliases (the others), part (wh
 by others), size (rows and cols), capability, parameters, cause, bytes (what the string sends, in hexadecimal), start,
 wanted and seen (the words of the lines that begin so), explanation (the lines below the fault, or the words of the
 advice), file (its path), line (on which the value stands, or what can't be read), source_entry (the first name of the
-entry that has the value), source_file (the file that has it; line is of it), string and, with --all, suggestion (the
-string at fault and the one that would be right, as a source has them) and suggested_with (the fields that are to be given
-with it), judged (whether the string could be judged) and, with --all, another_kind (whether the entry seems to be for a
-terminal of another kind). entry_hex, aliases_hex, source_entry_hex, string_hex and suggestion_hex have the bytes in
-hexadecimal. Where a member doesn't apply, it is null, or an empty list. Characters outside 32 to 126 are escapes of JSON.
+entry that has the value), source_file (the file of the line; none for an entry that check can't obtain with --with),
+string and, with --all, suggestion (the string at fault and the one that would be right, as a source has them) and
+suggested_with (the fields that are to be given with it), judged (whether the string could be judged) and, with --all,
+another_kind (whether the entry seems to be for a terminal of another kind). entry_hex, aliases_hex, source_entry_hex,
+string_hex and suggestion_hex have the bytes in hexadecimal. Where a member doesn't apply, it is null, or an empty list.
+Characters outside 32 to 126 are escapes of JSON.
 The notes, the line `refused: ` and the exit status are those of the form without --json.
 
 With --sarif the output is one file of SARIF 2.1.0, which code hosts show at the lines of FILE: a result for each object
@@ -447,8 +448,8 @@ With --all an entry that has no certificate has a line `NAME no CAP P..: CAUSE` 
 
 With --json the output is a JSON object on a line of its own for each of these lines but the last, with the members of
 `ticurses check --json`, and one for each advice. In place of KIND the verdict is `refused`, and cause has the KIND; line
-is that of the fault of FILE. entry is null where a FILE has a fault of its own, or can't be read, with the cause
-`file: FILE`.
+is that of the fault, and source_file the file that has it, which may be one of --with. entry is null where a FILE has a
+fault of its own, or can't be read, with the cause `file: FILE`.
 
 With --sarif the output is one file of SARIF for all FILEs, as `ticurses check --help` describes it.
 

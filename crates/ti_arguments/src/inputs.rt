@@ -1,23 +1,24 @@
 //! Standard input as a file: the path `-`.
 
-ghost use Rattle.std.specs.Prelude.{◌≡◌, OnOk, map};
-ghost use Rattle.ti_arguments.specs.Inputs.{TakesInput, entry_path, input_count, is_read_once, paths_read, reads_twice};
+ghost use Rattle.std.specs.Prelude.{◌≡◌, ◌≤◌, ◌+◌, OnOk, map, true};
+ghost use Rattle.ti_arguments.specs.Inputs.{TakesInput, earlier_read, entry_path, further_read, input_count, paths_read};
 ghost use Rattle.ti_arguments.specs.Inputs.{writes_input};
 
-use crate::parser::UsageFault;
+use crate::parser::{Asked, UsageFault};
 use std::alloc::Global;
 use ti_requests::{CheckWords, Request};
 
 /// The path that is standard input.
 const INPUT: &str = "-";
 
-/// Refuses a `request` that would read standard input twice, with the `further` files of `--with`, or write a file
-/// named `-`.
-pub fn judge_input(alloc: Global, request: &Request<'_>, further: &[&str]) -> Result<(), UsageFault>
-    ensures { OnOk result (TakesInput request.now (map (λ f. f.now) further.now)) }
+/// Refuses a line that `asked` for what would read standard input twice, or write a file named `-`.
+#[tactic(auto, using(crate::proofs::Counts::read_once))]
+pub fn judge_input(alloc: Global, asked: &Asked<'_>) -> Result<(), UsageFault>
+    ensures { OnOk result (TakesInput asked.now) }
 {
-    let own = reads(request);
-    if own > 1 || !is_read_once(of_paths(further), own, reads_twice(request)) {
+    let request = &asked.request;
+    let further = reads_further(request, asked.further.as_slice());
+    if !is_at_most_one(reads(request), further, reads_earlier(asked.baseline)) {
         return Err(UsageFault::Usage(String::from_str(
             alloc,
             "error: '-' is standard input, which can be read once; a file of that name is './-'\n\n\
@@ -34,19 +35,19 @@ pub fn judge_input(alloc: Global, request: &Request<'_>, further: &[&str]) -> Re
     Ok(())
 }
 
-/// Whether standard input is read at most once, if it is so often among the `further` files and among the others.
-fn is_read_once(further: usize, own: usize, twice: bool) -> bool
-    ensures { result ≡ is_read_once further own twice }
+/// Whether the sum is 1 at most.
+fn is_at_most_one(own: usize, further: usize, earlier: usize) -> bool
+    ensures { result ≡ true → own + further + earlier ≤ 1 }
 {
-    further == 0 || (further == 1 && own == 0 && !twice)
+    own <= 1 && further <= 1 && earlier <= 1 && own + further + earlier <= 1
 }
 
-/// Whether the files of `--with` are read for two entries.
-fn reads_twice(request: &Request<'_>) -> bool
-    ensures { result ≡ reads_twice request.now }
+/// How many of the paths that are read for `further`, the files of `--with`, are standard input; 2 for two or more.
+fn reads_further(request: &Request<'_>, further: &[&str]) -> usize
+    ensures { result ≤ 1 → input_count (further_read request.now (map (λ f. f.now) further.now)) ≡ result }
 {
     match request {
-        Request::Common { .. } | Request::Neither { .. } => true,
+        Request::Common { .. } | Request::Neither { .. } => twice(of_paths(further)),
         Request::Expand(_)
         | Request::Feed { .. }
         | Request::FeedAs(_)
@@ -59,7 +60,24 @@ fn reads_twice(request: &Request<'_>) -> bool
         | Request::Show(_)
         | Request::Survey(_)
         | Request::SurveyJson(_)
-        | Request::Print { .. } => false,
+        | Request::Print { .. } => of_paths(further),
+    }
+}
+
+/// Twice `count`, or 2 if that is more.
+fn twice(count: usize) -> usize
+    ensures { result ≤ 1 → count + count ≡ result }
+{
+    if count == 0 { 0 } else { 2 }
+}
+
+/// 1 if the `earlier` report is standard input.
+fn reads_earlier(earlier: Option<&str>) -> usize
+    ensures { result ≡ input_count (earlier_read earlier.entry) }
+{
+    match earlier {
+        Some(path) => of_paths(&[path]),
+        None => 0,
     }
 }
 

@@ -59,8 +59,8 @@ impl From<AllocError> for UsageFault {
     }
 }
 
-/// The answer to the `words` after the program's own name. A request reads standard input (the path
-/// `-`) at most once, and doesn't write to it.
+/// The answer to the `words` after the program's own name. The files of `--with` and an earlier report among them, a
+/// request reads standard input (the path `-`) at most once, and doesn't write to it.
 ///
 /// # Errors
 /// `Usage` with a message, or `NoMemory`.
@@ -73,19 +73,20 @@ pub fn parse_line<'a>(alloc: Global, words: &'a [String]) -> Result<ParsedLine<'
         Ok(matches) => {
             let request = request_of(alloc, &matches)?;
             let further = option_words(alloc, &matches, "with")?;
-            judge_input(alloc, &request, further.as_slice())?;
             let joins = has_switch(&matches, "join");
             let fixes = has_switch(&matches, "fix");
             let sarif = has_switch(&matches, "sarif");
             let baseline = option_word(&matches, "baseline");
-            Ok(ParsedLine::Request(Asked {
+            let asked = Asked {
                 request,
                 joins,
                 further,
                 fixes,
                 sarif,
                 baseline,
-            }))
+            };
+            judge_input(alloc, &asked)?;
+            Ok(ParsedLine::Request(asked))
         }
         Err(error) => explain(alloc, &error),
     }

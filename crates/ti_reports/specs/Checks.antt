@@ -11,7 +11,7 @@ use Rattle.ti_commands.specs.declared.failure.Reply.{Reply}
 use Rattle.ti_commands.specs.declared.sources.SourceText.{SourceText}
 use Rattle.ti_reports.specs.Faults.{AreFoundLines}
 use Rattle.ti_reports.specs.Findings.{AreFaults}
-use Rattle.ti_reports.specs.Lacks.{ReportsLackOf}
+use Rattle.ti_reports.specs.Lacks.{ReportsLackOf, is_alone}
 use Rattle.ti_reports.specs.Sources.{Whereabouts, by_name}
 use Rattle.ti_requests.specs.declared.request.FaultsWords.{FaultsWords}
 use Rattle.ti_verdicts.specs.Checks.{TellsNotes}
@@ -40,7 +40,7 @@ pub record ReportsMissing (held : Held) (words : FaultsWords) (reply : Reply) : 
   pub given : SizeGiven words.rows.now words.cols.now height width
   pub failure : Failure
   pub lacks : LacksEntry held words.entry.now failure
-  pub tells : ReportsLackOf height width words.entry.now failure reply
+  pub tells : ReportsLackOf height width (is_alone held.with_paths) words.entry.now failure reply
 
 -- The reply has the notes of this entry, and reports its first fault, or all of them, or that there is none.
 pub record ReportsEntry (entry : Content) (source : Option SourceText) (height width : ℕ) (lists_all : Bool)

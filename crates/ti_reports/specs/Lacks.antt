@@ -1,5 +1,6 @@
 -- The report that an ENTRY word gives no entry.
-use Rattle.std.specs.Prelude.{◌≡◌, ◌⊎◌, ℕ, List, [], Some, None, string_bytes}
+use Rattle.std.specs.Prelude.{◌≡◌, ◌⊎◌, ℕ, Bool, true, false, List, [], ◌∷◌, Option, Some, None, string_bytes}
+use Rattle.std.specs.Prelude.{if◌then◌else◌}
 use Rattle.ti_commands.specs.Findings.{IsPath, IsPathAndName}
 use Rattle.ti_commands.specs.Refusals.{refusal_text_of}
 use Rattle.ti_commands.specs.declared.failure.Failure.{Failure}
@@ -19,28 +20,43 @@ IsReason (File path) why = why ≡ file_text (string_bytes path)
 IsReason Output why = ⊥
 IsReason NoMemory why = ⊥
 
--- the place at which the reason is found: that of the refusal
-abbrev pub IsReasonPlace : Failure → ValuePlace → Type 0
-IsReasonPlace (Refused refusal) place = IsRefusalPlace refusal place
-IsReasonPlace (RefusedUnwritten refusal) place = IsRefusalPlace refusal place
-IsReasonPlace (Usage told) place = IsNowhere place
-IsReasonPlace (File path) place = IsNowhere place
-IsReasonPlace Output place = IsNowhere place
-IsReasonPlace NoMemory place = IsNowhere place
+-- the place at which the reason is found: that of the refusal, in the text at this path
+abbrev pub IsReasonPlace : Option (List ℕ) → Failure → ValuePlace → Type 0
+IsReasonPlace path (Refused refusal) place = IsRefusalPlace path refusal place
+IsReasonPlace path (RefusedUnwritten refusal) place = IsRefusalPlace path refusal place
+IsReasonPlace path (Usage told) place = IsNowhere place
+IsReasonPlace path (File unread) place = IsNowhere place
+IsReasonPlace path Output place = IsNowhere place
+IsReasonPlace path NoMemory place = IsNowhere place
 
--- the report on the entry of this name in a source text, or on a compiled file
-abbrev pub IsLackLine : ℕ → ℕ → List ℕ → List ℕ → ValuePlace → List ℕ → Type 0
-IsLackLine height width word why place line =
-    ((path : List ℕ) × (name : List ℕ) × IsPathAndName word path name
-    × IsRefusedReport height width path (Some name) why place line)
-    ⊎ (IsPath word × IsRefusedReport height width word None why place line)
+-- whether there is no file of `--with`
+abbrev pub is_alone : List (List ℕ) → Bool
+is_alone [] = true
+is_alone (path ∷ paths) = false
 
--- the reply reports that the word gives no entry, with the reason for which it fails and its place
-pub record ReportsLackOf (height width : ℕ) (word : List ℕ) (failure : Failure) (reply : Reply) : Type 0 where
+-- the path of the text with a fault: that of the ENTRY word, but if there are others it may be one of them
+abbrev pub sole_path : Bool → List ℕ → Option (List ℕ)
+sole_path alone path = if alone then Some path else None
+
+-- the report on the entry of this name in the file at a path, or on the whole file, with the reason and its place
+pub record IsLackOf (height width : ℕ) (alone : Bool) (failure : Failure) (path : List ℕ) (name : Option (List ℕ))
+    (line : List ℕ) : Type 0 where
   pub why : List ℕ
   pub reason : IsReason failure why
   pub place : ValuePlace
-  pub stands : IsReasonPlace failure place
-  pub line : IsLackLine height width word why place reply.text.items
+  pub stands : IsReasonPlace (sole_path alone path) failure place
+  pub says : IsRefusedReport height width path name why place line
+
+-- the report on the entry of a source text, or on a compiled file
+abbrev pub IsLackLine : ℕ → ℕ → Bool → List ℕ → Failure → List ℕ → Type 0
+IsLackLine height width alone word failure line =
+    ((path : List ℕ) × (name : List ℕ) × IsPathAndName word path name
+    × IsLackOf height width alone failure path (Some name) line)
+    ⊎ (IsPath word × IsLackOf height width alone failure word None line)
+
+-- the reply reports that the word gives no entry, with the reason for which it fails and its place
+pub record ReportsLackOf (height width : ℕ) (alone : Bool) (word : List ℕ) (failure : Failure) (reply : Reply)
+    : Type 0 where
+  pub line : IsLackLine height width alone word failure reply.text.items
   pub no_notes : reply.notes.items ≡ []
   pub ends : reply.failure ≡ Some failure

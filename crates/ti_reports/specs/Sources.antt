@@ -80,22 +80,29 @@ IsValuePlace (ByPlace stands) cap place = IsPlaceAt stands cap place
 
 -- ---- a refusal
 
--- a line of the text, whichever file and entry has it
-abbrev pub IsOnLine : ℕ → ValuePlace → Type 0
-IsOnLine line place = (place.line ≡ Some line) × (place.file ≡ None) × (place.entry ≡ None)
+-- a line of the file at this path, whichever entry has it; nowhere if the file isn't known
+abbrev pub IsOnLine : Option (List ℕ) → ℕ → ValuePlace → Type 0
+IsOnLine None line place = IsNowhere place
+IsOnLine (Some path) line place = HasLine (Some (record { path = path; number = line })) place × (place.entry ≡ None)
 
--- The place at which a refusal finds its reason: a fault of a source text has its line; the others say nothing of a
--- line.
-abbrev pub IsRefusalPlace : CommandRefusal → ValuePlace → Type 0
-IsRefusalPlace refusals.Size place = IsNowhere place
-IsRefusalPlace (refusals.Escape fault) place = IsNowhere place
-IsRefusalPlace (refusals.Parm fault) place = IsNowhere place
-IsRefusalPlace (refusals.Token fault) place = IsNowhere place
-IsRefusalPlace (refusals.Stuck fault) place = IsNowhere place
-IsRefusalPlace (refusals.Source fault) place = IsOnLine fault.line place
-IsRefusalPlace (refusals.Resolve fault) place = IsNowhere place
-IsRefusalPlace (refusals.Pack fault) place = IsNowhere place
-IsRefusalPlace (refusals.Verdict words) place = IsNowhere place
+-- The place at which a refusal finds its reason: a fault of a source text has its line in the file at this path; the
+-- others say nothing of a line.
+abbrev pub IsRefusalPlace : Option (List ℕ) → CommandRefusal → ValuePlace → Type 0
+IsRefusalPlace path refusals.Size place = IsNowhere place
+IsRefusalPlace path (refusals.Escape fault) place = IsNowhere place
+IsRefusalPlace path (refusals.Parm fault) place = IsNowhere place
+IsRefusalPlace path (refusals.Token fault) place = IsNowhere place
+IsRefusalPlace path (refusals.Stuck fault) place = IsNowhere place
+IsRefusalPlace path (refusals.Source fault) place = IsOnLine path fault.line place
+IsRefusalPlace path (refusals.Resolve fault) place = IsNowhere place
+IsRefusalPlace path (refusals.Pack fault) place = IsNowhere place
+IsRefusalPlace path (refusals.Verdict words) place = IsNowhere place
+
+-- the path of the file with the fault that hides an entry: that of the place at which the refusal stands, or else that of
+-- the survey's file
+abbrev pub fault_file : List ℕ → Option PlaceInSource → List ℕ
+fault_file path None = path
+fault_file path (Some stands) = (line_among stands.files (record { entry = stands.place; field = 0 })).path
 
 -- ---- for private clauses: the origin without its memory, and an entry at the place
 

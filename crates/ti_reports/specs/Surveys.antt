@@ -1,5 +1,5 @@
 -- The answer of `survey --json`, by the contents of its files.
-use Rattle.std.specs.Prelude.{◌≡◌, ℕ, Bool, List, [], ◌∷◌, ◌++◌, Option, None, codes, string_bytes}
+use Rattle.std.specs.Prelude.{◌≡◌, ℕ, Bool, List, [], ◌∷◌, ◌++◌, Option, Some, None, codes, string_bytes}
 use Rattle.ti_caps.specs.Entry.{Content}
 use Rattle.ti_checker.specs.declared.causes.No.{No}
 use Rattle.ti_commands.specs.Contents.{Held}
@@ -13,7 +13,7 @@ use Rattle.ti_reports.specs.Faults.{AreFoundLines, HasWords, IsReportLine}
 use Rattle.ti_reports.specs.Findings.{AreFaults}
 use Rattle.ti_reports.specs.Names.{IsNameIf}
 use Rattle.ti_reports.specs.Reports.{IsBare}
-use Rattle.ti_reports.specs.Sources.{IsNowhere, IsRefusalPlace, Whereabouts, by_place}
+use Rattle.ti_reports.specs.Sources.{IsNowhere, IsRefusalPlace, Whereabouts, by_place, fault_file}
 use Rattle.ti_reports.specs.declared.lines.ValuePlace.{ValuePlace}
 use Rattle.ti_reports.specs.declared.reports.Report.{Report}
 use Rattle.ti_reports.specs.declared.reports.Verdict.TheVariants as verdicts
@@ -23,6 +23,7 @@ use Rattle.ti_surveys.specs.Lines.{AreLines, Leaving, Refusing, Saying}
 use Rattle.ti_surveys.specs.Strict.{EndsStrictly}
 use Rattle.ti_surveys.specs.Surveys.{EndsPaths}
 use Rattle.ti_surveys.specs.Told.{Told}
+use Rattle.ti_verdicts.specs.Locations.{PlaceInSource}
 use Rattle.ti_verdicts.specs.declared.answers.Answer.{Answer}
 use Rattle.ti_verdicts.specs.declared.answers.Answer.TheVariants as answers
 
@@ -64,16 +65,16 @@ Reports height width all path stands name entry told =
     AreOfEntry height width all path (by_place stands) entry told.lines told.answers × (told.places ≡ [])
 
 -- the line about an entry that can't be obtained, or about a whole file, with the refusal and its reason's place
-pub record IsOfRefusal (height width : ℕ) (path : List ℕ) (name : Option (List ℕ)) (refusal : CommandRefusal)
-    (line : List ℕ) : Type 0 where
+pub record IsOfRefusal (height width : ℕ) (path : List ℕ) (stands : Option PlaceInSource) (name : Option (List ℕ))
+    (refusal : CommandRefusal) (line : List ℕ) : Type 0 where
   pub place : ValuePlace
-  pub found : IsRefusalPlace refusal place
+  pub found : IsRefusalPlace (Some (fault_file path stands)) refusal place
   pub says : IsRefusedReport height width path name (refusal_text_of refusal) place line
 
 -- that line, and nothing beside it
 abbrev pub ReportsLack : ℕ → ℕ → Refusing
 ReportsLack height width path stands name refusal told =
-    IsOfRefusal height width path name refusal told.lines × (told.places ≡ []) × (told.answers ≡ answers.Refused ∷ [])
+    IsOfRefusal height width path stands name refusal told.lines × (told.places ≡ []) × (told.answers ≡ answers.Refused ∷ [])
 
 -- the line about a file that can't be read
 pub record IsUnreadLine (height width : ℕ) (path line : List ℕ) : Type 0 where

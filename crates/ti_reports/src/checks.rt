@@ -2,6 +2,7 @@
 
 ghost use Rattle.std.specs.Prelude.{◌≡◌, IfErr, IfOk, Some};
 ghost use Rattle.ti_reports.specs.Checks as spec;
+ghost use Rattle.ti_reports.specs.Lacks.{is_alone};
 ghost use Rattle.ti_reports.specs.Sources.{IsThere, by_name, whereabouts_of};
 ghost use Rattle.ti_commands.specs.Sizes.{LacksSize};
 
@@ -38,7 +39,17 @@ pub fn check_reports<F: Files>(
     let asked = Asked { size, lists_all };
     match sourced_entry(alloc, files, words.entry, remarks) {
         Ok(found) => Ok(entry_reply(alloc, asked, words.entry, &found, remarks)?),
-        Err(failure) => lack_reply(alloc, asked, words.entry, failure),
+        Err(failure) => lack_reply(alloc, asked, is_alone(files), words.entry, failure),
+    }
+}
+
+/// Whether there is no file of `--with`.
+fn is_alone<F: Files>(files: &F) -> bool
+    ensures { result ≡ is_alone (F.holds files.now).with_paths }
+{
+    match files.with_paths() {
+        [] => true,
+        [_, ..] => false,
     }
 }
 

@@ -1,6 +1,6 @@
 //! The report that an entry can't be obtained.
 
-ghost use Rattle.std.specs.Prelude.{◌≡◌, IfErr, IfNone, IfOk, IfSome};
+ghost use Rattle.std.specs.Prelude.{◌≡◌, IfErr, IfNone, IfOk, IfSome, option_map};
 ghost use Rattle.ti_commands.specs.Findings.{IsPath, IsPathAndName};
 ghost use Rattle.ti_commands.specs.declared.failure.Failure.TheVariants.{NoMemory};
 ghost use Rattle.ti_reports.specs.Lacks as spec;
@@ -12,19 +12,19 @@ use std::alloc::{AllocError, Global};
 use ti_commands::{Failure, Reply, refusal_words};
 
 /// The reply that reports, for the size of `asked`, that the ENTRY `word` gives no entry, with the reason of `failure`;
-/// the reply fails so too.
+/// the reply fails so too. If the word's file is read `alone`, the place of the reason is one in it.
 pub fn lack_reply(
     alloc: Global,
     asked: Asked,
+    alone: bool,
     word: &str,
     failure: Failure,
 ) -> Result<Reply, Failure>
-    ensures reply { IfOk result (λ reply. spec.ReportsLackOf asked.size.rows asked.size.cols word.now failure reply) }
+    ensures reply { IfOk result (λ reply. spec.ReportsLackOf asked.size.rows asked.size.cols alone word.now failure
+        reply) }
     ensures failure { IfErr result (λ e. e ≡ NoMemory) }
 {
-    let why = reason(alloc, &failure)?;
-    let place = reason_place(&failure);
-    let line = lack_line(alloc, asked, word, why.as_slice(), place)?;
+    let line = lack_line(alloc, asked, alone, word, &failure)?;
     Ok(Reply {
         notes: Vec::new(alloc),
         text: line,
@@ -45,32 +45,62 @@ fn reason(alloc: Global, failure: &Failure) -> Result<Vec<u8>, AllocError>
     }
 }
 
-/// The place at which the reason of `failure` is found.
-fn reason_place(failure: &Failure) -> ValuePlace
-    ensures { spec.IsReasonPlace failure.now result }
+/// The place at which the reason of `failure` is found, in the text at the path `file`, if that is known.
+fn reason_place(
+    alloc: Global,
+    file: Option<&str>,
+    failure: &Failure,
+) -> Result<ValuePlace, AllocError>
+    ensures { IfOk result (λ place. spec.IsReasonPlace (option_map (λ f. f.now) file.entry) failure.now place) }
 {
     match failure {
-        Failure::Refused(refusal) => refusal_place(refusal),
-        Failure::RefusedUnwritten(refusal) => refusal_place(refusal),
-        Failure::Usage(_) | Failure::File(_) => ValuePlace::nowhere(),
-        Failure::Output | Failure::NoMemory => ValuePlace::nowhere(),
+        Failure::Refused(refusal) => refusal_place(alloc, file, refusal),
+        Failure::RefusedUnwritten(refusal) => refusal_place(alloc, file, refusal),
+        Failure::Usage(_) | Failure::File(_) => Ok(ValuePlace::nowhere()),
+        Failure::Output | Failure::NoMemory => Ok(ValuePlace::nowhere()),
     }
 }
 
-/// The line that the ENTRY `word` gives no entry, with the reason `why`, which is found at `place`.
+/// The line that the ENTRY `word` gives no entry, with the reason of `failure`.
 fn lack_line(
     alloc: Global,
     asked: Asked,
+    alone: bool,
     word: &str,
-    why: &[u8],
-    place: ValuePlace,
+    failure: &Failure,
 ) -> Result<Vec<u8>, AllocError>
-    ensures { IfOk result (λ line. spec.IsLackLine asked.size.rows asked.size.cols word.now why.now place line.items) }
+    ensures { IfOk result (λ line. spec.IsLackLine asked.size.rows asked.size.cols alone word.now failure.now
+        line.items) }
 {
     match path_and_name(word) {
-        Some((path, name)) => refused_line(alloc, asked, path, Some(name.as_bytes()), why, place),
-        None => refused_line(alloc, asked, word, None, why, place),
+        Some((path, name)) => lack_of(alloc, asked, alone, failure, path, Some(name.as_bytes())),
+        None => lack_of(alloc, asked, alone, failure, word, None),
     }
+}
+
+/// The line that the entry `name` of the file at `path` can't be obtained, or no entry of the file if there is no name,
+/// with the reason of `failure`.
+fn lack_of(
+    alloc: Global,
+    asked: Asked,
+    alone: bool,
+    failure: &Failure,
+    path: &str,
+    name: Option<&[u8]>,
+) -> Result<Vec<u8>, AllocError>
+    ensures { IfOk result (λ line. spec.IsLackOf asked.size.rows asked.size.cols alone failure.now path.now
+        (option_map (λ n. n.now) name.entry) line.items) }
+{
+    let why = reason(alloc, failure)?;
+    let place = reason_place(alloc, sole_path(alone, path), failure)?;
+    refused_line(alloc, asked, path, name, why.as_slice(), place)
+}
+
+/// The `path`, if its file is read `alone`.
+fn sole_path(alone: bool, path: &str) -> Option<&str>
+    ensures { option_map (λ p. p.now) result ≡ spec.sole_path alone path.now }
+{
+    if alone { Some(path) } else { None }
 }
 
 /// The parts of `word`, as FILE:NAME, split at its last colon.

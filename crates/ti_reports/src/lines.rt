@@ -1,6 +1,6 @@
 //! The place of a value in a source text.
 
-ghost use Rattle.std.specs.Prelude.{◌≡◌, ◌<◌, ◌==◌, IfOk, IfSome, None, Some, if◌then◌else◌, length};
+ghost use Rattle.std.specs.Prelude.{◌≡◌, ◌<◌, ◌==◌, IfOk, IfSome, None, Some, if◌then◌else◌, length, option_map};
 ghost use Rattle.ti_reports.specs.Names.{IsNameOf};
 ghost use Rattle.ti_reports.specs.Sources as spec;
 ghost use Rattle.ti_resolve.specs.Uses.{names_at};
@@ -49,32 +49,40 @@ impl ValuePlace {
             entry: None,
         }
     }
+}
 
-    /// A line, whichever file and entry has it.
-    pub fn on_line(line: usize) -> ValuePlace
-        ensures { spec.IsOnLine line result }
-    {
-        ValuePlace {
-            line: Some(line),
-            file: None,
-            entry: None,
+/// The place at which `refusal` finds its reason: the line of a fault of a source text, if the path `file` of the text is
+/// known, else nowhere.
+pub fn refusal_place(
+    alloc: Global,
+    file: Option<&str>,
+    refusal: &CommandRefusal,
+) -> Result<ValuePlace, AllocError>
+    ensures { IfOk result (λ place. spec.IsRefusalPlace (option_map (λ f. f.now) file.entry) refusal.now place) }
+{
+    match refusal {
+        CommandRefusal::Source(fault) => on_line(alloc, file, fault.line as usize),
+        CommandRefusal::Size | CommandRefusal::Escape(_) | CommandRefusal::Parm(_) => {
+            Ok(ValuePlace::nowhere())
         }
+        CommandRefusal::Token(_) | CommandRefusal::Stuck(_) | CommandRefusal::Resolve(_) => {
+            Ok(ValuePlace::nowhere())
+        }
+        CommandRefusal::Pack(_) | CommandRefusal::Verdict(_) => Ok(ValuePlace::nowhere()),
     }
 }
 
-/// The place at which `refusal` finds its reason: the line of a fault of a source text, else nowhere.
-pub fn refusal_place(refusal: &CommandRefusal) -> ValuePlace
-    ensures { spec.IsRefusalPlace refusal.now result }
+/// The line of the file at the path `file`, whichever entry has it; nowhere if the file isn't known.
+fn on_line(alloc: Global, file: Option<&str>, line: usize) -> Result<ValuePlace, AllocError>
+    ensures { IfOk result (λ place. spec.IsOnLine (option_map (λ f. f.now) file.entry) line place) }
 {
-    match refusal {
-        CommandRefusal::Source(fault) => ValuePlace::on_line(fault.line as usize),
-        CommandRefusal::Size | CommandRefusal::Escape(_) | CommandRefusal::Parm(_) => {
-            ValuePlace::nowhere()
-        }
-        CommandRefusal::Token(_) | CommandRefusal::Stuck(_) | CommandRefusal::Resolve(_) => {
-            ValuePlace::nowhere()
-        }
-        CommandRefusal::Pack(_) | CommandRefusal::Verdict(_) => ValuePlace::nowhere(),
+    match file {
+        Some(path) => Ok(ValuePlace {
+            line: number_of(line),
+            file: Some(String::from_str(alloc, path)?),
+            entry: None,
+        }),
+        None => Ok(ValuePlace::nowhere()),
     }
 }
 

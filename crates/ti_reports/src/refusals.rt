@@ -2,7 +2,9 @@
 
 ghost use Rattle.std.specs.Prelude.{◌≡◌, IfOk, option_map};
 ghost use Rattle.ti_reports.specs.Reports.{IsBare};
+ghost use Rattle.ti_reports.specs.Sources.{fault_file};
 ghost use Rattle.ti_reports.specs.Surveys as spec;
+ghost use Rattle.ti_verdicts.specs.Locations.{place_if};
 
 use crate::asked::Asked;
 use crate::lines::{ValuePlace, refusal_place};
@@ -11,6 +13,7 @@ use crate::reports::{Finding, Report, Verdict, report_line};
 use crate::texts::text_of;
 use std::alloc::{AllocError, Global};
 use ti_commands::refusal_words;
+use ti_resolve::Origin;
 use ti_surveys::Lacking;
 
 /// The line about an entry that is `lacking`, or about a file that has no entries.
@@ -20,10 +23,11 @@ pub fn lacking_line(
     lacking: &Lacking<'_, '_>,
 ) -> Result<Vec<u8>, AllocError>
     ensures { IfOk result (λ line. spec.IsOfRefusal asked.size.rows asked.size.cols lacking.now.path.now
-        (option_map (λ n. n.now) lacking.now.name) lacking.now.refusal.now line.items) }
+        (place_if lacking.now.stands.now) (option_map (λ n. n.now) lacking.now.name) lacking.now.refusal.now
+        line.items) }
 {
     let why = refusal_words(alloc, lacking.refusal)?;
-    let place = refusal_place(lacking.refusal);
+    let place = refusal_place(alloc, Some(fault_file(lacking)), lacking.refusal)?;
     refused_line(
         alloc,
         asked,
@@ -32,6 +36,22 @@ pub fn lacking_line(
         why.as_slice(),
         place,
     )
+}
+
+/// The path of the file with the fault that hides the entry that is `lacking`.
+fn fault_file<'a>(lacking: &Lacking<'a, '_>) -> &'a str
+    ensures { result.now ≡ fault_file lacking.now.path.now (place_if lacking.now.stands.now) }
+{
+    match lacking.stands {
+        Some(there) => {
+            let origin = Origin {
+                entry: there.place,
+                field: 0,
+            };
+            there.line(origin).path
+        }
+        None => lacking.path,
+    }
 }
 
 /// The line that the file at `path` can't be read.

@@ -10,7 +10,7 @@ use Rattle.ti_source.specs.declared.types.SourceFault.{SourceFault}
 use Rattle.ti_commands.specs.Contents.{Held}
 use Rattle.ti_commands.specs.Words.{texts_of}
 use Rattle.ti_commands.specs.declared.failure.CommandRefusal.{CommandRefusal}
-use Rattle.ti_surveys.specs.Lines.{IsSourcePart, IsTold, Leaving, Refusing, ResolvesApart, Saying}
+use Rattle.ti_surveys.specs.Lines.{IsSourcePart, IsTold, Leaving, Refusing, ResolvesApart, Saying, StandsAt}
 use Rattle.ti_verdicts.specs.Locations.{first_name}
 use Rattle.ti_verdicts.specs.Spots.{PutFiles}
 use Rattle.ti_surveys.specs.Surveys.{HasLines, OfFile}
@@ -92,12 +92,14 @@ pub faults_beside : (text : List ℕ) (raws : List RawEntry) (faults : List (Opt
 faults_beside text raws faults apart =
     ap length apart.faults_are ∙ (map_length (λ (one : Alone). one.fault) apart.ones ∙ sym (ap length apart.raws_are ∙ map_length (λ (one : Alone). one.raw) apart.ones))
 
-pub source_part_of : (Says : Saying) (Refuses : Refusing) (path : List ℕ) (files : PutFiles) (raws : List RawEntry) (faults : List (Option SourceFault)) (place : ℕ) (raw : RawEntry) (entry : Result Content CommandRefusal) (names name : List ℕ) (said : Told) → slice_get raws place ≡ Some raw → names ≡ raw.names
-    → name ≡ first_name names → ResolvesApart raws faults place entry → IsTold Says Refuses entry path (Some (record { files = files; raws = raws; place = place })) name said → IsSourcePart Says Refuses path files raws faults place said
-source_part_of Says Refuses path files raws faults place raw entry names name said there a b r t = record {
+pub source_part_of : (Says : Saying) (Refuses : Refusing) (path : List ℕ) (files : PutFiles) (raws : List RawEntry) (faults : List (Option SourceFault)) (place at : ℕ) (raw : RawEntry) (entry : Result Content CommandRefusal) (names name : List ℕ) (said : Told) → slice_get raws place ≡ Some raw → names ≡ raw.names
+    → name ≡ first_name names → ResolvesApart raws faults place entry → StandsAt raws faults place entry at → IsTold Says Refuses entry path (Some (record { files = files; raws = raws; place = at })) name said → IsSourcePart Says Refuses path files raws faults place said
+source_part_of Says Refuses path files raws faults place at raw entry names name said there a b r stands t = record {
   raw = raw;
   there = there;
   entry = entry;
   resolves = r;
-  told = subst (λ (n : List ℕ). IsTold Says Refuses entry path (Some (record { files = files; raws = raws; place = place })) n said) (b ∙ ap first_name a) t;
+  at = at;
+  stands = stands;
+  told = subst (λ (n : List ℕ). IsTold Says Refuses entry path (Some (record { files = files; raws = raws; place = at })) n said) (b ∙ ap first_name a) t;
 }

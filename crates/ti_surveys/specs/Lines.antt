@@ -1,11 +1,12 @@
 -- The lines of a survey: the statements about each entry of a file, in order.
 use Rattle.std.specs.Prelude.{◌≡◌, ◌≢◌, ◌⊎◌, ◌==◌, ◌&&◌, ◌||◌, ℕ, Bool, true, false, List, [], ◌∷◌, Option, Some, None}
-use Rattle.std.specs.Prelude.{Result, Ok, Err, length, slice_get}
+use Rattle.std.specs.Prelude.{Result, Ok, Err, length, option_map, slice_get}
 use Rattle.std.specs.List.{AllByRecursion, range_with_len}
 use Rattle.ti_caps.specs.Entry.{Content}
 use Rattle.ti_compiled.specs.Contents.{read_of}
 use Rattle.ti_compiled.specs.declared.types.PackFault.{PackFault}
-use Rattle.ti_entries.specs.Resolution.{IsResolvedApart, IsUnread}
+use Rattle.ti_entries.specs.Resolution.{IsResolvedApart, IsUnread, fault_in}
+use Rattle.ti_resolve.specs.Origins.{first_of}
 use Rattle.ti_resolve.specs.Walk.{walk_at}
 use Rattle.ti_resolve.specs.declared.faults.ResolveFault.TheVariants as resolve_faults
 use Rattle.ti_source.specs.Apart.{IsApart, apart_of}
@@ -28,8 +29,9 @@ use Rattle.ti_verdicts.specs.Spots.{PutFiles, texts_of_files}
 abbrev pub Saying : Type 1
 Saying = List ℕ → Option PlaceInSource → List ℕ → Content → Told → Type 0
 
--- the statements allowed about an entry that can't be obtained, by the path of its file, its place in a source, its name
--- and the refusal that says why; or about a file that has no entries, without place and name
+-- the statements allowed about an entry that can't be obtained, by the path of its file, its place in a source or that of
+-- the entry that hides it, its name and the refusal that says why; or about a file that has no entries, without place and
+-- name
 abbrev pub Refusing : Type 1
 Refusing = List ℕ → Option PlaceInSource → Option (List ℕ) → CommandRefusal → Told → Type 0
 
@@ -54,6 +56,26 @@ ResolvesApart raws faults place (Err (Resolve fault)) =
     (walk_at raws place ≡ Err fault) × (fault ≢ resolve_faults.NoMemory)
 ResolvesApart raws faults place (Err _) = ⊥
 
+-- the entry at a place, if it can't be read
+abbrev pub unread_in : List (Option SourceFault) → ℕ → Option ℕ
+unread_in faults place = option_map (λ fault. place) (fault_in faults place)
+
+-- the first entry among these places that can't be read
+abbrev pub first_unread : List (Option SourceFault) → List ℕ → Option ℕ
+first_unread faults places = first_of (unread_in faults) places
+
+-- the entry that hides the one at a place: the first one that can't be read, of this one and those that it uses
+pub record IsHiding (raws : List RawEntry) (faults : List (Option SourceFault)) (place hiding : ℕ) : Type 0 where
+  pub places : List ℕ
+  pub walks : walk_at raws place ≡ Ok places
+  pub first : first_unread faults places ≡ Some hiding
+
+-- the place at which a statement stands: that of the entry, or of the one that hides it
+abbrev pub StandsAt : List RawEntry → List (Option SourceFault) → ℕ → Result Content CommandRefusal → ℕ → Type 0
+StandsAt raws faults place (Ok entry) at = at ≡ place
+StandsAt raws faults place (Err (Source fault)) at = IsHiding raws faults place at
+StandsAt raws faults place (Err _) at = at ≡ place
+
 -- the lines of an entry of a source text by its place among the entries of these files, whatever other entries have its
 -- names
 pub record IsSourcePart (Says : Saying) (Refuses : Refusing) (path : List ℕ) (files : PutFiles) (raws : List RawEntry)
@@ -62,7 +84,9 @@ pub record IsSourcePart (Says : Saying) (Refuses : Refusing) (path : List ℕ) (
   pub there : slice_get raws place ≡ Some raw
   pub entry : Result Content CommandRefusal
   pub resolves : ResolvesApart raws faults place entry
-  pub told : IsTold Says Refuses entry path (Some (record { files = files; raws = raws; place = place }))
+  pub at : ℕ
+  pub stands : StandsAt raws faults place entry at
+  pub told : IsTold Says Refuses entry path (Some (record { files = files; raws = raws; place = at }))
       (first_name raw.names) said
 
 -- the lines of the entry of a compiled file

@@ -23,7 +23,7 @@ use ti_compiled::{Packed, decode};
 use ti_entries::{ApartFault, resolve_apart};
 use ti_further::FurtherFile;
 use ti_hints::hint_entries;
-use ti_resolve::{Index, ResolveFault};
+use ti_resolve::{Index, ResolveFault, entered_from};
 use ti_source::{FaultKind, RawEntry, SourceFault, read_apart};
 use ti_verdicts::{LinedFiles, SourcePlace, first_name, lined_files};
 use ti_words::Remarks;
@@ -306,10 +306,79 @@ fn source_part<S: Speaker>(
     let stands = Some(SourcePlace {
         files: source.files,
         raws,
-        place,
+        place: stands_at(alloc, source, place, &entry)?,
         index: source.index,
     });
     entry_lines(alloc, speaker, source.path, &stands, name, &entry)
+}
+
+/// The place at which the statement about the `entry` at `place` stands: there, or at the entry that hides it.
+fn stands_at(
+    alloc: Global,
+    source: &SourceEntries<'_, '_>,
+    place: usize,
+    entry: &Result<Entry, CommandRefusal>,
+) -> Result<usize, AllocError>
+    requires beside { length source.now.faults.now ≡ length source.now.index.now.raws.now }
+    requires there { place < length source.now.index.now.raws.now }
+    ensures stands { IfOk result (λ at. spec.StandsAt source.now.index.now.raws.now source.now.faults.now place
+        entry.now at) }
+    ensures range { IfOk result (λ at. at < length source.now.index.now.raws.now) }
+{
+    match entry {
+        Ok(_) => Ok(place),
+        Err(CommandRefusal::Source(_)) => hiding(alloc, source, place),
+        Err(CommandRefusal::Size | CommandRefusal::Escape(_) | CommandRefusal::Parm(_)) => Ok(
+            place,
+        ),
+        Err(CommandRefusal::Token(_) | CommandRefusal::Stuck(_) | CommandRefusal::Resolve(_)) => {
+            Ok(place)
+        }
+        Err(CommandRefusal::Pack(_) | CommandRefusal::Verdict(_)) => Ok(place),
+    }
+}
+
+/// The place of the entry that hides the one at `place`.
+fn hiding(alloc: Global, source: &SourceEntries<'_, '_>, place: usize) -> Result<usize, AllocError>
+    requires beside { length source.now.faults.now ≡ length source.now.index.now.raws.now }
+    requires there { place < length source.now.index.now.raws.now }
+    ensures hides { IfOk result (λ at. spec.IsHiding source.now.index.now.raws.now source.now.faults.now place at) }
+    ensures range { IfOk result (λ at. at < length source.now.index.now.raws.now) }
+{
+    match entered_from(alloc, source.index, place) {
+        Ok(entered) => match first_unread(source.faults, entered.as_slice()) {
+            Some(at) => Ok(at),
+            // the entry was refused for one of these, so there is one
+            None => Err(AllocError),
+        },
+        // they were entered before, so memory ran out
+        Err(_) => Err(AllocError),
+    }
+}
+
+/// The first entry among these `places` that can't be read.
+#[tactic(auto, using(ti_resolve::proofs::OriginFacts::first_more, ti_resolve::proofs::OriginFacts::first_found))]
+fn first_unread(faults: &[Option<SourceFault>], places: &[usize]) -> Option<usize>
+    ensures first { result ≡ spec.first_unread faults.now places.now }
+    ensures range { IfSome result (λ at. at < length faults.now) }
+{
+    for place in places {
+        if let Some(at) = unread_in(faults, *place) {
+            return Some(at);
+        }
+    }
+    None
+}
+
+/// The entry at `place`, if it can't be read.
+fn unread_in(faults: &[Option<SourceFault>], place: usize) -> Option<usize>
+    ensures found { result ≡ spec.unread_in faults.now place }
+    ensures range { IfSome result (λ at. at < length faults.now) }
+{
+    match faults.get(place) {
+        Some(Some(_)) => Some(place),
+        Some(None) | None => None,
+    }
 }
 
 /// The entry at `place`, or the reason why it can't be read or resolved.
