@@ -607,6 +607,7 @@ EXPLAINED = [
     (["tic", "notes:a"], "unknown names: xyz (1), zzz (1)"),
     (["infocmp", "too_deep:e0"], "'e65' is the 65th entry that is used, and 64 are allowed, in too_deep"),
     (["infocmp", "hostile:a"], "'\\033[31m' is not the name of an entry in hostile"),
+    (["infocmp", "unknown_use:a"], "check, infocmp, survey, tic and verify take --with FILE, a file whose entries can be used too"),
     (["tic", "caret:a"], CARET),
     (["infocmp", "caret:a"], CARET),
     (["infocmp", "too_long"], "'too_long' has more than 131072 bytes"),
@@ -671,11 +672,11 @@ WRITTEN = [
 
 def judge(words, told, status, out, err):
     """Ends the script where a run printed something else; None was not known before. After the known lines of standard
-    error at most one more may come, in plain words, and two after that of a file or of an open field."""
+    error at most one more may come, in plain words, and two after that of a file, an open field or a name without entry."""
     right = told.status == status and (out is None or told.out == out.encode())
     if err is not None:
         further = told.err.removeprefix(err.encode())
-        most = 2 if "file:" in err or "OpenField" in err else 1
+        most = 2 if any(word in err for word in ("file:", "OpenField", "NoSuchEntry")) else 1
         right = right and told.err.startswith(err.encode()) and further.count(b"\n") <= most
         right = right and not further.startswith(FIXED) and (bool(err) or not further)
         right = right and all(byte == 10 or 32 <= byte <= 126 for byte in further)

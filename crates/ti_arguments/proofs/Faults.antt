@@ -1,5 +1,5 @@
 -- Why the parser gives no matches.
-use Rattle.std.proofs.Common.{◌≡◌, ◌⊎◌, Bool, List, Option, Result, Ok, Err, IfOk, true, ap, map, ◌∙◌, inl, inr, refl, subst}
+use Rattle.std.proofs.Common.{◌≡◌, ◌⊎◌, List, Option, Result, Ok, Err, IfOk, true, ap, map, ◌∙◌, inl, inr, refl, subst}
 use Rattle.std.specs.Prelude.{codes, option_map}
 use Rattle.clap.proofs.OnLiterals.{clap_on_literals}
 use Rattle.clap.specs.Faults.{fault_of, is_simple_and_free}

@@ -33,7 +33,7 @@ loop-file-preserved c =
       named = subst (λ (raws : List RawEntry). NamesFit raws c.add.new.self.faults.items) (sym more.raws)
           (subst (λ (faults : List (Option SourceFault)). NamesFit (c.loop-file.all.raws.items ++ one.raws) faults) (sym more.faults)
           (names_append c.loop-file.all.raws.items one.raws c.loop-file.all.faults.items one.faults was.beside was.named c.in_ok-apart.ensures.names));
-      beside = ap length more.faults ∙ (beside_next _ c.loop-file.all.raws.items one.raws c.loop-file.all.faults.items one.faults was.beside c.in_ok-apart.ensures.entries ∙ sym (ap length more.raws));
+      beside = ap length more.faults ∙ (beside_next c.file-item.result.bytes.items c.loop-file.all.raws.items one.raws c.loop-file.all.faults.items one.faults was.beside c.in_ok-apart.ensures.entries ∙ sym (ap length more.raws));
     }
 
 -- the first file that hides its entries
