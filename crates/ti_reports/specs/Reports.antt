@@ -6,6 +6,7 @@ use Rattle.serde_json.specs.Data.{unsigned}
 use Rattle.serde_json.specs.View.{items_of}
 use Rattle.serde_json.specs.Written.{compact_text}
 use Rattle.ti_objects.specs.Escapes.{printable_json}
+use Rattle.ti_reports.specs.declared.lines.ValuePlace.{ValuePlace}
 use Rattle.ti_reports.specs.declared.reports.Finding.{Finding}
 use Rattle.ti_reports.specs.declared.reports.Report.{Report}
 use Rattle.ti_reports.specs.declared.reports.Verdict.{Verdict}
@@ -148,13 +149,16 @@ with_verdict report ms =
 
 abbrev pub with_value : Finding → Members → Members
 with_value finding ms =
-    put (codes "source_file") (text_data finding.place.file)
-    (put (codes "source_entry_hex") (hex_data finding.place.entry)
-    (put (codes "source_entry") (written_data finding.place.entry)
-    (put (codes "line") (number_data finding.place.line)
-    (put (codes "bytes") (text_data finding.bytes)
+    put (codes "bytes") (text_data finding.bytes)
     (put (codes "parameters") (numbers_data finding.parameters.items)
-    (put (codes "capability") (text_data finding.capability) ms))))))
+    (put (codes "capability") (text_data finding.capability) ms))
+
+abbrev pub with_place : ValuePlace → Members → Members
+with_place place ms =
+    put (codes "source_file") (text_data place.file)
+    (put (codes "source_entry_hex") (hex_data place.entry)
+    (put (codes "source_entry") (written_data place.entry)
+    (put (codes "line") (number_data place.line) ms)))
 
 abbrev pub with_strings : Finding → Members → Members
 with_strings finding ms =

@@ -133,6 +133,7 @@ fn value_of(alloc: Global, report: &Report) -> Result<Value, AllocError>
     put_entry(alloc, report, &mut members)?;
     put_verdict(alloc, report, &mut members)?;
     put_value(alloc, &report.finding, &mut members)?;
+    put_place(alloc, &report.finding.place, &mut members)?;
     put_strings(alloc, &report.finding, &mut members)?;
     put_run(alloc, &report.finding, &mut members)?;
     Ok(Value::Object(members))
@@ -180,7 +181,7 @@ fn put_verdict(
     put(members, alloc, "cause", cause)
 }
 
-/// Puts the capability of `finding`, its parameters, what it sends, and the place of its value into `members`.
+/// Puts the capability of `finding`, its parameters, and what it sends into `members`.
 fn put_value(
     alloc: Global,
     finding: &Finding,
@@ -192,13 +193,24 @@ fn put_value(
     let capability = text_value(alloc, &finding.capability)?;
     let parameters = numbers_value(alloc, finding.parameters.as_slice())?;
     let bytes = text_value(alloc, &finding.bytes)?;
-    let holder = written_value(alloc, &finding.place.entry)?;
-    let holder_hex = hex_value(alloc, &finding.place.entry)?;
-    let file = text_value(alloc, &finding.place.file)?;
     put(members, alloc, "capability", capability)?;
     put(members, alloc, "parameters", parameters)?;
-    put(members, alloc, "bytes", bytes)?;
-    put(members, alloc, "line", number_value(finding.place.line))?;
+    put(members, alloc, "bytes", bytes)
+}
+
+/// Puts `place` into `members`.
+fn put_place(
+    alloc: Global,
+    place: &ValuePlace,
+    members: &mut Map<String, Value>,
+) -> Result<(), AllocError>
+    ensures { OnOk result (members_view members.new.entries
+        ≡ spec.with_place place.now (members_view members.old.entries)) }
+{
+    let holder = written_value(alloc, &place.entry)?;
+    let holder_hex = hex_value(alloc, &place.entry)?;
+    let file = text_value(alloc, &place.file)?;
+    put(members, alloc, "line", number_value(place.line))?;
     put(members, alloc, "source_entry", holder)?;
     put(members, alloc, "source_entry_hex", holder_hex)?;
     put(members, alloc, "source_file", file)

@@ -14,7 +14,7 @@ use Rattle.ti_surveys.proofs.surveys.survey_paths.Goals as goal
 -- a file of `--with` can't be read
 pub returns-in_err-further-clause-failure : goal.returns-in_err-further-clause-failure
 returns-in_err-further-clause-failure g c =
-    let p = err_from_is_err_and c.from_residual-in_err-further.result c.from_residual-in_err-further.ensures.1 in
+    let p = err_from_is_err_and c.from_residual.result c.from_residual.ensures.1 in
     rw (p.1, p.2) (beside_unread (g.F.Files.holds c.args.files.now) _ c.in_err-further.ensures.failure)
 
 -- a file of `--with` hides its entries
@@ -33,8 +33,8 @@ returns-clause-told g c =
       others = c.in_ok-further.further.items;
       beside = c.in_ok-further.ensures.held;
       unread = texts_of said.unread.items;
-      each = subst (λ (others : List FurtherFile). IsToldOrLeft (HasLines (AreLines (g.S.Speaker.says c.args.speaker.now) (g.S.Speaker.refuses c.args.speaker.now) others) (g.F.Files.holds c.args.files.now)) (texts_of c.args.paths.now) (told_of said.said) (texts_of said.unread.items)) c.as_slice.ensures.value
-          (subst (λ (held : Held). IsToldOrLeft (HasLines (AreLines (g.S.Speaker.says c.args.speaker.now) (g.S.Speaker.refuses c.args.speaker.now) c.as_slice.result.now) held) (texts_of c.args.paths.now) (told_of said.said) (texts_of said.unread.items)) c.further_files.ensures.kept c.in_ok-said.ensures.told);
+      each = subst (λ (others : List FurtherFile). IsToldOrLeft (HasLines (AreLines (g.S.Speaker.says c.args.speaker.now) (g.S.Speaker.refuses c.args.speaker.now) others) (g.F.Files.holds c.args.files.now)) (g.S.Speaker.leaves c.args.speaker.now) (texts_of c.args.paths.now) (told_of said.said) (texts_of said.unread.items)) c.as_slice.ensures.value
+          (subst (λ (held : Held). IsToldOrLeft (HasLines (AreLines (g.S.Speaker.says c.args.speaker.now) (g.S.Speaker.refuses c.args.speaker.now) c.as_slice.result.now) held) (g.S.Speaker.leaves c.args.speaker.now) (texts_of c.args.paths.now) (told_of said.said) (texts_of said.unread.items)) c.further_files.ensures.kept c.in_ok-said.ensures.told);
       named = subst (λ (paths : List (Bor (List ℕ))). AreNamed (texts_of paths) c.in_ok-failure.failure c.named.new.remarks) c.as_slice-2.ensures.value c.in_ok-failure.ensures;
     }
 
