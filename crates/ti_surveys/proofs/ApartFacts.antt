@@ -1,6 +1,6 @@
 -- Entries of several files put together, each read by itself.
-use Rattle.std.proofs.Common.{◌≡◌, ◌∙◌, ◌<◌, ◌≤◌, ◌+◌, ℕ, suc, drop, drop-cons, get_or, take, Bool, true, false, List, [], ◌∷◌, ◌++◌, Option, Some, None, ap, arith, append-nil, inl, inr, ⊎_elim, ◌⊎◌, length, refl, sym, subst}
-use Rattle.std.specs.Prelude.{◌-◌, IsTrue, map, nat_lt, slice_get}
+use Rattle.std.proofs.Common.{◌≡◌, ◌∙◌, ◌<◌, ◌≤◌, ◌+◌, ℕ, suc, drop, drop-cons, get_or, take, Bool, true, false, List, [], ◌∷◌, ◌++◌, Option, ap, arith, append-nil, inl, inr, ⊎_elim, ◌⊎◌, length, refl, sym, subst}
+use Rattle.std.specs.Prelude.{◌-◌, IsTrue, nat_lt, slice_get}
 use Rattle.std.specs.List.{AllByRecursion, flat_map}
 use Rattle.std.proofs.lemmas.Grind.{flat_map-append}
 use Rattle.std.proofs.lemmas.List.{length-append, map-append, take-append-drop, take_more}

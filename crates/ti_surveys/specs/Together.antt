@@ -1,5 +1,5 @@
 -- The entries of a source and, behind them, those of the files of `--with`, each read by itself.
-use Rattle.std.specs.Prelude.{◌≡◌, ◌⊎◌, ℕ, List, [], ◌∷◌, ◌++◌, Option, length, map}
+use Rattle.std.specs.Prelude.{◌≡◌, ◌⊎◌, ℕ, List, [], ◌∷◌, Option, length, map}
 use Rattle.std.specs.List.{flat_map}
 use Rattle.ti_commands.specs.Contents.{Held}
 use Rattle.ti_commands.specs.Further.{AreHeld, FailsReading}
