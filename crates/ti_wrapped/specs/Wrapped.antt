@@ -1,9 +1,10 @@
 -- The text that a file is read as if fields of a source may continue on further lines.
-use Rattle.std.specs.Prelude.{ℕ, ◌==◌, ◌&&◌, ◌||◌, not, nat_eq, nat_le, Bool, false, List, ◌∷◌, codes, length}
+use Rattle.std.specs.Prelude.{ℕ, ◌≡◌, ◌==◌, ◌&&◌, ◌||◌, not, nat_eq, nat_le, Bool, false, List, [], ◌∷◌, codes, length}
 use Rattle.std.specs.Prelude.{if◌then◌else◌}
 use Rattle.std.specs.List.{starts_with}
 use Rattle.std.specs.Prelude.{option_map}
 use Rattle.ti_commands.specs.Contents.{Held, longest_file}
+use Rattle.ti_commands.specs.declared.files.NewFile.{NewFile}
 use Rattle.ti_joins.specs.Joins.{joined_text}
 
 -- a compiled file begins with a magic number (term(5)): octal 432, or 1036 for numbers of 32 bits
@@ -30,3 +31,8 @@ joined_held held = record { at = λ path. option_map read_as (held.at path); wit
 -- the same files, of which those at these paths are the files of `--with`
 abbrev pub held_beside : List (List ℕ) → Held → Held
 held_beside paths held = record { at = held.at; with_paths = paths }
+
+-- (Serves the code alone.) each of these files is read as just its bytes
+unfoldable pub AreReadSo : List NewFile → Type 0
+AreReadSo [] = Unit {0}
+AreReadSo (file ∷ files) = (read_as file.bytes.items ≡ file.bytes.items) × AreReadSo files

@@ -4,7 +4,7 @@ ghost use Rattle.std.specs.Prelude.{◌≡◌};
 ghost use Rattle.ti_commands.specs.Words.{texts_of};
 ghost use Rattle.ti_wrapped.specs.Wrapped.{held_beside};
 
-use ti_commands::{FileFault, Files};
+use ti_commands::{FileFault, Files, NewFile};
 
 /// The given files, with the paths of those whose entries others may use.
 #[derive(Drop)]
@@ -39,5 +39,9 @@ impl<F: Files> Files for Beside<'_, F> {
 
     fn store(&mut self, path: &str, bytes: &[u8]) -> Result<(), FileFault> {
         self.files.store(path, bytes)
+    }
+
+    fn store_all(&mut self, new_files: &[NewFile]) -> Result<(), FileFault> {
+        self.files.store_all(new_files)
     }
 }

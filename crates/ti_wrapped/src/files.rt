@@ -5,10 +5,10 @@ ghost use Rattle.ti_commands.specs.Words.{texts_of};
 ghost use Rattle.ti_wrapped.specs.Wrapped.{joined_held};
 
 use crate::fronts::read_front;
-use crate::texts::{read_as, reads_as_is};
+use crate::texts::{are_read_as_is, read_as, reads_as_is};
 use std::alloc::Global;
 use std::io::{Chain, Cursor, Read};
-use ti_commands::{FileCause, FileFault, Files};
+use ti_commands::{FileCause, FileFault, Files, NewFile};
 
 /// The given files, in which each source text is read with each of its fields on one line. Compiled files and
 /// certificates are read as they are.
@@ -51,6 +51,15 @@ impl<F: Files> Files for Wrapped<'_, F> {
     fn store(&mut self, path: &str, bytes: &[u8]) -> Result<(), FileFault> {
         match reads_as_is(self.alloc, bytes) {
             Ok(true) => self.files.store(path, bytes),
+            Ok(false) => Err(FileFault::Failed(FileCause::Other)),
+            Err(_) => Err(FileFault::NoMemory),
+        }
+    }
+
+    /// Stores only files that are read as just their bytes.
+    fn store_all(&mut self, new_files: &[NewFile]) -> Result<(), FileFault> {
+        match are_read_as_is(self.alloc, new_files) {
+            Ok(true) => self.files.store_all(new_files),
             Ok(false) => Err(FileFault::Failed(FileCause::Other)),
             Err(_) => Err(FileFault::NoMemory),
         }

@@ -5,7 +5,7 @@ ghost use Rattle.std.specs.Bool.{OnTrue};
 ghost use Rattle.ti_wrapped.specs.Wrapped as spec;
 
 use std::alloc::{AllocError, Global};
-use ti_commands::LONGEST_FILE;
+use ti_commands::{LONGEST_FILE, NewFile};
 use ti_joins::joined;
 
 /// Whether the file begins as a compiled one.
@@ -54,4 +54,24 @@ pub fn reads_as_is(alloc: Global, bytes: &[u8]) -> Result<bool, AllocError>
     }
     let text = joined(alloc, bytes)?;
     Ok(text.as_slice() == bytes)
+}
+
+/// Whether a file is read as just its bytes.
+fn is_read_as_is(alloc: Global, file: &NewFile) -> Result<bool, AllocError>
+    ensures { IfOk result (λ same. OnTrue same (spec.read_as file.now.bytes.items ≡ file.now.bytes.items)) }
+{
+    reads_as_is(alloc, file.bytes.as_slice())
+}
+
+/// Whether each of these files is read as just its bytes.
+pub fn are_read_as_is(alloc: Global, files: &[NewFile]) -> Result<bool, AllocError>
+    ensures { IfOk result (λ same. OnTrue same (spec.AreReadSo files.now)) }
+{
+    for file in files {
+        let same = is_read_as_is(alloc, file)?;
+        if !same {
+            return Ok(false);
+        }
+    }
+    Ok(true)
 }
