@@ -1,5 +1,6 @@
-pub mod Changes
+pub mod TextFacts
 pub mod RightFacts
 pub mod Takings
 pub mod Weighing
 pub mod FileFacts
+pub mod Placings

@@ -1,13 +1,13 @@
 -- One more step, after which the entry that is asked for is known.
-use Rattle.std.proofs.Common.{◌≡◌, ◌<◌, ◌+◌, ℕ, List, [], ◌∷◌, ◌++◌, Ok, length, take, get_or, refl, sym, subst}
+use Rattle.std.proofs.Common.{◌≡◌, ◌<◌, ◌+◌, ℕ, List, [], ◌∷◌, ◌++◌, length, take, get_or, refl, sym, subst}
 use Rattle.std.proofs.lemmas.List.{take_more}
 use Rattle.ti_caps.specs.Entry.{Content}
 use Rattle.ti_faults.specs.declared.mended.Mended.{Mended}
-use Rattle.ti_fixes.specs.declared.fixes.Fixed.{Fixed}
 use Rattle.ti_mends.specs.Taken.{Aim, IsCurrent, IsStep, IsTreated, TakesEach}
+use Rattle.ti_mends.specs.Texts.{ArePut, sheets}
 use Rattle.ti_mends.specs.declared.mendings.Mending.{Mending}
+use Rattle.ti_mends.specs.declared.mendings.Texts.{Texts}
 use Rattle.ti_resolve.specs.Resolved.{IsResolved}
-use Rattle.ti_source.specs.Source.{source_of}
 
 pub none_taken : (Step : ℕ → Mending → Mending → Type 0) (start : Mending) → TakesEach Step [] start start
 unfolding TakesEach
@@ -25,10 +25,10 @@ takes_next Step caps n cap old between new l is h p =
     (takes_end Step (take n caps) (get_or caps n cap) old between new h (subst (λ (y : ℕ). Step y between new) is p))
 
 treated_current : (aim : Aim) (cap : ℕ) (string : List ℕ) (old new : Mending) → IsCurrent aim.name old → IsTreated aim cap string old new → IsCurrent aim.name new
-treated_current aim cap string old new h (IsTreated.Taken t) = record { reads = t.change.gives.reads; gives = t.there.gives }
+treated_current aim cap string old new h (IsTreated.Taken t) = record { put = t.change.put; gives = t.there.gives }
 treated_current aim cap string old new h (IsTreated.Left reason holds l) = record {
-  reads = subst (λ (f : Fixed). source_of f.text.items ≡ Ok f.raws.items) (sym l.fixed) h.reads;
-  gives = subst (λ (f : Fixed). IsResolved f.raws.items aim.name new.entry) (sym l.fixed) (subst (λ (e : Content). IsResolved old.fixed.raws.items aim.name e) (sym l.entry) h.gives);
+  put = subst (λ (t : Texts). ArePut (sheets t.files.items) t.raws.items) (sym l.texts) h.put;
+  gives = subst (λ (t : Texts). IsResolved t.raws.items aim.name new.entry) (sym l.texts) (subst (λ (e : Content). IsResolved old.texts.raws.items aim.name e) (sym l.entry) h.gives);
 }
 
 pub step_current : (entry : Content) (mended : Mended) (aim : Aim) (cap : ℕ) (old new : Mending) → IsCurrent aim.name old → IsStep entry mended aim cap old new → IsCurrent aim.name new

@@ -1,20 +1,19 @@
--- Suggestions taken in a source text, one after another, and those that are left.
-use Rattle.std.specs.Prelude.{ℕ, ◌≡◌, true, false, List, [], ◌∷◌, ◌++◌, Some, None, Ok}
+-- Suggestions taken in source texts, one after another, and those that are left.
+use Rattle.std.specs.Prelude.{ℕ, ◌≡◌, true, false, List, [], ◌∷◌, ◌++◌, Some, None}
 use Rattle.std.specs.List.{flat_map}
 use Rattle.ti_caps.specs.Entry.{Content}
 use Rattle.ti_checker.specs.declared.causes.No.{No}
 use Rattle.ti_faults.specs.Mended.{IsBestMended}
 use Rattle.ti_faults.specs.Remedies.{IsSuggestion, is_of_another_kind, listed_with}
 use Rattle.ti_faults.specs.declared.mended.Mended.{Mended}
-use Rattle.ti_fixes.specs.Fixes.{Gives}
-use Rattle.ti_fixes.specs.declared.fixes.Fixed.{Fixed}
 use Rattle.ti_mends.specs.Right.{AllKeepYes, HasString, LosesYes}
 use Rattle.ti_mends.specs.declared.mendings.Asked.{Asked}
 use Rattle.ti_mends.specs.declared.mendings.Mending.{Mending}
 use Rattle.ti_mends.specs.declared.mendings.Reason.{Reason}
 use Rattle.ti_mends.specs.declared.mendings.Reason.TheVariants.{Unplaced, Lost}
+use Rattle.ti_mends.specs.declared.mendings.Texts.{Texts}
+use Rattle.ti_mends.specs.Texts.{ArePut, IsChange, sheets}
 use Rattle.ti_resolve.specs.Resolved.{IsResolved}
-use Rattle.ti_source.specs.Source.{source_of}
 
 -- the entry that is asked for, by a name of it, and the size
 pub record Aim : Type 0 where
@@ -25,39 +24,38 @@ pub record Aim : Type 0 where
 abbrev pub aim_of : Asked → Aim
 aim_of asked = record { name = asked.name.now; rows = asked.size.rows; cols = asked.size.cols }
 
--- a text, read as its entries, in which one field was given the string
-pub record IsChange (cap : ℕ) (string : List ℕ) (old new : Fixed) : Type 0 where
-  pub place : ℕ
-  pub gives : Gives old.text.items old.raws.items place cap string new.text.items new.raws.items
+-- files, of which one has a field given the string
+abbrev pub IsNext : ℕ → List ℕ → Texts → Texts → Type 0
+IsNext cap string old new = IsChange cap string (sheets old.files.items) (sheets new.files.items) new.raws.items
 
 -- The string was given: the entry that is asked for has it now, and no entry has lost its yes.
 pub record IsTaken (aim : Aim) (cap : ℕ) (string : List ℕ) (old new : Mending) : Type 0 where
-  pub change : IsChange cap string old.fixed new.fixed
-  pub there : HasString new.fixed.raws.items aim.name cap string new.entry
-  pub keep : AllKeepYes old.fixed.raws.items new.fixed.raws.items aim.rows aim.cols cap
+  pub change : IsNext cap string old.texts new.texts
+  pub there : HasString new.texts.raws.items aim.name cap string new.entry
+  pub keep : AllKeepYes old.texts.raws.items new.texts.raws.items aim.rows aim.cols cap
   pub kept : new.kept.items ≡ old.kept.items
 
 -- with the string given, the entry at this place would lose its yes
-pub record WouldLose (aim : Aim) (cap : ℕ) (string : List ℕ) (old : Fixed) (place : ℕ) : Type 0 where
-  pub new : Fixed
-  pub change : IsChange cap string old new
+pub record WouldLose (aim : Aim) (cap : ℕ) (string : List ℕ) (old : Texts) (place : ℕ) : Type 0 where
+  pub new : Texts
+  pub change : IsNext cap string old new
   pub loses : LosesYes old.raws.items new.raws.items aim.rows aim.cols place
 
 -- the reason why a string isn't given; nothing is promised about a place that isn't found
-abbrev pub HoldsBack : Aim → ℕ → List ℕ → Fixed → Reason → Type 0
+abbrev pub HoldsBack : Aim → ℕ → List ℕ → Texts → Reason → Type 0
 HoldsBack aim cap string old Unplaced = Unit {0}
 HoldsBack aim cap string old (Lost place) = WouldLose aim cap string old place
 
--- the text stays as it is, and the capability is listed with the reason
+-- the files stay as they are, and the capability is listed with the reason
 pub record LeavesOut (cap : ℕ) (reason : Reason) (old new : Mending) : Type 0 where
-  pub fixed : new.fixed ≡ old.fixed
+  pub texts : new.texts ≡ old.texts
   pub entry : new.entry ≡ old.entry
   pub kept : new.kept.items ≡ old.kept.items ++ (record { cap = cap; reason = reason }) ∷ []
 
 -- the string is taken, or left for a reason
 pub data IsTreated (aim : Aim) (cap : ℕ) (string : List ℕ) (old new : Mending) : Type 0 where
   Taken : IsTaken aim cap string old new → IsTreated aim cap string old new
-  Left : (reason : Reason) → HoldsBack aim cap string old.fixed reason → LeavesOut cap reason old new
+  Left : (reason : Reason) → HoldsBack aim cap string old.texts reason → LeavesOut cap reason old new
       → IsTreated aim cap string old new
 
 -- the suggestion for a capability is taken or left; without one nothing changes
@@ -83,7 +81,7 @@ pub data TakesAll (entry : Content) (aim : Aim) (nos : List No) (old new : Mendi
   Each : is_of_another_kind nos ≡ false → (mended : Mended) → IsBestMended entry aim.rows aim.cols nos mended
       → TakesEach (IsStep entry mended aim) (all_listed nos) old new → TakesAll entry aim nos old new
 
--- the text is read as these entries, and the first with the name is this one
+-- the files are read as these entries, put together, and the first with the name is this one
 pub record IsCurrent (name : List ℕ) (mending : Mending) : Type 0 where
-  pub reads : source_of mending.fixed.text.items ≡ Ok mending.fixed.raws.items
-  pub gives : IsResolved mending.fixed.raws.items name mending.entry
+  pub put : ArePut (sheets mending.texts.files.items) mending.texts.raws.items
+  pub gives : IsResolved mending.texts.raws.items name mending.entry

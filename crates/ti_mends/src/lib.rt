@@ -1,11 +1,13 @@
-//! The reply of `check --fix`: a source text with the suggested strings in it.
+//! The reply of `check --fix`: source texts with the suggested strings in them.
 #![tactic(auto)]
 
 mod command;
+mod delivery;
 mod mendings;
 mod notes;
 mod places;
 mod standings;
 mod steps;
+mod texts;
 
 pub use command::fix_entry;

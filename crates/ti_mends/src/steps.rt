@@ -1,30 +1,29 @@
 //! Taking the suggestions, one after another.
 
-ghost use Rattle.std.specs.Prelude.{◌≡◌, IfOk, IsTrue, Ok};
+ghost use Rattle.std.specs.Prelude.{◌≡◌, IfOk, IsTrue};
 ghost use Rattle.ti_caps.specs.Fits.{string_fits};
 ghost use Rattle.ti_mends.specs.Taken as spec;
-ghost use Rattle.ti_source.specs.Source.{source_of};
 
-use crate::mendings::{Asked, Kept, Mending, Reason};
+use crate::mendings::{Asked, Kept, Mending, Reason, Texts};
 use crate::places::place_of;
 use crate::standings::{entry_with, loser};
+use crate::texts::changed;
 use std::alloc::{AllocError, Global};
 use ti_caps::{Cap, Entry};
 use ti_checker::No;
 use ti_faults::{Mended, listed_with, suggestion};
-use ti_fixes::{Fixed, give};
 
-/// The text as it was, with the capability listed.
+/// The files as they were, with the capability listed.
 fn listed(mending: Mending, cap: Cap, reason: Reason) -> Result<Mending, AllocError>
     ensures { IfOk result (spec.LeavesOut cap reason mending) }
 {
-    let Mending { fixed, entry, kept } = mending;
+    let Mending { texts, entry, kept } = mending;
     let mut kept = kept;
     kept.push(Kept { cap, reason })?;
-    Ok(Mending { fixed, entry, kept })
+    Ok(Mending { texts, entry, kept })
 }
 
-/// The text as it was: the string for `cap` isn't taken, for this reason.
+/// The files as they were: the string for `cap` isn't taken, for this reason.
 fn leave(
     asked: Asked<'_>,
     cap: Cap,
@@ -32,33 +31,35 @@ fn leave(
     mending: Mending,
     reason: Reason,
 ) -> Result<Mending, AllocError>
-    requires { spec.HoldsBack (spec.aim_of asked) cap string.now mending.fixed reason }
+    requires { spec.HoldsBack (spec.aim_of asked) cap string.now mending.texts reason }
     ensures { IfOk result (spec.IsTreated (spec.aim_of asked.entry) cap string.now mending) }
 {
     listed(mending, cap, reason)
 }
 
-/// Takes the string if it is given as in `next`, or leaves the text as it was.
-#[tactic(auto, using(ti_source::proofs::Fitness::entries_fit, crate::proofs::Changes::change_length))]
+/// Takes the string if it is given as in `next`, or leaves the files as they were.
 fn weigh(
     alloc: Global,
     asked: Asked<'_>,
     cap: Cap,
     string: &[u8],
     mending: Mending,
-    next: Fixed,
+    next: Texts,
 ) -> Result<Mending, AllocError>
-    requires reads { source_of mending.fixed.text.items ≡ Ok mending.fixed.raws.items }
-    requires change { spec.IsChange cap string.now mending.fixed next }
+    requires current { spec.IsCurrent asked.name.now mending }
+    requires change { spec.IsNext cap string.now mending.texts next }
     ensures { IfOk result (spec.IsTreated (spec.aim_of asked.entry) cap string.now mending) }
 {
+    if next.raws.len() != mending.texts.raws.len() {
+        return leave(asked, cap, string, mending, Reason::Unplaced);
+    }
     let Some(entry) = entry_with(alloc, next.raws.as_slice(), asked.name, cap, string)? else {
         return leave(asked, cap, string, mending, Reason::Unplaced);
     };
-    let (olds, news) = (mending.fixed.raws.as_slice(), next.raws.as_slice());
+    let (olds, news) = (mending.texts.raws.as_slice(), next.raws.as_slice());
     match loser(alloc, olds, news, asked.size, cap)? {
         None => Ok(Mending {
-            fixed: next,
+            texts: next,
             entry,
             kept: mending.kept,
         }),
@@ -66,7 +67,7 @@ fn weigh(
     }
 }
 
-/// Takes the string for `cap`, or leaves the text as it was.
+/// Takes the string for `cap`, or leaves the files as they were.
 fn take(
     alloc: Global,
     asked: Asked<'_>,
@@ -75,18 +76,17 @@ fn take(
     mending: Mending,
 ) -> Result<Mending, AllocError>
     requires fits { IsTrue (string_fits string.now) }
-    requires reads { source_of mending.fixed.text.items ≡ Ok mending.fixed.raws.items }
+    requires current { spec.IsCurrent asked.name.now mending }
     ensures { IfOk result (spec.IsTreated (spec.aim_of asked.entry) cap string.now mending) }
 {
-    let (text, raws) = (mending.fixed.text.as_slice(), mending.fixed.raws.as_slice());
-    let place = place_of(alloc, raws, asked.name, cap)?;
-    match give(alloc, text, raws, place, cap, string)? {
+    let place = place_of(alloc, mending.texts.raws.as_slice(), asked.name, cap)?;
+    match changed(alloc, &mending.texts, place, cap, string)? {
         Some(next) => weigh(alloc, asked, cap, string, mending, next),
         None => leave(asked, cap, string, mending, Reason::Unplaced),
     }
 }
 
-/// The text after the suggestion for `cap`, if there is one, was taken or left.
+/// The files after the suggestion for `cap`, if there is one, was taken or left.
 fn step(
     alloc: Global,
     asked: Asked<'_>,
@@ -95,7 +95,7 @@ fn step(
     cap: Cap,
     mending: Mending,
 ) -> Result<Mending, AllocError>
-    requires { source_of mending.fixed.text.items ≡ Ok mending.fixed.raws.items }
+    requires { spec.IsCurrent asked.name.now mending }
     ensures { IfOk result (spec.IsStep entry.now mended.now (spec.aim_of asked.entry) cap mending) }
 {
     match suggestion(entry, mended, cap) {
@@ -116,7 +116,7 @@ pub fn all_listed(alloc: Global, nos: &[No]) -> Result<Vec<Cap>, AllocError>
     Ok(caps)
 }
 
-/// The text after each suggestion for the capabilities `caps` was taken or left, by the `mended` entry.
+/// The files after each suggestion for the capabilities `caps` was taken or left, by the `mended` entry.
 pub fn mended_by_all(
     alloc: Global,
     asked: Asked<'_>,

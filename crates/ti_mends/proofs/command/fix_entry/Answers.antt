@@ -1,9 +1,11 @@
-use Rattle.std.proofs.Common.{Some, ap, inl, inr, rules, subst}
+use Rattle.std.proofs.Common.{List, Ok, Some, ap, inl, inr, rules, subst, sym, ℕ}
 use Rattle.std.proofs.lemmas.Result.{err_from_is_err_and}
 use Rattle.ti_commands.specs.Contents.{Held}
-use Rattle.ti_commands.specs.Sources.{IsSourced}
-use Rattle.ti_mends.specs.Replies.{HandsOver}
-use Rattle.ti_mends.proofs.Weighing.{renamed_text}
+use Rattle.ti_commands.specs.Sources.{IsSourced, together_of}
+use Rattle.ti_mends.proofs.FileFacts.{delivers_many, delivers_one, none_left, several_paths, some_left}
+use Rattle.ti_mends.specs.Delivery.{HandsOver, StoresChanged, own_bytes}
+use Rattle.ti_mends.specs.Replies.{IsMendedSource}
+use Rattle.ti_mends.specs.Texts.{sheets}
 use Rattle.ti_mends.proofs.command.fix_entry.Goals as goal
 
 pub returns-in_err-entry-clause-failure : goal.returns-in_err-entry-clause-failure
@@ -12,19 +14,67 @@ returns-in_err-entry-clause-failure g c =
     rw (p.1, p.2) (inl (inr (inl (record { sized = (c.in_ok-size.size.rows, c.in_ok-size.size.cols, c.in_ok-size.ensures.size); lacks = c.in_err-entry.ensures.failure }))))
 
 -- the files are those from which the source was read
-pub returns-clause-reply : goal.returns-clause-reply
-returns-clause-reply g c =
+pub returns-then-is_empty-clause-reply : goal.returns-then-is_empty-clause-reply
+returns-then-is_empty-clause-reply g c =
+    let before = g.F.Files.holds c.args.files.now in
+    let after = g.F.Files.holds c.handed_over.new.files in
+    let source = c.in-Some.source in
+    let entry = c.in_ok-entry.field-0.entry in
+    let texts = sheets c.in_ok-mended.mended.texts.items in
+    let left = c.in_ok-mended.mended.left.items in
+    let reply = c.in_ok-handed_over.field-0 in
     let gives : IsSourced (g.F.Files.holds c.args.files.now) c.args.words.now.entry.now c.in_ok-entry.field-0.entry (Some c.in-Some.source) = search rules in
     record {
       height = c.in_ok-size.size.rows;
       width = c.in_ok-size.size.cols;
       given = c.in_ok-size.ensures.size;
-      entry = c.in_ok-entry.field-0.entry;
-      source = c.in-Some.source;
+      entry = entry;
+      source = source;
       gives = gives;
-      text = c.in_ok-mended.mended.text.items;
-      left = c.in_ok-mended.mended.left.items;
-      mended = renamed_text c.in-Some.source.text.items c.in-Some.source.raws.items c.in_ok-entry.field-0.entry c.as_bytes.result.now c.in-Some.source.name.now c.in_ok-size.size.rows c.in_ok-size.size.cols c.in_ok-mended.mended.text.items c.in_ok-mended.mended.notes.items c.handed_over.result.notes.items c.in_ok-mended.mended.left.items
-          c.as_bytes.ensures.value (ap (λ v. v.items) c.handed_over.ensures.noted) c.in_ok-mended.ensures;
-      hands = subst (λ (h : Held). HandsOver c.in_ok-mended.mended.text.items c.in_ok-mended.mended.left.items c.args.words.now.out h (g.F.Files.holds c.handed_over.new.files) c.handed_over.result) c.in_ok-entry.ensures.kept c.handed_over.ensures.hands;
+      sheets = texts;
+      left = left;
+      mended = subst (λ (notes : List ℕ). IsMendedSource source entry c.in_ok-size.size.rows c.in_ok-size.size.cols texts notes left) (ap (λ v. v.items) (sym c.in_ok-handed_over.ensures.noted)) c.in_ok-mended.ensures;
+      delivers = delivers_one source.further.items texts left c.args.words.now.out before after reply (none_left source.further.items source.further.len source.further.ok.0 c.if-is_empty.ensures)
+          (subst (λ (h : Held). HandsOver (own_bytes texts) left c.args.words.now.out h after reply) c.in_ok-entry.ensures.kept c.in_ok-handed_over.ensures.hands);
+    }
+
+-- the line names files of --with, but no folder
+pub returns-in_default-out-clause-failure : goal.returns-in_default-out-clause-failure
+returns-in_default-out-clause-failure g c =
+    let source = c.in-Some.source in
+    let entry = c.in_ok-entry.field-0.entry in
+    let gives : IsSourced (g.F.Files.holds c.args.files.now) c.args.words.now.entry.now c.in_ok-entry.field-0.entry (Some c.in-Some.source) = search rules in
+    inr (inr (record {
+      sized = (c.in_ok-size.size.rows, c.in_ok-size.size.cols, c.in_ok-size.ensures.size);
+      several = several_paths (g.F.Files.holds c.args.files.now) source.path.now source.name.now source.text.items (together_of source) (Ok entry) (some_left source.further.items source.further.len source.further.ok.0 c.if-is_empty.ensures) gives.stands;
+      printed = c.in_default-out.is;
+      entry = entry;
+      source = source;
+      gives = gives;
+      tells = c.several.ensures;
+    }))
+
+pub returns-clause-reply : goal.returns-clause-reply
+returns-clause-reply g c =
+    let before = g.F.Files.holds c.args.files.now in
+    let after = g.F.Files.holds c.stored_in.new.files in
+    let source = c.in-Some.source in
+    let entry = c.in_ok-entry.field-0.entry in
+    let texts = sheets c.in_ok-mended-2.mended.texts.items in
+    let left = c.in_ok-mended-2.mended.left.items in
+    let reply = c.in_ok-stored_in.field-0 in
+    let folder = c.in-Some-out.folder in
+    let gives : IsSourced (g.F.Files.holds c.args.files.now) c.args.words.now.entry.now c.in_ok-entry.field-0.entry (Some c.in-Some.source) = search rules in
+    record {
+      height = c.in_ok-size.size.rows;
+      width = c.in_ok-size.size.cols;
+      given = c.in_ok-size.ensures.size;
+      entry = entry;
+      source = source;
+      gives = gives;
+      sheets = texts;
+      left = left;
+      mended = subst (λ (notes : List ℕ). IsMendedSource source entry c.in_ok-size.size.rows c.in_ok-size.size.cols texts notes left) (ap (λ v. v.items) (sym c.in_ok-stored_in.ensures.noted)) c.in_ok-mended-2.ensures;
+      delivers = delivers_many source.further.items texts left c.args.words.now.out folder before after reply (some_left source.further.items source.further.len source.further.ok.0 c.if-is_empty.ensures) c.in-Some-out.is
+          (subst (λ (h : Held). StoresChanged texts left folder.now h after reply) c.in_ok-entry.ensures.kept c.in_ok-stored_in.ensures.stores);
     }

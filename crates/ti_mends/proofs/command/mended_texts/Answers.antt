@@ -2,11 +2,11 @@ use Rattle.std.proofs.Common.{List, refl, subst, ◌∙◌}
 use Rattle.ti_checker.specs.declared.causes.No.{No}
 use Rattle.ti_mends.specs.Taken.{TakesAll, aim_of}
 use Rattle.ti_mends.proofs.Weighing.{same_notes, start_current}
-use Rattle.ti_mends.proofs.command.mended_text.Goals as goal
+use Rattle.ti_mends.proofs.command.mended_texts.Goals as goal
 
-pub treated_text-requires : goal.treated_text-requires
-treated_text-requires c =
-    start_current c.args.asked.name.now c.args.source.text.items c.args.source.raws.items c.args.entry.now c.in_ok-start.start c.requires.reads c.requires.gives c.in_ok-start.ensures
+pub treated_texts-requires : goal.treated_texts-requires
+treated_texts-requires c =
+    start_current c.args.asked.name.now c.args.texts c.args.entry.now c.in_ok-start.start c.requires.put c.requires.gives c.in_ok-start.ensures
 
 pub returns : goal.returns
 returns c = record {

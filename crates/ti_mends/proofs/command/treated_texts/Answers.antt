@@ -1,7 +1,7 @@
 use Rattle.std.proofs.Common.{List, ℕ, refl, subst, sym, ◌∙◌}
 use Rattle.std.proofs.lemmas.Result.{IfOk-weaker}
 use Rattle.ti_mends.specs.Taken.{IsStep, TakesAll, TakesEach, aim_of}
-use Rattle.ti_mends.proofs.command.treated_text.Goals as goal
+use Rattle.ti_mends.proofs.command.treated_texts.Goals as goal
 
 -- nothing is suggested for a terminal of another kind
 pub returns-then-is_of_another_kind-clause-takes : goal.returns-then-is_of_another_kind-clause-takes
