@@ -2,7 +2,7 @@
 
 ghost use Rattle.std.specs.Prelude.{◌≡◌};
 
-use ti_commands::{FileFault, Files};
+use ti_commands::{FileFault, Files, NewFile};
 
 /// The files of a command, with the number of lines of the file that it stored last.
 #[derive(Drop)]
@@ -40,5 +40,9 @@ impl<F: Files> Files for Counted<'_, F> {
         self.files.store(path, bytes)?;
         self.lines = Some(bytes.iter().filter(|byte| **byte == b'\n').count());
         Ok(())
+    }
+
+    fn store_all(&mut self, new_files: &[NewFile]) -> Result<(), FileFault> {
+        self.files.store_all(new_files)
     }
 }

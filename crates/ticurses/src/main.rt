@@ -1,6 +1,7 @@
 //! `ticurses`: checks terminal descriptions.
 #![tactic(auto)]
 
+mod batches;
 mod counted;
 mod forms;
 mod hints;

@@ -1,11 +1,12 @@
 //! The system's files, and standard input as one of them.
 
+use crate::batches::Batch;
 use std::alloc::Global;
 use std::fs::{Metadata, OpenFile, Permissions};
 use std::io::{ErrorKind, Read, Write};
 use std::os::unix::fs::MetadataExt;
 use std::{fs, io, rt};
-use ti_commands::{FileCause, FileFault, Files};
+use ti_commands::{FileCause, FileFault, Files, NewFile};
 
 /// The most names that are tried for a temporary file.
 const TEMPORARY_NAMES: u32 = 100;
@@ -71,6 +72,37 @@ impl<'a, R: rt::Files, I> Stored<'a, R, I> {
         }
     }
 
+    /// Makes the `new_files` ready to take their paths.
+    fn prepare(&self, batch: &mut Batch<'a, R>, new_files: &[NewFile]) -> Result<(), FileFault> {
+        for file in new_files {
+            let path = file.path.as_str();
+            let bytes = file.bytes.as_slice();
+            match fs::metadata(self.rt, path) {
+                Ok(metadata) if self.is_kept(&metadata) => {
+                    return Err(FileFault::Failed(FileCause::Source));
+                }
+                Ok(metadata) if metadata.is_file() => {
+                    let target = self.rt.canonicalize(self.alloc, path)?.into_string();
+                    batch.prepare(target, Some(metadata.permissions()), bytes)?;
+                }
+                Ok(_) => return Err(FileFault::Failed(FileCause::Other)),
+                Err(error) if error.kind() == ErrorKind::NotFound => {
+                    let Ok(target) = String::from_str(self.alloc, path) else {
+                        return Err(FileFault::NoMemory);
+                    };
+                    batch.prepare(target, None, bytes)?;
+                }
+                Err(error) => return Err(FileFault::from(error)),
+            }
+        }
+        Ok(())
+    }
+
+    /// Whether a file was read and can't be stored to.
+    fn is_kept(&self, metadata: &Metadata) -> bool {
+        self.keeps_source && self.were_read.as_slice().contains(&identity(metadata))
+    }
+
     /// Fills a new file beside `path` and renames it, so that `path` has all of `bytes` or is as before.
     fn replace(
         &self,
@@ -115,7 +147,7 @@ impl<'a, R: rt::Files, I> Stored<'a, R, I> {
 }
 
 /// Writes `bytes` to the empty file `file`, and waits until the device has them.
-fn write_synced<F: Write + OpenFile + Drop>(
+pub fn write_synced<F: Write + OpenFile + Drop>(
     mut file: F,
     permissions: Option<Permissions>,
     bytes: &[u8],
@@ -181,9 +213,7 @@ impl<R: rt::Files, I: Read + Drop> Files for Stored<'_, R, I> {
     /// pipe, is written to.
     fn store(&mut self, path: &str, bytes: &[u8]) -> Result<(), FileFault> {
         match fs::metadata(self.rt, path) {
-            Ok(metadata)
-                if self.keeps_source && self.were_read.as_slice().contains(&identity(&metadata)) =>
-                { Err(FileFault::Failed(FileCause::Source)) }
+            Ok(metadata) if self.is_kept(&metadata) => Err(FileFault::Failed(FileCause::Source)),
             Ok(metadata) if metadata.is_file() => {
                 let target = self.rt.canonicalize(self.alloc, path)?.into_string();
                 self.replace(target.as_str(), Some(metadata.permissions()), bytes)
@@ -191,6 +221,18 @@ impl<R: rt::Files, I: Read + Drop> Files for Stored<'_, R, I> {
             Ok(_) => Ok(fs::write(self.rt, path, bytes)?),
             Err(error) if error.kind() == ErrorKind::NotFound => self.replace(path, None, bytes),
             Err(error) => Err(FileFault::from(error)),
+        }
+    }
+
+    /// All files are written beside their paths before the first of them takes its path.
+    fn store_all(&mut self, new_files: &[NewFile]) -> Result<(), FileFault> {
+        let mut batch = Batch::new(self.alloc, self.rt);
+        match self.prepare(&mut batch, new_files) {
+            Ok(()) => batch.commit(),
+            Err(fault) => {
+                batch.discard(0);
+                Err(fault)
+            }
         }
     }
 }
