@@ -145,6 +145,41 @@ def judge_compiled():
     print("with: compiled files, the order of files, and files that aren't replaced")
 
 
+def judge_fixes():
+    """Seven faults over two files are mended by --fix: each changed file is in the folder, or none is."""
+    right = mended(FILES)
+    spare = b"spare|used by nobody,\n\tcols#80,\n"
+    fix = ["check", "--fix", *WITH, "--with", "spare.ti", *ENTRY, "--out"]
+    with tempfile.TemporaryDirectory() as folder:
+        for name, held in (FILES | {"spare.ti": spare}).items():
+            Path(folder, name).write_bytes(held)
+
+        def told(*words):
+            return subprocess.run([f"{PROGRAM}/out/ticurses", *words], cwd=folder, capture_output=True)
+
+        def holds(where):
+            return {one.name: one.read_bytes() for one in Path(folder, where).iterdir() if one.is_file()}
+
+        for where in ("mended", "blocked"):
+            Path(folder, where).mkdir()
+        Path(folder, "blocked", "base.ti").mkdir()
+        done = told(*fix, "mended")
+        if (done.returncode, done.stdout, done.stderr) != (0, b"", b"") or holds("mended") != right:
+            fail(f"check --fix --with: {done}, and {holds('mended')}")
+        blocked = told(*fix, "blocked")
+        if blocked.returncode != 3 or b"file: blocked\n" not in blocked.stderr or holds("blocked"):
+            fail(f"a folder in which a file can't be stored: {blocked}, and {holds('blocked')}")
+        Path(folder, "deep").mkdir()
+        Path(folder, "deep", "own.ti").write_bytes(BASE)
+        twice = told("check", "--fix", "--with", "deep/own.ti", *ENTRY, "--out", "blocked")
+        if twice.returncode != 3 or holds("blocked"):
+            fail(f"two files of one name: {twice}, and {holds('blocked')}")
+        over = told(*fix, ".")
+        if over.returncode or {name: holds(".")[name] for name in FILES} != right or holds(".")["spare.ti"] != spare:
+            fail(f"the sources themselves: {over}")
+    print("with: --fix, which stores the changed files of a folder or none")
+
+
 def levels():
     """Entries of which each uses the next one, in three files by turns."""
     texts = ["", "", ""]
@@ -246,6 +281,7 @@ def main():
     judge_like_one()
     judge_order()
     judge_compiled()
+    judge_fixes()
     judge_levels()
     judge_refusals()
     judge_survey()

@@ -225,8 +225,9 @@ is taken: the field is replaced where it stands, in the entry that --all names, 
 field of the entry; nothing else of the text is changed. With --out it is written to FILE, whole or not at all; only here
 FILE may be the source itself. Standard error has a line `kept CAP: REASON` for each of these strings that isn't taken: no
 place for its field was found, or an entry of the source would lose its yes. The text is judged again: standard error has
-a line `left: no CAP P..: CAUSE` for each fault that is left, and the first of them after `refused: `. One file is mended:
---with is refused as SeveralFiles.
+a line `left: no CAP P..: CAUSE` for each fault that is left, and the first of them after `refused: `. With --with the
+strings are taken in those files too, and --out names a folder: each file that has changed is written there under its own
+name, or none is.
 
 A certificate has at most 67108864 bytes. The limits of a source file and of a compiled file are those of
 `ticurses tic --help`.
@@ -255,7 +256,7 @@ CAUSE is one of:
 KIND is one of:
   BadSize      ROWS is not 2 to 200, or COLS is not 2 to 500
   NoSource     with --fix: the entry is that of a compiled file
-  SeveralFiles  with --fix: there are files of --with
+  SeveralFiles  with --fix: there are files of --with, and no --out
 and for the entry each KIND of `ticurses tic --help`.
 
 Example:
