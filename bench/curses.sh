@@ -3,13 +3,14 @@
 # ncurses, the library of ticurses for programs that were written for curses ("curses.h"), and the sessions of ticurses.
 # Each makes the same calls with one entry, into a file, in turn, and the best of five runs counts. The time of a
 # refresh includes the calls that draw. The line `open` is opening a session, with the check of the entry. `chars` and
-# `lines` write each cell by a call of its own, which in a session is a function of numbers for `chars` and a line of
-# text for `lines`. The entry has no `rep`, which ticurses doesn't use. If ticurses and ncurses leave different
-# characters on the screen, a line says so; colors of blanks and the cursor of a pad aren't compared.
+# `lines` write each cell by a call of its own. A session's calls are functions of numbers, as those of its peers; only
+# those of `lines` are lines of text. The entry has no `rep`, which ticurses doesn't use. If ticurses and ncurses leave
+# different characters on the screen, a line says so; colors of blanks and the cursor of a pad aren't compared.
 # curses.sh [ROWSxCOLS..]: 24x80 50x132 200x500 if none is given. ENTRY is the terminal, xterm-256color if it isn't set.
 # S-Lang, termbox and libtickit (Debian: libslang2-dev libtermbox-dev libtickit-dev), if they are installed, draw the
 # same scenes, each with a line below. If such a library lacks windows or scrolling, its program does that work, which
-# counts too. With INSTRUCTIONS=1 the script counts the instructions of a refresh by callgrind, not its time.
+# counts too. With INSTRUCTIONS=1 the script counts the instructions of a refresh by callgrind, not its time, over at
+# most 100 refreshes of each scene.
 set -eu
 cd -- "$(dirname -- "$0")"
 work=$(mktemp -d)
@@ -17,6 +18,7 @@ trap 'rm -rf "$work"' EXIT
 trap 'exit 130' HUP INT TERM
 entry=${ENTRY:-xterm-256color}
 count=${INSTRUCTIONS:-}
+most=${count:+100}
 
 ../install PREFIX="$work/prefix" >"$work/log"
 lib=$work/prefix/lib include=$work/prefix/include
@@ -48,13 +50,13 @@ export TERMINFO
 compiled=$(find "$work/terminfo" -name "$entry" -type f)
 program=../crates/ticurses/out/ticurses
 
-# draws LIBRARY ROWS COLS SCENE [WORDS BEFORE THE PROGRAM]
+# draws LIBRARY ROWS COLS SCENE [WORDS BEFORE THE PROGRAM]: no more than $most times, if that is set
 draws() {
     library=$1 rows=$2 cols=$3 scene=$4
     shift 4
     named=$entry
     [ "$library" != session ] || named=$compiled
-    "$@" "$work/$library" "$named" "$rows" "$cols" "$scene" "$work/$library.out"
+    "$@" "$work/$library" "$named" "$rows" "$cols" "$scene" "$work/$library.out" ${most:+"$most"}
 }
 
 # timed ROWS COLS SCENE: a line for each run, with its nanoseconds and bytes

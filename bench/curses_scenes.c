@@ -1,10 +1,11 @@
-/* curses_scenes ENTRY ROWS COLS SCENE OUTPUT: draws a scene some hundred times on a terminal of this
- * size, into a file, and prints the processor time and the bytes of a refresh and the calls before it,
- * and the number of refreshes: `NANOSECONDS BYTES REFRESHES`. Built with PEER, a file with the functions
- * that the scenes call, it draws with that file's library. Built with -DCURSES it draws by the calls of
- * curses.h, with ncurses or with the library of ticurses for such programs. In both cases ENTRY is a
- * terminal's name. Otherwise it draws with the sessions of ticurses, and ENTRY is a compiled file. The
- * scene `open` opens a session instead, which for ticurses includes the check of the entry. */
+/* curses_scenes ENTRY ROWS COLS SCENE OUTPUT [MOST]: draws a scene some hundred times, but no more than
+ * MOST times, on a terminal of this size, into a file, and prints the processor time and the bytes of a
+ * refresh and the calls before it, and the number of refreshes: `NANOSECONDS BYTES REFRESHES`. Built with
+ * PEER, a file with the functions that the scenes call, it draws with that file's library. Built with
+ * -DCURSES it draws by the calls of curses.h, with ncurses or with the library of ticurses for such
+ * programs. In both cases ENTRY is a terminal's name. Otherwise it draws with the sessions of ticurses, and
+ * ENTRY is a compiled file. The scene `open` opens a session instead, which for ticurses includes the check
+ * of the entry. */
 #define _XOPEN_SOURCE 700
 #include <fcntl.h>
 #include <stdarg.h>
@@ -67,8 +68,8 @@ static void go(int w, int y, int x) {
 static void put(int w, int byte) {
     waddch(windows[w], (chtype)byte);
 }
-/* equal to put here; a session has a line of text for one and a function for the other */
-static void put_by_function(int w, int byte) {
+/* equal to put here; a session has a function for one and a line of text for the other */
+static void put_by_line(int w, int byte) {
     put(w, byte);
 }
 static void text(int w, const char *bytes, int len) {
@@ -150,57 +151,61 @@ static void finish(void) {
     ticurses_close(&session);
 }
 static void make_window(int w, int l, int c, int y, int x) {
-    done(ticurses_callf(&session, "newwin %d %d %d %d %d", w, l, c, y, x));
+    done(ticurses_newwin(&session, (size_t)w, l, c, y, x));
 }
 static void make_pad(int w, int l, int c) {
-    done(ticurses_callf(&session, "newpad %d %d %d", w, l, c));
+    done(ticurses_newpad(&session, (size_t)w, l, c));
 }
 static void move_window(int w, int y, int x) {
-    done(ticurses_callf(&session, "mvwin %d %d %d", w, y, x));
+    done(ticurses_mvwin(&session, (size_t)w, y, x));
 }
 static void draw_box(int w) {
-    done(ticurses_callf(&session, "box %d - -", w));
+    done(ticurses_box(&session, (size_t)w, ticurses_cell_of(0, 0, 0), ticurses_cell_of(0, 0, 0)));
 }
 static void go(int w, int y, int x) {
-    done(ticurses_callf(&session, "move %d %d %d", w, y, x));
+    done(ticurses_move(&session, (size_t)w, y, x));
 }
 static void put(int w, int byte) {
-    done(ticurses_callf(&session, "addch %d %02x", w, (unsigned)byte));
-}
-static void put_by_function(int w, int byte) {
     done(ticurses_addch(&session, (size_t)w, ticurses_cell_of((uint8_t)byte, 0, 0)));
+}
+static void put_by_line(int w, int byte) {
+    done(ticurses_callf(&session, "addch %d %02x", w, (unsigned)byte));
 }
 static void text(int w, const char *bytes, int len) {
     done(ticurses_addstr(&session, (size_t)w, bytes, (size_t)len));
 }
 static void bold(int w, int is_on) {
-    done(ticurses_callf(&session, "%s %d B", is_on ? "attron" : "attroff", w));
+    if (is_on)
+        done(ticurses_attron(&session, (size_t)w, TICURSES_BOLD));
+    else
+        done(ticurses_attroff(&session, (size_t)w, TICURSES_BOLD));
 }
 static void set_colors(int w, int pair) {
-    done(ticurses_callf(&session, "color_set %d %d", w, pair));
+    done(ticurses_color_set(&session, (size_t)w, pair));
 }
 static void make_pair(int pair, int fore, int back) {
-    done(ticurses_callf(&session, "init_pair %d %d %d", pair, fore, back));
+    done(ticurses_init_pair(&session, pair, fore, back));
 }
 static void set_scroll(int w) {
-    done(ticurses_callf(&session, "scrollok %d 1\nidlok %d 1", w, w));
+    done(ticurses_scrollok(&session, (size_t)w, 1));
+    done(ticurses_idlok(&session, (size_t)w, 1));
 }
 static void scroll_up(int w) {
-    done(ticurses_callf(&session, "scroll %d 1", w));
+    done(ticurses_scroll(&session, (size_t)w, 1));
 }
 static void copy(int w) {
-    done(ticurses_callf(&session, "noutrefresh %d", w));
+    done(ticurses_noutrefresh(&session, (size_t)w));
 }
 static void show(int w) {
-    done(ticurses_callf(&session, "refresh %d", w));
+    done(ticurses_refresh(&session, (size_t)w));
     drain();
 }
 static void show_all(void) {
-    done(ticurses_call(&session, "doupdate", 8));
+    done(ticurses_doupdate(&session));
     drain();
 }
 static void show_pad(int w, int y, int x) {
-    done(ticurses_callf(&session, "prefresh %d %d %d 0 0 %d %d", w, y, x, rows - 1, cols - 1));
+    done(ticurses_prefresh(&session, (size_t)w, y, x, 0, 0, rows - 1, cols - 1));
     drain();
 }
 static long position(void) {
@@ -280,12 +285,12 @@ static void by_characters(void (*each)(int, int)) {
 
 static void chars(int step) {
     (void)step;
-    by_characters(put_by_function);
+    by_characters(put);
 }
 
 static void lines(int step) {
     (void)step;
-    by_characters(put);
+    by_characters(put_by_line);
 }
 
 static void one_cell(int step) {
@@ -419,7 +424,7 @@ static long now(void) {
 
 int main(int argc, char **argv) {
     const struct scene *scene = NULL;
-    if (argc != 6) return 2;
+    if (argc != 6 && argc != 7) return 2;
     rows = atoi(argv[2]);
     cols = atoi(argv[3]);
     for (size_t at = 0; at < sizeof scenes / sizeof *scenes; at++)
@@ -430,6 +435,7 @@ int main(int argc, char **argv) {
     begin();
     scene->set();
     int count = scene->by_size ? scene->count * 1920 / (rows * cols) + 8 : scene->count;
+    if (argc == 7 && atoi(argv[6]) < count) count = atoi(argv[6]);
     long from = position(), began = now();
     repeat(scene->step, count);
     long took = now() - began;

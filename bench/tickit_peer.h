@@ -141,7 +141,7 @@ static void put(int w, int byte) {
     text(w, &one, 1);
 }
 
-static void put_by_function(int w, int byte) {
+static void put_by_line(int w, int byte) {
     put(w, byte);
 }
 
