@@ -1,8 +1,9 @@
 #!/bin/sh
 # The number of expansions a second by `expand`, and by ncurses' tparm and unibilium (Debian: libunibilium-dev) in the
-# same run; and how the time grows with a string's length. Each figure is of the least processor time of five runs. A
-# ratio is the peer's time to that of ticurses. The instructions of one expansion follow, by valgrind's callgrind, which
-# doesn't depend on the machine's load. The script needs bash; it says which peers it can't build, and leaves them out.
+# same run; and how the time grows with a string's length. Each figure is of the least processor time of seven runs, in
+# turn. A ratio is the peer's time to that of ticurses. The instructions of one expansion follow, by valgrind's
+# callgrind, which doesn't depend on the machine's load. The script needs bash; it says which peers it can't build, and
+# leaves them out.
 set -eu
 cd -- "$(dirname -- "$0")/.."
 
@@ -29,11 +30,15 @@ else
 fi
 can_count || echo "bench: instructions are left out, since valgrind is missing"
 
-# least PROGRAM WORD..: the least processor time of five runs, in nanoseconds
+# spent PROGRAM WORD..: the processor time of a run, in nanoseconds
+spent() {
+    { LC_ALL=C bash -c 'TIMEFORMAT="%U %S"; time "$@" >/dev/null' bash "$@"; } 2>&1 |
+        awk '{ printf "%d\n", ($1 + $2) * 1000000000 }'
+}
+
+# least: the least of the numbers that come in
 least() {
-    for _ in 1 2 3 4 5; do
-        { LC_ALL=C bash -c 'TIMEFORMAT="%U %S"; time "$@" >/dev/null' bash "$@"; } 2>&1
-    done | awk '{ spent = $1 + $2; if (NR == 1 || spent < best) best = spent } END { printf "%d\n", best * 1000000000 }'
+    sort -n | head -n 1
 }
 
 # of_one PROGRAM COUNT STRING PARAM..: the instructions of one expansion
@@ -55,15 +60,23 @@ beside() {
     name=$1
     shift
     "$ours" "$@" >"$work/ours"
-    mine=$(least "$ours" "$@")
-    printf '%-22s ticurses %9d a second' "$name" $(($1 * 1000000000 / mine))
     for peer in $peers; do
         "$work/$peer" "$@" >"$work/theirs"
         cmp -s "$work/ours" "$work/theirs" || {
             echo "bench: $name: not as many bytes as $peer" >&2
             exit 1
         }
-        other=$(least "$work/$peer" "$@")
+    done
+    for _ in 1 2 3 4 5 6 7; do
+        echo "ours $(spent "$ours" "$@")"
+        for peer in $peers; do
+            echo "$peer $(spent "$work/$peer" "$@")"
+        done
+    done >"$work/times"
+    mine=$(sed -n 's/^ours //p' "$work/times" | least)
+    printf '%-22s ticurses %9d a second' "$name" $(($1 * 1000000000 / mine))
+    for peer in $peers; do
+        other=$(sed -n "s/^$peer //p" "$work/times" | least)
         printf ', %s %9d, ratio %s' "$peer" $(($1 * 1000000000 / other)) "$(ratio "$other" "$mine")"
     done
     printf '\n'
@@ -84,8 +97,8 @@ grows() {
     half=$3
     shift 3
     for string in "$half" "$whole"; do
-        spent=$(least "$ours" 2000 "$string" "$@")
-        awk "BEGIN { printf \"%-22s %6d bytes %10.1f us %8.2f ns a byte\n\", \"$name\", ${#string}, $spent / 2000 / 1000, $spent / 2000 / ${#string} }"
+        took=$(for _ in 1 2 3 4 5; do spent "$ours" 2000 "$string" "$@"; done | least)
+        awk "BEGIN { printf \"%-22s %6d bytes %10.1f us %8.2f ns a byte\n\", \"$name\", ${#string}, $took / 2000 / 1000, $took / 2000 / ${#string} }"
     done
 }
 
