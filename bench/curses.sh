@@ -9,8 +9,8 @@
 # curses.sh [ROWSxCOLS..]: 24x80 50x132 200x500 if none is given. ENTRY is the terminal, xterm-256color if it isn't set.
 # S-Lang, termbox and libtickit (Debian: libslang2-dev libtermbox-dev libtickit-dev), if they are installed, draw the
 # same scenes, each with a line below. If such a library lacks windows or scrolling, its program does that work, which
-# counts too. With INSTRUCTIONS=1 the script counts the instructions of a refresh by callgrind, not its time, over at
-# most 100 refreshes of each scene.
+# counts too. A scene has at most 2,000 refreshes, since a library that compares all cells takes milliseconds for one.
+# With INSTRUCTIONS=1 the script counts the instructions of a refresh by callgrind, not its time, over at most 100.
 set -eu
 cd -- "$(dirname -- "$0")"
 work=$(mktemp -d)
@@ -18,7 +18,8 @@ trap 'rm -rf "$work"' EXIT
 trap 'exit 130' HUP INT TERM
 entry=${ENTRY:-xterm-256color}
 count=${INSTRUCTIONS:-}
-most=${count:+100}
+most=2000
+[ -z "$count" ] || most=100
 
 ../install PREFIX="$work/prefix" >"$work/log"
 lib=$work/prefix/lib include=$work/prefix/include
@@ -50,13 +51,13 @@ export TERMINFO
 compiled=$(find "$work/terminfo" -name "$entry" -type f)
 program=../crates/ticurses/out/ticurses
 
-# draws LIBRARY ROWS COLS SCENE [WORDS BEFORE THE PROGRAM]: no more than $most times, if that is set
+# draws LIBRARY ROWS COLS SCENE [WORDS BEFORE THE PROGRAM]: no more than $most times
 draws() {
     library=$1 rows=$2 cols=$3 scene=$4
     shift 4
     named=$entry
     [ "$library" != session ] || named=$compiled
-    "$@" "$work/$library" "$named" "$rows" "$cols" "$scene" "$work/$library.out" ${most:+"$most"}
+    "$@" "$work/$library" "$named" "$rows" "$cols" "$scene" "$work/$library.out" "$most"
 }
 
 # timed ROWS COLS SCENE: a line for each run, with its nanoseconds and bytes
