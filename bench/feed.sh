@@ -5,9 +5,9 @@
 # megabytes a second of processor time over the whole run of each program, the best of five, in turn. A ratio is the
 # peer's time to that of ticurses. All read the file and print the screen, and libvterm's screen must be that of
 # ticurses. At 200 by 500 libvterm and libtsm, which move every cell to scroll, get one of the 16 MiB. libvte needs a
-# display (xvfb-run -a sh bench/feed.sh); the time that GTK takes to start doesn't count. At 24 by 80 a second line has
-# the instructions for each byte of 64 KiB and their ratios, by valgrind's callgrind, which doesn't depend on the
-# machine's load; libvte isn't among them.
+# display (xvfb-run -a sh bench/feed.sh); the time that GTK takes to start doesn't count. A second line has the
+# instructions for each byte of 64 KiB (at 200 by 500 of 256 KiB) and their ratios, by valgrind's callgrind, which
+# doesn't depend on the machine's load; libvte isn't among them, nor libvterm at 200 by 500.
 # feed.sh KIND..: only these kinds. The script says which peers it can't build, and leaves them out.
 set -eu
 cd -- "$(dirname -- "$0")"
@@ -106,11 +106,11 @@ timed() {
 # counted ROWS COLS: a line for each peer, with its instructions for each byte
 counted() {
     for peer in $peers; do
-        [ "$peer" != libvte ] || continue
+        case $peer-$1 in libvte-* | libvterm-200) continue ;; esac
         few=$(instructions $(words "$peer") "$1" "$2" one)
         many=$(instructions $(words "$peer") "$1" "$2" little)
-        echo "$peer $few $many"
-    done | awk '{ printf "%s %.1f\n", $1, ($3 - $2) / 65535 }'
+        echo "$peer $few $many $(wc -c <little)"
+    done | awk '{ printf "%s %.1f\n", $1, ($3 - $2) / ($4 - 1) }'
 }
 
 # same KIND ROWS COLS: libvterm's screen is that of ticurses
@@ -128,7 +128,7 @@ same() {
 # measure KIND ROWS COLS
 measure() {
     awk -v kind="$1" -v rows="$2" -v cols="$3" -v bytes=1048576 -f "$here/stream.awk" >part
-    head -c 65536 part >little
+    head -c $(($2 < 200 ? 65536 : 262144)) part >little
     for _ in 1 2 3 4 5 6 7 8 9 10 11 12 13 14 15 16; do cat part; done >stream
     same "$@"
     for _ in 1 2 3 4 5; do timed "$2" "$3"; done | awk -v what="$(printf '%-10s %3d by %-4d' "$@")" '
@@ -143,7 +143,7 @@ measure() {
                 printf ", %s %5.1f MB/s, ratio %.2f", order[at], best[order[at]], best["ticurses"] / best[order[at]]
             printf "\n"
         }'
-    [ "$2" = 24 ] && can_count || return 0
+    can_count || return 0
     counted "$2" "$3" | awk -v what="$(printf '%-10s %3d by %-4d' "$@")" '
         NR == 1 { ours = $2; printf "%s ticurses %s instructions a byte", what, $2 }
         NR > 1 { printf ", %s %s, ratio %.2f", $1, $2, $2 / ours }
