@@ -80,6 +80,12 @@ def beside(names, row, first):
     return [(names[at], figure(row[at + 1])) for at in range(first, len(names), 2)]
 
 
+def ratios(names, row, first, at):
+    """The bars of a row whose cells have, from a column on, several ratios of a peer; `at` is the place of the one."""
+    cells = [(name, cell.split(" / ")[at]) for name, cell in zip(names[first:], row[first:], strict=True)]
+    return [(name, figure(cell)) for name, cell in cells if cell != "-"]
+
+
 def feeding(tables):
     names, *rows = tables[0]
     return [(f"{row[0]}, {row[1]}", beside(names, row, 3)) for row in rows if "instructions" not in row[1]]
@@ -109,13 +115,9 @@ def sending(tables):
 
 
 def program(tables):
-    sizes = [it for it in tables[0][0][1:] if it and it != "ratio"]
+    names, *rows = tables[0]
     return [
-        (
-            row[0].split(":")[0],
-            [(size, figure(row[2 + 3 * at]) / figure(row[1 + 3 * at])) for at, size in enumerate(sizes)],
-        )
-        for row in tables[0][2:]
+        (row[0], ratios(names, row, 3, 1)) for row in rows if row[1] == "24 by 80" and row[0] not in ("lines", "open")
     ]
 
 
@@ -171,7 +173,7 @@ CHARTS = [
     ),
     ("verifying", "Verifying a certificate", "the time of sha256sum to that of ticurses verify", verifying),
     ("sending", "What a refresh sends", "the bytes of ncurses to those of ticurses, at 24 by 80", sending),
-    ("program", "A C program", "the time of ncurses to that of ticurses", program),
+    ("program", "A C program", "the instructions of another library to those of ticurses, at 24 by 80", program),
     ("playing", "Playing a script", "the time of ncurses to that of ticurses", playing),
 ]
 
