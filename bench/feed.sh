@@ -6,8 +6,9 @@
 # peer's time to that of ticurses. All read the file and print the screen, and libvterm's screen must be that of
 # ticurses. At 200 by 500 libvterm and libtsm, which move every cell to scroll, get one of the 16 MiB. libvte needs a
 # display (xvfb-run -a sh bench/feed.sh); the time that GTK takes to start doesn't count. A second line has the
-# instructions for each byte of 64 KiB (at 200 by 500 of 256 KiB) and their ratios, by valgrind's callgrind, which
-# doesn't depend on the machine's load; libvte isn't among them, nor libvterm at 200 by 500.
+# instructions for a byte and their ratios, by valgrind's callgrind, which doesn't depend on the machine's load: what the
+# bytes after the first 64 KiB (at 200 by 500 after the first MiB) add, up to four times (twice) as many. So starting and
+# printing the screen don't count. libvte isn't among them, nor libvterm at 200 by 500.
 # feed.sh KIND..: only these kinds. The script says which peers it can't build, and leaves them out.
 set -eu
 cd -- "$(dirname -- "$0")"
@@ -107,10 +108,10 @@ timed() {
 counted() {
     for peer in $peers; do
         case $peer-$1 in libvte-* | libvterm-200) continue ;; esac
-        few=$(instructions $(words "$peer") "$1" "$2" one)
-        many=$(instructions $(words "$peer") "$1" "$2" little)
-        echo "$peer $few $many $(wc -c <little)"
-    done | awk '{ printf "%s %.1f\n", $1, ($3 - $2) / ($4 - 1) }'
+        few=$(instructions $(words "$peer") "$1" "$2" little)
+        many=$(instructions $(words "$peer") "$1" "$2" more)
+        echo "$peer $few $many $(($(wc -c <more) - $(wc -c <little)))"
+    done | awk '{ printf "%s %.1f\n", $1, ($3 - $2) / $4 }'
 }
 
 # same KIND ROWS COLS: libvterm's screen is that of ticurses
@@ -128,8 +129,9 @@ same() {
 # measure KIND ROWS COLS
 measure() {
     awk -v kind="$1" -v rows="$2" -v cols="$3" -v bytes=1048576 -f "$here/stream.awk" >part
-    head -c $(($2 < 200 ? 65536 : 262144)) part >little
     for _ in 1 2 3 4 5 6 7 8 9 10 11 12 13 14 15 16; do cat part; done >stream
+    head -c $(($2 < 200 ? 65536 : 1048576)) stream >little
+    head -c $(($2 < 200 ? 262144 : 2097152)) stream >more
     same "$@"
     for _ in 1 2 3 4 5; do timed "$2" "$3"; done | awk -v what="$(printf '%-10s %3d by %-4d' "$@")" '
         {
