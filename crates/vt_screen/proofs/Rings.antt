@@ -1,5 +1,5 @@
 -- Lines in a ring: what happens to one of them, and to all when they move up by one.
-use Rattle.std.proofs.Common.{◌≡◌, ◌≢◌, ℕ, ◌+◌, ◌-◌, ◌<◌, ◌≤◌, ◌&&◌, ◌++◌, ◌⊎◌, List, [], take, drop, length, get_or, set, refl, sym, ap, ◌∙◌, inl, inr, arith, if◌then◌else◌, nat_lt, nat_le, replicate, min}
+use Rattle.std.proofs.Common.{◌≡◌, ℕ, ◌+◌, ◌-◌, ◌<◌, ◌≤◌, ◌&&◌, ◌⊎◌, List, [], take, drop, length, set, refl, sym, ap, ◌∙◌, inl, inr, arith, if◌then◌else◌, nat_lt, nat_le, replicate}
 use Rattle.std.proofs.lemmas.Bool.{cases_eq, cases_lt}
 use Rattle.std.proofs.lemmas.Bool.Decides.{nat_tests}
 use Rattle.std.proofs.lemmas.List.{ext_get_or, get_or-set_same, get_or-set_other, length-set, get_or_past, get_or_append_left, get_or-append_right, get_or-drop, get_or-take, length-append, length-drop, length-take-le, append-nil}
@@ -136,12 +136,6 @@ rotated_up-next {A} s n b x g e h whole even =
 
 pub shown_within : {A : Type 0} (s r : ℕ) (g v : List (List A)) → rotated_up s g ≡ v → s < length g → r < length v → r < length g
 shown_within s r g v e h k = omega (arith, h, k, ap length e, length-rotated_up s g (omega (arith, h)))
-
-pub at_within : {A : Type 0} (s r at : ℕ) (g v : List (List A)) → rotated_up s g ≡ v → s < length g → r < length v → at ≡ ring_place s (length g) r → at < length g
-at_within s r at g v e h k p = rw (p) (ring_place_within s (length g) r h (shown_within s r g v e h k))
-
-pub line_there : {A : Type 0} (s r at : ℕ) (g v : List (List A)) → rotated_up s g ≡ v → s < length g → r < length v → at ≡ ring_place s (length g) r → line_at g at ≡ line_at v r
-line_there {A} s r at g v e h k p = ap (line_at g) p ∙ sym (line_at-rotated_up s (length g) r g refl h (shown_within s r g v e h k)) ∙ ap (λ (x : List (List A)). line_at x r) e
 
 pub changed_there : {A : Type 0} (s r at : ℕ) (f : List A → ℕ → A → A) (g v : List (List A)) → rotated_up s g ≡ v → s < length g → r < length v → at ≡ ring_place s (length g) r →
     rotated_up s (line_changed at (f (line_at g at)) g) ≡ line_changed r (f (line_at v r)) v

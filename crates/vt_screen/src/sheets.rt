@@ -4,6 +4,7 @@ ghost use Rattle.std.specs.Prelude.{◌≡◌, ◌<◌, ◌≤◌, ◌+◌, ◌+
 ghost use Rattle.vt_screen.specs.Grid.{line_at, look_at, put, uniform, scrolled_up, scrolled_down, written};
 ghost use Rattle.vt_screen.specs.Grid.{part_filled, cells_inserted, cells_deleted, line_changed, lines_filled};
 ghost use Rattle.vt_screen.specs.Grid.{HasEvenLines};
+ghost use Rattle.grids.specs.Grids.{rotated_up};
 ghost use Rattle.vt_screen.specs.Sheets.{ring_place, ring_next};
 
 use crate::cells::Cell;
@@ -190,8 +191,10 @@ impl Sheet {
 /// The place of the line of a row in the grid, if its first line is at `start`.
 fn place_of(grid: &Grid<Cell>, start: usize, row: usize) -> usize
     requires start { start < length grid.now }
-    requires row { row < length grid.now }
-    ensures { result ≡ ring_place start (length grid.now) row }
+    requires row { row < length (rotated_up start grid.now) }
+    ensures place { result ≡ ring_place start (length grid.now) row }
+    ensures within { result < length grid.now }
+    ensures line { line_at grid.now result ≡ line_at (rotated_up start grid.now) row }
 {
     let rest = grid.lines().len() - start;
     if row < rest { start + row } else { row - rest }

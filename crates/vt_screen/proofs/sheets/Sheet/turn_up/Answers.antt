@@ -1,4 +1,4 @@
-use Rattle.std.proofs.Common.{◌≡◌, ◌+◌, ◌<◌, refl, ap, length, arith}
+use Rattle.std.proofs.Common.{◌≡◌, ◌+◌, ap, length, arith}
 use Rattle.vt_screen.proofs.Rings.{length-rotated_up, rotated_up-next, next_within}
 use Rattle.vt_screen.proofs.sheets.Sheet.turn_up.Goals as goal
 
