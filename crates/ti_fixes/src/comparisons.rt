@@ -9,7 +9,7 @@ ghost use Rattle.ti_source.specs.declared.types.Field.TheVariants as fields;
 use ti_caps::{Cap, Value};
 use ti_source::{Field, RawEntry};
 
-fn same_bytes(one: &[u8], other: &[u8]) -> bool
+pub fn same_bytes(one: &[u8], other: &[u8]) -> bool
     ensures { result ≡ true → one.now ≡ other.now }
 {
     one == other
@@ -44,7 +44,7 @@ fn same_field(one: &Field, other: &Field) -> bool
 }
 
 /// Whether the field is about the capability.
-fn is_about(field: &Field, cap: Cap) -> bool
+pub fn is_about(field: &Field, cap: Cap) -> bool
     ensures { result ≡ is_about cap field.now }
 {
     match field {
@@ -67,7 +67,7 @@ fn gives(field: &Field, cap: Cap, string: &[u8]) -> bool
 }
 
 /// Whether these are the same fields.
-fn same_fields(old: &[Field], new: &[Field]) -> bool
+pub fn same_fields(old: &[Field], new: &[Field]) -> bool
     ensures { result ≡ true → old.now ≡ new.now }
 {
     let mut rest = new;

@@ -24,7 +24,7 @@ pub struct Fixed {
 }
 
 /// The entries of a text; `None` if it can't be read.
-fn entries_of(alloc: Global, text: &[u8]) -> Result<Option<Vec<RawEntry>>, AllocError>
+pub fn entries_of(alloc: Global, text: &[u8]) -> Result<Option<Vec<RawEntry>>, AllocError>
     ensures reads { IfOk result (λ found. IfSome found (λ raws. source_of text.now ≡ Ok raws.items)) }
     ensures fit { IfOk result (λ found. IfSome found (λ raws. AllByRecursion IsRaw raws.items)) }
 {

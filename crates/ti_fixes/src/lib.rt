@@ -1,9 +1,13 @@
-//! Giving a field of a source text another string, and nothing else of the text.
+//! Giving fields of a source text other strings, and nothing else of the text.
 #![tactic(auto)]
 
+mod changes;
 mod comparisons;
+mod cuts;
+mod differences;
 mod fixes;
 mod places;
 mod texts;
 
+pub use changes::{Change, ChangeFault, give_all};
 pub use fixes::{Fixed, give};

@@ -175,6 +175,19 @@ fn next_line(raws: &[RawEntry], place: usize) -> u32 {
     }
 }
 
+/// The piece of the text that is the first of the entry's fields about `cap`, or the empty piece behind the last one if
+/// there is none. `pieces` are those of the entry before commas.
+fn piece_about(text: &[u8], pieces: &[Piece], cap: Cap) -> Option<Piece> {
+    let fields: &[Piece] = match pieces {
+        [] => &[],
+        [_names, fields @ ..] => fields,
+    };
+    match named_piece(text, fields, name(cap)) {
+        Some(piece) => Some(piece),
+        None => behind(pieces),
+    }
+}
+
 /// The piece of the text that is the field of the entry at `place` about `cap`, or the empty piece behind the entry's
 /// last field if it has none.
 pub fn find_piece(
@@ -189,12 +202,11 @@ pub fn find_piece(
         None => return Ok(None),
     };
     let pieces = pieces_of(alloc, text, first, next_line(raws, place))?;
-    let fields: &[Piece] = match pieces.as_slice() {
-        [] => &[],
-        [_names, fields @ ..] => fields,
-    };
-    match named_piece(text, fields, name(cap)) {
-        Some(piece) => Ok(Some(piece)),
-        None => Ok(behind(pieces.as_slice())),
-    }
+    Ok(piece_about(text, pieces.as_slice(), cap))
+}
+
+/// The piece of a text of one entry that is its field about `cap`, or the empty piece behind its last field.
+pub fn find_own_piece(alloc: Global, text: &[u8], cap: Cap) -> Result<Option<Piece>, AllocError> {
+    let pieces = pieces_of(alloc, text, 1, u32::MAX)?;
+    Ok(piece_about(text, pieces.as_slice(), cap))
 }

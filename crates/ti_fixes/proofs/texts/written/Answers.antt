@@ -1,4 +1,4 @@
-use Rattle.std.proofs.Common.{◌∙◌, ◌++◌, List, ℕ, ap, take, drop, length}
+use Rattle.std.proofs.Common.{◌∙◌, ◌++◌, List, ℕ, ap, take}
 use Rattle.std.proofs.lemmas.List.{take-append-drop}
 use Rattle.ti_fixes.proofs.Written.{parts_of}
 use Rattle.ti_fixes.proofs.texts.written.Goals as goal
