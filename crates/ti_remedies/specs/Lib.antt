@@ -1,0 +1,5 @@
+pub mod Among
+pub mod Parts
+pub mod Standings
+pub mod Remedies
+pub mod Treated
