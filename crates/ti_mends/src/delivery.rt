@@ -24,7 +24,7 @@ fn ending(alloc: Global, nos: &[No]) -> Option<Failure>
 }
 
 /// Stores `text` at `path`, or returns the failure.
-fn store_text<F: Files>(
+pub fn store_text<F: Files>(
     alloc: Global,
     files: &mut F,
     path: &str,

@@ -15,7 +15,7 @@ use ti_words::push_shown;
 
 /// The names of the entry at `place`; none behind all entries.
 #[tactic(auto, unfolding(ti_resolve::specs::Uses::names_at))]
-fn names_at(raws: &[RawEntry], place: usize) -> &[u8]
+pub fn names_at(raws: &[RawEntry], place: usize) -> &[u8]
     ensures { result.now ≡ names_at raws.now place }
 {
     match raws.get(place) {

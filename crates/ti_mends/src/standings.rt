@@ -15,7 +15,10 @@ use ti_source::RawEntry;
 use vt_term::Size;
 
 /// Whether the entry has no fault.
-fn is_faultless(alloc: Global, entry: &Entry, size: Size) -> Result<bool, AllocError>
+///
+/// # Errors
+/// Out of memory.
+pub fn is_faultless(alloc: Global, entry: &Entry, size: Size) -> Result<bool, AllocError>
     ensures { IfOk result (spec.IsFaultless entry.now size.rows size.cols) }
 {
     let nos = faults(alloc, entry, size)?;

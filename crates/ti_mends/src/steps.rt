@@ -104,7 +104,10 @@ fn step(
     }
 }
 
-/// The capabilities whose suggestions are listed with the faults `nos`.
+/// The capabilities whose suggestions are listed with the faults `nos`, in their order.
+///
+/// # Errors
+/// Out of memory.
 pub fn all_listed(alloc: Global, nos: &[No]) -> Result<Vec<Cap>, AllocError>
     ensures { IfOk result (λ caps. caps.items ≡ spec.all_listed nos.now) }
 {
