@@ -20,6 +20,7 @@ PARTS = [
             "ti_objects",
             "ti_reports",
             "ti_surveys",
+            "ti_repairs",
             "ti_mends",
             "ti_wrapped",
             "ti_verdicts",

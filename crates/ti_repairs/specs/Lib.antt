@@ -1,0 +1,3 @@
+pub mod Advices
+pub mod Notes
+pub mod Repairs

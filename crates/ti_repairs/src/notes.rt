@@ -1,0 +1,80 @@
+//! The lines about suggestions that are left.
+
+ghost use Rattle.std.specs.Prelude.{◌≡◌, ◌++◌, IfOk, OnOk};
+ghost use Rattle.ti_repairs.specs.Notes as spec;
+
+use std::alloc::{AllocError, Global};
+use ti_caps::name;
+use ti_mends::names_at;
+use ti_remedies::{Reason, Remedy, Treated};
+use ti_source::RawEntry;
+use ti_verdicts::first_name;
+use ti_words::push_shown;
+
+/// The first name of the entry at `place`; empty behind all entries.
+pub fn own_name(raws: &[RawEntry], place: usize) -> &[u8]
+    ensures { result.now ≡ spec.own_name raws.now place }
+{
+    first_name(names_at(raws, place))
+}
+
+/// Appends why a suggestion is left.
+fn push_reason(lines: &mut Vec<u8>, raws: &[RawEntry], reason: Reason) -> Result<(), AllocError>
+    ensures { OnOk result (lines.new.items ≡ lines.old.items ++ spec.reason_text raws.now reason) }
+{
+    match reason {
+        Reason::Unplaced => lines.extend_from_slice(b"no place for its field was found"),
+        Reason::Rival(root) => {
+            push_shown(lines, own_name(raws, root))?;
+            lines.extend_from_slice(b" wants another string")
+        }
+        Reason::Lost(place) => {
+            push_shown(lines, own_name(raws, place))?;
+            lines.extend_from_slice(b" would lose its yes")
+        }
+    }
+}
+
+/// Appends the line of a suggestion that is left.
+fn push_line(
+    lines: &mut Vec<u8>,
+    raws: &[RawEntry],
+    remedy: &Remedy,
+    reason: Reason,
+) -> Result<(), AllocError>
+    ensures { OnOk result (lines.new.items ≡ lines.old.items ++ spec.reason_line raws.now remedy.now reason) }
+{
+    lines.extend_from_slice(b"kept ")?;
+    lines.extend_from_slice(name(remedy.change.cap))?;
+    lines.extend_from_slice(b" of ")?;
+    push_shown(lines, own_name(raws, remedy.root))?;
+    lines.extend_from_slice(b": ")?;
+    push_reason(lines, raws, reason)?;
+    lines.push(b'\n')?;
+    Ok(())
+}
+
+/// Appends the line of a suggestion, if it is left.
+fn push_kept(lines: &mut Vec<u8>, raws: &[RawEntry], one: &Treated) -> Result<(), AllocError>
+    ensures { OnOk result (lines.new.items ≡ lines.old.items ++ spec.kept_line raws.now one.now.remedy one.now.kept) }
+{
+    match one.kept {
+        None => Ok(()),
+        Some(reason) => push_line(lines, raws, &one.remedy, reason),
+    }
+}
+
+/// A line for each suggestion that is left.
+pub fn kept_lines(
+    alloc: Global,
+    raws: &[RawEntry],
+    treated: &[Treated],
+) -> Result<Vec<u8>, AllocError>
+    ensures { IfOk result (λ lines. lines.items ≡ spec.kept_lines raws.now treated.now) }
+{
+    let mut lines = Vec::new(alloc);
+    for one in treated {
+        push_kept(&mut lines, raws, one)?;
+    }
+    Ok(lines)
+}
