@@ -1,4 +1,4 @@
-"""Suggestions taken in the source text by `check --fix`."""
+"""Suggestions taken in the source text by `check --fix` and `survey --fix`."""
 
 import re
 import shutil
@@ -7,13 +7,20 @@ import sys
 import tempfile
 from pathlib import Path
 
-from faults import COLS, ROWS, named
+from faults import COLS, RIGHT, ROWS, WRONG, named
 from trying import PROGRAM, Case, run_cases
 
 SIZE = [str(ROWS), str(COLS)]
 SUGGESTED = re.compile(r"  (\w+=.+) would be right on T")
 FIELD = re.compile(r"\t(\w+)[=@]")
+# a character of a string, as it is written in a source
+WRITTEN = re.compile(r"\\[0-7]{3}|\\.|\^.|.")
+ESCAPES = {r"\E": "\x1b", r"\b": "\b", r"\n": "\n", r"\r": "\r"}
+# another string that the standards have for a capability
+ALSO = {"cud1": r"\n"}
 ENTRIES = 200
+# so many of them in one text for `survey --fix`
+TOGETHER = 40
 
 
 def fail(text):
@@ -104,6 +111,99 @@ def judge_kept():
     print("fixes: a field stays as it is where an entry would lose its yes, and is named")
 
 
+# `smacs` of `base` isn't right in `one`, which makes G1 graphic, nor in `two`, which designates: each wants its own
+RIVALS = rb"""base|what both use, clear=\E[H\E[2J, cup=\E[%i%p1%d;%p2%dH, sgr0=\E[m, acsc=qqxx, smacs=\E[11m,
+one|graphic in G1, enacs=\E)0, rmacs=^O, use=base,
+two|graphic in G0, rmacs=\E(B, el=\E[1K, use=base,
+"""
+
+
+def all_mended():
+    """The text with what is wanted for each of its entries."""
+    text = TEXT
+    for old, new in {pair for pairs in WANTED.values() for pair in pairs}:
+        text = text.replace(old, new)
+    return text
+
+
+def characters(string):
+    """The characters of a string as it is written in a source, in whatever way each is written."""
+    found = WRITTEN.findall(string)
+    codes = {it: chr(int(it[1:], 8)) for it in found if it[1:].isdigit()}
+    control = {it: chr(ord(it[1]) - 64) for it in found if it[0] == "^"}
+    return [{**ESCAPES, **codes, **control}.get(it, it) for it in found]
+
+
+def planted():
+    """The faulty fields, and the lines of a text: an entry for each of them, with all other fields right, and two entries
+    that use the first one. Each field is on a line of its own."""
+    bad = [field for field, _, _ in WRONG if "=" in field and named(field) != "acsc"]
+    lines = []
+    for at, field in enumerate(bad):
+        own = {name: f"{name}={string}" for name, string in RIGHT.items()} | {named(field): field}
+        lines += [f"w{at}|with a fault in {named(field)},", *(f"\t{it}," for it in own.values())]
+    lines += ["first|as another one,", "\tuse=w0,", "second|as another one,", "\tuse=w0,"]
+    return bad, lines
+
+
+def judge_together():
+    """Faults of many entries of one text, mended at once, by the standards' strings."""
+    bad, lines = planted()
+    text = "".join(f"{line}\n" for line in lines).encode("latin-1")
+    [told] = run_cases(PROGRAM, [Case(["survey", "--fix", "--fail", *SIZE, "planted"])], {"planted": text})
+    after = told.out.decode("latin-1").split("\n")
+    if (told.status, told.err, len(after)) != (0, b"", len(lines) + 1):
+        fail(f"survey --fix of {len(bad)} entries: {told.status} {told.err}")
+    changed = [(old, new) for old, new in zip(lines, after) if old != new]
+    if [old for old, _ in changed] != [f"\t{field}," for field in bad]:
+        fail(f"survey --fix changed {changed}")
+    for old, new in changed:
+        name = named(old[1:])
+        right = [characters(it) for it in (RIGHT[name], ALSO.get(name, RIGHT[name]))]
+        if not new.startswith(f"\t{name}=") or characters(new[len(name) + 2 : -1]) not in right:
+            fail(f"survey --fix wrote {new} for {old}")
+    print(f"fixes: survey --fix mends {len(bad)} entries of one text by the standards' strings")
+
+
+def judge_survey():
+    """All entries of a text at once."""
+    data = {"text": TEXT, "both": BOTH, "rivals": RIVALS}
+    refused = (["--all", "text"], ["--json", "text"], ["--sarif", "text"], ["text", "both"], ["--with", "both", "text"])
+    refused += (["text", "--out", "-"], ["--json", "--baseline", "both", "text"])
+    ways = (["text"], ["--fail", "text"], ["both"], ["--fail", "rivals"], *refused)
+    told = run_cases(PROGRAM, [Case(["survey", "--fix", *SIZE, *way]) for way in ways], data)
+    loose, strict, both, rivals = told[:4]
+    left = f"left: many {LEFT['many']}"
+    if (loose.status, strict.status) != (0, 1) or {loose.out, strict.out} != {all_mended()}:
+        fail(f"survey --fix: {loose} {strict}")
+    if (loose.err.decode().splitlines(), strict.err.decode().splitlines()) != ([left], [left, "refused: Faulty"]):
+        fail(f"survey --fix named {loose.err} {strict.err}")
+    lines = ["kept smacs of other: right would lose its yes", f"left: other {NO}"]
+    if (both.status, both.out, both.err.decode().splitlines()) != (0, BOTH, lines):
+        fail(f"survey --fix by which an entry would lose its yes: {both}")
+    lines = ["kept smacs of one: two wants another string", "kept smacs of two: one wants another string"]
+    lines += [f"left: one {NO}", f"left: two {NO}", "refused: Faulty"]
+    if (rivals.status, rivals.out, rivals.err.decode().splitlines()) != (1, RIVALS.replace(rb"el=\E[1K", rb"el=\E[K"), lines):
+        fail(f"survey --fix of a field that is to have two strings: {rivals}")
+    if any(it.status != 2 or it.out for it in told[4:]):
+        fail(f"survey --fix beside another form, or of two files: {told[4:]}")
+    judge_refused(data)
+    print("fixes: survey --fix mends all entries of a text at once, and names what it leaves")
+
+
+def judge_refused(data):
+    """A text that can't be read whole, no source, and `--out` without `--fix`."""
+    data = {**data, "torn": TEXT.replace(b"cuf1=\\E[D,", b"cuf1=\\E[D"), "packed": b"\x1a\x01" + bytes(40)}
+    ways = (["--fix", *SIZE, "torn"], ["--fix", *SIZE, "packed"], ["--fix", "1", "6", "text"], ["--fix", *SIZE, "none"])
+    ways += ([*SIZE, "text", "--out", "other"], ["--all", *SIZE, "text", "--out", "other"])
+    told = run_cases(PROGRAM, [Case(["survey", *way]) for way in ways], data)
+    if [(it.status, it.out) for it in told] != [(status, b"") for status in (1, 1, 1, 3, 2, 2)]:
+        fail(f"survey --fix that is refused: {told}")
+    line = TEXT.count(b"\n") + 1
+    if f"refused: line {line}: OpenField" not in told[0].err.decode().splitlines():
+        fail(f"survey --fix of a text that can't be read whole: {told[0]}")
+
+
 def judge_by_hand():
     data = {"shared": SHARED, "text": TEXT}
     told = run_cases(
@@ -185,6 +285,11 @@ def judge_database():
         if one.status != then.status or (one.status == 0) != (then.out == b"yes\n"):
             fail(f"--fix of {names[at]} ended with {one.status}, and check --all with {then.status}")
         right += one.status == 0
+    some = list(zip(faulty, fixed))[:TOGETHER]
+    joined = {"all": b"".join(data[f"s{at}"] for at, _ in some)}
+    [whole] = run_cases(PROGRAM, [Case(["survey", "--fix", *SIZE, "all"])], joined)
+    if (whole.status, whole.out) != (0, b"".join(one.out for _, one in some)) or b"kept" in whole.err:
+        fail(f"survey --fix of {len(some)} entries differs from check --fix of each: {whole.status} {whole.err}")
     print(f"fixes: of {len(faulty)} faulty entries of the database {right} have a certificate after --fix; no other byte changed")
 
 
@@ -209,6 +314,13 @@ def judge_out():
         told = run("text:last", *SIZE, "--out", "text")
         if told.returncode != 3 or path.read_bytes() != mended("last"):
             fail(f"check --out of the source: {told}")
+        path.write_bytes(TEXT)
+        for out in ("other", "text"):
+            told = subprocess.run(
+                [f"{PROGRAM}/out/ticurses", "survey", "--fix", *SIZE, "text", "--out", out], cwd=folder, capture_output=True
+            )
+            if (told.returncode, told.stdout, Path(folder, out).read_bytes()) != (0, b"", all_mended()):
+                fail(f"survey --fix --out {out}: {told}")
         if sorted(it.name for it in Path(folder).iterdir()) != ["other", "text"]:
             fail(f"files are left: {list(Path(folder).iterdir())}")
     print("fixes: the text is stored whole, and over its source only with --fix")
@@ -217,6 +329,8 @@ def judge_out():
 def main():
     judge_planted()
     judge_kept()
+    judge_survey()
+    judge_together()
     judge_by_hand()
     judge_out()
     judge_database()

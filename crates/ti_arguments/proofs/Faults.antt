@@ -26,8 +26,8 @@ unfolding clap_on_literals
 line_has_matches = refl
 
 -- the arguments found for the command that the words choose
-pub asked : {X : Type 0} (a : App) (words : List Text) (rows : Option (Text × List Row)) (found : Asked) → a ≡ line → (is_simple a ≡ true → X × (rows ≡ subcommand_of a words)) → Asks rows found.request → found.joins ≡ has_switch (codes "join") rows → map (λ f. f.now) found.further.items ≡ options_of (codes "with") rows → found.fixes ≡ has_switch (codes "fix") rows → found.sarif ≡ has_switch (codes "sarif") rows → option_map (λ b. b.now) found.baseline ≡ option_of (codes "baseline") rows → AsksWith (subcommand_of line words) found
-asked a words rows found q h asks join further fix sarif baseline = subst (λ (r : Option (Text × List Row)). AsksWith r found) ((h (ap is_simple q ∙ line_has_matches)).1 ∙ ap (λ (b : App). subcommand_of b words) q) (record { asks = asks; join = join; further = further; fix = fix; sarif = sarif; baseline = baseline })
+pub asked : {X : Type 0} (a : App) (words : List Text) (rows : Option (Text × List Row)) (found : Asked) → a ≡ line → (is_simple a ≡ true → X × (rows ≡ subcommand_of a words)) → Asks rows found.request → found.joins ≡ has_switch (codes "join") rows → map (λ f. f.now) found.further.items ≡ options_of (codes "with") rows → found.fixes ≡ has_switch (codes "fix") rows → found.sarif ≡ has_switch (codes "sarif") rows → option_map (λ b. b.now) found.baseline ≡ option_of (codes "baseline") rows → option_map (λ o. o.now) found.out ≡ option_of (codes "out") rows → AsksWith (subcommand_of line words) found
+asked a words rows found q h asks join further fix sarif baseline out = subst (λ (r : Option (Text × List Row)). AsksWith r found) ((h (ap is_simple q ∙ line_has_matches)).1 ∙ ap (λ (b : App). subcommand_of b words) q) (record { asks = asks; join = join; further = further; fix = fix; sarif = sarif; baseline = baseline; out = out })
 
 -- the error is of a kind that the first failing step has
 pub failed : (a : App) (words : List Text) (e : Error) → a ≡ line → (is_simple_and_free a ≡ true → HasKind (fault_of a words) e) → HasKind (fault_of line words) e

@@ -82,10 +82,11 @@ all_read asked =
     paths_read asked.request ++ (further_read asked.request (map (λ f. f.now) asked.further.items)
     ++ earlier_read asked.baseline)
 
--- at most one of the files read is standard input, and the file written isn't
+-- at most one of the files read is standard input, and the file written isn't, nor is the path of `--out`
 pub record TakesInput (asked : Asked) : Type 0 where
   pub once : input_count (all_read asked) ≤ 1
   pub unwritten : writes_input asked.request ≡ false
+  pub out : is_input_path asked.out ≡ false
 
 -- if the answer is a request, it takes standard input as allowed
 abbrev pub AnswersWithInput : ParsedLine → Type 0

@@ -133,7 +133,9 @@ abbrev pub survey_rules : App
 survey_rules =
     with_rule
     (with_size_rules
+    (with_rule (with_fix_rule
     (with_source_rules (with_baseline_rule (with_fail_rule (with_sarif_rule (with_report_rules (new_app (codes "survey"))))))))
+    out_rule))
     (several_rule (codes "FILE"))
 
 -- the program alone: its own name is not among the words, and a command must follow

@@ -1,6 +1,6 @@
 -- The request of a line of words, from the arguments that clap's parser finds in it for the commands of `Line`.
-use Rattle.std.specs.Prelude.{◌≡◌, ◌⊎◌, ◌||◌, Bool, true, false, List, [], ◌∷◌, Option, Some, None, codes, map, option_map}
-use Rattle.std.specs.Prelude.{unwrap_or}
+use Rattle.std.specs.Prelude.{◌≡◌, ◌⊎◌, ◌||◌, Bool, true, false, List, [], ◌∷◌, Option, Some, None, codes, map}
+use Rattle.std.specs.Prelude.{length, option_map, unwrap_or}
 use Rattle.std.specs.Str.{bytes_eq}
 use Rattle.clap.specs.Faults.{fault_of}
 use Rattle.clap.specs.Kinds.{IsAmong}
@@ -62,6 +62,15 @@ Surveys name rows words =
     × (words.rows.now ≡ word_of (codes "ROWS") rows) × (words.cols.now ≡ word_of (codes "COLS") rows)
     × (map (λ f. f.now) words.paths.items ≡ words_of (codes "FILE") rows)
 
+-- one file, and no list of all faults
+abbrev pub AreOfOne : SurveyWords → Type 0
+AreOfOne words = (length words.paths.items ≡ 1) × (words.lists_all ≡ false)
+
+-- a mended text is that of one file, with no file of `--with`; only such a text goes to a file
+abbrev pub MayFix : Bool → Option Text → Option Text → SurveyWords → Type 0
+MayFix true further out words = (further ≡ None) × AreOfOne words
+MayFix false further out words = out ≡ None
+
 -- which of the switches of `feed` are on
 abbrev pub Forms : List Row → Bool → Bool → Bool → Type 0
 Forms rows state json cases =
@@ -114,7 +123,10 @@ AsksFor name rows (Play words) = (name ≡ codes "play") × Plays rows words
 AsksFor name rows (Show words) = (name ≡ codes "show") × Plays rows words
 AsksFor name rows (Survey words) =
     (reports_of rows ≡ false) × (first_of (codes "baseline") rows ≡ None) × Surveys name rows words
-AsksFor name rows (SurveyJson words) = (reports_of rows ≡ true) × Surveys name rows words
+    × MayFix (is_on (codes "fix") rows) (first_of (codes "with") rows) (first_of (codes "out") rows) words
+AsksFor name rows (SurveyJson words) =
+    (reports_of rows ≡ true) × Surveys name rows words
+    × (is_on (codes "fix") rows ≡ false) × (first_of (codes "out") rows ≡ None)
 AsksFor name rows (Print entry) = IsInfocmp name rows false false (entry.now ∷ [])
 AsksFor name rows (Common first second) = IsInfocmp name rows true false (first.now ∷ second.now ∷ [])
 AsksFor name rows (Neither first second) = IsInfocmp name rows false true (first.now ∷ second.now ∷ [])
@@ -139,8 +151,8 @@ abbrev pub options_of : Text → Option (Text × List Row) → List Text
 options_of id None = []
 options_of id (Some chosen) = words_of id chosen.1
 
--- the request; whether fields of a source may continue on further lines, the further files, whether the source's text is
--- to be mended, whether the report is one of SARIF, and the earlier report
+-- the request; whether fields of a source may continue on further lines, the further files, whether the source's text
+-- is to be mended, whether the report is one of SARIF, the earlier report, and the path of what is written
 pub record AsksWith (chosen : Option (Text × List Row)) (asked : Asked) : Type 0 where
   pub asks : Asks chosen asked.request
   pub join : asked.joins ≡ has_switch (codes "join") chosen
@@ -148,6 +160,7 @@ pub record AsksWith (chosen : Option (Text × List Row)) (asked : Asked) : Type 
   pub fix : asked.fixes ≡ has_switch (codes "fix") chosen
   pub sarif : asked.sarif ≡ has_switch (codes "sarif") chosen
   pub baseline : option_map (λ b. b.now) asked.baseline ≡ option_of (codes "baseline") chosen
+  pub out : option_map (λ o. o.now) asked.out ≡ option_of (codes "out") chosen
 
 -- the request or the text that the words ask for
 abbrev pub IsAnswer : List Text → ParsedLine → Type 0

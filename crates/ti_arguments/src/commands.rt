@@ -307,7 +307,7 @@ fn with_fix<'a>(alloc: Global, command: Command<'a>) -> Result<Command<'a>, Allo
     command.arg(long_switch(
         alloc,
         "fix",
-        "Write the source text with the suggested strings in it, and no certificate",
+        "Write the source text with the suggested strings in it, and nothing else",
     ))
 }
 
@@ -401,11 +401,22 @@ fn survey_command<'a>(alloc: Global) -> Result<Command<'a>, AllocError>
         .about(help::SURVEY)
         .after_help(help::SURVEY_MORE);
     let command = with_survey_switches(alloc, command)?;
+    let command = with_text(alloc, command)?;
     with_size(alloc, command)?.arg(several(
         alloc,
         "FILE",
         "A source file, all entries of which are checked, or a compiled file",
     ))
+}
+
+/// `command` with the switch for a mended source, and the option for its file.
+fn with_text<'a>(alloc: Global, command: Command<'a>) -> Result<Command<'a>, AllocError>
+    requires { (out-Command command).has_globals ≡ false }
+    ensures shape { IfOk result (λ c. app_of c ≡ with_rule (with_fix_rule (app_of command.entry)) out_rule) }
+    ensures local { IfOk result (λ c. (out-Command c).has_globals ≡ false) }
+{
+    let command = with_fix(alloc, command)?;
+    command.arg(out_option(alloc, "Write the text of --fix to this file"))
 }
 
 /// `command` with the switch for a survey that fails, and the option for an earlier report.

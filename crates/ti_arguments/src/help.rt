@@ -460,14 +460,24 @@ the output is what is new. With --fail the status is 1 only if a new object is a
 
 With --fail the status is 1 if an answer isn't yes, with the line `refused: Faulty` on standard error. The output is the same.
 
+With --fix the output is the text of the one FILE, a source file, in which each string that --all suggests for one of its
+entries is taken, as `ticurses check --help` describes it for one entry; nothing else of the text is changed. With --out
+it is written to the file named there, whole or not at all, which may be FILE itself. For each of these strings that isn't
+taken standard error has a line `kept CAP of NAME: REASON`: no place for its field was found, another entry wants another
+string in the field, or an entry that has a yes would lose it. The text is judged again: standard error has a line
+`left: NAME no CAP P..: CAUSE` for each fault that is left, and `left: NAME refused: KIND` for an entry that can't be
+resolved. An entry that can't be read refuses the text. With --fail the status is 1 if something is left. FILE stands
+alone: --with is a usage error beside --fix, and `ticurses check --fix` mends an entry with the files that it uses.
+
 A FILE has at most 16777216 bytes. One that can't be read has no line, and the others are checked all the same.
 
 Exit status: 0 done, whatever the answers are without --fail; 1 refused, with a line `refused: BadSize` on standard error,
-or `refused: Faulty` with --fail; 2 usage error; 3 a file could not be read or is too long (`file: PATH` names the first),
-or standard output could not be written; 4 out of memory.
+or `refused: Faulty` with --fail, or `refused: line N: KIND` with --fix; 2 usage error; 3 a file could not be read or is
+too long (`file: PATH` names the first), or a text or standard output could not be written; 4 out of memory.
 
 Example:
   ticurses survey 24 80 my.ti /usr/share/terminfo/*/*
   ticurses survey --all --fail 24 80 my.ti
+  ticurses survey --fix 24 80 my.ti --out mended.ti
   ticurses survey --json 24 80 my.ti
   ticurses survey --sarif --baseline old.json 24 80 my.ti";

@@ -1,8 +1,8 @@
 //! Standard input as a file: the path `-`.
 
 ghost use Rattle.std.specs.Prelude.{◌≡◌, ◌≤◌, ◌+◌, OnOk, map, true};
-ghost use Rattle.ti_arguments.specs.Inputs.{TakesInput, earlier_read, entry_path, further_read, input_count, paths_read};
-ghost use Rattle.ti_arguments.specs.Inputs.{writes_input};
+ghost use Rattle.ti_arguments.specs.Inputs.{TakesInput, earlier_read, entry_path, further_read, input_count};
+ghost use Rattle.ti_arguments.specs.Inputs.{is_input_path, paths_read, writes_input};
 
 use crate::parser::{Asked, UsageFault};
 use std::alloc::Global;
@@ -25,7 +25,7 @@ pub fn judge_input(alloc: Global, asked: &Asked<'_>) -> Result<(), UsageFault>
              For more information, try '--help'.\n",
         )?));
     }
-    if writes(request) {
+    if writes(request) || is_input(asked.out) {
         return Err(UsageFault::Usage(String::from_str(
             alloc,
             "error: '-' is standard input, which can't be written; a file of that name is './-'\n\n\
@@ -118,6 +118,16 @@ fn file_of<'a>(word: &'a str) -> &'a str
     match word.rsplit_once(':') {
         Some((path, _name)) => path,
         None => word,
+    }
+}
+
+/// Whether the path of `--out` is `-`.
+fn is_input(out: Option<&str>) -> bool
+    ensures { result ≡ is_input_path out.entry }
+{
+    match out {
+        Some(path) => path == INPUT,
+        None => false,
     }
 }
 

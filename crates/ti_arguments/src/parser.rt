@@ -1,12 +1,14 @@
 //! The parser of the command line, from words to a request.
 
-ghost use Rattle.std.specs.Prelude.{◌≡◌, IfOk, codes, map, option_map};
+ghost use Rattle.std.specs.Prelude.{◌≡◌, IfOk, IsErr, codes, map, option_map, true};
+ghost use Rattle.std.specs.Bool.{OnTrue};
 ghost use Rattle.std.specs.String.{string_bytes};
 ghost use Rattle.clap.specs.Walk.{first_of, rows_of};
 ghost use Rattle.clap.specs.Words.{found_of, kind_of, subcommand_rows_of};
 ghost use Rattle.ti_arguments.specs.Inputs.{AnswersWithInput};
-ghost use Rattle.ti_arguments.specs.Requests.{Asks, AsksFor, HasForm, IsAnswer, IsTold, Plays, has_switch, is_on};
-ghost use Rattle.ti_arguments.specs.Requests.{lists_of, option_of, options_of, reports_of, word_of, words_of};
+ghost use Rattle.ti_arguments.specs.Requests.{AreOfOne, Asks, AsksFor, HasForm, IsAnswer, IsTold, Plays};
+ghost use Rattle.ti_arguments.specs.Requests.{Surveys, has_switch, is_on, lists_of, option_of, options_of, reports_of};
+ghost use Rattle.ti_arguments.specs.Requests.{word_of, words_of};
 
 use crate::commands::command_line;
 use crate::inputs::judge_input;
@@ -27,12 +29,14 @@ pub struct Asked<'a> {
     pub joins: bool,
     /// The paths behind `--with`, in order: files whose entries those of a source may use.
     pub further: Vec<&'a str>,
-    /// Whether the line has `--fix`: the `check` is to write a mended source text.
+    /// Whether the line has `--fix`: a `check` or a `survey` is to write a mended source text.
     pub fixes: bool,
     /// Whether the line has `--sarif`: the report is to be a file of SARIF.
     pub sarif: bool,
     /// The path of an earlier report, if the line has `--baseline`: only what it doesn't say is to be reported.
     pub baseline: Option<&'a str>,
+    /// The path of what is written, if the line has `--out`.
+    pub out: Option<&'a str>,
 }
 
 /// The answer to a line that can be understood.
@@ -77,6 +81,7 @@ pub fn parse_line<'a>(alloc: Global, words: &'a [String]) -> Result<ParsedLine<'
             let fixes = has_switch(&matches, "fix");
             let sarif = has_switch(&matches, "sarif");
             let baseline = option_word(&matches, "baseline");
+            let out = option_word(&matches, "out");
             let asked = Asked {
                 request,
                 joins,
@@ -84,6 +89,7 @@ pub fn parse_line<'a>(alloc: Global, words: &'a [String]) -> Result<ParsedLine<'
                 fixes,
                 sarif,
                 baseline,
+                out,
             };
             judge_input(alloc, &asked)?;
             Ok(ParsedLine::Request(asked))
@@ -313,26 +319,89 @@ fn scripted<'a>(words: &ArgMatches<'a>) -> ScriptWords<'a>
     }
 }
 
+/// The words of a survey.
 #[tactic(auto, using(crate::proofs::Rows::all_in_rows))]
-fn survey_request<'a>(alloc: Global, words: &ArgMatches<'a>) -> Result<Request<'a>, UsageFault>
-    ensures { IfOk result (λ request. AsksFor (codes "survey") (rows_of (found_of words.now)) request) }
+fn survey_words<'a>(alloc: Global, words: &ArgMatches<'a>) -> Result<SurveyWords<'a>, AllocError>
+    ensures { IfOk result (λ survey. Surveys (codes "survey") (rows_of (found_of words.now)) survey) }
 {
     let paths = words.get_strs("FILE").unwrap_or(&[]);
-    let reports = reports(words);
-    let baseline = first_word(words, "baseline");
-    let words = SurveyWords {
+    Ok(SurveyWords {
         lists_all: lists_all(words),
         is_strict: is_on(words, "fail"),
         rows: word(words, "ROWS"),
         cols: word(words, "COLS"),
         paths: Vec::from_slice(alloc, paths)?,
-    };
-    match (reports, baseline) {
-        (true, _) => Ok(Request::SurveyJson(words)),
-        (false, None) => Ok(Request::Survey(words)),
-        (false, Some(_)) => Err(UsageFault::Usage(String::from_str(alloc, BASELINE_REPORTS)?)),
+    })
+}
+
+/// The request of `survey`: with `--fix` the text of one file is mended.
+fn survey_request<'a>(alloc: Global, words: &ArgMatches<'a>) -> Result<Request<'a>, UsageFault>
+    ensures { IfOk result (λ request. AsksFor (codes "survey") (rows_of (found_of words.now)) request) }
+{
+    let survey = survey_words(alloc, words)?;
+    if is_on(words, "fix") {
+        return fix_request(alloc, words, survey);
+    }
+    match (
+        reports(words),
+        first_word(words, "baseline"),
+        first_word(words, "out"),
+    ) {
+        (true, _, None) => Ok(Request::SurveyJson(survey)),
+        (false, None, None) => Ok(Request::Survey(survey)),
+        (false, Some(_), _) => usage(alloc, BASELINE_REPORTS),
+        (_, _, Some(_)) => usage(alloc, OUT_FIXES),
     }
 }
+
+/// The request of `survey --fix`, whose words for a survey are `survey`.
+fn fix_request<'a>(
+    alloc: Global,
+    words: &ArgMatches<'a>,
+    survey: SurveyWords<'a>,
+) -> Result<Request<'a>, UsageFault>
+    requires fix { is_on (codes "fix") (rows_of (found_of words.now)) ≡ true }
+    requires asks { Surveys (codes "survey") (rows_of (found_of words.now)) survey }
+    ensures { IfOk result (λ request. AsksFor (codes "survey") (rows_of (found_of words.now)) request) }
+{
+    if !is_of_one(&survey) {
+        return usage(alloc, FIX_ONE);
+    }
+    match (
+        reports(words),
+        first_word(words, "baseline"),
+        first_word(words, "with"),
+    ) {
+        (false, None, None) => Ok(Request::Survey(survey)),
+        (_, _, Some(_)) => usage(alloc, FIX_WITH),
+        (true, _, _) | (_, Some(_), _) => usage(alloc, FIX_ONE),
+    }
+}
+
+/// Whether the words are for the mended text of one file.
+fn is_of_one(words: &SurveyWords<'_>) -> bool
+    ensures { OnTrue result (AreOfOne words.now) }
+{
+    words.paths.len() == 1 && !words.lists_all
+}
+
+/// The usage error with this message.
+fn usage<'a>(alloc: Global, message: &str) -> Result<Request<'a>, UsageFault>
+    ensures { IsErr result }
+{
+    Err(UsageFault::Usage(String::from_str(alloc, message)?))
+}
+
+const OUT_FIXES: &str = "error: survey writes a text only with --fix: --out is for --fix\n\n\
+                         For more information, try '--help'.\n";
+
+const FIX_ONE: &str =
+    "error: survey --fix writes the text of one source FILE: --all, --json, --sarif and --baseline \
+                       are not for --fix\n\nFor more information, try '--help'.\n";
+
+const FIX_WITH: &str =
+    "error: survey --fix mends one source FILE that stands alone: --with is not for it; check --fix \
+                        mends an entry with the files that it uses\n\nFor more information, try '--help'.\n";
 
 const BASELINE_REPORTS: &str = "error: --baseline is for --json and --sarif\n\n\
                                 For more information, try '--help'.\n";

@@ -17,6 +17,7 @@ use ti_commands::{
     write_text,
 };
 use ti_mends::fix_entry;
+use ti_repairs::{FixWords, fix_survey};
 use ti_reports::{check_reports, survey_reports};
 use ti_requests::{CheckWords, Request, SurveyWords};
 use ti_source::FaultKind;
@@ -145,6 +146,17 @@ fn survey<F: Files, O: Output, E: Write + IsTerminal>(
     Ok(lines.end(alloc, reply))
 }
 
+/// The words of `survey --fix`: those of a survey of one file, and the path of the text.
+fn fix_words<'a>(words: &SurveyWords<'a>, out: Option<&'a str>) -> FixWords<'a> {
+    FixWords {
+        is_strict: words.is_strict,
+        rows: words.rows,
+        cols: words.cols,
+        path: words.paths.first().copied().unwrap_or(""),
+        out,
+    }
+}
+
 /// The reply of `survey --json` to its `words`. The objects go to `out` as they come.
 fn survey_json<F: Files, O: Output, E: Write + IsTerminal>(
     alloc: Global,
@@ -232,6 +244,9 @@ fn reply_to<F: Files, O: Output, E: Write + IsTerminal>(
             Ok(Reply::of_text(alloc, Vec::new(alloc)))
         }
         Request::Show(words) => show_script(alloc, words, files, remarks),
+        Request::Survey(words) if asked.fixes => {
+            fix_survey(alloc, &fix_words(words, asked.out), files, remarks)
+        }
         Request::Survey(words) => survey(alloc, words, files, out, err, remarks),
         Request::SurveyJson(words) => survey_json(alloc, words, files, out, err, remarks),
         Request::Print { entry } => print_entry(alloc, entry, files, remarks),

@@ -11,5 +11,5 @@ returns-in-Err-clause-answer c =
 
 pub returns-in_ok-judge_input-in-Ok-clause-answer : goal.returns-in_ok-judge_input-in-Ok-clause-answer
 returns-in_ok-judge_input-in-Ok-clause-answer c =
-    asked (app_of c.in_ok-command.command) (map (λ w. string_bytes w) c.args.words.now) (subcommand_rows_of c.in-Ok.matches) (record { request = c.in_ok-request-in-Ok.request; joins = c.has_switch-joins.result; further = c.in_ok-further-in-Ok.further; fixes = c.has_switch-fixes.result; sarif = c.has_switch-sarif.result; baseline = c.option_word-baseline.result })
-    c.in_ok-command.ensures c.in-Ok.ensures.matches c.in_ok-request-in-Ok.ensures c.has_switch-joins.ensures c.in_ok-further-in-Ok.ensures c.has_switch-fixes.ensures c.has_switch-sarif.ensures c.option_word-baseline.ensures
+    asked (app_of c.in_ok-command.command) (map (λ w. string_bytes w) c.args.words.now) (subcommand_rows_of c.in-Ok.matches) (record { request = c.in_ok-request-in-Ok.request; joins = c.has_switch-joins.result; further = c.in_ok-further-in-Ok.further; fixes = c.has_switch-fixes.result; sarif = c.has_switch-sarif.result; baseline = c.option_word-baseline.result; out = c.option_word-out.result })
+    c.in_ok-command.ensures c.in-Ok.ensures.matches c.in_ok-request-in-Ok.ensures c.has_switch-joins.ensures c.in_ok-further-in-Ok.ensures c.has_switch-fixes.ensures c.has_switch-sarif.ensures c.option_word-baseline.ensures c.option_word-out.ensures
