@@ -1,2 +1,3 @@
 pub mod Resolution
+pub mod Columns
 pub mod LinedTexts

@@ -2,11 +2,15 @@
 
 ghost use Rattle.std.specs.Prelude.{◌≡◌, ◌≤◌, ◌+◌, IfOk, length, map, slice_get};
 ghost use Rattle.std.specs.List.{AllByRecursion};
+ghost use Rattle.ti_source.specs.Layout.{lines_of};
 ghost use Rattle.ti_source.specs.Lines.{field_lines_of};
+ghost use Rattle.ti_entries.specs.Columns.{columns_of, line_in, or_empty};
 ghost use Rattle.ti_entries.specs.LinedTexts as spec;
 
+use crate::columns::{Columns, columns_on};
 use std::alloc::{AllocError, Global};
 use std::marker::Model;
+use ti_caps::Cap;
 use ti_resolve::Origin;
 use ti_source::{FieldLine, begins_entry, cut_line, field_lines};
 
@@ -16,17 +20,21 @@ pub struct LinedText<'a> {
     text: &'a [u8],
     /// For each entry the lines of its fields.
     lines: Vec<Vec<usize>>,
+    /// All lines.
+    all: Vec<&'a [u8]>,
 }
 
 impl<'a> Model for LinedText<'a> {
     ghost use Rattle.std.specs.Prelude.{◌≡◌, List, map, ℕ};
     ghost use Rattle.ti_entries.specs.LinedTexts.{numbers_of};
+    ghost use Rattle.ti_source.specs.Layout.{lines_of};
 
     ghost Value = { List ℕ };
 
     ghost view = { λ t. t.text.now };
 
-    ghost invariant = { λ t. map (λ own. own.items) t.lines.items ≡ numbers_of t.text.now };
+    ghost invariant = { λ t. (map (λ own. own.items) t.lines.items ≡ numbers_of t.text.now)
+        × (map (λ line. line.now) t.all.items ≡ lines_of t.text.now) };
 }
 
 impl<'a> LinedText<'a> {
@@ -38,7 +46,8 @@ impl<'a> LinedText<'a> {
         ensures { IfOk result (λ lined. lined ≡ text.now) }
     {
         let lines = numbers_of(alloc, text)?;
-        Ok(LinedText { text, lines })
+        let all = all_lines(alloc, text)?;
+        Ok(LinedText { text, lines, all })
     }
 
     /// The line of the text that has the field at `origin`; 0 if there is no such field.
@@ -50,6 +59,49 @@ impl<'a> LinedText<'a> {
             None => 0,
         }
     }
+
+    /// The columns of the first field about `cap` on the line with this `number`; `None` if there is no such field.
+    #[tactic(auto, unfolding(crate::specs::Columns::columns_of))]
+    pub fn columns(&self, number: usize, cap: Cap) -> Option<Columns>
+        ensures { result ≡ columns_of self.now number cap }
+    {
+        columns_on(line_at(self.all.as_slice(), number), cap)
+    }
+}
+
+/// The line with this `number`, counted from 1; empty if there is no such line.
+#[tactic(auto, using(crate::proofs::NumberedLines::line_numbered))]
+fn line_at<'a>(lines: &[&'a [u8]], number: usize) -> &'a [u8]
+    ensures { result.now ≡ line_in (map (λ line. line.now) lines.now) number }
+{
+    if number == 0 {
+        return &[];
+    }
+    line_or_empty(lines, number - 1)
+}
+
+/// The line at a place of these; empty if there is none.
+fn line_or_empty<'a>(lines: &[&'a [u8]], place: usize) -> &'a [u8]
+    ensures { result.now ≡ or_empty (slice_get (map (λ line. line.now) lines.now) place) }
+{
+    match lines.get(place) {
+        Some(line) => *line,
+        None => &[],
+    }
+}
+
+/// The lines of `text`.
+#[tactic(auto, using(crate::proofs::NumberedLines::one_more, crate::proofs::NumberedLines::all_of))]
+fn all_lines<'a>(alloc: Global, text: &'a [u8]) -> Result<Vec<&'a [u8]>, AllocError>
+    ensures { IfOk result (λ all. map (λ line. line.now) all.items ≡ lines_of text.now) }
+{
+    let mut all = Vec::new(alloc);
+    let mut rest = text;
+    while let Some((line, behind)) = cut_line(rest) {
+        all.push(line)?;
+        rest = behind;
+    }
+    Ok(all)
 }
 
 /// The number at a place of these; 0 if there is none.

@@ -13,7 +13,7 @@ returns-in-Some c =
     let got = sym (ap (λ (xs : List (Vec ℕ Global)). slice_get xs entry) c.deref.ensures.value) ∙ (lent c.deref.result.now entry c.get.result c.get.ensures.lookup ∙ ap (option_map (λ (x : Bor (Vec ℕ Global)). x.now)) c.in-Some.is) in
     c.number_at.ensures
     ∙ (ap (λ (numbers : List ℕ). or_zero (slice_get numbers field)) c.as_slice.ensures.value
-    ∙ (line_kept (λ (own : Vec ℕ Global). own.items) c.self.inside.lines.items c.self.inside.text.now entry field c.in-Some.own.now c.self.invariant got
+    ∙ (line_kept (λ (own : Vec ℕ Global). own.items) c.self.inside.lines.items c.self.inside.text.now entry field c.in-Some.own.now c.self.invariant.0 got
     ∙ ap (λ (text : List ℕ). line_at (field_lines_of text entry) field) c.self.view_is))
 
 pub returns-in-None : goal.returns-in-None
@@ -21,5 +21,5 @@ returns-in-None c =
     let entry = c.args.origin.entry in
     let field = c.args.origin.field in
     let got = sym (ap (λ (xs : List (Vec ℕ Global)). slice_get xs entry) c.deref.ensures.value) ∙ (lent c.deref.result.now entry c.get.result c.get.ensures.lookup ∙ ap (option_map (λ (x : Bor (Vec ℕ Global)). x.now)) c.in-None.is) in
-    no_line_kept (λ (own : Vec ℕ Global). own.items) c.self.inside.lines.items c.self.inside.text.now entry field c.self.invariant got
+    no_line_kept (λ (own : Vec ℕ Global). own.items) c.self.inside.lines.items c.self.inside.text.now entry field c.self.invariant.0 got
     ∙ ap (λ (text : List ℕ). line_at (field_lines_of text entry) field) c.self.view_is

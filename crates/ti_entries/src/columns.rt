@@ -1,0 +1,139 @@
+//! The columns of a field in its line.
+
+ghost use Rattle.std.specs.Prelude.{◌≡◌, ◌≤◌, ◌<◌, ◌+◌, [], length, IfNone, IfSome};
+ghost use Rattle.std.specs.List.{list_all};
+ghost use Rattle.ti_entries.specs.Columns as spec;
+ghost use Rattle.ti_source.specs.Layout.{cut_of, is_white, put_field, skip_white};
+ghost use Rattle.ti_source.specs.Scan.{comma_in};
+
+use ti_caps::{Cap, Opener, name};
+use ti_source::{begins_entry, is_white, skip_white};
+
+/// The columns of a field, in bytes from 1.
+#[derive(Clone, Copy, Debug, PartialEq, Eq)]
+pub struct Columns {
+    /// The column of the field's first byte.
+    pub start: usize,
+    /// The column behind its last byte, which is that of the comma.
+    pub end: usize,
+}
+
+/// The place of the first comma that ends a field.
+#[tactic(auto, unfolding(ti_source::specs::Scan::comma_in))]
+fn field_end(line: &[u8]) -> Option<usize>
+    ensures place { result ≡ comma_in line.now }
+    ensures range { IfSome result (λ at. at < length line.now) }
+{
+    let mut opener = Opener::Nothing;
+    let mut at = 0;
+    for byte in line {
+        if opener.ends_field(*byte) {
+            return Some(at);
+        }
+        opener = opener.after(*byte);
+        at += 1;
+    }
+    None
+}
+
+/// The first field of `line` that a comma ends, and the text after the comma; `None` if there is no such field.
+#[tactic(auto, using(std::proofs::lemmas::List::take_rest, ti_source::proofs::Layouts::field_cut, ti_source::proofs::Layouts::field_whole))]
+fn cut_field(line: &[u8]) -> Option<(&[u8], &[u8])>
+    ensures found { IfSome result (λ x. cut_of line.now ≡ put_field x.0.now (cut_of x.1.now)) }
+    ensures whole { IfSome result (λ x. length x.0.now + length x.1.now + 1 ≡ length line.now) }
+    ensures none { IfNone result (cut_of line.now ≡ record { ended = []; last = line.now }) }
+{
+    match field_end(line) {
+        None => None,
+        Some(at) => Some((&line[..at], &line[at + 1..])),
+    }
+}
+
+/// Whether all bytes are white space.
+fn is_blank(bytes: &[u8]) -> bool
+    ensures { result ≡ list_all is_white bytes.now }
+{
+    bytes.iter().all(|byte| is_white(*byte))
+}
+
+fn is_mark(byte: u8) -> bool
+    ensures { result ≡ spec.is_mark byte }
+{
+    byte == b'@' || byte == b'#' || byte == b'='
+}
+
+/// Whether a field's name may end before `rest`.
+fn ends_name(rest: &[u8]) -> bool
+    ensures { result ≡ spec.ends_name rest.now }
+{
+    match rest {
+        [] => true,
+        [first, ..] => is_mark(*first) || is_blank(rest),
+    }
+}
+
+/// Whether `field` has this `name`.
+#[tactic(auto, unfolding(crate::specs::Columns::is_named))]
+fn is_named(name: &[u8], field: &[u8]) -> bool
+    ensures { result ≡ spec.is_named name.now field.now }
+{
+    match field.strip_prefix(name) {
+        Some(rest) => ends_name(rest),
+        None => false,
+    }
+}
+
+/// The columns of `part`, which a comma ends, without the white space before it, where the line has so many bytes
+/// `before` it.
+#[tactic(auto, using(crate::proofs::FirstColumns::skipped_shorter))]
+fn columns_of_part(before: usize, part: &[u8]) -> Columns
+    requires { before + length part.now + 1 ≤ 18446744073709551615 }
+    ensures { result ≡ spec.columns_of_part before part.now }
+{
+    let white = part.len() - skip_white(part).len();
+    Columns {
+        start: before + white + 1,
+        end: before + part.len() + 1,
+    }
+}
+
+/// The columns of the first field about `cap` of `rest`, the part of a line behind so many bytes `before` it.
+#[tactic(auto, using(crate::proofs::FirstColumns::found, crate::proofs::FirstColumns::passed_over, crate::proofs::FirstColumns::none_left))]
+fn columns_behind(before: usize, rest: &[u8], cap: Cap) -> Option<Columns>
+    requires { before + length rest.now ≤ 18446744073709551615 }
+    ensures { result ≡ spec.first_columns cap before (cut_of rest.now).ended }
+{
+    let mut passed = before;
+    let mut left = rest;
+    while let Some((part, behind)) = cut_field(left) {
+        if is_named(name(cap), skip_white(part)) {
+            return Some(columns_of_part(passed, part));
+        }
+        passed = passed + part.len() + 1;
+        left = behind;
+    }
+    None
+}
+
+/// The columns of the first field about `cap` behind the names on `line`, the first line of an entry.
+#[tactic(auto, using(crate::proofs::FirstColumns::behind_first, crate::proofs::FirstColumns::no_names))]
+fn columns_behind_names(line: &[u8], cap: Cap) -> Option<Columns>
+    ensures { result ≡ spec.behind_names cap (cut_of line.now).ended }
+{
+    match cut_field(line) {
+        None => None,
+        Some((names, behind)) => columns_behind(names.len() + 1, behind, cap),
+    }
+}
+
+/// The columns of the first field about `cap` on `line`, a line of a source text; `None` if it has no such field.
+#[tactic(auto, unfolding(crate::specs::Columns::columns_on))]
+pub(crate) fn columns_on(line: &[u8], cap: Cap) -> Option<Columns>
+    ensures { result ≡ spec.columns_on line.now cap }
+{
+    if begins_entry(line) {
+        columns_behind_names(line, cap)
+    } else {
+        columns_behind(0, line, cap)
+    }
+}
