@@ -1,8 +1,10 @@
--- The files of entries that were put together, and the line of a field in its file.
+-- The files of entries that were put together, and the line and the columns of a field in its file.
 use Rattle.std.specs.Prelude.{ℕ, List, [], ◌∷◌, Option, Some, None, map, slice_get}
 use Rattle.std.specs.String.{string_bytes}
 use Rattle.ti_commands.specs.declared.sources.SourceText.{SourceText}
+use Rattle.ti_entries.specs.Columns.{columns_of}
 use Rattle.ti_entries.specs.LinedTexts.{line_at}
+use Rattle.ti_entries.specs.declared.columns.Columns.{Columns}
 use Rattle.ti_further.specs.Files.{text_in}
 use Rattle.ti_further.specs.Places.{spot_of}
 use Rattle.ti_further.specs.declared.files.FurtherFile.{FurtherFile}
@@ -50,6 +52,19 @@ line_at_spot texts field (Some spot) = line_in (slice_get texts spot.file) (orig
 -- the line of the field at an origin among the entries put together: that of the file that has the entry
 unfoldable pub line_among : PutFiles → Origin → Line
 line_among files origin = line_at_spot files.texts origin.field (spot_of files.counts origin.entry)
+
+-- the columns of the first field about a capability on the line of an origin, in a file by itself
+abbrev pub columns_in : Option FileText → ℕ → Origin → Option Columns
+columns_in None cap origin = None
+columns_in (Some file) cap origin = columns_of file.text (line_of_field file.text origin) cap
+
+abbrev pub columns_at_spot : List FileText → ℕ → ℕ → Option Spot → Option Columns
+columns_at_spot texts cap field None = None
+columns_at_spot texts cap field (Some spot) = columns_in (slice_get texts spot.file) cap (origin_of spot.place field)
+
+-- the columns of the field about a capability at an origin among the entries put together, in the file that has it
+unfoldable pub columns_among : PutFiles → ℕ → Origin → Option Columns
+columns_among files cap origin = columns_at_spot files.texts cap origin.field (spot_of files.counts origin.entry)
 
 -- ---- the files of a source
 

@@ -8,7 +8,7 @@ use crate::spots::{FieldPlace, LinedFiles};
 use std::alloc::{AllocError, Global};
 use ti_caps::Cap;
 use ti_commands::SourceText;
-use ti_entries::place_named;
+use ti_entries::{Columns, place_named};
 use ti_resolve::{Index, Origin, origin_from};
 use ti_source::RawEntry;
 
@@ -29,7 +29,7 @@ pub struct SourcePlace<'a, 'b> {
 impl<'b> SourcePlace<'_, 'b> {
     ghost use Rattle.std.specs.Prelude.{◌≡◌, ◌<◌, IfOk, length};
     ghost use Rattle.ti_resolve.specs.Origins.{IsOriginAt};
-    ghost use Rattle.ti_verdicts.specs.Spots.{files_of, line_among, line_of, put_files};
+    ghost use Rattle.ti_verdicts.specs.Spots.{columns_among, files_of, line_among, line_of, put_files};
 
     /// The field that gives the entry its value of `cap`; `None` if it has none.
     ///
@@ -47,6 +47,13 @@ impl<'b> SourcePlace<'_, 'b> {
         ensures { line_of result ≡ line_among (put_files self.now.files) origin }
     {
         self.files.line(origin)
+    }
+
+    /// The columns of the first field about `cap` on the line that has the field at `origin`.
+    pub fn columns(&self, origin: Origin, cap: Cap) -> Option<Columns>
+        ensures { result ≡ columns_among (put_files self.now.files) cap origin }
+    {
+        self.files.columns(origin, cap)
     }
 }
 
@@ -83,7 +90,7 @@ pub struct NamedSource<'a, 'b> {
 impl<'b> NamedSource<'_, 'b> {
     ghost use Rattle.std.specs.Prelude.{◌≡◌, IfOk};
     ghost use Rattle.ti_resolve.specs.Origins.{IsOrigin};
-    ghost use Rattle.ti_verdicts.specs.Spots.{files_of, line_among, line_of, put_files};
+    ghost use Rattle.ti_verdicts.specs.Spots.{columns_among, files_of, line_among, line_of, put_files};
 
     /// The field that gives the entry its value of `cap`; `None` if it has none.
     ///
@@ -100,6 +107,13 @@ impl<'b> NamedSource<'_, 'b> {
         ensures { line_of result ≡ line_among (files_of self.now.source.now) origin }
     {
         self.files.line(origin)
+    }
+
+    /// The columns of the first field about `cap` on the line that has the field at `origin`.
+    pub fn columns(&self, origin: Origin, cap: Cap) -> Option<Columns>
+        ensures { result ≡ columns_among (files_of self.now.source.now) cap origin }
+    {
+        self.files.columns(origin, cap)
     }
 }
 

@@ -1,11 +1,12 @@
-//! The files of entries that were put together, and the line of a field in its file.
+//! The files of entries that were put together, and the line and the columns of a field in its file.
 
 ghost use Rattle.std.specs.Prelude.{◌≡◌, IfOk, Some, map, slice_get};
 ghost use Rattle.ti_verdicts.specs.Spots as spec;
 
 use std::alloc::{AllocError, Global};
+use ti_caps::Cap;
 use ti_commands::SourceText;
-use ti_entries::LinedText;
+use ti_entries::{Columns, LinedText};
 use ti_further::{FurtherFile, Spot, spot_of};
 use ti_resolve::Origin;
 use ti_source::field_lines;
@@ -39,7 +40,7 @@ pub struct FieldPlace<'b> {
 
 impl<'b> LinedFiles<'_, 'b> {
     ghost use Rattle.std.specs.Prelude.{◌≡◌};
-    ghost use Rattle.ti_verdicts.specs.Spots.{line_among, line_of, put_files};
+    ghost use Rattle.ti_verdicts.specs.Spots.{columns_among, line_among, line_of, put_files};
 
     /// The file and the line that have the field at `origin`, a place among the entries put together.
     #[tactic(auto, unfolding(crate::specs::Spots::line_among))]
@@ -51,6 +52,40 @@ impl<'b> LinedFiles<'_, 'b> {
             None => FieldPlace { path: "", line: 0 },
         }
     }
+
+    /// The columns of the first field about `cap` on the line that has the field at `origin`, a place among the entries put
+    /// together; `None` if no line has that field.
+    #[tactic(auto, unfolding(crate::specs::Spots::columns_among))]
+    pub fn columns(&self, origin: Origin, cap: Cap) -> Option<Columns>
+        ensures { result ≡ columns_among (put_files self.now) cap origin }
+    {
+        match spot_of(self.counts, origin.entry) {
+            Some(spot) => columns_at_spot(self.files, spot, origin.field, cap),
+            None => None,
+        }
+    }
+}
+
+/// The columns of the first field about `cap` on the line of the file at `spot` that has the field at this place of the
+/// entry there.
+fn columns_at_spot(files: &[LinedFile<'_>], spot: Spot, field: usize, cap: Cap) -> Option<Columns>
+    ensures { result ≡ spec.columns_in (slice_get (map spec.file_text files.now) spot.file) cap
+        (spec.origin_of spot.place field) }
+{
+    match files.get(spot.file) {
+        Some(file) => columns_in(file, spot.place, field, cap),
+        None => None,
+    }
+}
+
+/// The columns of the first field about `cap` on the line of `file` that has the field at this place of the entry at
+/// `entry`.
+#[tactic(auto, unfolding(crate::specs::Spots::line_of_field))]
+fn columns_in(file: &LinedFile<'_>, entry: usize, field: usize, cap: Cap) -> Option<Columns>
+    ensures { result ≡ spec.columns_in (Some (spec.file_text file.now)) cap (spec.origin_of entry field) }
+{
+    let line = file.lined.line(Origin { entry, field });
+    file.lined.columns(line, cap)
 }
 
 /// The file at `spot`, and its line that has the field at this place of the entry there.
