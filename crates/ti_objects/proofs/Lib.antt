@@ -1,4 +1,5 @@
 mod Cuts
+mod Fixes
 mod Known
 mod Loops
 mod Orders

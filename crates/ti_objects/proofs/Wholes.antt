@@ -2,9 +2,9 @@
 use Rattle.std.proofs.Common.{◌≡◌, ℕ, List, Option, Some, None, false, refl}
 use Rattle.serde_json.specs.Data.{Data, object}
 use Rattle.serde_json.specs.Written.{has_float, members_have_float}
-use Rattle.ti_objects.specs.Members.{number_in, text_if}
+use Rattle.ti_objects.specs.Members.{number_in}
 use Rattle.ti_objects.specs.Places.{region_by, span_in, with_region}
-use Rattle.ti_objects.specs.Results.{fix_of, result_data, result_members, with_fix}
+use Rattle.ti_objects.specs.Results.{fix_of, result_data, result_members, sole_suggestion, with_fix}
 use Rattle.ti_objects.specs.declared.kinds.Kind.{Kind}
 use Rattle.ti_objects.specs.declared.places.Span.{Span}
 use Rattle.ti_objects.specs.Places.{artifact_data}
@@ -26,4 +26,4 @@ fix_whole kind report None (Some span) = members_whole kind report
 fix_whole kind report None None = members_whole kind report
 
 pub result_whole : (kind : Kind) (report : Data) → has_float (result_data kind report) ≡ false
-result_whole kind report = fix_whole kind report (text_if (codes "suggestion") report) (span_in report)
+result_whole kind report = fix_whole kind report (sole_suggestion report) (span_in report)

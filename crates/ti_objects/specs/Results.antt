@@ -1,10 +1,10 @@
 -- A finding as SARIF has it.
 use Rattle.std.specs.Prelude.{ℕ, List, ◌++◌, Option, Some, None, codes, option_and_then, option_map}
-use Rattle.serde_json.specs.Data.{Data, Members, array, item, member, no_items, no_members, object, put, string}
+use Rattle.serde_json.specs.Data.{Data, Items, Members, array, item, member, no_items, no_members, object, put, string}
 use Rattle.serde_json.specs.Read.{read}
 use Rattle.serde_json.specs.Written.{compact_text}
 use Rattle.ti_objects.specs.Escapes.{printable_json}
-use Rattle.ti_objects.specs.Members.{text_if, text_in}
+use Rattle.ti_objects.specs.Members.{items_in, text_if, text_in}
 use Rattle.ti_objects.specs.Messages.{kind_of, level_of, message_text, statement_key}
 use Rattle.ti_objects.specs.Places.{artifact_data, location_data, span_in, whole_region}
 use Rattle.ti_objects.specs.declared.kinds.Kind.{Kind}
@@ -34,14 +34,23 @@ fix_data report field span = object (
 abbrev pub field_text : List ℕ → List ℕ → List ℕ
 field_text cap value = cap ++ (codes "=" ++ value)
 
--- there is a fix if a string is suggested and the whole field is at a known place
+-- a string that is only right together with others is no fix by itself
+abbrev pub sole : Items → Option (List ℕ) → Option (List ℕ)
+sole no_items suggestion = suggestion
+sole (item first others) suggestion = None
+
+-- the string that is suggested, if it is right alone
+abbrev pub sole_suggestion : Data → Option (List ℕ)
+sole_suggestion report = sole (items_in (codes "suggested_with") report) (text_if (codes "suggestion") report)
+
+-- there is a fix if such a string is suggested and the whole field is at a known place
 abbrev pub fix_of : Data → Option (List ℕ) → Option Span → Option Data
 fix_of report (Some suggestion) (Some span) =
     Some (fix_data report (field_text (text_in (codes "capability") report) suggestion) span)
 fix_of report _ _ = None
 
 abbrev pub fix_in : Data → Option Data
-fix_in report = fix_of report (text_if (codes "suggestion") report) (span_in report)
+fix_in report = fix_of report (sole_suggestion report) (span_in report)
 
 -- ---- the result
 

@@ -10,7 +10,7 @@ ghost use Rattle.ti_objects.specs.Results as spec;
 
 use crate::escapes::printable_json;
 use crate::kinds::{Kind, kind_of, level_of};
-use crate::members::{text_if, text_in};
+use crate::members::{items_in, text_if, text_in};
 use crate::messages::{message_text, statement_key};
 use crate::places::{Span, artifact_value, location_value, span_in, whole_region};
 use serde_json::{Map, Value, json, put};
@@ -79,6 +79,16 @@ fn fix_of(
     }
 }
 
+/// The string that is suggested in `report`, if it is right without others.
+fn sole_suggestion(report: &Value) -> Option<&str>
+    ensures { option_map (λ s. s.now) result ≡ spec.sole_suggestion (view report.now) }
+{
+    match items_in(report, "suggested_with") {
+        [] => text_if(report, "suggestion"),
+        [_, ..] => None,
+    }
+}
+
 /// Puts the fix of `report` into `members`, if there is one.
 fn put_fix(
     alloc: Global,
@@ -88,12 +98,7 @@ fn put_fix(
     ensures { OnOk result (members_view members.new.entries
         ≡ spec.with_fix (spec.fix_in (view report.now)) (members_view members.old.entries)) }
 {
-    let fix = fix_of(
-        alloc,
-        report,
-        text_if(report, "suggestion"),
-        span_in(report),
-    )?;
+    let fix = fix_of(alloc, report, sole_suggestion(report), span_in(report))?;
     match fix {
         Some(fix) => put(members, alloc, "fixes", listed(alloc, fix)?),
         None => Ok(()),
