@@ -17,12 +17,12 @@ from trying import PROGRAM, TOP, Case, run_cases
 TEXT, NUMBER, TRUTH = (str, type(None)), (int, type(None)), (bool, type(None))
 MEMBERS = {
     "aliases": (list,), "aliases_hex": (list,), "another_kind": TRUTH, "bytes": TEXT, "capability": TEXT, "cause": TEXT,
-    "entry": TEXT, "entry_hex": TEXT, "explanation": (list,), "file": (str,), "judged": TRUTH, "line": NUMBER, "parameters": (list,), "part": TRUTH, "rule": TEXT, "seen": TEXT, "size": (dict,),
+    "column": NUMBER, "end_column": NUMBER, "end_line": NUMBER, "entry": TEXT, "entry_hex": TEXT, "explanation": (list,), "file": (str,), "judged": TRUTH, "line": NUMBER, "parameters": (list,), "part": TRUTH, "rule": TEXT, "seen": TEXT, "size": (dict,),
     "source_entry": TEXT, "source_entry_hex": TEXT, "source_file": TEXT, "start": TEXT, "string": TEXT, "string_hex": TEXT, "suggested_with": (list,), "suggestion": TEXT, "suggestion_hex": TEXT, "verdict": (str,),
     "version": (int,), "wanted": TEXT,
 }  # fmt: skip
 OF_FAULTS = [
-    "another_kind", "bytes", "capability", "judged", "line", "seen", "source_entry", "source_entry_hex", "source_file", "start", "string", "string_hex",
+    "another_kind", "bytes", "capability", "column", "end_column", "end_line", "judged", "line", "seen", "source_entry", "source_entry_hex", "source_file", "start", "string", "string_hex",
     "suggestion", "suggestion_hex", "wanted",
 ]  # fmt: skip
 # with these the string may be right
@@ -73,6 +73,7 @@ LOOKS_SEEN = {
 REFUSED_BY_SCHEMA = [
     {"cause": "WrongEffect"},
     {"line": 0},
+    {"column": 5, "end_line": 5, "end_column": 9},
     {"other": None},
     {"verdict": "no"},
     {**ABSENT, "cause": "Unheard", "rule": "Unheard"},
@@ -82,6 +83,8 @@ REFUSED_BY_SCHEMA = [
     {**ABSENT, "suggestion": "\\E[m", "suggestion_hex": "1b5b6d", "another_kind": True},
     {**ABSENT, "judged": False},
     {**ABSENT, "line": 5},
+    {**ABSENT, "line": 5, "source_entry": "a", "source_entry_hex": "61", "column": 5},
+    {**ABSENT, "column": 5, "end_line": 5, "end_column": 9},
     {"verdict": "refused", "part": None, "cause": "NoSuchEntry a", "rule": "Refused", "explanation": ["never"]},
     {"verdict": "advice", "rule": "Advice", "capability": "sgr"},
     {"verdict": "advice", "rule": None, "capability": "sgr", "explanation": ["never"]},
@@ -242,6 +245,23 @@ def judge_part(one):
         fail(f"an entry with one of its strings: {one}")
 
 
+def judge_columns(one, lines):
+    """The columns of an object are those of the field in its file, which has these lines: the field, and the comma."""
+    if one["column"] is None:
+        if one["line"] is not None and one["verdict"] == "no":
+            fail(f"no columns of {one}")
+        return
+    line = lines[one["line"] - 1]
+    field, before = line[one["column"] - 1 : one["end_column"] - 1], line[: one["column"] - 1]
+    name = one["capability"].encode()
+    if one["end_line"] != one["line"] or line[one["end_column"] - 1 : one["end_column"]] != b",":
+        fail(f"a field without its comma: {one}")
+    if not field.startswith(name) or field[len(name) : len(name) + 1] not in (b"=", b"#", b"") or before.strip(b" \t")[-1:] not in (b",", b""):
+        fail(f"another field is at the columns of {one}: {field}")
+    if field[len(name) : len(name) + 1] == b"=" and value_bytes(field[len(name) + 1 :].decode("latin-1")).hex() != one["string_hex"]:
+        fail(f"another string is at the columns of {one}: {field}")
+
+
 def judge_lines(one, lines, path):
     """An object says what the lines below its fault say."""
     for key in ("start", "wanted", "seen"):
@@ -316,6 +336,7 @@ def judge_entries(path, held, names, planted=None):
             fail(f"check --json of {name} reported {one}, and check printed {first.err}")
         for it, (_, lines) in zip(ones, found):
             judge_lines(it, lines, path)
+            judge_columns(it, held.split(b"\n"))
         judge_kind(ones, one[0], every.err)
         judge_planted(ones, planted[name] if planted else [])
         if one[0]["verdict"] == "no":
@@ -374,6 +395,8 @@ def judge_survey(path, held):
             fail(f"survey --json ended with {reported.status} {reported.err} and survey with {plain.status} {plain.err}")
         if any(it["file"] != path for it in ones):
             fail(f"not the file {path}: {ones}")
+        for it in ones:
+            judge_columns(it, held.split(b"\n"))
     return count
 
 

@@ -68,8 +68,17 @@ def judge_result(result, one):
     region = physical.get("region")
     if (region is None) != (one["line"] is None) or region and (region["startLine"] != one["line"] or not set(region) <= REGION):
         fail(f"another place: {physical}, not {one['line']}")
-    if "fixes" in result and one["suggestion"] is None:
-        fail(f"a fix without a suggestion: {result}")
+    whole = {"startLine": "line", "startColumn": "column", "endLine": "end_line", "endColumn": "end_column"}
+    if one["column"] is not None and region != {key: one[name] for key, name in whole.items()}:
+        fail(f"not the whole field: {physical}, not that of {one}")
+    if ("fixes" in result) != (None not in (one["suggestion"], one["column"]) and not one["suggested_with"]):
+        fail(f"a fix without a suggestion, or a suggestion without a fix: {result}")
+    if "fixes" in result:
+        ((change,),) = (fix["artifactChanges"] for fix in result["fixes"])
+        field = f"{one['capability']}={one['suggestion']}"
+        wanted = {"deletedRegion": region, "insertedContent": {"text": field}}
+        if change != {"artifactLocation": physical["artifactLocation"], "replacements": [wanted]}:
+            fail(f"not the string that is suggested: {change}, not {field}")
     if list(result["partialFingerprints"]) != ["ticurses/v1"]:
         fail(f"no print: {result}")
 

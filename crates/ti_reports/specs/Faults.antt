@@ -109,6 +109,7 @@ pub record IsAdvice (finding : Finding) : Type 0 where
   pub parameters : finding.parameters.items ≡ []
   pub bytes : finding.bytes ≡ None
   pub line : finding.place.line ≡ None
+  pub columns : finding.place.columns ≡ None
   pub source_file : finding.place.file ≡ None
   pub source_entry : finding.place.entry ≡ None
   pub string_is : finding.string ≡ None

@@ -1,10 +1,11 @@
--- A report and its JSON: an object that always has the same twenty-nine members, null where one doesn't apply.
+-- A report and its JSON: an object that always has the same thirty-two members, null where one doesn't apply.
 use Rattle.std.specs.Prelude.{◌≡◌, ℕ, Bool, List, [], ◌∷◌, ◌++◌, Option, Some, None, String, codes, map, string_bytes}
 use Rattle.std.specs.declared.alloc.Global.{Global}
 use Rattle.serde_json.specs.Data.{Data, Members, no_members, member, array, boolean, null, number, object, put, string}
 use Rattle.serde_json.specs.Data.{unsigned}
 use Rattle.serde_json.specs.View.{items_of}
 use Rattle.serde_json.specs.Written.{compact_text}
+use Rattle.ti_entries.specs.declared.columns.Columns.{Columns}
 use Rattle.ti_objects.specs.Escapes.{printable_json}
 use Rattle.ti_reports.specs.declared.lines.ValuePlace.{ValuePlace}
 use Rattle.ti_reports.specs.declared.reports.Finding.{Finding}
@@ -38,6 +39,7 @@ pub record IsBare (finding : Finding) : Type 0 where
 pub record IsNothing (finding : Finding) : Type 0 where
   pub bare : IsBare finding
   pub line : finding.place.line ≡ None
+  pub columns : finding.place.columns ≡ None
   pub source_entry : finding.place.entry ≡ None
   pub source_file : finding.place.file ≡ None
 
@@ -50,6 +52,19 @@ text_data None = null
 abbrev pub number_data : Option ℕ → Data
 number_data (Some n) = number (unsigned n)
 number_data None = null
+
+-- the columns of a field and the line on which it ends, which is the one on which it begins
+abbrev pub column_data : Option Columns → Data
+column_data (Some columns) = number (unsigned columns.start)
+column_data None = null
+
+abbrev pub end_column_data : Option Columns → Data
+end_column_data (Some columns) = number (unsigned columns.end)
+end_column_data None = null
+
+abbrev pub end_line_data : Option Columns → Option ℕ → Data
+end_line_data (Some columns) line = number_data line
+end_line_data None line = null
 
 abbrev pub truth_data : Option Bool → Data
 truth_data (Some b) = boolean b
@@ -100,6 +115,9 @@ report_data report = object (
     (member (codes "bytes") (text_data report.finding.bytes)
     (member (codes "capability") (text_data report.finding.capability)
     (member (codes "cause") (text_data report.cause)
+    (member (codes "column") (column_data report.finding.place.columns)
+    (member (codes "end_column") (end_column_data report.finding.place.columns)
+    (member (codes "end_line") (end_line_data report.finding.place.columns report.finding.place.line)
     (member (codes "entry") (written_data report.entry)
     (member (codes "entry_hex") (hex_data report.entry)
     (member (codes "explanation") (texts_data report.finding.explanation.items)
@@ -122,7 +140,7 @@ report_data report = object (
     (member (codes "suggestion_hex") (hex_data report.finding.suggestion)
     (member (codes "verdict") (string (word_of report.verdict))
     (member (codes "version") version
-    (member (codes "wanted") (text_data report.finding.run.wanted) no_members)))))))))))))))))))))))))))))
+    (member (codes "wanted") (text_data report.finding.run.wanted) no_members))))))))))))))))))))))))))))))))
 
 -- the object without a space, in characters that can be printed, and the end of the line
 abbrev pub report_line : Report → List ℕ
@@ -153,12 +171,19 @@ with_value finding ms =
     (put (codes "parameters") (numbers_data finding.parameters.items)
     (put (codes "capability") (text_data finding.capability) ms))
 
+abbrev pub with_columns : ValuePlace → Members → Members
+with_columns place ms =
+    put (codes "end_column") (end_column_data place.columns)
+    (put (codes "end_line") (end_line_data place.columns place.line)
+    (put (codes "column") (column_data place.columns) ms))
+
 abbrev pub with_place : ValuePlace → Members → Members
 with_place place ms =
     put (codes "source_file") (text_data place.file)
     (put (codes "source_entry_hex") (hex_data place.entry)
     (put (codes "source_entry") (written_data place.entry)
-    (put (codes "line") (number_data place.line) ms)))
+    (with_columns place
+    (put (codes "line") (number_data place.line) ms))))
 
 abbrev pub with_strings : Finding → Members → Members
 with_strings finding ms =

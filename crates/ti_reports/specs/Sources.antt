@@ -1,9 +1,11 @@
 -- The place of a value in a source text.
-use Rattle.std.specs.Prelude.{◌≡◌, ◌<◌, ◌==◌, ⊤, ℕ, List, Option, Some, None, if◌then◌else◌, length, option_map}
+use Rattle.std.specs.Prelude.{◌≡◌, ◌<◌, ◌==◌, ⊤, ℕ, Bool, true, false, List, Option, Some, None, if◌then◌else◌}
+use Rattle.std.specs.Prelude.{length, option_map}
 use Rattle.std.specs.String.{string_bytes}
 use Rattle.ti_commands.specs.declared.failure.CommandRefusal.{CommandRefusal}
 use Rattle.ti_commands.specs.declared.failure.CommandRefusal.TheVariants as refusals
 use Rattle.ti_commands.specs.declared.sources.SourceText.{SourceText}
+use Rattle.ti_entries.specs.declared.columns.Columns.{Columns}
 use Rattle.ti_reports.specs.Names.{HasName}
 use Rattle.ti_reports.specs.declared.forms.Written.{Written}
 use Rattle.ti_reports.specs.declared.lines.Standing.{Standing}
@@ -14,23 +16,24 @@ use Rattle.ti_resolve.specs.Uses.{names_at}
 use Rattle.ti_resolve.specs.declared.origins.Origin.{Origin}
 use Rattle.ti_source.specs.declared.types.RawEntry.{RawEntry}
 use Rattle.ti_verdicts.specs.Locations.{PlaceInSource, first_name, place_in}
-use Rattle.ti_verdicts.specs.Spots.{Line, PutFiles, files_of, line_among}
+use Rattle.ti_verdicts.specs.Spots.{Line, PutFiles, columns_among, files_of, line_among}
 
--- the origin of an entry: no source, a source that gives it by its name, or a place of a source
+-- The origin of an entry: no source, a source that gives it by its name, or a place of a source; and whether fields have
+-- columns, which those of files whose lines were joined have not.
 pub data Whereabouts : Type 0 where
   Nowhere : Whereabouts
-  ByName : SourceText → Whereabouts
-  ByPlace : PlaceInSource → Whereabouts
+  ByName : Bool → SourceText → Whereabouts
+  ByPlace : Bool → PlaceInSource → Whereabouts
 
 -- an entry that was asked for by its name; the entry of a compiled file is in no source
-abbrev pub by_name : Option SourceText → Whereabouts
-by_name None = Nowhere
-by_name (Some source) = ByName source
+abbrev pub by_name : Bool → Option SourceText → Whereabouts
+by_name has_columns None = Nowhere
+by_name has_columns (Some source) = ByName has_columns source
 
 -- an entry at its place in a source; the entry of a compiled file is in none
-abbrev pub by_place : Option PlaceInSource → Whereabouts
-by_place None = Nowhere
-by_place (Some stands) = ByPlace stands
+abbrev pub by_place : Bool → Option PlaceInSource → Whereabouts
+by_place has_columns None = Nowhere
+by_place has_columns (Some stands) = ByPlace has_columns stands
 
 -- the first name of the entry that has the field at this origin
 abbrev pub HasHolder : List RawEntry → Option Origin → Option Written → Type 0
@@ -53,37 +56,52 @@ pub record IsFieldPlace (files : PutFiles) (raws : List RawEntry) (origin : Opti
   pub line : HasLine (option_map (line_among files) origin) place
   pub holder : HasHolder raws origin place.entry
 
--- for private clauses: a field on this line, and the entry that has it
-pub record IsHeldAt (line : Line) (raws : List RawEntry) (origin : Origin) (place : ValuePlace) : Type 0 where
+-- the columns of the field at this origin, which is about the capability, if fields have columns
+abbrev pub columns_at : Bool → PutFiles → ℕ → Option Origin → Option Columns
+columns_at has_columns files cap None = None
+columns_at true files cap (Some origin) = columns_among files cap origin
+columns_at false files cap (Some origin) = None
+
+-- the place of the field at this origin, which is about the capability, with its columns
+pub record IsPlaceOf (has_columns : Bool) (files : PutFiles) (raws : List RawEntry) (cap : ℕ) (origin : Option Origin)
+    (place : ValuePlace) : Type 0 where
+  pub field : IsFieldPlace files raws origin place
+  pub columns : place.columns ≡ columns_at has_columns files cap origin
+
+-- for private clauses: a field on this line at these columns, and the entry that has it
+pub record IsHeldAt (line : Line) (columns : Option Columns) (raws : List RawEntry) (origin : Origin) (place : ValuePlace)
+    : Type 0 where
   pub line_is : HasLine (Some line) place
+  pub columns_are : place.columns ≡ columns
   pub holder : HasHolder raws (Some origin) place.entry
 
 -- the place of the first field about the capability, among the entry's own and those that it uses, if there is a value
-pub record IsPlaceIn (source : SourceText) (cap : ℕ) (place : ValuePlace) : Type 0 where
+pub record IsPlaceIn (has_columns : Bool) (source : SourceText) (cap : ℕ) (place : ValuePlace) : Type 0 where
   pub origin : Option Origin
   pub first : IsOrigin source.raws.items source.name.now cap origin
-  pub says : IsFieldPlace (files_of source) source.raws.items origin place
+  pub says : IsPlaceOf has_columns (files_of source) source.raws.items cap origin place
 
 -- the place for the entry at a place of the source, whatever other entries have its names
-pub record IsPlaceAt (stands : PlaceInSource) (cap : ℕ) (place : ValuePlace) : Type 0 where
+pub record IsPlaceAt (has_columns : Bool) (stands : PlaceInSource) (cap : ℕ) (place : ValuePlace) : Type 0 where
   pub origin : Option Origin
   pub first : IsOriginAt stands.raws stands.place cap origin
-  pub says : IsFieldPlace stands.files stands.raws origin place
+  pub says : IsPlaceOf has_columns stands.files stands.raws cap origin place
 
 abbrev pub IsNowhere : ValuePlace → Type 0
-IsNowhere place = (place.line ≡ None) × (place.file ≡ None) × (place.entry ≡ None)
+IsNowhere place = (place.line ≡ None) × (place.columns ≡ None) × (place.file ≡ None) × (place.entry ≡ None)
 
 abbrev pub IsValuePlace : Whereabouts → ℕ → ValuePlace → Type 0
 IsValuePlace Nowhere cap place = IsNowhere place
-IsValuePlace (ByName source) cap place = IsPlaceIn source cap place
-IsValuePlace (ByPlace stands) cap place = IsPlaceAt stands cap place
+IsValuePlace (ByName has_columns source) cap place = IsPlaceIn has_columns source cap place
+IsValuePlace (ByPlace has_columns stands) cap place = IsPlaceAt has_columns stands cap place
 
 -- ---- a refusal
 
 -- a line of the file at this path, whichever entry has it; nowhere if the file isn't known
 abbrev pub IsOnLine : Option (List ℕ) → ℕ → ValuePlace → Type 0
 IsOnLine None line place = IsNowhere place
-IsOnLine (Some path) line place = HasLine (Some (record { path = path; number = line })) place × (place.entry ≡ None)
+IsOnLine (Some path) line place =
+    HasLine (Some (record { path = path; number = line })) place × (place.columns ≡ None) × (place.entry ≡ None)
 
 -- The place at which a refusal finds its reason: a fault of a source text has its line in the file at this path; the
 -- others say nothing of a line.
@@ -108,10 +126,10 @@ fault_file path (Some stands) = (line_among stands.files (record { entry = stand
 
 abbrev pub whereabouts_of : Standing → Whereabouts
 whereabouts_of Unsourced = Nowhere
-whereabouts_of (Named named) = ByName named.now.source.now
-whereabouts_of (Placed there) = ByPlace (place_in there.now)
+whereabouts_of (Named named has_columns) = ByName has_columns named.now.source.now
+whereabouts_of (Placed there has_columns) = ByPlace has_columns (place_in there.now)
 
 abbrev pub IsThere : Standing → Type 0
 IsThere Unsourced = ⊤
-IsThere (Named named) = ⊤
-IsThere (Placed there) = there.now.place < length there.now.raws.now
+IsThere (Named named has_columns) = ⊤
+IsThere (Placed there has_columns) = there.now.place < length there.now.raws.now

@@ -2,9 +2,10 @@
 
 use vt_term::Size;
 
-/// The faults that a survey reports: the first of each entry at this size, or all.
+/// The faults that are reported: the first of each entry at this size, or all; and whether a place has columns.
 #[derive(Clone, Copy)]
 pub struct Asked {
     pub size: Size,
     pub lists_all: bool,
+    pub has_columns: bool,
 }

@@ -22,21 +22,27 @@ use ti_words::Remarks;
 use vt_term::Size;
 
 /// Replies with the notes on the entry that the `words` give and, in JSON, with its faults: the first one, or all of
-/// them if `lists_all`; or with the report that it has a certificate. The reply fails as the first fault does. If the
-/// `words` give no entry, it reports that, and fails so. Further lines go to `remarks`.
+/// them if `lists_all`; or with the report that it has a certificate. Faults have columns if `has_columns`, that is, if
+/// the lines of the files weren't joined. The reply fails as the first fault does. If the `words` give no entry, it
+/// reports that, and fails so. Further lines go to `remarks`.
 pub fn check_reports<F: Files>(
     alloc: Global,
     lists_all: bool,
+    has_columns: bool,
     words: &FaultsWords<'_>,
     files: &mut F,
     remarks: &mut Remarks,
 ) -> Result<Reply, Failure>
-    ensures reply { IfOk result (λ reply. spec.Replies (F.holds files.old) lists_all words.now reply) }
+    ensures reply { IfOk result (λ reply. spec.Replies has_columns (F.holds files.old) lists_all words.now reply) }
     ensures failure { IfErr result (λ e. LacksSize words.now.rows.now words.now.cols.now e) }
     ensures kept { F.holds files.new ≡ F.holds files.old }
 {
     let size = size_words(alloc, words.rows, words.cols, remarks)?;
-    let asked = Asked { size, lists_all };
+    let asked = Asked {
+        size,
+        lists_all,
+        has_columns,
+    };
     match sourced_entry(alloc, files, words.entry, remarks) {
         Ok(found) => Ok(entry_reply(alloc, asked, words.entry, &found, remarks)?),
         Err(failure) => lack_reply(alloc, asked, is_alone(files), words.entry, failure),
@@ -61,8 +67,8 @@ fn entry_reply(
     found: &Sourced<'_>,
     remarks: &mut Remarks,
 ) -> Result<Reply, AllocError>
-    ensures { IfOk result (λ reply. spec.ReportsEntry found.now.entry found.now.source asked.size.rows asked.size.cols
-        asked.lists_all word.now reply) }
+    ensures { IfOk result (λ reply. spec.ReportsEntry asked.has_columns found.now.entry found.now.source
+        asked.size.rows asked.size.cols asked.lists_all word.now reply) }
 {
     let notes = notes_on(alloc, &found.entry, asked.size)?;
     let nos = found_faults(alloc, &found.entry, asked.size, asked.lists_all)?;
@@ -85,7 +91,8 @@ fn located_reply<'x>(
 ) -> Result<Reply, AllocError>
     ensures noted { IfOk result (λ reply. reply.notes ≡ notes) }
     ensures told { IfOk result (λ reply. spec.TellsFound found.now.entry asked.size.rows asked.size.cols
-        asked.lists_all (spec.file_of found.now.source word.now) (by_name found.now.source) nos.now reply) }
+        asked.lists_all (spec.file_of found.now.source word.now) (by_name asked.has_columns found.now.source) nos.now
+        reply) }
 {
     match &found.source {
         None => {
@@ -112,7 +119,7 @@ fn source_reply<'x>(
 ) -> Result<Reply, AllocError>
     ensures noted { IfOk result (λ reply. reply.notes ≡ notes) }
     ensures told { IfOk result (λ reply. spec.TellsFound entry.now asked.size.rows asked.size.cols
-        asked.lists_all source.now.path.now (by_name (Some source.now)) nos.now reply) }
+        asked.lists_all source.now.path.now (by_name asked.has_columns (Some source.now)) nos.now reply) }
 {
     let index = Index::new(alloc, source.raws.as_slice())?;
     let files = source_files(alloc, source)?;
@@ -139,13 +146,14 @@ fn named_reply<'x, 'y>(
 ) -> Result<Reply, AllocError>
     ensures noted { IfOk result (λ reply. reply.notes ≡ notes) }
     ensures told { IfOk result (λ reply. spec.TellsFound entry.now asked.size.rows asked.size.cols
-        asked.lists_all named.now.source.now.path.now (by_name (Some named.now.source.now)) nos.now reply) }
+        asked.lists_all named.now.source.now.path.now (by_name asked.has_columns (Some named.now.source.now)) nos.now
+        reply) }
 {
     let subject = Subject {
         entry,
         size: asked.size,
         file: named.source.path,
-        stands: Standing::Named(named),
+        stands: Standing::Named(named, asked.has_columns),
     };
     reply_of(alloc, &subject, asked.lists_all, notes, nos)
 }

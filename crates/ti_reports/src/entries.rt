@@ -16,7 +16,8 @@ use ti_surveys::{FileEntry, Lacking, Said, Speaker, answers_of};
 use ti_verdicts::Answer;
 
 impl Speaker for Asked {
-    ghost says = { λ asked. spec.Reports asked.size.rows asked.size.cols asked.lists_all };
+    ghost says = { λ asked. spec.Reports asked.size.rows asked.size.cols asked.lists_all
+        asked.has_columns };
 
     ghost refuses = { λ asked. spec.ReportsLack asked.size.rows asked.size.cols };
 
@@ -27,7 +28,13 @@ impl Speaker for Asked {
     }
 
     fn say(&self, alloc: Global, found: &FileEntry<'_, '_>) -> Result<Said, AllocError> {
-        entry_said(alloc, *self, found.path, placed(found.stands), found.entry)
+        entry_said(
+            alloc,
+            *self,
+            found.path,
+            placed(found.stands, self.has_columns),
+            found.entry,
+        )
     }
 
     fn refuse(&self, alloc: Global, lacking: &Lacking<'_, '_>) -> Result<Said, AllocError> {

@@ -12,6 +12,7 @@ use crate::names::name_of;
 use std::alloc::{AllocError, Global};
 use ti_caps::Cap;
 use ti_commands::CommandRefusal;
+use ti_entries::Columns;
 use ti_resolve::Origin;
 use ti_source::RawEntry;
 use ti_verdicts::{FieldPlace, NamedSource, SourcePlace, first_name};
@@ -21,10 +22,10 @@ use ti_verdicts::{FieldPlace, NamedSource, SourcePlace, first_name};
 pub enum Standing<'a, 'b> {
     /// The entry is in no source.
     Unsourced,
-    /// The entry is in a source, found by its name.
-    Named(&'a NamedSource<'a, 'b>),
-    /// The entry is in a source, at a place.
-    Placed(&'a SourcePlace<'a, 'b>),
+    /// The entry is in a source, found by its name; and whether the source has columns.
+    Named(&'a NamedSource<'a, 'b>, bool),
+    /// The entry is in a source, at a place; and whether the source has columns.
+    Placed(&'a SourcePlace<'a, 'b>, bool),
 }
 
 /// The place of a capability's value in a source text.
@@ -32,6 +33,8 @@ pub enum Standing<'a, 'b> {
 pub struct ValuePlace {
     /// The line of the field that gives the value; `None` if there is no source or no value, or if the file is compiled.
     pub line: Option<usize>,
+    /// The columns of this field, if fields have columns.
+    pub columns: Option<Columns>,
     /// The path of the file that has this field.
     pub file: Option<String>,
     /// The first name of the entry that has this field.
@@ -45,6 +48,7 @@ impl ValuePlace {
     {
         ValuePlace {
             line: None,
+            columns: None,
             file: None,
             entry: None,
         }
@@ -79,6 +83,7 @@ fn on_line(alloc: Global, file: Option<&str>, line: usize) -> Result<ValuePlace,
     match file {
         Some(path) => Ok(ValuePlace {
             line: number_of(line),
+            columns: None,
             file: Some(String::from_str(alloc, path)?),
             entry: None,
         }),
@@ -86,14 +91,17 @@ fn on_line(alloc: Global, file: Option<&str>, line: usize) -> Result<ValuePlace,
     }
 }
 
-/// The origin of an entry at the place `stands` of a source, or in no source.
-pub fn placed<'a, 'b>(stands: &'a Option<SourcePlace<'a, 'b>>) -> Standing<'a, 'b>
+/// The origin of an entry at the place `stands` of a source, or in no source; a source may have columns.
+pub fn placed<'a, 'b>(
+    stands: &'a Option<SourcePlace<'a, 'b>>,
+    has_columns: bool,
+) -> Standing<'a, 'b>
     requires { IfSome stands.now (λ there. there.place < length there.raws.now) }
-    ensures stands { spec.whereabouts_of result ≡ spec.by_place (place_if stands.now) }
+    ensures stands { spec.whereabouts_of result ≡ spec.by_place has_columns (place_if stands.now) }
     ensures there { spec.IsThere result }
 {
     match stands {
-        Some(there) => Standing::Placed(there),
+        Some(there) => Standing::Placed(there, has_columns),
         None => Standing::Unsourced,
     }
 }
@@ -110,46 +118,70 @@ pub fn value_place(
 {
     match stands {
         Standing::Unsourced => Ok(ValuePlace::nowhere()),
-        Standing::Named(named) => place_in(alloc, named, cap),
-        Standing::Placed(there) => place_at(alloc, there, cap),
+        Standing::Named(named, has_columns) => place_in(alloc, named, *has_columns, cap),
+        Standing::Placed(there, has_columns) => place_at(alloc, there, *has_columns, cap),
     }
 }
 
-/// The place of the value of `cap` in the source `named`.
-fn place_in(alloc: Global, named: &NamedSource<'_, '_>, cap: Cap) -> Result<ValuePlace, AllocError>
-    ensures { IfOk result (λ place. spec.IsPlaceIn named.now.source.now cap place) }
+/// The place of the value of `cap` in the source `named`, which may have columns.
+fn place_in(
+    alloc: Global,
+    named: &NamedSource<'_, '_>,
+    has_columns: bool,
+    cap: Cap,
+) -> Result<ValuePlace, AllocError>
+    ensures { IfOk result (λ place. spec.IsPlaceIn has_columns named.now.source.now cap place) }
 {
     match named.origin(alloc, cap)? {
         Some(origin) => {
+            let columns = if has_columns {
+                named.columns(origin, cap)
+            } else {
+                None
+            };
             let raws = named.source.raws.as_slice();
-            field_place(alloc, named.line(origin), raws, origin)
+            field_place(alloc, named.line(origin), columns, raws, origin)
         }
         None => Ok(ValuePlace::nowhere()),
     }
 }
 
-/// The place of the value of `cap` of the entry at `there`.
-fn place_at(alloc: Global, there: &SourcePlace<'_, '_>, cap: Cap) -> Result<ValuePlace, AllocError>
+/// The place of the value of `cap` of the entry at `there`, in a source that may have columns.
+fn place_at(
+    alloc: Global,
+    there: &SourcePlace<'_, '_>,
+    has_columns: bool,
+    cap: Cap,
+) -> Result<ValuePlace, AllocError>
     requires { there.now.place < length there.now.raws.now }
-    ensures { IfOk result (λ place. spec.IsPlaceAt (place_in there.now) cap place) }
+    ensures { IfOk result (λ place. spec.IsPlaceAt has_columns (place_in there.now) cap place) }
 {
     match there.origin(alloc, cap)? {
-        Some(origin) => field_place(alloc, there.line(origin), there.raws, origin),
+        Some(origin) => {
+            let columns = if has_columns {
+                there.columns(origin, cap)
+            } else {
+                None
+            };
+            field_place(alloc, there.line(origin), columns, there.raws, origin)
+        }
         None => Ok(ValuePlace::nowhere()),
     }
 }
 
-/// The place of the field at `origin`, which is on the line at `there`, among the entries `raws`.
+/// The place of the field at `origin`, which is on the line at `there` at these `columns`, among the entries `raws`.
 fn field_place(
     alloc: Global,
     there: FieldPlace<'_>,
+    columns: Option<Columns>,
     raws: &[RawEntry],
     origin: Origin,
 ) -> Result<ValuePlace, AllocError>
-    ensures { IfOk result (λ place. spec.IsHeldAt (line_of there.entry) raws.now origin place) }
+    ensures { IfOk result (λ place. spec.IsHeldAt (line_of there.entry) columns raws.now origin place) }
 {
     Ok(ValuePlace {
         line: number_of(there.line),
+        columns,
         file: Some(String::from_str(alloc, there.path)?),
         entry: Some(holder(alloc, raws, origin)?),
     })

@@ -9,6 +9,7 @@ use crate::forms::Written;
 use crate::lines::ValuePlace;
 use serde_json::{Map, Value, json, put};
 use std::alloc::{AllocError, Global};
+use ti_entries::Columns;
 use ti_objects::printable_json;
 
 /// The version of the form of a report.
@@ -211,9 +212,25 @@ fn put_place(
     let holder_hex = hex_value(alloc, &place.entry)?;
     let file = text_value(alloc, &place.file)?;
     put(members, alloc, "line", number_value(place.line))?;
+    put_columns(alloc, place, members)?;
     put(members, alloc, "source_entry", holder)?;
     put(members, alloc, "source_entry_hex", holder_hex)?;
     put(members, alloc, "source_file", file)
+}
+
+/// Puts the columns of the field at `place`, and the line on which it ends, into `members`.
+fn put_columns(
+    alloc: Global,
+    place: &ValuePlace,
+    members: &mut Map<String, Value>,
+) -> Result<(), AllocError>
+    ensures { OnOk result (members_view members.new.entries
+        ≡ spec.with_columns place.now (members_view members.old.entries)) }
+{
+    let end_line = end_line_value(place.columns, place.line);
+    put(members, alloc, "column", start_value(place.columns))?;
+    put(members, alloc, "end_line", end_line)?;
+    put(members, alloc, "end_column", end_value(place.columns))
 }
 
 /// Puts the string of `finding`, and the one that would be right, into `members`.
@@ -348,6 +365,36 @@ fn number_value(number: Option<usize>) -> Value
 {
     match number {
         Some(number) => Value::from(number),
+        None => Value::Null,
+    }
+}
+
+/// The JSON number of the column of a field's first byte, or null.
+fn start_value(columns: Option<Columns>) -> Value
+    ensures { view result ≡ spec.column_data columns }
+{
+    match columns {
+        Some(columns) => Value::from(columns.start),
+        None => Value::Null,
+    }
+}
+
+/// The JSON number of the column behind a field, or null.
+fn end_value(columns: Option<Columns>) -> Value
+    ensures { view result ≡ spec.end_column_data columns }
+{
+    match columns {
+        Some(columns) => Value::from(columns.end),
+        None => Value::Null,
+    }
+}
+
+/// The JSON number of the `line` on which a field with columns ends, or null.
+fn end_line_value(columns: Option<Columns>, line: Option<usize>) -> Value
+    ensures { view result ≡ spec.end_line_data columns line }
+{
+    match columns {
+        Some(_) => number_value(line),
         None => Value::Null,
     }
 }

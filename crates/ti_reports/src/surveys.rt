@@ -13,10 +13,11 @@ use ti_surveys::{Said, Surveyed, Watcher, strict_failure, survey_paths};
 use ti_words::Remarks;
 
 /// Reports in JSON on each entry of each file that the `words` name: its first fault, or all of them if the `words` ask
-/// for that, or that it has a certificate. An entry that can't be read has its line too. The `watcher` passes on the
-/// lines of each entry once they are known, and sees how far the survey has come; the reply has no text. A file that
-/// can't be read has one too; the reply then fails as the first such file does, the `remarks` name the further ones, and
-/// the others are surveyed all the same. Else it is refused if the `words` ask for that and a verdict isn't yes.
+/// for that, or that it has a certificate. Faults have columns if `has_columns`, that is, if the lines of the files
+/// weren't joined. An entry that can't be read has its line too. The `watcher` passes on the lines of each entry once
+/// they are known, and sees how far the survey has come; the reply has no text. A file that can't be read has a line
+/// too; the reply then fails as the first such file does, the `remarks` name the further ones, and the others are
+/// surveyed all the same. Else it is refused if the `words` ask for that and a verdict isn't yes.
 ///
 /// # Errors
 /// The reason why the words give no size, before any line is known; out of memory, after the `watcher` has passed on
@@ -24,11 +25,12 @@ use ti_words::Remarks;
 pub fn survey_reports<F: Files, W: Watcher>(
     alloc: Global,
     words: &SurveyWords<'_>,
+    has_columns: bool,
     files: &mut F,
     watcher: &mut W,
     remarks: &mut Remarks,
 ) -> Result<Reply, Failure>
-    ensures reply { IfOk result (λ reply. spec.AreSurveyed (F.holds files.old) words.now remarks.new
+    ensures reply { IfOk result (λ reply. spec.AreSurveyed has_columns (F.holds files.old) words.now remarks.new
         (Hears W.heard W.has_failed watcher.old watcher.new) reply) }
     ensures failure { IfErr result (λ e. FailsToSurvey (F.holds files.old) words.now.rows.now words.now.cols.now e) }
     ensures kept { F.holds files.new ≡ F.holds files.old }
@@ -37,6 +39,7 @@ pub fn survey_reports<F: Files, W: Watcher>(
     let asked = Asked {
         size,
         lists_all: words.lists_all,
+        has_columns,
     };
     let Surveyed { said, failure } = survey_paths(
         alloc,

@@ -157,17 +157,17 @@ fn fix_words<'a>(words: &SurveyWords<'a>, out: Option<&'a str>) -> FixWords<'a> 
     }
 }
 
-/// The reply of `survey --json` to its `words`. The objects go to `out` as they come.
-fn survey_json<F: Files, O: Output, E: Write + IsTerminal>(
+/// The reply of `survey --json` to its `words`. The objects go to `lines` as they come, and have columns if the files
+/// `has_columns`.
+fn survey_json<F: Files, O: Output, E: Write>(
     alloc: Global,
     words: &SurveyWords<'_>,
+    has_columns: bool,
     files: &mut F,
-    out: &mut O,
-    err: &mut E,
+    lines: &mut SurveyLines<'_, O, E>,
     remarks: &mut Remarks,
 ) -> Result<Reply, Failure> {
-    let mut lines = SurveyLines::new(alloc, out, err);
-    let reply = survey_reports(alloc, words, files, &mut lines, remarks)?;
+    let reply = survey_reports(alloc, words, has_columns, files, lines, remarks)?;
     Ok(lines.end(alloc, reply))
 }
 
@@ -236,7 +236,7 @@ fn reply_to<F: Files, O: Output, E: Write + IsTerminal>(
         Request::Check(words) => check_counted(alloc, words, files, err, remarks),
         Request::CheckAll(words) => check_all(alloc, words, files, remarks),
         Request::CheckJson { lists_all, words } => {
-            check_reports(alloc, *lists_all, words, files, remarks)
+            check_reports(alloc, *lists_all, !asked.joins, words, files, remarks)
         }
         Request::Verify(words) => verify_certificate(alloc, words, files, remarks),
         Request::Play(words) => {
@@ -248,7 +248,10 @@ fn reply_to<F: Files, O: Output, E: Write + IsTerminal>(
             fix_survey(alloc, &fix_words(words, asked.out), files, remarks)
         }
         Request::Survey(words) => survey(alloc, words, files, out, err, remarks),
-        Request::SurveyJson(words) => survey_json(alloc, words, files, out, err, remarks),
+        Request::SurveyJson(words) => {
+            let mut lines = SurveyLines::new(alloc, out, err);
+            survey_json(alloc, words, !asked.joins, files, &mut lines, remarks)
+        }
         Request::Print { entry } => print_entry(alloc, entry, files, remarks),
         Request::Common { first, second } => {
             compare_entries(alloc, first, second, Comparison::Common, files, remarks)

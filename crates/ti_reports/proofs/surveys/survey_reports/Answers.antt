@@ -20,7 +20,7 @@ returns-clause-reply g c =
       failed = c.in_ok-said.field-0.failure;
       ends = subst
           (λ (paths : List (Bor (List ℕ))).
-          EndsPaths (AreLines (Reports c.in_ok-size.size.rows c.in_ok-size.size.cols c.args.words.now.lists_all) (ReportsLack c.in_ok-size.size.rows c.in_ok-size.size.cols)) (ReportsUnread c.in_ok-size.size.rows c.in_ok-size.size.cols)
+          EndsPaths (AreLines (Reports c.in_ok-size.size.rows c.in_ok-size.size.cols c.args.words.now.lists_all c.args.has_columns) (ReportsLack c.in_ok-size.size.rows c.in_ok-size.size.cols)) (ReportsUnread c.in_ok-size.size.rows c.in_ok-size.size.cols)
           (g.F.Files.holds c.args.files.now) (texts_of paths) (told_of said) c.in_ok-said.field-0.failure c.survey_paths.new.remarks)
           c.as_slice.ensures.value c.in_ok-said.ensures.told;
       strictly = subst (λ (answered : List Answer). EndsStrictly c.args.words.now.is_strict answered c.in_ok-said.field-0.failure c.in_ok-failure.failure) c.as_slice-2.ensures.value c.in_ok-failure.ensures;
