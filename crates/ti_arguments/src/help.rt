@@ -206,19 +206,21 @@ entry that can't be obtained has one with the verdict `refused`. Each has the me
 for each kind of answer), entry (the first name), aliases (the others), part (whether the entry is only there to be used
 by others), size (rows and cols), capability, parameters, cause, bytes (what the string sends, in hexadecimal), start,
 wanted and seen (the words of the lines that begin so), explanation (the lines below the fault, or the words of the
-advice), file (its path), line (on which the value stands, or what can't be read), source_entry (the first name of the
-entry that has the value), source_file (the file of the line; none for an entry that check can't obtain with --with),
-string and, with --all, suggestion (the string at fault and the one that would be right, as a source has them) and
-suggested_with (the fields that are to be given with it), judged (whether the string could be judged) and, with --all,
-another_kind (whether the entry seems to be for a terminal of another kind). entry_hex, aliases_hex, source_entry_hex,
-string_hex and suggestion_hex have the bytes in hexadecimal. Where a member doesn't apply, it is null, or an empty list.
-Characters outside 32 to 126 are escapes of JSON.
-The notes, the line `refused: ` and the exit status are those of the form without --json.
+advice), file (its path), line (on which the value stands, or what can't be read), column (of the first byte of the field
+that has the value), end_line and end_column (of the comma behind it; all from 1, and null with --join), source_entry (the
+first name of the entry that has the value), source_file (the file of the line; none for an entry that check can't obtain
+with --with), string and, with --all, suggestion (the string at fault and the one that would be right, as a source has
+them) and suggested_with (the fields that are to be given with it), judged (whether the string could be judged) and, with
+--all, another_kind (whether the entry seems to be for a terminal of another kind). entry_hex, aliases_hex,
+source_entry_hex, string_hex and suggestion_hex have the bytes in hexadecimal. Where a member doesn't apply, it is null, or
+an empty list. Characters outside 32 to 126 are escapes of JSON. The notes, the line `refused: ` and the exit status are
+those of the form without --json.
 
 With --sarif the output is one file of SARIF 2.1.0, which code hosts show at the lines of FILE: a result for each object
 of --json --all but a yes. ruleId is the rule. The level is error for what was shown to be wrong and for what can't be
 read, warning where the string couldn't be judged, and note for advice and where the entry seems to be for a terminal of
-another kind. The message has the line of the fault, its explanation and the suggestion.
+another kind. The message has the line of the fault, its explanation and the suggestion. A result marks the whole field,
+and has a fix if a string is suggested that is right without others; with --join it marks the line and has none.
 
 With --fix there is no certificate. The output is the text of the source file in which each string that --all suggests
 is taken: the field is replaced where it stands, in the entry that --all names, and a missing one is put behind the last
