@@ -75,7 +75,7 @@ def words(fault):
 
 def counts(causes):
     """The line of counts."""
-    parts = [f", {it} {causes.count(it)}" for it in ["yes", *CAUSES] if it in causes]
+    parts = [f", {it} {causes.count(it)}" for it in ["yes", *CAUSES, "OtherKind", "part"] if it in causes]
     return f"total {len(causes)}{''.join(parts)}"
 
 
@@ -135,10 +135,22 @@ def listing(source, faults):
     return [*lines, counts([fault[2] for fault, _ in faults])]
 
 
+def surveyed(name, faults):
+    """The lines of `survey --all` for an entry, and the words that count it."""
+    causes = {named(fault[0]): fault[2] for fault, _ in faults}
+    if all(causes.get(cap) == "Absent" for cap in ("clear", "cup", "sgr0")):
+        return [], ["part"]
+    if "clear" in causes and "cup" in causes:
+        return [f"{name} no: OtherKind"], ["OtherKind"]
+    return [f"{name} {it}" for it in [words(fault) for fault, _ in faults] or ["yes"]], [fault[2] for fault, _ in faults] or ["yes"]
+
+
 def places(source, wanted):
     """The output of `survey --all` on standard error: the place of each fault, and its line."""
     lines = []
     for name, faults in wanted.items():
+        if set(surveyed(name, faults)[1]) & {"OtherKind", "part"}:
+            continue
         for fault, owner in faults:
             cap = named(fault[0])
             if fault[2] != "Absent":
@@ -169,8 +181,9 @@ def judge_planted():
             refused = [line for line in it.err.decode().splitlines() if line.startswith("refused: ")]
             if refused != refusal or it.status != bool(faults):
                 fail(f"check of {name} was to refuse with {refusal}: {it.status} {it.err}")
-    lines = [f"{name} {it}" for name, faults in wanted.items() for it in [words(fault) for fault, _ in faults] or ["yes"]]
-    lines.append(counts([fault[2] for faults in wanted.values() for fault, _ in faults or [(("", "", "yes"), "")]]))
+    entries = [surveyed(name, faults) for name, faults in wanted.items()]
+    lines = [line for own, _ in entries for line in own]
+    lines.append(counts([it for _, own in entries for it in own]))
     if told[-1].out.decode().splitlines() != lines or told[-1].status:
         fail(f"survey --all printed {told[-1].out.decode()} and was to print {lines}")
     if told[-1].err.decode().splitlines() != places(source, wanted):
@@ -439,7 +452,48 @@ def judge_places():
     print("faults: a survey says where each fault stands, by the entry's place")
 
 
+# a right entry, two that are only there to be used, one for a terminal of another kind, and one with a fault
+KINDS = rb"""good|a right one,
+	clear=\E[H\E[2J, cup=\E[%i%p1%d;%p2%dH, sgr0=\E[m,
+some+bell|a part by its name,
+	clear=\E[H\E[2J, cup=\E[%i%p1%d;%p2%dH, sgr0=\E[m, bel=\E[H,
+bell|a part by what it lacks,
+	bel=\E[H,
+other|for a terminal of another kind,
+	clear=\014, cup=\E=%p1%' '%+%c%p2%' '%+%c, sgr0=\E[m, bel=\E[H,
+wrong|with one fault,
+	el=\E[1K, use=good,
+"""
+KIND_LINES = [
+    (["--all"], "good yes\nother no: OtherKind\nwrong no el: WrongEffect\n"),
+    (["--all", "--parts"], "good yes\nsome+bell part\nbell part\nother no: OtherKind\nwrong no el: WrongEffect\n"),
+]
+
+
+def judge_kinds():
+    """A survey of all faults counts entries apart that are only there to be used, or for a terminal of another kind."""
+    size, data = ["24", "80"], {"kinds.ti": KINDS, "parts.ti": KINDS[: KINDS.index(b"other|")]}
+    for words, lines in KIND_LINES:
+        [told] = run_cases(PROGRAM, [Case(["survey", *words, *size, "kinds.ti"])], data)
+        wanted = lines + "total 5, yes 1, WrongEffect 1, OtherKind 1, part 2\n"
+        if (told.status, told.out.decode()) != (0, wanted) or told.err != b"kinds.ti:10: el of wrong: wrong no el: WrongEffect\n":
+            fail(f"survey {words} printed {told.out} {told.err} and was to print {wanted}")
+    lines, objects, plain = run_cases(
+        PROGRAM,
+        [Case(["survey", *words, "--fail", *size, "parts.ti"]) for words in (["--all"], ["--json", "--all"], [])],
+        data,
+    )
+    if (lines.status, objects.status, plain.status) != (0, 0, 1):
+        fail(f"survey --fail of parts ended with {lines.status}, {objects.status} and, without --all, {plain.status}")
+    for words in (["--parts"], ["--parts", "--json", "--all"], ["--parts", "--fix"]):
+        [told] = run_cases(PROGRAM, [Case(["survey", *words, *size, "parts.ti"])], data)
+        if told.status != 2 or b"--parts is for --all" not in told.err:
+            fail(f"survey {words} ended with {told.status} {told.err}")
+    print("faults: a survey of all faults counts parts and other kinds apart, and --parts names the parts")
+
+
 if __name__ == "__main__":
+    judge_kinds()
     judge_planted()
     judge_by_hand()
     judge_suggestions()

@@ -129,12 +129,17 @@ with_baseline_rule a = with_rule a baseline_rule
 abbrev pub with_fail_rule : App → App
 with_fail_rule a = with_rule a (long_switch_rule (codes "fail"))
 
+-- the entries that are only there to be used
+abbrev pub with_parts_rule : App → App
+with_parts_rule a = with_rule a (long_switch_rule (codes "parts"))
+
 abbrev pub survey_rules : App
 survey_rules =
     with_rule
     (with_size_rules
     (with_rule (with_fix_rule
-    (with_source_rules (with_baseline_rule (with_fail_rule (with_sarif_rule (with_report_rules (new_app (codes "survey"))))))))
+    (with_source_rules (with_baseline_rule (with_parts_rule (with_fail_rule (with_sarif_rule
+    (with_report_rules (new_app (codes "survey")))))))))
     out_rule))
     (several_rule (codes "FILE"))
 

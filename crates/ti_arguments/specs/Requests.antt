@@ -1,6 +1,7 @@
 -- The request of a line of words, from the arguments that clap's parser finds in it for the commands of `Line`.
 use Rattle.std.specs.Prelude.{◌≡◌, ◌⊎◌, ◌||◌, Bool, true, false, List, [], ◌∷◌, Option, Some, None, codes, map}
 use Rattle.std.specs.Prelude.{length, option_map, unwrap_or}
+use Rattle.std.specs.Prelude.{not, ◌&&◌}
 use Rattle.std.specs.Str.{bytes_eq}
 use Rattle.clap.specs.Faults.{fault_of}
 use Rattle.clap.specs.Kinds.{IsAmong}
@@ -58,9 +59,13 @@ Plays rows words =
 abbrev pub Surveys : Text → List Row → SurveyWords → Type 0
 Surveys name rows words =
     (name ≡ codes "survey") × (words.lists_all ≡ lists_of rows)
-    × (words.is_strict ≡ is_on (codes "fail") rows)
+    × (words.names_parts ≡ is_on (codes "parts") rows) × (words.is_strict ≡ is_on (codes "fail") rows)
     × (words.rows.now ≡ word_of (codes "ROWS") rows) × (words.cols.now ≡ word_of (codes "COLS") rows)
     × (map (λ f. f.now) words.paths.items ≡ words_of (codes "FILE") rows)
+
+-- the entries that are only there to be used are named where all faults are listed, in lines and no objects
+abbrev pub may_name : Bool → SurveyWords → Bool
+may_name reports words = not words.names_parts || (words.lists_all && not reports)
 
 -- one file, and no list of all faults
 abbrev pub AreOfOne : SurveyWords → Type 0
@@ -124,9 +129,10 @@ AsksFor name rows (Show words) = (name ≡ codes "show") × Plays rows words
 AsksFor name rows (Survey words) =
     (reports_of rows ≡ false) × (first_of (codes "baseline") rows ≡ None) × Surveys name rows words
     × MayFix (is_on (codes "fix") rows) (first_of (codes "with") rows) (first_of (codes "out") rows) words
+    × (may_name false words ≡ true)
 AsksFor name rows (SurveyJson words) =
     (reports_of rows ≡ true) × Surveys name rows words
-    × (is_on (codes "fix") rows ≡ false) × (first_of (codes "out") rows ≡ None)
+    × (is_on (codes "fix") rows ≡ false) × (first_of (codes "out") rows ≡ None) × (may_name true words ≡ true)
 AsksFor name rows (Print entry) = IsInfocmp name rows false false (entry.now ∷ [])
 AsksFor name rows (Common first second) = IsInfocmp name rows true false (first.now ∷ second.now ∷ [])
 AsksFor name rows (Neither first second) = IsInfocmp name rows false true (first.now ∷ second.now ∷ [])

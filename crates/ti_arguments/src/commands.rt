@@ -7,6 +7,7 @@ ghost use Rattle.ti_arguments.specs.Line.{check_rules, expand_rules, feed_rules,
 ghost use Rattle.ti_arguments.specs.Line.{out_rule, params_rule, play_rules, positional_rule, program, several_rule};
 ghost use Rattle.ti_arguments.specs.Line.{show_rules, survey_rules, switch_rule, tic_rules, verify_rules, with_fix_rule};
 ghost use Rattle.ti_arguments.specs.Line.{with_join_rule, with_plays, with_script_rules, with_case_rule, with_fail_rule};
+ghost use Rattle.ti_arguments.specs.Line.{with_parts_rule};
 ghost use Rattle.ti_arguments.specs.Line.{baseline_rule, with_baseline_rule, with_plain_rule, with_report_rules};
 ghost use Rattle.ti_arguments.specs.Line.{beside_rule, with_sarif_rule, with_size_rules, with_source_rules, with_verdicts};
 
@@ -393,6 +394,19 @@ fn with_fail<'a>(alloc: Global, command: Command<'a>) -> Result<Command<'a>, All
     ))
 }
 
+/// `command` with the switch for a survey that names the entries that are only there to be used.
+fn with_parts<'a>(alloc: Global, command: Command<'a>) -> Result<Command<'a>, AllocError>
+    requires { (out-Command command).has_globals ≡ false }
+    ensures shape { IfOk result (λ c. app_of c ≡ with_parts_rule (app_of command.entry)) }
+    ensures local { IfOk result (λ c. (out-Command c).has_globals ≡ false) }
+{
+    command.arg(long_switch(
+        alloc,
+        "parts",
+        "With --all, name the entries that are only there to be used",
+    ))
+}
+
 fn survey_command<'a>(alloc: Global) -> Result<Command<'a>, AllocError>
     ensures shape { IfOk result (λ c. app_of c ≡ survey_rules) }
     ensures local { IfOk result (λ c. (out-Command c).has_globals ≡ false) }
@@ -419,21 +433,24 @@ fn with_text<'a>(alloc: Global, command: Command<'a>) -> Result<Command<'a>, All
     command.arg(out_option(alloc, "Write the text of --fix to this file"))
 }
 
-/// `command` with the switch for a survey that fails, and the option for an earlier report.
+/// `command` with the switches for a survey that fails and for one that names parts, and the option for an earlier
+/// report.
 fn with_news<'a>(alloc: Global, command: Command<'a>) -> Result<Command<'a>, AllocError>
     requires { (out-Command command).has_globals ≡ false }
-    ensures shape { IfOk result (λ c. app_of c ≡ with_baseline_rule (with_fail_rule (app_of command.entry))) }
+    ensures shape { IfOk result (λ c. app_of c
+        ≡ with_baseline_rule (with_parts_rule (with_fail_rule (app_of command.entry)))) }
     ensures local { IfOk result (λ c. (out-Command c).has_globals ≡ false) }
 {
     let command = with_fail(alloc, command)?;
+    let command = with_parts(alloc, command)?;
     with_baseline(alloc, command)
 }
 
 /// `command` with the switches and the option of `survey`.
 fn with_survey_switches<'a>(alloc: Global, command: Command<'a>) -> Result<Command<'a>, AllocError>
     requires { (out-Command command).has_globals ≡ false }
-    ensures shape { IfOk result (λ c. app_of c ≡ with_source_rules (with_baseline_rule (with_fail_rule
-        (with_sarif_rule (with_report_rules (app_of command.entry)))))) }
+    ensures shape { IfOk result (λ c. app_of c ≡ with_source_rules (with_baseline_rule (with_parts_rule
+        (with_fail_rule (with_sarif_rule (with_report_rules (app_of command.entry))))))) }
     ensures local { IfOk result (λ c. (out-Command c).has_globals ≡ false) }
 {
     let all = "List all faults of each entry, a line for each";

@@ -445,7 +445,9 @@ without entries has none. A byte outside 32 to 126 of a name is a backslash and 
 number of the lines before it, and then how many got each answer.
 
 With --all an entry that has no certificate has a line `NAME no CAP P..: CAUSE` for each of its faults, those that
-`ticurses check --all` lists. For each of them whose value is in a source FILE, standard error has the line
+`ticurses check --all` lists. One that is for a terminal of another kind has one line, `NAME no: OtherKind`. One that is
+only there to be used by others, without `clear`, `cup` and `sgr0` or with a `+` in its first name, has no line, or with
+--parts the line `NAME part`; the last line counts these apart, and --fail passes them. For each of them whose value is in a source FILE, standard error has the line
 `FILE:LINE: CAP of ENTRY: NAME no CAP P..: CAUSE`; ENTRY is NAME, or an entry that it uses. It also gets the hints of
 `ticurses check`, each with `, in FILE` at its end.
 

@@ -9,6 +9,7 @@ ghost use Rattle.ti_arguments.specs.Inputs.{AnswersWithInput};
 ghost use Rattle.ti_arguments.specs.Requests.{AreOfOne, Asks, AsksFor, HasForm, IsAnswer, IsTold, Plays};
 ghost use Rattle.ti_arguments.specs.Requests.{Surveys, has_switch, is_on, lists_of, option_of, options_of, reports_of};
 ghost use Rattle.ti_arguments.specs.Requests.{word_of, words_of};
+ghost use Rattle.ti_arguments.specs.Requests as spec;
 
 use crate::commands::command_line;
 use crate::inputs::judge_input;
@@ -327,6 +328,7 @@ fn survey_words<'a>(alloc: Global, words: &ArgMatches<'a>) -> Result<SurveyWords
     let paths = words.get_strs("FILE").unwrap_or(&[]);
     Ok(SurveyWords {
         lists_all: lists_all(words),
+        names_parts: is_on(words, "parts"),
         is_strict: is_on(words, "fail"),
         rows: word(words, "ROWS"),
         cols: word(words, "COLS"),
@@ -339,11 +341,15 @@ fn survey_request<'a>(alloc: Global, words: &ArgMatches<'a>) -> Result<Request<'
     ensures { IfOk result (λ request. AsksFor (codes "survey") (rows_of (found_of words.now)) request) }
 {
     let survey = survey_words(alloc, words)?;
+    let reports = reports(words);
+    if !may_name(reports, &survey) {
+        return usage(alloc, PARTS_ALL);
+    }
     if is_on(words, "fix") {
         return fix_request(alloc, words, survey);
     }
     match (
-        reports(words),
+        reports,
         first_word(words, "baseline"),
         first_word(words, "out"),
     ) {
@@ -362,6 +368,7 @@ fn fix_request<'a>(
 ) -> Result<Request<'a>, UsageFault>
     requires fix { is_on (codes "fix") (rows_of (found_of words.now)) ≡ true }
     requires asks { Surveys (codes "survey") (rows_of (found_of words.now)) survey }
+    requires named { spec.may_name (reports_of (rows_of (found_of words.now))) survey ≡ true }
     ensures { IfOk result (λ request. AsksFor (codes "survey") (rows_of (found_of words.now)) request) }
 {
     if !is_of_one(&survey) {
@@ -378,6 +385,13 @@ fn fix_request<'a>(
     }
 }
 
+/// Whether the words may name the entries that are only there to be used, for objects if it `reports`.
+fn may_name(reports: bool, words: &SurveyWords<'_>) -> bool
+    ensures { result ≡ spec.may_name reports words.now }
+{
+    !words.names_parts || (words.lists_all && !reports)
+}
+
 /// Whether the words are for the mended text of one file.
 fn is_of_one(words: &SurveyWords<'_>) -> bool
     ensures { OnTrue result (AreOfOne words.now) }
@@ -391,6 +405,9 @@ fn usage<'a>(alloc: Global, message: &str) -> Result<Request<'a>, UsageFault>
 {
     Err(UsageFault::Usage(String::from_str(alloc, message)?))
 }
+
+const PARTS_ALL: &str = "error: --parts is for --all, and not for --json and --sarif, where part says it of each entry\n\n\
+                         For more information, try '--help'.\n";
 
 const OUT_FIXES: &str = "error: survey writes a text only with --fix: --out is for --fix\n\n\
                          For more information, try '--help'.\n";

@@ -7,7 +7,6 @@ use Rattle.ti_checker.specs.declared.causes.No.{No}
 use Rattle.ti_faults.specs.declared.mended.Mended.{Mended}
 use Rattle.ti_reports.specs.Explanations.{IsExplained}
 use Rattle.ti_reports.specs.Names.{AreAliases, HasName}
-use Rattle.ti_reports.specs.Parts.{is_part}
 use Rattle.ti_reports.specs.Reports.{IsNothing, report_line}
 use Rattle.ti_reports.specs.Sent.{IsSentText}
 use Rattle.ti_reports.specs.Sources.{IsValuePlace, Whereabouts, whereabouts_of}
@@ -18,6 +17,7 @@ use Rattle.ti_reports.specs.declared.faults.Subject.{Subject}
 use Rattle.ti_reports.specs.declared.reports.Finding.{Finding}
 use Rattle.ti_reports.specs.declared.reports.Report.{Report}
 use Rattle.ti_reports.specs.declared.reports.Verdict.TheVariants as verdicts
+use Rattle.ti_surveys.specs.Parts.{is_part}
 use Rattle.ti_verdicts.specs.Parts.{HasParts}
 use Rattle.ti_verdicts.specs.Locations.{first_name}
 use Rattle.ti_verdicts.specs.Refusals.{cause_name}

@@ -4,7 +4,6 @@ pub mod Faults
 pub mod Findings
 pub mod Lacks
 pub mod Names
-pub mod Parts
 pub mod Ran
 pub mod Reports
 pub mod Sent

@@ -18,7 +18,7 @@ use Rattle.ti_reports.specs.declared.lines.ValuePlace.{ValuePlace}
 use Rattle.ti_reports.specs.declared.reports.Report.{Report}
 use Rattle.ti_reports.specs.declared.reports.Verdict.TheVariants as verdicts
 use Rattle.ti_requests.specs.declared.request.SurveyWords.{SurveyWords}
-use Rattle.ti_surveys.specs.Answers.{fault_answers}
+use Rattle.ti_surveys.specs.Kinds.{kind_answers, kind_of}
 use Rattle.ti_surveys.specs.Lines.{AreLines, Leaving, Refusing, Saying}
 use Rattle.ti_surveys.specs.Strict.{EndsStrictly}
 use Rattle.ti_surveys.specs.Surveys.{EndsPaths}
@@ -57,7 +57,7 @@ pub record AreOfEntry (height width : ℕ) (all : Bool) (path : List ℕ) (stand
   pub nos : List No
   pub found : AreFaults all entry height width nos
   pub tells : AreFoundLines entry height width all path stands nos lines
-  pub each : answered ≡ fault_answers nos
+  pub each : answered ≡ kind_answers (kind_of all entry nos) nos
 
 -- the reports on an entry, and nothing beside them
 abbrev pub Reports : ℕ → ℕ → Bool → Bool → Saying

@@ -12,7 +12,7 @@ use crate::lines::{Standing, placed};
 use crate::refusals::{lacking_line, unread_line};
 use std::alloc::{AllocError, Global};
 use ti_caps::Entry;
-use ti_surveys::{FileEntry, Lacking, Said, Speaker, answers_of};
+use ti_surveys::{FileEntry, Lacking, Said, Speaker, answers_of, kind_of};
 use ti_verdicts::Answer;
 
 impl Speaker for Asked {
@@ -69,7 +69,8 @@ fn entry_said(
         stands,
     };
     let lines = found_lines(alloc, &subject, asked.lists_all, nos.as_slice())?;
-    let answers = answers_of(alloc, nos.as_slice())?;
+    let kind = kind_of(asked.lists_all, entry, nos.as_slice());
+    let answers = answers_of(alloc, kind, nos.as_slice())?;
     Ok(Said {
         lines,
         places: Vec::new(alloc),

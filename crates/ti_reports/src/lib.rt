@@ -13,7 +13,6 @@ mod lacks;
 mod lines;
 mod looks;
 mod names;
-mod parts;
 mod ran;
 mod refusals;
 mod reports;

@@ -74,6 +74,8 @@ pub struct ScriptWords<'a> {
 pub struct SurveyWords<'a> {
     /// Whether all faults of each entry are listed.
     pub lists_all: bool,
+    /// Whether the entries that are only there to be used are named, where all faults are listed.
+    pub names_parts: bool,
     /// Whether the survey fails if an entry has a fault or can't be read.
     pub is_strict: bool,
     /// The terminal's rows, a decimal number.

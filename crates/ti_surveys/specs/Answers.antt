@@ -1,6 +1,6 @@
 -- The lines of `survey` about an entry: one under its name, or one for each of its faults, and beside these the faults'
 -- places. Each byte of a line can be printed.
-use Rattle.std.specs.Prelude.{◌≡◌, ◌≢◌, ◌⊎◌, ℕ, Bool, true, false, List, [], ◌∷◌, ◌++◌, Option, Some, None, codes, map}
+use Rattle.std.specs.Prelude.{◌≡◌, ◌≢◌, ◌⊎◌, ℕ, Bool, true, false, List, [], ◌∷◌, ◌++◌, Option, Some, None, codes}
 use Rattle.std.specs.List.{flat_map}
 use Rattle.ti_caps.specs.Entry.{Content}
 use Rattle.ti_checker.specs.declared.causes.Cause.TheVariants.{NoMemory}
@@ -8,6 +8,7 @@ use Rattle.ti_checker.specs.declared.causes.No.{No}
 use Rattle.ti_commands.specs.Refusals.{refusal_text_of}
 use Rattle.ti_commands.specs.declared.failure.CommandRefusal.{CommandRefusal}
 use Rattle.ti_faults.specs.AllFaults.{AreAllFaults}
+use Rattle.ti_surveys.specs.Kinds.{kind_answers, listed_kind}
 use Rattle.ti_surveys.specs.Lines.{Leaving, Refusing, Saying}
 use Rattle.ti_verdicts.specs.Parts.{HasParts}
 use Rattle.ti_verdicts.specs.Locations.{IsPlaced, PlaceInSource}
@@ -16,8 +17,9 @@ use Rattle.ti_surveys.specs.Told.{Told, nothing}
 use Rattle.ti_verdicts.specs.declared.answers.Answer.{Answer}
 use Rattle.ti_verdicts.specs.declared.answers.Answer.TheVariants as answers
 use Rattle.ti_surveys.specs.declared.asked.Asked.{Asked}
+use Rattle.ti_surveys.specs.declared.kinds.EntryKind.{EntryKind}
+use Rattle.ti_surveys.specs.declared.kinds.EntryKind.TheVariants.{Other, Part, Usual}
 use Rattle.ti_words.specs.Shown.{shown}
-use Rattle.ti_verdicts.specs.FaultAnswers.{fault_answer}
 
 -- the line of a name and the words about it, in which each byte that can't be printed is in octal
 abbrev pub line_of : List ℕ → List ℕ → List ℕ
@@ -55,31 +57,39 @@ abbrev pub fault_lines : List ℕ → List No → List ℕ
 fault_lines name [] = line_of name (codes " yes")
 fault_lines name (first ∷ others) = flat_map (fault_line name) (first ∷ others)
 
--- the answers of these lines
-abbrev pub fault_answers : List No → List Answer
-fault_answers [] = answers.Yes ∷ []
-fault_answers (first ∷ others) = map fault_answer (first ∷ others)
+-- an entry that is only there to be used has the line ` part` if such entries are to be named, and else no line
+abbrev pub part_lines : Bool → List ℕ → List ℕ
+part_lines true name = line_of name (codes " part")
+part_lines false name = []
 
--- the lines of all faults of an entry, under its name, and for each of them the place of its value
-pub record HasAllFaults (height width : ℕ) (stands : Option PlaceInSource) (name : List ℕ) (entry : Content)
-    (told : Told) : Type 0 where
+-- The lines of an entry's faults, under its name, and for each of them the place of its value. An entry for terminals of
+-- another kind has one line.
+abbrev pub TellsFaults : EntryKind → Bool → Option PlaceInSource → List ℕ → List No → List ℕ → List ℕ → Type 0
+TellsFaults Part names_parts stands name nos lines places = (lines ≡ part_lines names_parts name) × (places ≡ [])
+TellsFaults Other names_parts stands name nos lines places =
+    (lines ≡ line_of name (codes " no: OtherKind")) × (places ≡ [])
+TellsFaults Usual names_parts stands name nos lines places =
+    (lines ≡ fault_lines name nos) × HasParts (IsPlaced stands name) nos places
+
+-- what is told of all faults of an entry
+pub record HasAllFaults (height width : ℕ) (names_parts : Bool) (stands : Option PlaceInSource) (name : List ℕ)
+    (entry : Content) (told : Told) : Type 0 where
   pub nos : List No
   pub all : AreAllFaults entry height width nos
-  pub says : told.lines ≡ fault_lines name nos
-  pub placed : HasParts (IsPlaced stands name) nos told.places
-  pub answers : told.answers ≡ fault_answers nos
+  pub tells : TellsFaults (listed_kind entry nos) names_parts stands name nos told.lines told.places
+  pub answers : told.answers ≡ kind_answers (listed_kind entry nos) nos
 
 -- the statement about an entry under its name: all its faults, or a certifier's answer
-abbrev pub SaysBy : Bool → (Content → ℕ → ℕ → List ℕ → Type 0) → (Content → ℕ → ℕ → No → Type 0) → ℕ → ℕ → Saying
-SaysBy true certifies refuses height width path stands name entry told =
-    HasAllFaults height width stands name entry told
-SaysBy false certifies refuses height width path stands name entry told =
+abbrev pub SaysBy : Bool → Bool → (Content → ℕ → ℕ → List ℕ → Type 0) → (Content → ℕ → ℕ → No → Type 0) → ℕ → ℕ → Saying
+SaysBy true names_parts certifies refuses height width path stands name entry told =
+    HasAllFaults height width names_parts stands name entry told
+SaysBy false names_parts certifies refuses height width path stands name entry told =
     HasAnswer certifies refuses height width name entry told
 
 -- (Serves the code alone.) the statement about an entry, as the survey is asked for it
 abbrev pub SaysTo : {C : Type 0} → (C → Content → ℕ → ℕ → List ℕ → Type 0) → (C → Content → ℕ → ℕ → No → Type 0)
     → Asked C → Saying
-SaysTo certifies refuses asked = SaysBy asked.lists_all (certifies asked.certifier.now)
+SaysTo certifies refuses asked = SaysBy asked.lists_all asked.names_parts (certifies asked.certifier.now)
     (refuses asked.certifier.now) asked.size.rows asked.size.cols
 
 -- the words of a refusal behind the name

@@ -1,6 +1,8 @@
 -- The definitions of surveys.
 pub mod Answers
 pub mod Heard
+pub mod Kinds
+pub mod Parts
 pub mod Strict
 pub mod Surveys
 pub mod Told

@@ -64,7 +64,7 @@ pub record IsSurveyed (certifies : Content → ℕ → ℕ → List ℕ → Type
   pub given : SizeGiven words.rows.now words.cols.now height width
   pub told : Told
   pub failed : Option Failure
-  pub ends : EndsPaths (AreLines (SaysBy words.lists_all certifies refuses height width) IsRefused) SaysNothing
+  pub ends : EndsPaths (AreLines (SaysBy words.lists_all words.names_parts certifies refuses height width) IsRefused) SaysNothing
       held (texts_of words.paths.items) told failed remarks
   pub strictly : EndsStrictly words.is_strict told.answers failed reply.failure
   pub places : reply.notes.items ≡ told.places

@@ -3,8 +3,10 @@
 
 mod asked;
 mod files;
+mod kinds;
 mod laws;
 mod lines;
+mod parts;
 mod said;
 mod speakers;
 mod strict;
@@ -13,8 +15,9 @@ mod together;
 mod unread;
 mod watchers;
 
+pub use kinds::{EntryKind, answers_of, kind_of};
 pub use laws::faultless_is_whole;
-pub use lines::answers_of;
+pub use parts::is_part;
 pub use said::Said;
 pub use speakers::{FileEntry, Lacking, Speaker};
 pub use strict::strict_failure;

@@ -9,6 +9,7 @@ ghost use Rattle.ti_verdicts.specs.Refusals.{no_text};
 ghost use Rattle.ti_surveys.specs.Told.{told_of};
 
 use crate::asked::Asked;
+use crate::kinds::{EntryKind, answers_of, kind_of};
 use crate::said::Said;
 use crate::speakers::{FileEntry, Lacking, Speaker};
 use std::alloc::{AllocError, Global};
@@ -16,9 +17,8 @@ use ti_caps::Entry;
 use ti_checker::{Cause, No};
 use ti_commands::{CommandRefusal, refusal_words};
 use ti_faults::{faults, must_claim};
-use ti_verdicts::{Answer, Certifier, SourcePlace, fault_answers, no_words, placed};
+use ti_verdicts::{Answer, Certifier, SourcePlace, no_words, placed};
 use ti_words::push_shown;
-use vt_term::Size;
 
 impl<'a, C: Certifier> Speaker for Asked<'a, C> {
     ghost says = { λ asked path. spec.SaysTo C.certifies C.refuses asked path };
@@ -33,7 +33,7 @@ impl<'a, C: Certifier> Speaker for Asked<'a, C> {
 
     fn say(&self, alloc: Global, found: &FileEntry<'_, '_>) -> Result<Said, AllocError> {
         if self.lists_all {
-            all_faults(alloc, self.size, found.stands, found.name, found.entry)
+            all_faults(alloc, self, found)
         } else {
             answer_line(alloc, self, found.name, found.entry)
         }
@@ -98,27 +98,59 @@ fn refused(alloc: Global, refusal: &CommandRefusal) -> Result<Vec<u8>, AllocErro
     Ok(words)
 }
 
-/// The lines of the faults of `entry` under its `name`, and their places; or the line ` yes` if there are none.
-fn all_faults(
+/// All faults of the entry that was `found`, as the survey is `asked` for them.
+fn all_faults<C: Certifier>(
     alloc: Global,
-    size: Size,
-    stands: &Option<SourcePlace<'_, '_>>,
-    name: &[u8],
-    entry: &Entry,
+    asked: &Asked<'_, C>,
+    found: &FileEntry<'_, '_>,
 ) -> Result<Said, AllocError>
-    requires { IfSome stands.now (λ there. there.place < length there.raws.now) }
-    ensures { IfOk result (λ said. spec.HasAllFaults size.rows size.cols (place_if stands.now) name.now entry.now
-        (told_of said)) }
+    requires { IfSome found.now.stands.now (λ there. there.place < length there.raws.now) }
+    ensures { IfOk result (λ said. spec.HasAllFaults asked.now.size.rows asked.now.size.cols asked.now.names_parts
+        (place_if found.now.stands.now) found.now.name.now found.now.entry.now (told_of said)) }
 {
-    let nos = faults(alloc, entry, size)?;
-    let lines = listed(alloc, name, nos.as_slice())?;
-    let places = places_of(alloc, stands, name, nos.as_slice())?;
-    let answers = answers_of(alloc, nos.as_slice())?;
+    let nos = faults(alloc, found.entry, asked.size)?;
+    let kind = kind_of(true, found.entry, nos.as_slice());
+    let answers = answers_of(alloc, kind, nos.as_slice())?;
+    let (lines, places) = told(alloc, kind, asked.names_parts, found, nos.as_slice())?;
     Ok(Said {
         lines,
         places,
         answers,
     })
+}
+
+/// The lines of the faults `nos` of the entry that was `found` and is of this `kind`, and the lines of their places.
+fn told(
+    alloc: Global,
+    kind: EntryKind,
+    names_parts: bool,
+    found: &FileEntry<'_, '_>,
+    nos: &[No],
+) -> Result<(Vec<u8>, Vec<u8>), AllocError>
+    requires { IfSome found.now.stands.now (λ there. there.place < length there.raws.now) }
+    ensures { IfOk result (λ told. spec.TellsFaults kind names_parts (place_if found.now.stands.now) found.now.name.now
+        nos.now told.0.items told.1.items) }
+{
+    match kind {
+        EntryKind::Part => Ok((part_lines(alloc, names_parts, found.name)?, Vec::new(alloc))),
+        EntryKind::Other => Ok((line(alloc, found.name, b" no: OtherKind")?, Vec::new(alloc))),
+        EntryKind::Usual => {
+            let lines = listed(alloc, found.name, nos)?;
+            let places = places_of(alloc, found.stands, found.name, nos)?;
+            Ok((lines, places))
+        }
+    }
+}
+
+/// The lines about the entry of this `name`, which is only there to be used: one if `names_parts`, else none.
+fn part_lines(alloc: Global, names_parts: bool, name: &[u8]) -> Result<Vec<u8>, AllocError>
+    ensures { IfOk result (λ lines. lines.items ≡ spec.part_lines names_parts name.now) }
+{
+    if names_parts {
+        line(alloc, name, b" part")
+    } else {
+        Ok(Vec::new(alloc))
+    }
 }
 
 /// A line for each of the faults `nos` of the entry `name`, which is at `stands` in its source: where the field at fault
@@ -168,16 +200,6 @@ fn fault_line(alloc: Global, name: &[u8], no: &No) -> Result<Vec<u8>, AllocError
 {
     let words = words_of(alloc, no)?;
     line(alloc, name, words.as_slice())
-}
-
-/// The answers of the lines of the faults `nos`, or of the line ` yes` if there are none.
-pub fn answers_of(alloc: Global, nos: &[No]) -> Result<Vec<Answer>, AllocError>
-    ensures { IfOk result (λ answers. answers.items ≡ spec.fault_answers nos.now) }
-{
-    match nos {
-        [] => Ok(vec![in alloc; Answer::Yes]?),
-        [_, ..] => fault_answers(alloc, nos),
-    }
 }
 
 /// The line of `entry` under its `name`, with the certifier's answer.

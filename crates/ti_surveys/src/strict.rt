@@ -9,7 +9,8 @@ use ti_commands::{CommandRefusal, Failure};
 use ti_verdicts::Answer;
 
 /// The failure of a survey whose lines have these `answers`. The `failure` of a path that can't be read comes first;
-/// else, if the survey `is_strict`, it is refused as `Faulty` if some line doesn't say yes.
+/// else, if the survey `is_strict`, it is refused as `Faulty` if some line doesn't say yes. An entry that is only there to
+/// be used counts as if it did.
 pub fn strict_failure(
     alloc: Global,
     is_strict: bool,
@@ -21,7 +22,7 @@ pub fn strict_failure(
     match failure {
         Some(failure) => Ok(Some(failure)),
         None => {
-            if is_strict && !are_yes(answers) {
+            if is_strict && !all_pass(answers) {
                 Ok(Some(faulty(alloc)?))
             } else {
                 Ok(None)
@@ -38,19 +39,19 @@ fn faulty(alloc: Global) -> Result<Failure, AllocError>
     Ok(Failure::Refused(CommandRefusal::Verdict(words)))
 }
 
-/// Whether all lines say yes.
-fn are_yes(answers: &[Answer]) -> bool
-    ensures { result ≡ list_all spec.is_yes answers.now }
+/// Whether a strict survey passes all of these `answers`.
+fn all_pass(answers: &[Answer]) -> bool
+    ensures { result ≡ list_all spec.passes answers.now }
 {
-    answers.iter().all(|answer| is_yes(*answer))
+    answers.iter().all(|answer| passes(*answer))
 }
 
-/// Whether a line with this `answer` says yes.
-fn is_yes(answer: Answer) -> bool
-    ensures { result ≡ spec.is_yes answer }
+/// Whether a strict survey passes this `answer`.
+fn passes(answer: Answer) -> bool
+    ensures { result ≡ spec.passes answer }
 {
     match answer {
-        Answer::Yes => true,
-        Answer::No(_) | Answer::Refused => false,
+        Answer::Yes | Answer::Part => true,
+        Answer::No(_) | Answer::OtherKind | Answer::Refused => false,
     }
 }

@@ -32,7 +32,8 @@ pub struct Surveyed {
 
 /// Surveys the files that the `words` name. The `watcher` passes on the line of each entry once it is known, which says
 /// whether the `certifier` writes a certificate, or why not; or the lines of all faults of the entry, if the `words`
-/// ask for them. An entry that can't be read has its line too. The reply's text is the last line, which counts the
+/// ask for them. Then an entry that is only there to be used is counted apart, and named if the `words` ask for that; and
+/// an entry for a terminal of another kind has one line. An entry that can't be read has its line too. The reply's text is the last line, which counts the
 /// answers. For each listed fault of a source's entry, the reply's notes give the place of its value. If files can't be
 /// read, the reply has the failure of the first such file, the `remarks` name the further ones, and the others are
 /// surveyed all the same; else it is refused if the `words` ask for that and a line doesn't say yes. The `watcher` also
@@ -59,6 +60,7 @@ pub fn survey_files<C: Certifier, F: Files, W: Watcher>(
         certifier,
         size,
         lists_all: words.lists_all,
+        names_parts: words.names_parts,
     };
     let surveyed = survey_paths(
         alloc,

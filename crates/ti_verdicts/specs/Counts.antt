@@ -16,7 +16,7 @@ cause_names =
 
 -- the answers, in their order
 unfoldable pub answer_names : List (List ℕ)
-answer_names = codes "yes" ∷ (cause_names ++ codes "refused" ∷ [])
+answer_names = codes "yes" ∷ (cause_names ++ codes "OtherKind" ∷ codes "part" ∷ codes "refused" ∷ [])
 
 -- the number of answers that have this name
 abbrev pub answer_count : List Answer → List ℕ → ℕ

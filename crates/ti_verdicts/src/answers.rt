@@ -18,6 +18,10 @@ pub enum Answer {
     Yes,
     /// The entry has no certificate, for this cause.
     No(Cause),
+    /// The entry has no certificate, since it is for a terminal of another kind.
+    OtherKind,
+    /// The entry is only there to be used by others.
+    Part,
     /// The entry can't be read.
     Refused,
 }
@@ -30,13 +34,15 @@ impl Answer {
         match self {
             Answer::Yes => b"yes",
             Answer::No(cause) => cause_name(cause),
+            Answer::OtherKind => b"OtherKind",
+            Answer::Part => b"part",
             Answer::Refused => b"refused",
         }
     }
 }
 
 /// The answers in the order in which they are counted.
-const ANSWERS: [&str; 20] = [
+const ANSWERS: [&str; 22] = [
     "yes",
     "FlagOut",
     "Absent",
@@ -56,6 +62,8 @@ const ANSWERS: [&str; 20] = [
     "NotShown",
     "TooLong",
     "NoResync",
+    "OtherKind",
+    "part",
     "refused",
 ];
 

@@ -1,7 +1,7 @@
 //! Entries that are only there to be used by others.
 
 ghost use Rattle.std.specs.Prelude.{◌≡◌};
-ghost use Rattle.ti_reports.specs.Parts as spec;
+ghost use Rattle.ti_surveys.specs.Parts as spec;
 
 use ti_caps::Entry;
 use ti_rows::Row;
