@@ -1,6 +1,6 @@
 mod Digits
-mod FormEffects
+pub mod FormEffects
 pub mod FormRuns
-mod FormSends
+pub mod FormSends
 mod LineTexts
 mod Sequences

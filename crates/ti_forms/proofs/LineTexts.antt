@@ -1,5 +1,5 @@
--- The text of the line about a move, part by part.
-use Rattle.std.proofs.Common.{◌≡◌, ℕ, zero, suc, ◌+◌, ◌/◌, ◌%◌, ◌==◌, ◌<◌, ◌≤◌, ◌^◌, true, List, [], ◌∷◌, ◌++◌, Some, refl, sym, ap, ◌∙◌, subst, arith, append_assoc, lit<}
+-- The text of the line about a row with a standard string, part by part.
+use Rattle.std.proofs.Common.{◌≡◌, ℕ, zero, suc, ◌+◌, ◌/◌, ◌%◌, ◌==◌, ◌<◌, ◌≤◌, ◌^◌, true, List, [], ◌∷◌, ◌++◌, Some, refl, sym, ap, ◌∙◌, subst, arith, append_assoc, append-nil, lit<}
 use Rattle.std.specs.Prelude.{slice_index}
 use Rattle.std.specs.Fmt.{decimal}
 use Rattle.std.specs.List.{AllByRecursion}
@@ -7,16 +7,19 @@ use Rattle.std.proofs.lemmas.Bool.{agree_below_at, eqb-true}
 use Rattle.std.proofs.lemmas.Fmt.{decimal_digit, decimal_step}
 use Rattle.hex.specs.Hex.{IsBytes, encode_lower, encode_with, lower_digits}
 use Rattle.vt_term.specs.Text.{IsParameter}
-use Rattle.vt_term.specs.Moves.{cursor_to}
 use Rattle.vt_term.proofs.Decimals.{all_append}
 use Rattle.vt_term.proofs.Moves.{spells}
 use Rattle.vt_term.proofs.Sequences.{all_weaker}
 use Rattle.ti_rows.specs.Names.{name_in_order}
+use Rattle.ti_rows.specs.declared.rows.Row.{Row}
+use Rattle.ti_rows.specs.declared.rows.Row.TheVariants.{Cup, Hpa, Vpa, Cub, Cuf, Cuu, Cud, Ech, Csr}
 use Rattle.ti_lines.specs.EffectText.{spelled}
 use Rattle.ti_lines.specs.RowLines.{IsLine, IsTextOf, line_text}
 use Rattle.ti_lines.specs.declared.row_lines.RowLine.{RowLine}
 use Rattle.ti_lines.proofs.LinesRead.{one_line}
-use Rattle.ti_forms.specs.Forms.{IsMoveLine, move_line}
+use Rattle.ti_forms.specs.Forms.{HasForm, ToPlace, ToColumn, ToLine, Left, Right, Upward, Downward, Erasing, Bounding}
+use Rattle.vt_effects.specs.declared.effects.Effect.{Effect}
+use Rattle.ti_forms.specs.Forms.{IsStandardLine, IsWholeForm, standard_effect, standard_line, with_number, with_numbers}
 
 -- ---- hexadecimal digits
 
@@ -56,48 +59,151 @@ five_words t a b c d e t1 t2 t3 t4 t5 p q r s u =
     u ∙ ap (λ (l : List ℕ). l ++ e) (s ∙ ap (λ (l : List ℕ). l ++ d) (r ∙ ap (λ (l : List ℕ). l ++ c) (q ∙ ap (λ (l : List ℕ). l ++ b) p)))
     ∙ append_assoc (((t ++ a) ++ b) ++ c) d e ∙ append_assoc ((t ++ a) ++ b) c (d ++ e) ∙ append_assoc (t ++ a) b (c ++ (d ++ e)) ∙ append_assoc t a (b ++ (c ++ (d ++ e)))
 
-move_coded : (row col : ℕ) → encode_lower (cursor_to row col) ≡ 49 ∷ 98 ∷ 53 ∷ 98 ∷ (encode_lower (decimal (row + 1)) ++ (51 ∷ 98 ∷ (encode_lower (decimal (col + 1)) ++ (52 ∷ 56 ∷ []))))
+pub three_words : (t a b c t1 t2 t3 : List ℕ) → t1 ≡ t ++ a → t2 ≡ t1 ++ b → t3 ≡ t2 ++ c → t3 ≡ t ++ (a ++ (b ++ c))
+three_words t a b c t1 t2 t3 p q r =
+    r ∙ ap (λ (l : List ℕ). l ++ c) (q ∙ ap (λ (l : List ℕ). l ++ b) p) ∙ append_assoc (t ++ a) b c ∙ append_assoc t a (b ++ c)
+
+-- the first words, the bytes and the last words, one after another
+from_none : (t t1 t2 none a b c : List ℕ) → none ≡ [] → t1 ≡ none ++ a → t2 ≡ t1 ++ b → t ≡ t2 ++ c → t ≡ a ++ (b ++ c)
+from_none t t1 t2 none a b c n p q r = three_words none a b c t1 t2 t p q r ∙ ap (λ (l : List ℕ). l ++ (a ++ (b ++ c))) n
+
+-- ---- the bytes in hexadecimal
+
+number_coded : (n last : ℕ) (code : List ℕ) → encode_lower (last ∷ []) ≡ code → encode_lower (with_number n last) ≡ (49 ∷ 98 ∷ 53 ∷ 98 ∷ []) ++ (encode_lower (decimal n) ++ code)
 unfolding encode_with
-move_coded row col =
-    ap (λ (l : List ℕ). 49 ∷ 98 ∷ 53 ∷ 98 ∷ l) (encode_append (decimal (row + 1)) (59 ∷ (decimal (col + 1) ++ 72 ∷ []))
-    ∙ ap (λ (l : List ℕ). encode_lower (decimal (row + 1)) ++ (51 ∷ 98 ∷ l)) (encode_append (decimal (col + 1)) (72 ∷ [])))
+number_coded n last code e =
+    ap (λ (l : List ℕ). 49 ∷ 98 ∷ 53 ∷ 98 ∷ l) (encode_append (decimal n) (last ∷ []) ∙ ap (λ (l : List ℕ). encode_lower (decimal n) ++ l) e)
 
-pub move_spelled : (row col : ℕ) (t t1 t2 t3 t4 t5 : List ℕ) → t1 ≡ t ++ (49 ∷ 98 ∷ 53 ∷ 98 ∷ []) → t2 ≡ t1 ++ encode_lower (decimal (row + 1)) → t3 ≡ t2 ++ (51 ∷ 98 ∷ []) → t4 ≡ t3 ++ encode_lower (decimal (col + 1)) → t5 ≡ t4 ++ (52 ∷ 56 ∷ []) → t5 ≡ t ++ encode_lower (cursor_to row col)
-move_spelled row col t t1 t2 t3 t4 t5 p q r s u =
-    five_words t (49 ∷ 98 ∷ 53 ∷ 98 ∷ []) (encode_lower (decimal (row + 1))) (51 ∷ 98 ∷ []) (encode_lower (decimal (col + 1))) (52 ∷ 56 ∷ []) t1 t2 t3 t4 t5 p q r s u
-    ∙ ap (λ (l : List ℕ). t ++ l) (sym (move_coded row col))
+numbers_coded : (m n last : ℕ) (code : List ℕ) → encode_lower (last ∷ []) ≡ code → encode_lower (with_numbers m n last) ≡ (49 ∷ 98 ∷ 53 ∷ 98 ∷ []) ++ (encode_lower (decimal m) ++ ((51 ∷ 98 ∷ []) ++ (encode_lower (decimal n) ++ code)))
+unfolding encode_with
+numbers_coded m n last code e =
+    ap (λ (l : List ℕ). 49 ∷ 98 ∷ 53 ∷ 98 ∷ l) (encode_append (decimal m) (59 ∷ (decimal n ++ last ∷ []))
+    ∙ ap (λ (l : List ℕ). encode_lower (decimal m) ++ (51 ∷ 98 ∷ l)) (encode_append (decimal n) (last ∷ []) ∙ ap (λ (l : List ℕ). encode_lower (decimal n) ++ l) e))
 
--- ---- the whole line
+-- ---- the whole lines
 
--- cup, row= and col=, nopend
-abbrev cup_word : List ℕ
-cup_word = 99 ∷ 117 ∷ 112 ∷ 32 ∷ []
+whole_cup : (row col : ℕ) → line_text (standard_line (Cup row col)) ≡ ((99 ∷ 117 ∷ 112 ∷ 32 ∷ []) ++ (decimal row ++ ((32 ∷ []) ++ (decimal col ++ (32 ∷ []))))) ++ (encode_lower (with_numbers (row + 1) (col + 1) 72) ++ ((32 ∷ 114 ∷ 111 ∷ 119 ∷ 61 ∷ []) ++ (decimal row ++ ((32 ∷ 99 ∷ 111 ∷ 108 ∷ 61 ∷ []) ++ (decimal col ++ (32 ∷ 110 ∷ 111 ∷ 112 ∷ 101 ∷ 110 ∷ 100 ∷ []))))))
+unfolding name_in_order spelled
+whole_cup row col = refl
 
-abbrev row_word : List ℕ
-row_word = 32 ∷ 114 ∷ 111 ∷ 119 ∷ 61 ∷ []
+pub cup_spelled : (row col : ℕ) (t t1 t2 none : List ℕ) → none ≡ [] → t1 ≡ none ++ ((99 ∷ 117 ∷ 112 ∷ 32 ∷ []) ++ (decimal row ++ ((32 ∷ []) ++ (decimal col ++ (32 ∷ []))))) → t2 ≡ t1 ++ ((49 ∷ 98 ∷ 53 ∷ 98 ∷ []) ++ (encode_lower (decimal (row + 1)) ++ ((51 ∷ 98 ∷ []) ++ (encode_lower (decimal (col + 1)) ++ (52 ∷ 56 ∷ []))))) → t ≡ t2 ++ ((32 ∷ 114 ∷ 111 ∷ 119 ∷ 61 ∷ []) ++ (decimal row ++ ((32 ∷ 99 ∷ 111 ∷ 108 ∷ 61 ∷ []) ++ (decimal col ++ (32 ∷ 110 ∷ 111 ∷ 112 ∷ 101 ∷ 110 ∷ 100 ∷ []))))) → t ≡ line_text (standard_line (Cup row col))
+unfolding encode_with
+cup_spelled row col t t1 t2 none n e f g =
+    from_none t t1 t2 none ((99 ∷ 117 ∷ 112 ∷ 32 ∷ []) ++ (decimal row ++ ((32 ∷ []) ++ (decimal col ++ (32 ∷ []))))) ((49 ∷ 98 ∷ 53 ∷ 98 ∷ []) ++ (encode_lower (decimal (row + 1)) ++ ((51 ∷ 98 ∷ []) ++ (encode_lower (decimal (col + 1)) ++ (52 ∷ 56 ∷ []))))) ((32 ∷ 114 ∷ 111 ∷ 119 ∷ 61 ∷ []) ++ (decimal row ++ ((32 ∷ 99 ∷ 111 ∷ 108 ∷ 61 ∷ []) ++ (decimal col ++ (32 ∷ 110 ∷ 111 ∷ 112 ∷ 101 ∷ 110 ∷ 100 ∷ []))))) n e f g
+    ∙ ap (λ (l : List ℕ). ((99 ∷ 117 ∷ 112 ∷ 32 ∷ []) ++ (decimal row ++ ((32 ∷ []) ++ (decimal col ++ (32 ∷ []))))) ++ (l ++ ((32 ∷ 114 ∷ 111 ∷ 119 ∷ 61 ∷ []) ++ (decimal row ++ ((32 ∷ 99 ∷ 111 ∷ 108 ∷ 61 ∷ []) ++ (decimal col ++ (32 ∷ 110 ∷ 111 ∷ 112 ∷ 101 ∷ 110 ∷ 100 ∷ []))))))) (sym (numbers_coded (row + 1) (col + 1) 72 (52 ∷ 56 ∷ []) refl))
+    ∙ sym (whole_cup row col)
 
-abbrev col_word : List ℕ
-col_word = 32 ∷ 99 ∷ 111 ∷ 108 ∷ 61 ∷ []
+-- the line with this text for each 0
+csr_with : ℕ → ℕ → List ℕ → List ℕ
+csr_with top bottom z = ((99 ∷ 115 ∷ 114 ∷ 32 ∷ []) ++ (decimal top ++ ((32 ∷ []) ++ (decimal bottom ++ (32 ∷ []))))) ++ (encode_lower (with_numbers (top + 1) (bottom + 1) 114) ++ (32 ∷ 114 ∷ 111 ∷ 119 ∷ 61 ∷ (z ++ (32 ∷ 99 ∷ 111 ∷ 108 ∷ 61 ∷ (z ++ (32 ∷ 110 ∷ 111 ∷ 112 ∷ 101 ∷ 110 ∷ 100 ∷ 32 ∷ 114 ∷ 111 ∷ 119 ∷ 115 ∷ 58 ∷ (decimal top ++ (44 ∷ decimal bottom))))))))
 
-abbrev end_word : List ℕ
-end_word = 32 ∷ 110 ∷ 111 ∷ 112 ∷ 101 ∷ 110 ∷ 100 ∷ []
+csr_zeros : (top bottom : ℕ) → line_text (standard_line (Csr top bottom)) ≡ csr_with top bottom (decimal 0)
+unfolding name_in_order spelled csr_with
+csr_zeros top bottom = refl
 
-head_of : ℕ → ℕ → List ℕ
-head_of row col = cup_word ++ (decimal row ++ ((32 ∷ []) ++ (decimal col ++ (32 ∷ []))))
+csr_written : (top bottom : ℕ) → csr_with top bottom (48 ∷ []) ≡ ((99 ∷ 115 ∷ 114 ∷ 32 ∷ []) ++ (decimal top ++ ((32 ∷ []) ++ (decimal bottom ++ (32 ∷ []))))) ++ (encode_lower (with_numbers (top + 1) (bottom + 1) 114) ++ ((32 ∷ 114 ∷ 111 ∷ 119 ∷ 61 ∷ 48 ∷ 32 ∷ 99 ∷ 111 ∷ 108 ∷ 61 ∷ 48 ∷ 32 ∷ 110 ∷ 111 ∷ 112 ∷ 101 ∷ 110 ∷ 100 ∷ 32 ∷ 114 ∷ 111 ∷ 119 ∷ 115 ∷ 58 ∷ []) ++ (decimal top ++ ((44 ∷ []) ++ (decimal bottom)))))
+unfolding csr_with
+csr_written top bottom = refl
 
-tail_of : ℕ → ℕ → List ℕ
-tail_of row col = row_word ++ (decimal row ++ (col_word ++ (decimal col ++ end_word)))
+whole_csr : (top bottom : ℕ) → line_text (standard_line (Csr top bottom)) ≡ ((99 ∷ 115 ∷ 114 ∷ 32 ∷ []) ++ (decimal top ++ ((32 ∷ []) ++ (decimal bottom ++ (32 ∷ []))))) ++ (encode_lower (with_numbers (top + 1) (bottom + 1) 114) ++ ((32 ∷ 114 ∷ 111 ∷ 119 ∷ 61 ∷ 48 ∷ 32 ∷ 99 ∷ 111 ∷ 108 ∷ 61 ∷ 48 ∷ 32 ∷ 110 ∷ 111 ∷ 112 ∷ 101 ∷ 110 ∷ 100 ∷ 32 ∷ 114 ∷ 111 ∷ 119 ∷ 115 ∷ 58 ∷ []) ++ (decimal top ++ ((44 ∷ []) ++ (decimal bottom)))))
+whole_csr top bottom = csr_zeros top bottom ∙ ap (λ (z : List ℕ). csr_with top bottom z) (decimal_digit 0 (omega arith)) ∙ csr_written top bottom
 
-whole_line : (row col : ℕ) → line_text (move_line row col) ≡ 99 ∷ 117 ∷ 112 ∷ 32 ∷ ((decimal row ++ 32 ∷ (decimal col ++ 32 ∷ [])) ++ (encode_lower (cursor_to row col) ++ tail_of row col))
-unfolding name_in_order spelled tail_of
-whole_line row col = refl
+pub csr_spelled : (top bottom : ℕ) (t t1 t2 none : List ℕ) → none ≡ [] → t1 ≡ none ++ ((99 ∷ 115 ∷ 114 ∷ 32 ∷ []) ++ (decimal top ++ ((32 ∷ []) ++ (decimal bottom ++ (32 ∷ []))))) → t2 ≡ t1 ++ ((49 ∷ 98 ∷ 53 ∷ 98 ∷ []) ++ (encode_lower (decimal (top + 1)) ++ ((51 ∷ 98 ∷ []) ++ (encode_lower (decimal (bottom + 1)) ++ (55 ∷ 50 ∷ []))))) → t ≡ t2 ++ ((32 ∷ 114 ∷ 111 ∷ 119 ∷ 61 ∷ 48 ∷ 32 ∷ 99 ∷ 111 ∷ 108 ∷ 61 ∷ 48 ∷ 32 ∷ 110 ∷ 111 ∷ 112 ∷ 101 ∷ 110 ∷ 100 ∷ 32 ∷ 114 ∷ 111 ∷ 119 ∷ 115 ∷ 58 ∷ []) ++ (decimal top ++ ((44 ∷ []) ++ (decimal bottom ++ [])))) → t ≡ line_text (standard_line (Csr top bottom))
+unfolding encode_with
+csr_spelled top bottom t t1 t2 none n e f g =
+    from_none t t1 t2 none ((99 ∷ 115 ∷ 114 ∷ 32 ∷ []) ++ (decimal top ++ ((32 ∷ []) ++ (decimal bottom ++ (32 ∷ []))))) ((49 ∷ 98 ∷ 53 ∷ 98 ∷ []) ++ (encode_lower (decimal (top + 1)) ++ ((51 ∷ 98 ∷ []) ++ (encode_lower (decimal (bottom + 1)) ++ (55 ∷ 50 ∷ []))))) ((32 ∷ 114 ∷ 111 ∷ 119 ∷ 61 ∷ 48 ∷ 32 ∷ 99 ∷ 111 ∷ 108 ∷ 61 ∷ 48 ∷ 32 ∷ 110 ∷ 111 ∷ 112 ∷ 101 ∷ 110 ∷ 100 ∷ 32 ∷ 114 ∷ 111 ∷ 119 ∷ 115 ∷ 58 ∷ []) ++ (decimal top ++ ((44 ∷ []) ++ (decimal bottom ++ [])))) n e f g
+    ∙ ap (λ (l : List ℕ). ((99 ∷ 115 ∷ 114 ∷ 32 ∷ []) ++ (decimal top ++ ((32 ∷ []) ++ (decimal bottom ++ (32 ∷ []))))) ++ (((49 ∷ 98 ∷ 53 ∷ 98 ∷ []) ++ (encode_lower (decimal (top + 1)) ++ ((51 ∷ 98 ∷ []) ++ (encode_lower (decimal (bottom + 1)) ++ (55 ∷ 50 ∷ []))))) ++ ((32 ∷ 114 ∷ 111 ∷ 119 ∷ 61 ∷ 48 ∷ 32 ∷ 99 ∷ 111 ∷ 108 ∷ 61 ∷ 48 ∷ 32 ∷ 110 ∷ 111 ∷ 112 ∷ 101 ∷ 110 ∷ 100 ∷ 32 ∷ 114 ∷ 111 ∷ 119 ∷ 115 ∷ 58 ∷ []) ++ (decimal top ++ ((44 ∷ []) ++ l))))) (append-nil (decimal bottom))
+    ∙ ap (λ (l : List ℕ). ((99 ∷ 115 ∷ 114 ∷ 32 ∷ []) ++ (decimal top ++ ((32 ∷ []) ++ (decimal bottom ++ (32 ∷ []))))) ++ (l ++ ((32 ∷ 114 ∷ 111 ∷ 119 ∷ 61 ∷ 48 ∷ 32 ∷ 99 ∷ 111 ∷ 108 ∷ 61 ∷ 48 ∷ 32 ∷ 110 ∷ 111 ∷ 112 ∷ 101 ∷ 110 ∷ 100 ∷ 32 ∷ 114 ∷ 111 ∷ 119 ∷ 115 ∷ 58 ∷ []) ++ (decimal top ++ ((44 ∷ []) ++ (decimal bottom)))))) (sym (numbers_coded (top + 1) (bottom + 1) 114 (55 ∷ 50 ∷ []) refl))
+    ∙ sym (whole_csr top bottom)
 
-pub line_spelled : (row col : ℕ) (t t1 t2 none : List ℕ) → none ≡ [] → t1 ≡ none ++ (cup_word ++ (decimal row ++ ((32 ∷ []) ++ (decimal col ++ (32 ∷ []))))) → t2 ≡ t1 ++ encode_lower (cursor_to row col)
-    → t ≡ t2 ++ (row_word ++ (decimal row ++ (col_word ++ (decimal col ++ end_word)))) → t ≡ line_text (move_line row col)
-unfolding head_of tail_of
-line_spelled row col t t1 t2 none n p q r =
-    r ∙ ap (λ (l : List ℕ). l ++ tail_of row col) (q ∙ ap (λ (l : List ℕ). l ++ encode_lower (cursor_to row col)) (p ∙ ap (λ (l : List ℕ). l ++ head_of row col) n))
-    ∙ append_assoc (head_of row col) (encode_lower (cursor_to row col)) (tail_of row col) ∙ sym (whole_line row col)
+whole_hpa : (n : ℕ) → line_text (standard_line (Hpa n)) ≡ ((104 ∷ 112 ∷ 97 ∷ 32 ∷ []) ++ (decimal n ++ (32 ∷ []))) ++ (encode_lower (with_number (n + 1) 71) ++ ((32 ∷ 99 ∷ 111 ∷ 108 ∷ 61 ∷ []) ++ (decimal n ++ (32 ∷ 110 ∷ 111 ∷ 112 ∷ 101 ∷ 110 ∷ 100 ∷ []))))
+unfolding name_in_order spelled
+whole_hpa n = refl
+
+pub hpa_spelled : (n : ℕ) (t t1 t2 none : List ℕ) → none ≡ [] → t1 ≡ none ++ ((104 ∷ 112 ∷ 97 ∷ 32 ∷ []) ++ (decimal n ++ (32 ∷ []))) → t2 ≡ t1 ++ ((49 ∷ 98 ∷ 53 ∷ 98 ∷ []) ++ (encode_lower (decimal (n + 1)) ++ (52 ∷ 55 ∷ []))) → t ≡ t2 ++ ((32 ∷ 99 ∷ 111 ∷ 108 ∷ 61 ∷ []) ++ (decimal n ++ (32 ∷ 110 ∷ 111 ∷ 112 ∷ 101 ∷ 110 ∷ 100 ∷ []))) → t ≡ line_text (standard_line (Hpa n))
+unfolding encode_with
+hpa_spelled n t t1 t2 none z e f g =
+    from_none t t1 t2 none ((104 ∷ 112 ∷ 97 ∷ 32 ∷ []) ++ (decimal n ++ (32 ∷ []))) ((49 ∷ 98 ∷ 53 ∷ 98 ∷ []) ++ (encode_lower (decimal (n + 1)) ++ (52 ∷ 55 ∷ []))) ((32 ∷ 99 ∷ 111 ∷ 108 ∷ 61 ∷ []) ++ (decimal n ++ (32 ∷ 110 ∷ 111 ∷ 112 ∷ 101 ∷ 110 ∷ 100 ∷ []))) z e f g
+    ∙ ap (λ (l : List ℕ). ((104 ∷ 112 ∷ 97 ∷ 32 ∷ []) ++ (decimal n ++ (32 ∷ []))) ++ (l ++ ((32 ∷ 99 ∷ 111 ∷ 108 ∷ 61 ∷ []) ++ (decimal n ++ (32 ∷ 110 ∷ 111 ∷ 112 ∷ 101 ∷ 110 ∷ 100 ∷ []))))) (sym (number_coded (n + 1) 71 (52 ∷ 55 ∷ []) refl))
+    ∙ sym (whole_hpa n)
+
+whole_vpa : (n : ℕ) → line_text (standard_line (Vpa n)) ≡ ((118 ∷ 112 ∷ 97 ∷ 32 ∷ []) ++ (decimal n ++ (32 ∷ []))) ++ (encode_lower (with_number (n + 1) 100) ++ ((32 ∷ 114 ∷ 111 ∷ 119 ∷ 61 ∷ []) ++ (decimal n ++ (32 ∷ 110 ∷ 111 ∷ 112 ∷ 101 ∷ 110 ∷ 100 ∷ []))))
+unfolding name_in_order spelled
+whole_vpa n = refl
+
+pub vpa_spelled : (n : ℕ) (t t1 t2 none : List ℕ) → none ≡ [] → t1 ≡ none ++ ((118 ∷ 112 ∷ 97 ∷ 32 ∷ []) ++ (decimal n ++ (32 ∷ []))) → t2 ≡ t1 ++ ((49 ∷ 98 ∷ 53 ∷ 98 ∷ []) ++ (encode_lower (decimal (n + 1)) ++ (54 ∷ 52 ∷ []))) → t ≡ t2 ++ ((32 ∷ 114 ∷ 111 ∷ 119 ∷ 61 ∷ []) ++ (decimal n ++ (32 ∷ 110 ∷ 111 ∷ 112 ∷ 101 ∷ 110 ∷ 100 ∷ []))) → t ≡ line_text (standard_line (Vpa n))
+unfolding encode_with
+vpa_spelled n t t1 t2 none z e f g =
+    from_none t t1 t2 none ((118 ∷ 112 ∷ 97 ∷ 32 ∷ []) ++ (decimal n ++ (32 ∷ []))) ((49 ∷ 98 ∷ 53 ∷ 98 ∷ []) ++ (encode_lower (decimal (n + 1)) ++ (54 ∷ 52 ∷ []))) ((32 ∷ 114 ∷ 111 ∷ 119 ∷ 61 ∷ []) ++ (decimal n ++ (32 ∷ 110 ∷ 111 ∷ 112 ∷ 101 ∷ 110 ∷ 100 ∷ []))) z e f g
+    ∙ ap (λ (l : List ℕ). ((118 ∷ 112 ∷ 97 ∷ 32 ∷ []) ++ (decimal n ++ (32 ∷ []))) ++ (l ++ ((32 ∷ 114 ∷ 111 ∷ 119 ∷ 61 ∷ []) ++ (decimal n ++ (32 ∷ 110 ∷ 111 ∷ 112 ∷ 101 ∷ 110 ∷ 100 ∷ []))))) (sym (number_coded (n + 1) 100 (54 ∷ 52 ∷ []) refl))
+    ∙ sym (whole_vpa n)
+
+whole_cub : (n : ℕ) → line_text (standard_line (Cub n)) ≡ ((99 ∷ 117 ∷ 98 ∷ 32 ∷ []) ++ (decimal n ++ (32 ∷ []))) ++ (encode_lower (with_number n 68) ++ ((32 ∷ 99 ∷ 111 ∷ 108 ∷ 45 ∷ []) ++ (decimal n ++ (32 ∷ 110 ∷ 111 ∷ 112 ∷ 101 ∷ 110 ∷ 100 ∷ []))))
+unfolding name_in_order spelled
+whole_cub n = refl
+
+pub cub_spelled : (n : ℕ) (t t1 t2 none : List ℕ) → none ≡ [] → t1 ≡ none ++ ((99 ∷ 117 ∷ 98 ∷ 32 ∷ []) ++ (decimal n ++ (32 ∷ []))) → t2 ≡ t1 ++ ((49 ∷ 98 ∷ 53 ∷ 98 ∷ []) ++ (encode_lower (decimal n) ++ (52 ∷ 52 ∷ []))) → t ≡ t2 ++ ((32 ∷ 99 ∷ 111 ∷ 108 ∷ 45 ∷ []) ++ (decimal n ++ (32 ∷ 110 ∷ 111 ∷ 112 ∷ 101 ∷ 110 ∷ 100 ∷ []))) → t ≡ line_text (standard_line (Cub n))
+unfolding encode_with
+cub_spelled n t t1 t2 none z e f g =
+    from_none t t1 t2 none ((99 ∷ 117 ∷ 98 ∷ 32 ∷ []) ++ (decimal n ++ (32 ∷ []))) ((49 ∷ 98 ∷ 53 ∷ 98 ∷ []) ++ (encode_lower (decimal n) ++ (52 ∷ 52 ∷ []))) ((32 ∷ 99 ∷ 111 ∷ 108 ∷ 45 ∷ []) ++ (decimal n ++ (32 ∷ 110 ∷ 111 ∷ 112 ∷ 101 ∷ 110 ∷ 100 ∷ []))) z e f g
+    ∙ ap (λ (l : List ℕ). ((99 ∷ 117 ∷ 98 ∷ 32 ∷ []) ++ (decimal n ++ (32 ∷ []))) ++ (l ++ ((32 ∷ 99 ∷ 111 ∷ 108 ∷ 45 ∷ []) ++ (decimal n ++ (32 ∷ 110 ∷ 111 ∷ 112 ∷ 101 ∷ 110 ∷ 100 ∷ []))))) (sym (number_coded n 68 (52 ∷ 52 ∷ []) refl))
+    ∙ sym (whole_cub n)
+
+whole_cuf : (n : ℕ) → line_text (standard_line (Cuf n)) ≡ ((99 ∷ 117 ∷ 102 ∷ 32 ∷ []) ++ (decimal n ++ (32 ∷ []))) ++ (encode_lower (with_number n 67) ++ ((32 ∷ 99 ∷ 111 ∷ 108 ∷ 43 ∷ []) ++ (decimal n ++ (32 ∷ 110 ∷ 111 ∷ 112 ∷ 101 ∷ 110 ∷ 100 ∷ []))))
+unfolding name_in_order spelled
+whole_cuf n = refl
+
+pub cuf_spelled : (n : ℕ) (t t1 t2 none : List ℕ) → none ≡ [] → t1 ≡ none ++ ((99 ∷ 117 ∷ 102 ∷ 32 ∷ []) ++ (decimal n ++ (32 ∷ []))) → t2 ≡ t1 ++ ((49 ∷ 98 ∷ 53 ∷ 98 ∷ []) ++ (encode_lower (decimal n) ++ (52 ∷ 51 ∷ []))) → t ≡ t2 ++ ((32 ∷ 99 ∷ 111 ∷ 108 ∷ 43 ∷ []) ++ (decimal n ++ (32 ∷ 110 ∷ 111 ∷ 112 ∷ 101 ∷ 110 ∷ 100 ∷ []))) → t ≡ line_text (standard_line (Cuf n))
+unfolding encode_with
+cuf_spelled n t t1 t2 none z e f g =
+    from_none t t1 t2 none ((99 ∷ 117 ∷ 102 ∷ 32 ∷ []) ++ (decimal n ++ (32 ∷ []))) ((49 ∷ 98 ∷ 53 ∷ 98 ∷ []) ++ (encode_lower (decimal n) ++ (52 ∷ 51 ∷ []))) ((32 ∷ 99 ∷ 111 ∷ 108 ∷ 43 ∷ []) ++ (decimal n ++ (32 ∷ 110 ∷ 111 ∷ 112 ∷ 101 ∷ 110 ∷ 100 ∷ []))) z e f g
+    ∙ ap (λ (l : List ℕ). ((99 ∷ 117 ∷ 102 ∷ 32 ∷ []) ++ (decimal n ++ (32 ∷ []))) ++ (l ++ ((32 ∷ 99 ∷ 111 ∷ 108 ∷ 43 ∷ []) ++ (decimal n ++ (32 ∷ 110 ∷ 111 ∷ 112 ∷ 101 ∷ 110 ∷ 100 ∷ []))))) (sym (number_coded n 67 (52 ∷ 51 ∷ []) refl))
+    ∙ sym (whole_cuf n)
+
+whole_cuu : (n : ℕ) → line_text (standard_line (Cuu n)) ≡ ((99 ∷ 117 ∷ 117 ∷ 32 ∷ []) ++ (decimal n ++ (32 ∷ []))) ++ (encode_lower (with_number n 65) ++ ((32 ∷ 114 ∷ 111 ∷ 119 ∷ 45 ∷ []) ++ (decimal n ++ (32 ∷ 110 ∷ 111 ∷ 112 ∷ 101 ∷ 110 ∷ 100 ∷ []))))
+unfolding name_in_order spelled
+whole_cuu n = refl
+
+pub cuu_spelled : (n : ℕ) (t t1 t2 none : List ℕ) → none ≡ [] → t1 ≡ none ++ ((99 ∷ 117 ∷ 117 ∷ 32 ∷ []) ++ (decimal n ++ (32 ∷ []))) → t2 ≡ t1 ++ ((49 ∷ 98 ∷ 53 ∷ 98 ∷ []) ++ (encode_lower (decimal n) ++ (52 ∷ 49 ∷ []))) → t ≡ t2 ++ ((32 ∷ 114 ∷ 111 ∷ 119 ∷ 45 ∷ []) ++ (decimal n ++ (32 ∷ 110 ∷ 111 ∷ 112 ∷ 101 ∷ 110 ∷ 100 ∷ []))) → t ≡ line_text (standard_line (Cuu n))
+unfolding encode_with
+cuu_spelled n t t1 t2 none z e f g =
+    from_none t t1 t2 none ((99 ∷ 117 ∷ 117 ∷ 32 ∷ []) ++ (decimal n ++ (32 ∷ []))) ((49 ∷ 98 ∷ 53 ∷ 98 ∷ []) ++ (encode_lower (decimal n) ++ (52 ∷ 49 ∷ []))) ((32 ∷ 114 ∷ 111 ∷ 119 ∷ 45 ∷ []) ++ (decimal n ++ (32 ∷ 110 ∷ 111 ∷ 112 ∷ 101 ∷ 110 ∷ 100 ∷ []))) z e f g
+    ∙ ap (λ (l : List ℕ). ((99 ∷ 117 ∷ 117 ∷ 32 ∷ []) ++ (decimal n ++ (32 ∷ []))) ++ (l ++ ((32 ∷ 114 ∷ 111 ∷ 119 ∷ 45 ∷ []) ++ (decimal n ++ (32 ∷ 110 ∷ 111 ∷ 112 ∷ 101 ∷ 110 ∷ 100 ∷ []))))) (sym (number_coded n 65 (52 ∷ 49 ∷ []) refl))
+    ∙ sym (whole_cuu n)
+
+whole_cud : (n : ℕ) → line_text (standard_line (Cud n)) ≡ ((99 ∷ 117 ∷ 100 ∷ 32 ∷ []) ++ (decimal n ++ (32 ∷ []))) ++ (encode_lower (with_number n 66) ++ ((32 ∷ 114 ∷ 111 ∷ 119 ∷ 43 ∷ []) ++ (decimal n ++ (32 ∷ 110 ∷ 111 ∷ 112 ∷ 101 ∷ 110 ∷ 100 ∷ []))))
+unfolding name_in_order spelled
+whole_cud n = refl
+
+pub cud_spelled : (n : ℕ) (t t1 t2 none : List ℕ) → none ≡ [] → t1 ≡ none ++ ((99 ∷ 117 ∷ 100 ∷ 32 ∷ []) ++ (decimal n ++ (32 ∷ []))) → t2 ≡ t1 ++ ((49 ∷ 98 ∷ 53 ∷ 98 ∷ []) ++ (encode_lower (decimal n) ++ (52 ∷ 50 ∷ []))) → t ≡ t2 ++ ((32 ∷ 114 ∷ 111 ∷ 119 ∷ 43 ∷ []) ++ (decimal n ++ (32 ∷ 110 ∷ 111 ∷ 112 ∷ 101 ∷ 110 ∷ 100 ∷ []))) → t ≡ line_text (standard_line (Cud n))
+unfolding encode_with
+cud_spelled n t t1 t2 none z e f g =
+    from_none t t1 t2 none ((99 ∷ 117 ∷ 100 ∷ 32 ∷ []) ++ (decimal n ++ (32 ∷ []))) ((49 ∷ 98 ∷ 53 ∷ 98 ∷ []) ++ (encode_lower (decimal n) ++ (52 ∷ 50 ∷ []))) ((32 ∷ 114 ∷ 111 ∷ 119 ∷ 43 ∷ []) ++ (decimal n ++ (32 ∷ 110 ∷ 111 ∷ 112 ∷ 101 ∷ 110 ∷ 100 ∷ []))) z e f g
+    ∙ ap (λ (l : List ℕ). ((99 ∷ 117 ∷ 100 ∷ 32 ∷ []) ++ (decimal n ++ (32 ∷ []))) ++ (l ++ ((32 ∷ 114 ∷ 111 ∷ 119 ∷ 43 ∷ []) ++ (decimal n ++ (32 ∷ 110 ∷ 111 ∷ 112 ∷ 101 ∷ 110 ∷ 100 ∷ []))))) (sym (number_coded n 66 (52 ∷ 50 ∷ []) refl))
+    ∙ sym (whole_cud n)
+
+whole_ech : (n : ℕ) → line_text (standard_line (Ech n)) ≡ ((101 ∷ 99 ∷ 104 ∷ 32 ∷ []) ++ (decimal n ++ (32 ∷ []))) ++ (encode_lower (with_number n 88) ++ ((32 ∷ 110 ∷ 101 ∷ 120 ∷ 116 ∷ 61 ∷ []) ++ decimal n))
+unfolding name_in_order spelled
+whole_ech n = refl
+
+pub ech_spelled : (n : ℕ) (t t1 t2 none : List ℕ) → none ≡ [] → t1 ≡ none ++ ((101 ∷ 99 ∷ 104 ∷ 32 ∷ []) ++ (decimal n ++ (32 ∷ []))) → t2 ≡ t1 ++ ((49 ∷ 98 ∷ 53 ∷ 98 ∷ []) ++ (encode_lower (decimal n) ++ (53 ∷ 56 ∷ []))) → t ≡ t2 ++ ((32 ∷ 110 ∷ 101 ∷ 120 ∷ 116 ∷ 61 ∷ []) ++ (decimal n ++ [])) → t ≡ line_text (standard_line (Ech n))
+unfolding encode_with
+ech_spelled n t t1 t2 none z e f g =
+    from_none t t1 t2 none ((101 ∷ 99 ∷ 104 ∷ 32 ∷ []) ++ (decimal n ++ (32 ∷ []))) ((49 ∷ 98 ∷ 53 ∷ 98 ∷ []) ++ (encode_lower (decimal n) ++ (53 ∷ 56 ∷ []))) ((32 ∷ 110 ∷ 101 ∷ 120 ∷ 116 ∷ 61 ∷ []) ++ (decimal n ++ [])) z e f g
+    ∙ ap (λ (l : List ℕ). ((101 ∷ 99 ∷ 104 ∷ 32 ∷ []) ++ (decimal n ++ (32 ∷ []))) ++ (((49 ∷ 98 ∷ 53 ∷ 98 ∷ []) ++ (encode_lower (decimal n) ++ (53 ∷ 56 ∷ []))) ++ ((32 ∷ 110 ∷ 101 ∷ 120 ∷ 116 ∷ 61 ∷ []) ++ l))) (append-nil (decimal n))
+    ∙ ap (λ (l : List ℕ). ((101 ∷ 99 ∷ 104 ∷ 32 ∷ []) ++ (decimal n ++ (32 ∷ []))) ++ (l ++ ((32 ∷ 110 ∷ 101 ∷ 120 ∷ 116 ∷ 61 ∷ []) ++ decimal n))) (sym (number_coded n 88 (53 ∷ 56 ∷ []) refl))
+    ∙ sym (whole_ech n)
+
+-- the text of the line about a row that is this one
+pub standard_text : (row same : Row) (text : List ℕ) → row ≡ same → text ≡ line_text (standard_line same) → text ≡ line_text (standard_line row)
+standard_text row same text e f = subst (λ (r : Row). text ≡ line_text (standard_line r)) (sym e) f
+
+-- the line that a writer is given, if it is that of a standard string
+pub written_line : (row : Row) (bytes : List ℕ) (effect : Effect) (text : List ℕ) → IsStandardLine row text → IsWholeForm row bytes effect → text ≡ line_text (record { row = row; bytes = bytes; effect = effect })
+written_line row bytes effect text m w =
+    m.text_is
+    ∙ ap (λ (b : List ℕ). line_text (record { row = row; bytes = b; effect = standard_effect row })) (sym w.form.bytes_are)
+    ∙ ap (λ (e : Effect). line_text (record { row = row; bytes = bytes; effect = e })) (sym w.effect_is)
 
 -- ---- the line can be written, and a text has no other
 
@@ -106,28 +212,74 @@ is_bytes [] h i = omega arith
 is_bytes (x ∷ xs) h zero = h.0
 is_bytes (x ∷ xs) h (suc i) = is_bytes xs h.1 i
 
-number_bytes : (n : ℕ) → n ≤ 500 → AllByRecursion (λ b. b < 256) (decimal (n + 1))
-number_bytes n h = all_weaker IsParameter (λ b. b < 256) (λ b p. let q = p.1 in omega (arith, q)) (decimal (n + 1)) (spells (n + 1) (omega (arith, h, lit< {m = 502} {n = 2 ^ 64} tt))).parameters
+number_bytes : (n : ℕ) → n ≤ 501 → AllByRecursion (λ b. b < 256) (decimal n)
+number_bytes n h = all_weaker IsParameter (λ b. b < 256) (λ b p. let q = p.1 in omega (arith, q)) (decimal n) (spells n (omega (arith, h, lit< {m = 502} {n = 2 ^ 64} tt))).parameters
 
-move_bytes : (row col : ℕ) → row ≤ 500 → col ≤ 500 → AllByRecursion (λ b. b < 256) (cursor_to row col)
-move_bytes row col h k = (
+one_bytes : (n last : ℕ) → n ≤ 501 → last < 256 → AllByRecursion (λ b. b < 256) (with_number n last)
+one_bytes n last h l = (omega arith, (omega arith, all_append (λ b. b < 256) (decimal n) (last ∷ []) (number_bytes n h) (l, tt)))
+
+two_bytes : (m n last : ℕ) → m ≤ 501 → n ≤ 501 → last < 256 → AllByRecursion (λ b. b < 256) (with_numbers m n last)
+two_bytes m n last h k l = (
   omega arith,
   (
     omega arith,
-    all_append (λ b. b < 256) (decimal (row + 1)) (59 ∷ (decimal (col + 1) ++ 72 ∷ [])) (number_bytes row h)
-        (omega arith, all_append (λ b. b < 256) (decimal (col + 1)) (72 ∷ []) (number_bytes col k) (omega arith, tt)),
+    all_append (λ b. b < 256) (decimal m) (59 ∷ (decimal n ++ last ∷ [])) (number_bytes m h)
+        (omega arith, all_append (λ b. b < 256) (decimal n) (last ∷ []) (number_bytes n k) (l, tt)),
   ),
 )
 
-can_be_written : (row col : ℕ) → row ≤ 500 → col ≤ 500 → IsLine (move_line row col)
-can_be_written row col h k = record {
+abbrev CanBeWritten : Row → Type 0
+CanBeWritten row = IsLine (standard_line row)
+
+can_be_written : (row : Row) → HasForm row → CanBeWritten row
+can_be_written row (ToPlace line column e h k) = subst (λ (r : Row). CanBeWritten r) (sym e) (record {
   numbers = (omega (arith, h), (omega (arith, k), tt));
-  bytes = is_bytes (cursor_to row col) (move_bytes row col h k);
+  bytes = is_bytes (with_numbers (line + 1) (column + 1) 72) (two_bytes (line + 1) (column + 1) 72 (omega (arith, h)) (omega (arith, k)) (omega arith));
   effect = record { row = omega (arith, h); col = omega (arith, k); erasure = tt; margins = tt };
-}
+})
+can_be_written row (Bounding top bottom e h k) = subst (λ (r : Row). CanBeWritten r) (sym e) (record {
+  numbers = (omega (arith, h), (omega (arith, k), tt));
+  bytes = is_bytes (with_numbers (top + 1) (bottom + 1) 114) (two_bytes (top + 1) (bottom + 1) 114 (omega (arith, h)) (omega (arith, k)) (omega arith));
+  effect = record { row = omega arith; col = omega arith; erasure = tt; margins = (omega (arith, h), omega (arith, k)) };
+})
+can_be_written row (ToColumn n e h) = subst (λ (r : Row). CanBeWritten r) (sym e) (record {
+  numbers = (omega (arith, h), tt);
+  bytes = is_bytes (with_number (n + 1) 71) (one_bytes (n + 1) 71 (omega (arith, h)) (omega arith));
+  effect = record { row = tt; col = omega (arith, h); erasure = tt; margins = tt };
+})
+can_be_written row (ToLine n e h) = subst (λ (r : Row). CanBeWritten r) (sym e) (record {
+  numbers = (omega (arith, h), tt);
+  bytes = is_bytes (with_number (n + 1) 100) (one_bytes (n + 1) 100 (omega (arith, h)) (omega arith));
+  effect = record { row = omega (arith, h); col = tt; erasure = tt; margins = tt };
+})
+can_be_written row (Left n e g h) = subst (λ (r : Row). CanBeWritten r) (sym e) (record {
+  numbers = (omega (arith, h), tt);
+  bytes = is_bytes (with_number n 68) (one_bytes n 68 (omega (arith, h)) (omega arith));
+  effect = record { row = tt; col = (g, omega (arith, h)); erasure = tt; margins = tt };
+})
+can_be_written row (Right n e g h) = subst (λ (r : Row). CanBeWritten r) (sym e) (record {
+  numbers = (omega (arith, h), tt);
+  bytes = is_bytes (with_number n 67) (one_bytes n 67 (omega (arith, h)) (omega arith));
+  effect = record { row = tt; col = (g, omega (arith, h)); erasure = tt; margins = tt };
+})
+can_be_written row (Upward n e g h) = subst (λ (r : Row). CanBeWritten r) (sym e) (record {
+  numbers = (omega (arith, h), tt);
+  bytes = is_bytes (with_number n 65) (one_bytes n 65 (omega (arith, h)) (omega arith));
+  effect = record { row = (g, omega (arith, h)); col = tt; erasure = tt; margins = tt };
+})
+can_be_written row (Downward n e g h) = subst (λ (r : Row). CanBeWritten r) (sym e) (record {
+  numbers = (omega (arith, h), tt);
+  bytes = is_bytes (with_number n 66) (one_bytes n 66 (omega (arith, h)) (omega arith));
+  effect = record { row = (g, omega (arith, h)); col = tt; erasure = tt; margins = tt };
+})
+can_be_written row (Erasing n e g h) = subst (λ (r : Row). CanBeWritten r) (sym e) (record {
+  numbers = (omega (arith, h), tt);
+  bytes = is_bytes (with_number n 88) (one_bytes n 88 (omega (arith, h)) (omega arith));
+  effect = record { row = tt; col = tt; erasure = (g, omega (arith, h)); margins = tt };
+})
 
-pub is_text_of : (row col : ℕ) (text : List ℕ) (line : RowLine) → IsMoveLine row col text → line ≡ move_line row col → IsTextOf text line
-is_text_of row col text line m e = subst (λ (l : RowLine). IsTextOf text l) (sym e) (record { line_is = can_be_written row col m.row_small m.col_small; spelled = sym m.text_is })
+pub is_text_of : (row : Row) (text : List ℕ) (line : RowLine) → IsStandardLine row text → line ≡ standard_line row → IsTextOf text line
+is_text_of row text line m e = subst (λ (l : RowLine). IsTextOf text l) (sym e) (record { line_is = can_be_written row m.has; spelled = sym m.text_is })
 
-pub no_other : (row col : ℕ) (text : List ℕ) (line other : RowLine) → IsMoveLine row col text → line ≡ move_line row col → IsTextOf text other → Some line ≡ Some other
-no_other row col text line other m e o = ap (λ (l : RowLine). Some l) (one_line text line other (is_text_of row col text line m e) o)
+pub no_other : (row : Row) (text : List ℕ) (line other : RowLine) → IsStandardLine row text → line ≡ standard_line row → IsTextOf text other → Some line ≡ Some other
+no_other row text line other m e o = ap (λ (l : RowLine). Some l) (one_line text line other (is_text_of row text line m e) o)

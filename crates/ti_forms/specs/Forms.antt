@@ -1,7 +1,6 @@
 -- The standard's strings of control sequences with numbers, and what they send and do for a row.
 use Rattle.std.specs.Prelude.{ℕ, ◌+◌, ◌≡◌, ◌≤◌, true, List, [], ◌∷◌, ◌++◌, Option, None, Some}
 use Rattle.std.specs.Fmt.{decimal}
-use Rattle.vt_term.specs.Moves.{cursor_to}
 use Rattle.ti_forms.specs.declared.forms.Form.{Form}
 use Rattle.ti_rows.specs.Asked.{at_col, at_row}
 use Rattle.ti_rows.specs.declared.rows.Row.{Row}
@@ -115,23 +114,22 @@ pub record IsOfForm (row : Row) (bytes : List ℕ) : Type 0 where
   pub has : HasForm row
   pub bytes_are : bytes ≡ standard_bytes row
 
--- these bytes move the cursor to this place (ECMA-48 8.3.21, CUP), which may be one of a screen
-pub record IsMoveTo (row col : ℕ) (bytes : List ℕ) : Type 0 where
-  pub bytes_are : bytes ≡ cursor_to row col
-  pub row_small : row ≤ 500
-  pub col_small : col ≤ 500
+-- the row has a standard string, these are the bytes that it sends, and this is their effect
+pub record IsWholeForm (row : Row) (bytes : List ℕ) (effect : Effect) : Type 0 where
+  pub form : IsOfForm row bytes
+  pub effect_is : effect ≡ standard_effect row
 
--- these bytes move the cursor to this place, and this is the effect
-pub record IsPlaced (row col : ℕ) (bytes : List ℕ) (effect : Effect) : Type 0 where
-  pub moves : IsMoveTo row col bytes
-  pub effect_is : effect ≡ placed_at row col
+-- the line about a row with a standard string
+abbrev pub standard_line : Row → RowLine
+standard_line row = record { row = row; bytes = standard_bytes row; effect = standard_effect row }
 
--- the line about the move to a place
-abbrev pub move_line : ℕ → ℕ → RowLine
-move_line row col = record { row = Cup row col; bytes = cursor_to row col; effect = placed_at row col }
+-- the text is that of this line
+pub record IsStandardLine (row : Row) (text : List ℕ) : Type 0 where
+  pub has : HasForm row
+  pub text_is : text ≡ line_text (standard_line row)
 
--- the text is that of this line, and the place may be one of a screen
-pub record IsMoveLine (row col : ℕ) (text : List ℕ) : Type 0 where
-  pub text_is : text ≡ line_text (move_line row col)
-  pub row_small : row ≤ 500
-  pub col_small : col ≤ 500
+-- the string is the standard's for the row, and the text is that of the line with the bytes that it sends
+pub record IsStandardText (row : Row) (string text : List ℕ) : Type 0 where
+  pub has : HasForm row
+  pub string_is : string ≡ standard_string row
+  pub text_is : text ≡ line_text (standard_line row)

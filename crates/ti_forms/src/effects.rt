@@ -18,7 +18,7 @@ use vt_effects::{Effect, Erasure, Move, Region, effect_of_text};
 use vt_term::{Scanner, Size, TextFault};
 
 /// The effect of a move to a place.
-pub(crate) fn placed(row: u16, col: u16) -> Effect
+fn placed(row: u16, col: u16) -> Effect
     ensures { result ≡ placed_at row col }
 {
     Effect {
@@ -72,7 +72,7 @@ fn erasing(count: u16) -> Effect
 }
 
 /// The effect of the standard's string for `row`.
-fn standard_effect(row: Row) -> Effect
+pub(crate) fn standard_effect(row: Row) -> Effect
     ensures { result ≡ spec.standard_effect row }
 {
     match row {

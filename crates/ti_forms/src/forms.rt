@@ -5,7 +5,7 @@ ghost use Rattle.std.specs.Prelude.{◌≡◌, ◌++◌, ◌+◌, ◌<◌, ◌�
 ghost use Rattle.ti_conforms.specs.Sends.{Sends};
 ghost use Rattle.ti_forms.specs.Forms as spec;
 
-use crate::moves::{ROOM, push_number};
+use crate::numbers::{ROOM, push_number};
 use arrayvec::ArrayVec;
 use ti_rows::Row;
 
@@ -70,14 +70,14 @@ fn with_numbers(first: u16, second: u16, last: u8) -> Form
 }
 
 /// Whether a screen can have this number of rows or columns.
-fn is_short(number: u16) -> bool
+pub(crate) fn is_short(number: u16) -> bool
     ensures { IsTrue result → number ≤ 500 }
 {
     number <= 500
 }
 
 /// Whether a number of rows or columns is above 0, and a screen can have it.
-fn is_count(number: u16) -> bool
+pub(crate) fn is_count(number: u16) -> bool
     ensures some { IsTrue result → 1 ≤ number }
     ensures short { IsTrue result → number ≤ 500 }
 {
@@ -111,7 +111,7 @@ pub(crate) fn form_of(row: Row) -> Option<Form>
 }
 
 /// Whether `string` is the standard's string of the row's capability.
-fn is_standard(string: &[u8], row: Row) -> bool
+pub(crate) fn is_standard(string: &[u8], row: Row) -> bool
     ensures { IsTrue result → string.now ≡ spec.standard_string row }
 {
     match row {
@@ -141,7 +141,7 @@ pub(crate) fn form_sent(string: &[u8], row: Row) -> Option<Form>
 }
 
 /// Whether `bytes` are those of a control sequence, whose numbers must be below 1000.
-fn has_bytes(form: Form, bytes: &[u8]) -> bool
+pub(crate) fn has_bytes(form: Form, bytes: &[u8]) -> bool
     requires first { form.first < 1000 }
     requires second { IfSome form.second (λ number. number < 1000) }
     ensures { IsTrue result → bytes.now ≡ spec.bytes_of form }

@@ -6,11 +6,11 @@ mod effects;
 mod forms;
 pub mod laws;
 mod lines;
-mod moves;
+mod numbers;
 mod sends;
 mod texts;
 
 pub use agreement::entry_agrees;
 pub use effects::{learn_row, row_effect};
-pub use lines::{push_row_line, read_row_line};
+pub use lines::{push_row_line, read_row_line, standard_text};
 pub use sends::send_into;

@@ -1,28 +1,16 @@
 //! The bytes that a string sends for a row.
 
-ghost use Rattle.std.specs.Prelude.{◌≡◌, ◌<◌, ◌≤◌, IfErr, IfSome, OnOk};
+ghost use Rattle.std.specs.Prelude.{◌≡◌, ◌<◌, IfErr, IfSome, OnOk};
 ghost use Rattle.ti_conforms.specs.Sends.{IsUnsent, Sends};
 ghost use Rattle.ti_forms.specs.Forms.{bytes_of};
-ghost use Rattle.vt_term.specs.Moves.{cursor_to};
 
 use crate::forms::{Form, form_sent};
-use crate::moves::move_to;
 use std::alloc::{AllocError, Global};
 use ti_conforms::SendFault;
 use ti_rows::Row;
 
-/// Replaces the content of `bytes` by a move to a place, which must be one that a screen can have.
-pub(crate) fn move_into(row: u16, col: u16, bytes: &mut Vec<u8>) -> Result<(), AllocError>
-    requires row { row ≤ 500 }
-    requires col { col ≤ 500 }
-    ensures { OnOk result (bytes.new.items ≡ cursor_to row col) }
-{
-    bytes.clear();
-    bytes.extend_from_slice(move_to(row, col).as_slice())
-}
-
 /// Replaces the content of `bytes` by a control sequence, whose numbers must be below 1000.
-fn form_into(form: Form, bytes: &mut Vec<u8>) -> Result<(), AllocError>
+pub(crate) fn form_into(form: Form, bytes: &mut Vec<u8>) -> Result<(), AllocError>
     requires first { form.first < 1000 }
     requires second { IfSome form.second (λ number. number < 1000) }
     ensures { OnOk result (bytes.new.items ≡ bytes_of form) }

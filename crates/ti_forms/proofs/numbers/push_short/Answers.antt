@@ -1,6 +1,6 @@
 use Rattle.std.proofs.Common.{arith}
 use Rattle.ti_forms.proofs.Digits.{digits_join}
-use Rattle.ti_forms.proofs.moves.push_short.Goals as goal
+use Rattle.ti_forms.proofs.numbers.push_short.Goals as goal
 
 pub returns-else-number-lt10-clause-items : goal.returns-else-number-lt10-clause-items
 returns-else-number-lt10-clause-items c = digits_join c.args.number c.args.bytes.now.items c.push_digit-else-number-lt10.new.bytes.items c.push_digit-else-number-lt10-2.new.bytes.items

@@ -1,14 +1,12 @@
-//! The bytes that move the cursor to a place.
+//! Numbers in decimal, in a small buffer.
 
 ghost use Rattle.arrayvec.specs.ArrayVec.{array_vec_len};
 ghost use Rattle.std.specs.Fmt.{decimal};
-ghost use Rattle.std.specs.Prelude.{◌≡◌, ◌++◌, ◌+◌, ◌<◌, ◌≤◌, IsTrue};
-ghost use Rattle.ti_forms.specs.Forms.{IsMoveTo};
-ghost use Rattle.vt_term.specs.Moves.{cursor_to};
+ghost use Rattle.std.specs.Prelude.{◌≡◌, ◌++◌, ◌+◌, ◌<◌, ◌≤◌};
 
 use arrayvec::ArrayVec;
 
-/// Room for a move and for the line about it.
+/// Room for a control sequence with numbers, and for the line about it.
 pub(crate) const ROOM: usize = 64;
 
 /// Appends a digit.
@@ -49,35 +47,4 @@ pub(crate) fn push_number(number: u16, bytes: &mut ArrayVec<u8, ROOM>)
         push_short(number / 10, bytes);
         push_digit(number % 10, bytes);
     }
-}
-
-/// The bytes that move the cursor to a place, which must be one that a screen can have.
-pub(crate) fn move_to(row: u16, col: u16) -> ArrayVec<u8, ROOM>
-    requires row { row ≤ 500 }
-    requires col { col ≤ 500 }
-    ensures { result.items ≡ cursor_to row col }
-{
-    let mut bytes = ArrayVec::new();
-    bytes.push(27);
-    bytes.push(b'[');
-    push_number(row + 1, &mut bytes);
-    bytes.push(b';');
-    push_number(col + 1, &mut bytes);
-    bytes.push(b'H');
-    bytes
-}
-
-/// Whether a screen can have this place.
-pub(crate) fn is_place(row: u16, col: u16) -> bool
-    ensures row { IsTrue result → row ≤ 500 }
-    ensures col { IsTrue result → col ≤ 500 }
-{
-    row <= 500 && col <= 500
-}
-
-/// Whether `bytes` move the cursor to a place that a screen can have.
-pub(crate) fn is_move_to(row: u16, col: u16, bytes: &[u8]) -> bool
-    ensures { IsTrue result → IsMoveTo row col bytes.now }
-{
-    is_place(row, col) && bytes == move_to(row, col).as_slice()
 }
