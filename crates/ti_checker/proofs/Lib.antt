@@ -6,6 +6,7 @@ pub mod Earliest
 pub mod FitnessFacts
 pub mod Together
 pub mod Settled
+pub mod StandardLines
 pub mod Misjudgements
 pub mod Mislooked
 pub mod Teaching

@@ -15,8 +15,8 @@ use ti_caps::Entry;
 use vt_term::Size;
 
 /// The certificate of `entry` for `size`: a text with exactly the lines that the entry's strings send. Each string is
-/// judged once for each of its rows, and all strings together at the end. The text itself isn't read again: it is
-/// proved that `ti_cert::verify` accepts it as it is.
+/// judged once for each of its rows, but a standard one, of which everything is proved; and all strings together at the
+/// end. The text itself isn't read again: it is proved that `ti_cert::verify` accepts it as it is.
 ///
 /// # Errors
 /// The first refusal: about the entry as a whole, then about a row, in the order of a certificate's lines, then about

@@ -19,6 +19,7 @@ ghost use Rattle.ti_conforms.specs.Conforms.{IsFit};
 ghost use Rattle.ti_conforms.specs.Charsets.{joined, reach_of};
 ghost use Rattle.ti_conforms.specs.Entries as entries;
 ghost use Rattle.ti_conforms.specs.Table.{settles};
+ghost use Rattle.vt_effects.specs.Effect.{unchanged};
 ghost use Rattle.vt_term.specs.Text.{Splits};
 
 use crate::causes::{Cause, No};
@@ -28,7 +29,7 @@ use crate::switches::Seen;
 use std::alloc::{AllocError, Global};
 use ti_caps::Entry;
 use ti_conforms::{NO_LOOKS, acsc};
-use ti_forms::push_row_line;
+use ti_forms::{push_row_line, standard_text};
 use ti_lines::push_hex;
 use ti_rows::{CAPABILITIES, Looks, Row};
 use vt_effects::Effect;
@@ -139,6 +140,18 @@ impl Draft {
         Ok(())
     }
 
+    /// Adds `line`, the text of the line of `row`, whose string is the standard's: it changes no character set.
+    fn push_text(&mut self, row: Row, line: &[u8]) -> Result<(), AllocError>
+        ensures text { OnOk result (self.new.text.items ≡ self.old.text.items ++ (line.now ++ 10 ∷ [])) }
+        ensures reach { self.new.seen.reach ≡ self.old.seen.reach }
+        ensures changes { OnOk result (self.new.seen.changes.items
+            ≡ with_change (settles row) self.old.seen.changes.items unchanged.charset) }
+    {
+        self.text.extend_from_slice(line)?;
+        self.text.push(b'\n')?;
+        self.seen.add_change(row, Effect::unchanged().charset)
+    }
+
     /// Refuses a text that leaves no room for the last line.
     fn check_length(&self) -> Result<(), Cause>
         ensures short { OnOk result (length self.now.text.items ≤ most) }
@@ -174,6 +187,13 @@ fn push_row(
     ensures taught { OnOk result ((next : Row) → Follows size.rows size.cols row next
         → IsTaught size.rows size.cols string.now next looks.new) }
 {
+    // nothing of the standard's strings has to be run or judged
+    if let Some(line) = standard_text(string, row) {
+        return match draft.push_text(row, line.as_slice()) {
+            Ok(()) => draft.check_length(),
+            Err(_) => Err(Cause::NoMemory),
+        };
+    }
     let effect = draft.judge.judge_row(alloc, string, row, size, looks)?;
     draft.learn(row, &effect)?;
     match draft.push_line(row, &effect) {
