@@ -88,7 +88,7 @@ def ratios(names, row, first, at):
 
 def feeding(tables):
     names, *rows = tables[0]
-    return [(f"{row[0]}, {row[1]}", beside(names, row, 3)) for row in rows if "instructions" not in row[1]]
+    return [(f"{row[0]}, {row[1]}", ratios(names, row, 3, 1)) for row in rows]
 
 
 def expanding(tables):
