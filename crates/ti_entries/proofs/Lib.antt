@@ -4,3 +4,4 @@ pub mod LineBounds
 pub mod LinedFacts
 pub mod FirstColumns
 pub mod NumberedLines
+pub mod BadUseFacts

@@ -1,3 +1,4 @@
 pub mod Resolution
+pub mod BadUses
 pub mod Columns
 pub mod LinedTexts

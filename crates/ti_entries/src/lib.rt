@@ -1,12 +1,14 @@
-//! Resolving the entries of a source text that were read one by one, some of which may be unreadable, and finding the
-//! lines and the columns of their fields.
+//! Resolving the entries of a source text that were read one by one, some of which may be unreadable, finding the use for
+//! which that fails, and the lines and the columns of their fields.
 #![tactic(auto)]
 
+mod bad_uses;
 mod columns;
 mod lined_texts;
 mod names;
 mod resolution;
 
+pub use bad_uses::bad_use;
 pub use columns::Columns;
 pub use lined_texts::LinedText;
 pub use names::place_named;
