@@ -8,7 +8,7 @@ use crate::spots::{FieldPlace, LinedFiles};
 use std::alloc::{AllocError, Global};
 use ti_caps::Cap;
 use ti_commands::SourceText;
-use ti_entries::{Columns, place_named};
+use ti_entries::{Columns, bad_use, place_named};
 use ti_resolve::{Index, Origin, origin_from};
 use ti_source::RawEntry;
 
@@ -27,7 +27,8 @@ pub struct SourcePlace<'a, 'b> {
 }
 
 impl<'b> SourcePlace<'_, 'b> {
-    ghost use Rattle.std.specs.Prelude.{◌≡◌, ◌<◌, IfOk, length};
+    ghost use Rattle.std.specs.Prelude.{◌≡◌, ◌<◌, [], IfOk, IfSome, length};
+    ghost use Rattle.ti_entries.specs.BadUses.{IsBadUse};
     ghost use Rattle.ti_resolve.specs.Origins.{IsOriginAt};
     ghost use Rattle.ti_verdicts.specs.Spots.{columns_among, files_of, line_among, line_of, put_files};
 
@@ -40,6 +41,18 @@ impl<'b> SourcePlace<'_, 'b> {
         ensures { IfOk result (λ found. IsOriginAt self.now.raws.now self.now.place cap found) }
     {
         origin_by(alloc, self.index, self.place, cap)
+    }
+
+    /// The use for which the entry can't be resolved, its own or that of an entry that it uses; `None` if none is found.
+    ///
+    /// # Errors
+    /// Out of memory.
+    pub fn bad_use(&self, alloc: Global) -> Result<Option<Origin>, AllocError>
+        requires { self.now.place < length self.now.raws.now }
+        ensures { IfOk result (λ found. IfSome found (λ origin.
+            IsBadUse self.now.raws.now origin [] self.now.place)) }
+    {
+        bad_use(alloc, self.index, self.place)
     }
 
     /// The file and the line that have the field at `origin`.
