@@ -26,6 +26,8 @@ OF_FAULTS = [
     "another_kind", "bytes", "capability", "column", "end_column", "end_line", "judged", "line", "seen", "source_entry", "source_entry_hex", "source_file", "start", "string", "string_hex",
     "suggestion", "suggestion_hex", "wanted",
 ]  # fmt: skip
+# an entry is refused for a use, which has a line where a survey finds it
+USES = ("NoSuchEntry ", "Cycle ", "TooMany ")
 # with these the string may be right
 UNJUDGED = ("NotShown", "NotTame", "TooLong")
 SIZE = [str(ROWS), str(COLS)]
@@ -52,6 +54,9 @@ ADVICE = {"verdict": "advice", "rule": "Advice", "capability": "sgr", "explanati
 UNREAD = {"verdict": "refused", "part": None, "rule": "Refused", "cause": "line 5: BadEscape", "line": 5, "source_file": "a.ti"}
 # or in one of several files
 BESIDE = {**UNREAD, "line": None, "source_file": None}
+# or that uses what isn't there
+LOST = {**UNREAD, "cause": "NoSuchEntry b", "source_entry": "a", "source_entry_hex": "61"}
+NO_PLACE = {"line": None, "source_file": None, "source_entry": None, "source_entry_hex": None}
 
 # strings with a byte above 127, and with the characters that spell it
 SPELLING = rb"""one|the byte,
@@ -95,6 +100,10 @@ REFUSED_BY_SCHEMA = [
     {"verdict": "refused", "part": None, "cause": "NoSuchEntry a", "rule": "Refused", "line": 5},
     {**UNREAD, "source_file": None},
     {**UNREAD, "cause": "NoSuchEntry a"},
+    {**LOST, "cause": "BadMagic"},
+    {**LOST, "line": None},
+    {**LOST, "source_file": None},
+    {**LOST, "cause": "line 5: BadEscape"},
     {"source_file": "a.ti"},
     {**ADVICE, "line": 5},
     {"version": 2},
@@ -128,7 +137,7 @@ def judge_schema():
     """The schema accepts a yes, and refuses objects that no report may be."""
     yes = {**{key: [] if list in kinds else None for key, kinds in MEMBERS.items()}, "entry": "a", "entry_hex": "61", "file": "a.ti"}
     yes |= {"size": {"cols": COLS, "rows": ROWS}, "part": False, "verdict": "yes", "version": 1}
-    for right in (yes, {**yes, **ABSENT}, {**yes, **ADVICE}, {**yes, **UNREAD}, {**yes, **BESIDE}):
+    for right in (yes, {**yes, **ABSENT}, {**yes, **ADVICE}, {**yes, **UNREAD}, {**yes, **BESIDE}, {**yes, **LOST}, {**yes, **LOST, **NO_PLACE}):
         if not SCHEMA.is_valid(right):
             fail(f"the schema refuses {right}")
     for other in REFUSED_BY_SCHEMA:
@@ -150,7 +159,7 @@ def objects(told, size=(ROWS, COLS)):
             fail(f"not as docs/report.schema.json says: {line}: {error.message}")
         if one["size"] != {"cols": size[1], "rows": size[0]}:
             fail(f"not the size that was given: {line}")
-        said_of = {"advice": ("capability",), "refused": ("line", "source_file")}.get(one["verdict"], ())
+        said_of = {"advice": ("capability",), "refused": ("line", "source_file", "source_entry", "source_entry_hex")}.get(one["verdict"], ())
         if one["verdict"] != "no" and any(one[key] is not None for key in OF_FAULTS if key not in said_of):
             fail(f"a fault of an entry without one: {line}")
         judge_forms(one)
@@ -194,7 +203,7 @@ def judge_forms(one):
         fail(f"not the rule and the judgement of the cause: {one}")
     if one["verdict"] == "refused":
         unread = re.match(r"line (\d+): ", one["cause"])
-        if one["line"] != (int(unread[1]) if unread else None):
+        if one["line"] != (int(unread[1]) if unread else one["line"] if one["cause"].startswith(USES) else None):
             fail(f"not the line of the refusal: {one}")
     # none of these runs has further files
     if one["source_file"] != (one["file"] if one["line"] else None):
@@ -439,6 +448,8 @@ def judge_names():
         fail(f"names: {ones}")
     if [it["verdict"] for it in ones] != ["yes", "no", "refused", "no", "no"] or ones[2]["cause"] != "NoSuchEntry nobody":
         fail(f"verdicts: {ones}")
+    if (ones[2]["line"], ones[2]["source_entry"]) != (6, "lost"):
+        fail(f"the line of a use of what isn't there: {ones[2]}")
     if [it["aliases"] for it in ones] != ALIASES:
         fail(f"aliases: {ones}")
     # a byte above 127, and the characters with which it is shown
@@ -450,6 +461,45 @@ def judge_names():
     (one,) = objects(faulty)
     if (one["entry"], one["file"], one["verdict"], one["line"]) != (None, "faulty", "refused", 1) or faulty.status:
         fail(f"a file without entries: {one} {faulty.status}")
+
+
+# uses that can't be followed, in the entry itself and in one that it uses; the last entry uses a chain of 70
+USED = rb"""own|of nobody,
+	clear=\E[2J,
+	am, use=right, use=nobody,
+right|used,
+	am,
+through|of one that uses nobody,
+	use=right, use=own,
+first|of two that use each other,
+	use=second,
+second|the other,
+	am,
+	use=first,
+apart|of two that use each other,
+	use=right,
+	use=first,
+self|of itself,
+	use=self,
+"""
+USED_PLACES = [
+    ("own", "NoSuchEntry nobody", 3, "own"), ("through", "NoSuchEntry nobody", 3, "own"),
+    ("first", "Cycle first", 12, "second"), ("second", "Cycle second", 9, "first"),
+    ("apart", "Cycle first", 12, "second"), ("self", "Cycle self", 17, "self"),
+]  # fmt: skip
+LONG = "".join(f"e{at}|one of many,\n\tuse=e{at + 1},\n" for at in range(70)) + "e70|the last one,\n\tam,\n"
+
+
+def judge_uses():
+    """An entry whose uses can't be followed has the line of the use at which that fails, and the entry that has it."""
+    files = {"used": USED, "long": LONG.encode()}
+    told, long = run_cases(PROGRAM, [Case(["survey", "--json", *SIZE, name]) for name in files], files)
+    found = [(it["entry"], it["cause"], it["line"], it["source_entry"]) for it in objects(told) if it["verdict"] == "refused"]
+    if found != USED_PLACES:
+        fail(f"the places of uses: {found}")
+    found = {(it["cause"], it["line"]) for it in objects(long) if it["verdict"] == "refused"}
+    if found != {(f"TooMany e{at}", None) for at in range(65, 71)}:
+        fail(f"uses of too many: {found}")
 
 
 # two entries of one name, each with its own line of the fault
@@ -531,6 +581,7 @@ def main():
     judge_looks()
     judge_names()
     judge_twins()
+    judge_uses()
     judge_failing()
     judge_refused()
     print(f"reports: {count} objects of check --json say what the plain form says, and those of survey --json, {lines} with a line")

@@ -261,12 +261,12 @@ def judge_survey():
         fail(f"survey --with: {told.status} {told.out} {told.err}")
     ones = [json.loads(line) for line in run(["survey", "--json", "--with", "b.ti", *SIZE, "a.ti"], data).out.splitlines()]
     found = {it["entry"]: (it["verdict"], it["file"], it["source_file"], it["line"]) for it in ones if it["verdict"] != "advice"}
-    hidden = {"good": ("yes", "a.ti", None, None), "bad": ("refused", "a.ti", "b.ti", 4), "last": ("refused", "a.ti", None, None)}
+    hidden = {"good": ("yes", "a.ti", None, None), "bad": ("refused", "a.ti", "b.ti", 4), "last": ("refused", "a.ti", "a.ti", 6)}
     if found != hidden:
         fail(f"survey --json --with: {found}")
     sarif = json.loads(run(["survey", "--sarif", "--with", "b.ti", *SIZE, "a.ti"], data).out)
     places = [it["locations"][0]["physicalLocation"] for it in sarif["runs"][0]["results"] if it["ruleId"] == "Refused"]
-    if [(it["artifactLocation"]["uri"], it.get("region", {}).get("startLine")) for it in places] != [("b.ti", 4), ("a.ti", None)]:
+    if [(it["artifactLocation"]["uri"], it.get("region", {}).get("startLine")) for it in places] != [("b.ti", 4), ("a.ti", 6)]:
         fail(f"survey --sarif --with: {places}")
     every = run(["survey", "--all", *WITH, *SIZE, "own.ti"], FILES)
     places = every.err.decode().splitlines()

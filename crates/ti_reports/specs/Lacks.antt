@@ -20,10 +20,10 @@ IsReason (File path) why = why ≡ file_text (string_bytes path)
 IsReason Output why = ⊥
 IsReason NoMemory why = ⊥
 
--- the place at which the reason is found: that of the refusal, in the text at this path
+-- the place at which the reason is found: that of the refusal, in the text at this path, as far as it says it by itself
 abbrev pub IsReasonPlace : Option (List ℕ) → Failure → ValuePlace → Type 0
-IsReasonPlace path (Refused refusal) place = IsRefusalPlace path refusal place
-IsReasonPlace path (RefusedUnwritten refusal) place = IsRefusalPlace path refusal place
+IsReasonPlace path (Refused refusal) place = IsRefusalPlace None path refusal place
+IsReasonPlace path (RefusedUnwritten refusal) place = IsRefusalPlace None path refusal place
 IsReasonPlace path (Usage told) place = IsNowhere place
 IsReasonPlace path (File unread) place = IsNowhere place
 IsReasonPlace path Output place = IsNowhere place

@@ -1,10 +1,11 @@
 -- The place of a value in a source text.
-use Rattle.std.specs.Prelude.{◌≡◌, ◌<◌, ◌==◌, ⊤, ℕ, Bool, true, false, List, Option, Some, None, if◌then◌else◌}
-use Rattle.std.specs.Prelude.{length, option_map}
+use Rattle.std.specs.Prelude.{◌≡◌, ◌⊎◌, ◌<◌, ◌==◌, ⊤, ℕ, Bool, true, false, List, Option, Some, None, if◌then◌else◌}
+use Rattle.std.specs.Prelude.{[], length, option_map}
 use Rattle.std.specs.String.{string_bytes}
 use Rattle.ti_commands.specs.declared.failure.CommandRefusal.{CommandRefusal}
 use Rattle.ti_commands.specs.declared.failure.CommandRefusal.TheVariants as refusals
 use Rattle.ti_commands.specs.declared.sources.SourceText.{SourceText}
+use Rattle.ti_entries.specs.BadUses.{IsBadUse}
 use Rattle.ti_entries.specs.declared.columns.Columns.{Columns}
 use Rattle.ti_reports.specs.Names.{HasName}
 use Rattle.ti_reports.specs.declared.forms.Written.{Written}
@@ -103,18 +104,30 @@ IsOnLine None line place = IsNowhere place
 IsOnLine (Some path) line place =
     HasLine (Some (record { path = path; number = line })) place × (place.columns ≡ None) × (place.entry ≡ None)
 
--- The place at which a refusal finds its reason: a fault of a source text has its line in the file at this path; the
--- others say nothing of a line.
-abbrev pub IsRefusalPlace : Option (List ℕ) → CommandRefusal → ValuePlace → Type 0
-IsRefusalPlace path refusals.Size place = IsNowhere place
-IsRefusalPlace path (refusals.Escape fault) place = IsNowhere place
-IsRefusalPlace path (refusals.Parm fault) place = IsNowhere place
-IsRefusalPlace path (refusals.Token fault) place = IsNowhere place
-IsRefusalPlace path (refusals.Stuck fault) place = IsNowhere place
-IsRefusalPlace path (refusals.Source fault) place = IsOnLine path fault.line place
-IsRefusalPlace path (refusals.Resolve fault) place = IsNowhere place
-IsRefusalPlace path (refusals.Pack fault) place = IsNowhere place
-IsRefusalPlace path (refusals.Verdict words) place = IsNowhere place
+-- the field of a use that leads to no entry or back, of the entry or of one that is reached from it by uses
+pub record IsUseAt (stands : PlaceInSource) (place : ValuePlace) : Type 0 where
+  pub origin : Origin
+  pub bad : IsBadUse stands.raws origin [] stands.place
+  pub says : IsFieldPlace stands.files stands.raws (Some origin) place
+  pub no_columns : place.columns ≡ None
+
+-- such a use, if one is found; nowhere for an entry whose place isn't known
+abbrev pub IsUsePlace : Option PlaceInSource → ValuePlace → Type 0
+IsUsePlace None place = IsNowhere place
+IsUsePlace (Some stands) place = IsNowhere place ⊎ IsUseAt stands place
+
+-- The place at which a refusal finds its reason: a fault of a source text has its line in the file at this path, and a
+-- use that can't be followed is a field; the others say nothing of a line.
+abbrev pub IsRefusalPlace : Option PlaceInSource → Option (List ℕ) → CommandRefusal → ValuePlace → Type 0
+IsRefusalPlace stands path refusals.Size place = IsNowhere place
+IsRefusalPlace stands path (refusals.Escape fault) place = IsNowhere place
+IsRefusalPlace stands path (refusals.Parm fault) place = IsNowhere place
+IsRefusalPlace stands path (refusals.Token fault) place = IsNowhere place
+IsRefusalPlace stands path (refusals.Stuck fault) place = IsNowhere place
+IsRefusalPlace stands path (refusals.Source fault) place = IsOnLine path fault.line place
+IsRefusalPlace stands path (refusals.Resolve fault) place = IsUsePlace stands place
+IsRefusalPlace stands path (refusals.Pack fault) place = IsNowhere place
+IsRefusalPlace stands path (refusals.Verdict words) place = IsNowhere place
 
 -- the path of the file with the fault that hides an entry: that of the place at which the refusal stands, or else that of
 -- the survey's file

@@ -68,7 +68,7 @@ Reports height width all has_columns path stands name entry told =
 pub record IsOfRefusal (height width : ℕ) (path : List ℕ) (stands : Option PlaceInSource) (name : Option (List ℕ))
     (refusal : CommandRefusal) (line : List ℕ) : Type 0 where
   pub place : ValuePlace
-  pub found : IsRefusalPlace (Some (fault_file path stands)) refusal place
+  pub found : IsRefusalPlace stands (Some (fault_file path stands)) refusal place
   pub says : IsRefusedReport height width path name (refusal_text_of refusal) place line
 
 -- that line, and nothing beside it

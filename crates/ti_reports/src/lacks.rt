@@ -54,8 +54,8 @@ fn reason_place(
     ensures { IfOk result (λ place. spec.IsReasonPlace (option_map (λ f. f.now) file.entry) failure.now place) }
 {
     match failure {
-        Failure::Refused(refusal) => refusal_place(alloc, file, refusal),
-        Failure::RefusedUnwritten(refusal) => refusal_place(alloc, file, refusal),
+        Failure::Refused(refusal) => refusal_place(alloc, &None, file, refusal),
+        Failure::RefusedUnwritten(refusal) => refusal_place(alloc, &None, file, refusal),
         Failure::Usage(_) | Failure::File(_) => Ok(ValuePlace::nowhere()),
         Failure::Output | Failure::NoMemory => Ok(ValuePlace::nowhere()),
     }

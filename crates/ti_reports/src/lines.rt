@@ -56,23 +56,47 @@ impl ValuePlace {
 }
 
 /// The place at which `refusal` finds its reason: the line of a fault of a source text, if the path `file` of the text is
-/// known, else nowhere.
+/// known, or the use for which the entry at `stands` can't be resolved; else nowhere.
 pub fn refusal_place(
     alloc: Global,
+    stands: &Option<SourcePlace<'_, '_>>,
     file: Option<&str>,
     refusal: &CommandRefusal,
 ) -> Result<ValuePlace, AllocError>
-    ensures { IfOk result (λ place. spec.IsRefusalPlace (option_map (λ f. f.now) file.entry) refusal.now place) }
+    requires { IfSome stands.now (λ there. there.place < length there.raws.now) }
+    ensures { IfOk result (λ place. spec.IsRefusalPlace (place_if stands.now) (option_map (λ f. f.now) file.entry)
+        refusal.now place) }
 {
     match refusal {
         CommandRefusal::Source(fault) => on_line(alloc, file, fault.line as usize),
         CommandRefusal::Size | CommandRefusal::Escape(_) | CommandRefusal::Parm(_) => {
             Ok(ValuePlace::nowhere())
         }
-        CommandRefusal::Token(_) | CommandRefusal::Stuck(_) | CommandRefusal::Resolve(_) => {
-            Ok(ValuePlace::nowhere())
-        }
+        CommandRefusal::Resolve(_) => use_place(alloc, stands),
+        CommandRefusal::Token(_) | CommandRefusal::Stuck(_) => Ok(ValuePlace::nowhere()),
         CommandRefusal::Pack(_) | CommandRefusal::Verdict(_) => Ok(ValuePlace::nowhere()),
+    }
+}
+
+/// The place of the use for which the entry at `stands` can't be resolved; nowhere if it isn't found.
+fn use_place(alloc: Global, stands: &Option<SourcePlace<'_, '_>>) -> Result<ValuePlace, AllocError>
+    requires { IfSome stands.now (λ there. there.place < length there.raws.now) }
+    ensures { IfOk result (λ place. spec.IsUsePlace (place_if stands.now) place) }
+{
+    match stands {
+        Some(there) => use_at(alloc, there),
+        None => Ok(ValuePlace::nowhere()),
+    }
+}
+
+/// The place of the use for which the entry at `there` can't be resolved; nowhere if it isn't found.
+fn use_at(alloc: Global, there: &SourcePlace<'_, '_>) -> Result<ValuePlace, AllocError>
+    requires { there.now.place < length there.now.raws.now }
+    ensures { IfOk result (λ place. spec.IsUsePlace (Some (place_in there.now)) place) }
+{
+    match there.bad_use(alloc)? {
+        Some(origin) => field_place(alloc, there.line(origin), None, there.raws, origin),
+        None => Ok(ValuePlace::nowhere()),
     }
 }
 

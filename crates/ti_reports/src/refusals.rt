@@ -1,6 +1,6 @@
 //! Reports on entries and files that can't be obtained.
 
-ghost use Rattle.std.specs.Prelude.{◌≡◌, IfOk, option_map};
+ghost use Rattle.std.specs.Prelude.{◌≡◌, ◌<◌, IfOk, IfSome, length, option_map};
 ghost use Rattle.ti_reports.specs.Reports.{IsBare};
 ghost use Rattle.ti_reports.specs.Sources.{fault_file};
 ghost use Rattle.ti_reports.specs.Surveys as spec;
@@ -22,12 +22,14 @@ pub fn lacking_line(
     asked: Asked,
     lacking: &Lacking<'_, '_>,
 ) -> Result<Vec<u8>, AllocError>
+    requires { IfSome lacking.now.stands.now (λ there. there.place < length there.raws.now) }
     ensures { IfOk result (λ line. spec.IsOfRefusal asked.size.rows asked.size.cols lacking.now.path.now
         (place_if lacking.now.stands.now) (option_map (λ n. n.now) lacking.now.name) lacking.now.refusal.now
         line.items) }
 {
     let why = refusal_words(alloc, lacking.refusal)?;
-    let place = refusal_place(alloc, Some(fault_file(lacking)), lacking.refusal)?;
+    let file = Some(fault_file(lacking));
+    let place = refusal_place(alloc, lacking.stands, file, lacking.refusal)?;
     refused_line(
         alloc,
         asked,

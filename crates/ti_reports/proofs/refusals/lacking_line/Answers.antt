@@ -3,6 +3,7 @@ use Rattle.std.proofs.lemmas.Result.{IfOk-weaker}
 use Rattle.std.specs.Prelude.{option_map}
 use Rattle.ti_reports.specs.Sources.{IsRefusalPlace}
 use Rattle.ti_reports.specs.Surveys.{IsRefusedReport}
+use Rattle.ti_verdicts.specs.Locations.{place_if}
 use Rattle.ti_reports.proofs.refusals.lacking_line.Goals as goal
 
 -- the reason is the refusal's own, and its place is in the file with the fault
@@ -11,7 +12,7 @@ returns c =
     IfOk-weaker c.refused_line.result _ _
     (λ line h. record {
       place = c.in_ok-place.place;
-      found = subst (λ (path : List ℕ). IsRefusalPlace (Some path) c.args.lacking.now.refusal.now c.in_ok-place.place) c.fault_file.ensures c.in_ok-place.ensures;
+      found = subst (λ (path : List ℕ). IsRefusalPlace (place_if c.args.lacking.now.stands.now) (Some path) c.args.lacking.now.refusal.now c.in_ok-place.place) c.fault_file.ensures c.in_ok-place.ensures;
       says = subst (λ (why : List ℕ). IsRefusedReport c.args.asked.size.rows c.args.asked.size.cols c.args.lacking.now.path.now (option_map (λ n. n.now) c.args.lacking.now.name) why c.in_ok-place.place line.items) (c.as_slice.ensures.value ∙ c.in_ok-why.ensures) h;
     })
     c.refused_line.ensures
