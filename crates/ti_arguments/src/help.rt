@@ -453,8 +453,9 @@ only there to be used by others, without `clear`, `cup` and `sgr0` or with a `+`
 
 With --json the output is a JSON object on a line of its own for each of these lines but the last, with the members of
 `ticurses check --json`, and one for each advice. In place of KIND the verdict is `refused`, and cause has the KIND; line
-is that of the fault, and source_file the file that has it, which may be one of --with. entry is null where a FILE has a
-fault of its own, or can't be read, with the cause `file: FILE`.
+is that of the fault, and source_file the file that has it, which may be one of --with. Where a use leads to no entry, or
+back, they are those of the use, and source_entry is the entry that has it. entry is null where a FILE has a fault of its
+own, or can't be read, with the cause `file: FILE`.
 
 With --sarif the output is one file of SARIF for all FILEs, as `ticurses check --help` describes it.
 
