@@ -1,4 +1,4 @@
-use Rattle.std.proofs.Common.{◌∙◌, ◌++◌, [], ◌∷◌, List, Option, ap, refl, subst}
+use Rattle.std.proofs.Common.{◌∙◌, Option, subst}
 use Rattle.std.specs.Prelude.{IfSome, slice_get}
 use Rattle.ti_entries.proofs.BadUseFacts.{ends_from, goes_from, there_from}
 use Rattle.ti_entries.specs.BadUses.{IsFieldStep}
