@@ -406,7 +406,8 @@ fn usage<'a>(alloc: Global, message: &str) -> Result<Request<'a>, UsageFault>
     Err(UsageFault::Usage(String::from_str(alloc, message)?))
 }
 
-const PARTS_ALL: &str = "error: --parts is for --all, and not for --json and --sarif, where part says it of each entry\n\n\
+const PARTS_ALL: &str =
+    "error: --parts is for --all, and not for --json and --sarif, where part says it of each entry\n\n\
                          For more information, try '--help'.\n";
 
 const OUT_FIXES: &str = "error: survey writes a text only with --fix: --out is for --fix\n\n\
