@@ -82,6 +82,15 @@ def joining(words):
     return [words[0], "--join", *words[1:]]
 
 
+def without_columns(words, out):
+    """The output of a run without `--join`, as it is with it: objects have no columns then."""
+    if "--json" not in words:
+        return out
+    gone = dict.fromkeys(("column", "end_column", "end_line"))
+    ones = [{**json.loads(line), **gone} for line in out.splitlines()]
+    return b"".join(json.dumps(one, ensure_ascii=False, separators=(",", ":")).encode() + b"\n" for one in ones)
+
+
 def judge_same():
     """With `--join` each command says of the wrapped text what it says of the joined one; of that, nothing else than
     without."""
@@ -95,8 +104,9 @@ def judge_same():
         same = run_cases(PROGRAM, [Case(joining(it)) for it in words], {"text": JOINED, "cert": cert})
         read = run_cases(PROGRAM, [Case(joining(it)) for it in words], {"text": WRAPPED, "cert": cert})
         for it, want, other, told in zip(words, right, same, read):
+            wanted = want.status, without_columns(it, want.out), want.err
             for one in (other, told):
-                if (one.status, one.out, one.err) != (want.status, want.out, want.err):
+                if (one.status, one.out, one.err) != wanted:
                     fail(f"{it} with --join: {one.status} {one.out} {one.err}, and {want.status} {want.out} {want.err}")
             count += 1
     words = joining(["verify", "text:wrapped", *SIZE, "cert"])
