@@ -43,7 +43,13 @@ fn entries_of(alloc: Global, text: &[u8]) -> Result<Vec<RawEntry>, Failure>
         Ok(raws) => Ok(raws),
         Err(fault) => match fault.kind {
             FaultKind::NoMemory => Err(Failure::NoMemory),
-            _ => Err(Failure::Refused(CommandRefusal::Source(fault))),
+            FaultKind::NoName
+            | FaultKind::WrongKind
+            | FaultKind::BadNumber
+            | FaultKind::NumberRange
+            | FaultKind::OpenField
+            | FaultKind::BadEscape
+            | FaultKind::TooLong => Err(Failure::Refused(CommandRefusal::Source(fault))),
         },
     }
 }
@@ -73,7 +79,7 @@ fn read_source<F: Files>(
     }
 }
 
-/// What is suggested for all entries of the source.
+/// The strings that `adviser` suggests for all entries of `source`.
 fn source_remedies(
     alloc: Global,
     adviser: &Suggestions,
