@@ -213,7 +213,7 @@ HINT = b"--with FILE"
 
 
 def judge_refusals():
-    """What is refused, in its order, and what names the option or the file."""
+    """Each refusal, in its order, and whether it names the option or the file."""
     bad = {"bad.ti": b"base|one,\n\tcols#8x,\n", "front.ti": b"\tcols#80,\n"}
     rows = [
         (["check", *ENTRY], 1, b"refused: NoSuchEntry base\n", True, None),
@@ -238,7 +238,7 @@ def judge_refusals():
             fail(f"{words}: {one.status} {one.err}")
         if named is not None and named not in one.err.split(line)[1]:
             fail(f"{words} doesn't name {named}: {one.err}")
-    # the line may be one of any of these files, so none is told
+    # the line may be one of any of these files, so the object has none
     for words, line in ((["--with", "bad.ti"], None), ([], 2)):
         one = json.loads(run(["check", "--json", *words, "bad.ti:base" if line else "own.ti:own", *SIZE], FILES | bad).out)
         if (one["verdict"], one["cause"], one["line"]) != ("refused", "line 2: BadNumber", line) or one["source_file"] != (line and "bad.ti"):

@@ -209,7 +209,8 @@ fn put_each<F: Files>(
     Ok(put)
 }
 
-/// The files of `--with`, which are read and not yet taken apart: a survey does that for each of its own files.
+/// Reads the files of `--with` from `files`, and leaves it to a survey to take them apart for each of its own files.
+/// `remarks` gets the words about one that can't be read.
 ///
 /// # Errors
 /// The first file that can't be read; out of memory.

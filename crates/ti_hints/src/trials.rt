@@ -9,7 +9,7 @@ use ti_rows::Row;
 use ti_words::push_spelled;
 use vt_term::{Settings, Size, Terminal, TokenFault, TokenFaultKind, tokens};
 
-/// What is known of the strings of an entry by their checks and by one run of each of the others.
+/// The results of an entry's checks, and of one run of each string that isn't checked.
 #[derive(Drop)]
 pub struct Tried {
     /// The number of strings that are checked.
@@ -22,7 +22,7 @@ pub struct Tried {
     pub unseen: Vec<Cap>,
 }
 
-/// What a string does to a screen from a certain place, by its name in terminfo(5).
+/// The effect that terminfo(5) gives a string by its name, from a certain place of a screen.
 struct Deed {
     name: &'static [u8],
     /// The number that the string takes; 0 for a string that takes none.

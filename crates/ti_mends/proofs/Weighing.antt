@@ -1,4 +1,4 @@
--- What becomes of a string, once it was given and all entries were judged.
+-- A string that was given: whether it is kept, once all entries were judged.
 use Rattle.std.proofs.Common.{◌≡◌, ℕ, List, Option, Some, None, IfSome, MatchOption, sym, subst, ap, ◌∙◌}
 use Rattle.ti_caps.specs.Entry.{Content}
 use Rattle.ti_checker.specs.declared.causes.No.{No}

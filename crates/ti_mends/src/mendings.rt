@@ -72,7 +72,7 @@ pub struct Mending {
 pub struct MendedTexts {
     /// The files.
     pub texts: Vec<Text>,
-    /// What standard error says about them.
+    /// The text for standard error about them.
     pub notes: Vec<u8>,
     /// The faults that are left.
     pub left: Vec<No>,

@@ -14,7 +14,7 @@ use ti_resolve::{Index, ResolveFault, resolve, resolve_from};
 use ti_source::RawEntry;
 use vt_term::Size;
 
-/// Whether the entry has no fault.
+/// Whether `entry` has no fault on a screen of `size`.
 ///
 /// # Errors
 /// Out of memory.

@@ -110,7 +110,7 @@ pub fn remedies_at<A: Adviser>(
     }
 }
 
-/// The remedies for all entries, in their order.
+/// The remedies that `adviser` has for all entries of `index`, in their order.
 ///
 /// # Errors
 /// Out of memory.

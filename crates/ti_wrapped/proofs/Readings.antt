@@ -1,4 +1,4 @@
--- What the bytes of a file are read as, and what is left of a file.
+-- The bytes that a file is read as, and the rest of a file.
 use Rattle.std.proofs.Common.{◌≡◌, ◌≤◌, ◌<◌, ◌∙◌, ℕ, Bool, true, false, List, [], ◌++◌, Option, Some, None, length, drop, refl, sym, ap, subst, arith, rules}
 use Rattle.std.proofs.lemmas.List.{append-nil, length-append}
 use Rattle.std.specs.Fmt.{option_append}

@@ -1,4 +1,4 @@
--- What was read so far is what the file had in front.
+-- The bytes read so far are the first ones of the file.
 use Rattle.std.specs.Io.KnownBytes.{Consumes}
 use Rattle.ti_wrapped.proofs.fronts.read_front.Given as goal
 
