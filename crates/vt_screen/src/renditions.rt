@@ -112,6 +112,7 @@ pub enum RenditionChange {
 
 impl RenditionChange {
     /// The change that a number of SGR asks for; `None` for a number that changes nothing here.
+    #[inline(always)]
     pub fn of(number: u16) -> Option<RenditionChange>
         ensures { result ≡ spec.change_of number }
     {

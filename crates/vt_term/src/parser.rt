@@ -335,10 +335,8 @@ pub(crate) fn with_digit(number: Option<u16>, digit: u8) -> u16
     requires high { digit ≤ 57 }
     ensures { result ≡ min 65535 (10 * unwrap_or number 0 + (digit - 48)) }
 {
-    number
-        .unwrap_or(0)
-        .saturating_mul(10)
-        .saturating_add(u16::from(digit - b'0'))
+    let longer = u32::from(number.unwrap_or(0)) * 10 + u32::from(digit - b'0');
+    longer.min(u32::from(u16::MAX)) as u16
 }
 
 /// Whether `byte` is a digit or a semicolon.
