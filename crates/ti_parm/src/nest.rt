@@ -31,16 +31,21 @@ impl Default for Branch {
 /// The conditionals around a place. Contracts see the list of their branches, the innermost first.
 #[derive(Drop)]
 pub struct Nest {
-    branches: SmallVec<Branch, 16>,
+    /// The innermost branch, apart from the others, so that most strings use no list.
+    innermost: Option<Branch>,
+    /// The branches around it, the outermost first.
+    outer: SmallVec<Branch, 16>,
 }
 
 impl Model for Nest {
-    ghost use Rattle.std.specs.Prelude.{reverse};
-    ghost use Rattle.ti_parm.specs.Conditionals.{Branches};
+    ghost use Rattle.std.specs.Prelude.{◌≡◌, [], None, reverse};
+    ghost use Rattle.ti_parm.specs.Conditionals.{Branches, inside};
 
     ghost Value = { Branches };
 
-    ghost view = { λ n. reverse n.branches.items };
+    ghost view = { λ n. inside n.innermost (reverse n.outer.items) };
+
+    ghost invariant = { λ n. n.innermost ≡ None → n.outer.items ≡ [] };
 }
 
 /// The branch after `mark`, `None` if it ends the conditional. Fails if the mark isn't allowed in `branch`.
@@ -56,7 +61,7 @@ fn branch_behind(mark: Mark, branch: Branch) -> Result<Option<Branch>, ParmFault
 }
 
 impl Nest {
-    ghost use Rattle.std.specs.Prelude.{◌≡◌, ◌↔◌, [], IsTrue};
+    ghost use Rattle.std.specs.Prelude.{◌≡◌, ◌↔◌, [], ◌∷◌, IsTrue, Ok};
     ghost use Rattle.ti_parm.specs.Fault.{Answers, Gives};
     ghost use Rattle.ti_parm.specs.Conditionals.{judged, nest_behind, nest_behind_mark};
     ghost use Rattle.ti_parm.specs.Syntax.{Ends};
@@ -66,7 +71,8 @@ impl Nest {
         ensures { result ≡ [] }
     {
         Nest {
-            branches: SmallVec::new(alloc),
+            innermost: None,
+            outer: SmallVec::new(alloc),
         }
     }
 
@@ -74,7 +80,7 @@ impl Nest {
     fn is_empty(&self) -> bool
         ensures { IsTrue result ↔ (self.now ≡ []) }
     {
-        self.branches.is_empty()
+        self.innermost.is_none()
     }
 
     /// Checks that a string may end at the place.
@@ -95,11 +101,21 @@ impl Nest {
     {
         match code {
             Code::Act(_) => Ok(()),
-            Code::If => self
-                .branches
-                .push(Branch::Condition)
-                .map_err(|_| ParmFault::NoMemory),
+            Code::If => self.open(),
             Code::Of(mark) => self.pass_mark(mark),
+        }
+    }
+
+    /// Moves past a `%?`.
+    #[inline(always)]
+    fn open(&mut self) -> Result<(), ParmFault>
+        ensures { Gives (λ _. self.new) result (Ok (Branch.Condition ∷ self.old)) }
+    {
+        let around = self.innermost;
+        self.innermost = Some(Branch::Condition);
+        match around {
+            None => Ok(()),
+            Some(branch) => self.outer.push(branch).map_err(|_| ParmFault::NoMemory),
         }
     }
 
@@ -108,12 +124,18 @@ impl Nest {
     fn pass_mark(&mut self, mark: Mark) -> Result<(), ParmFault>
         ensures { Gives (λ _. self.new) result (nest_behind_mark mark self.old) }
     {
-        let Some(branch) = self.branches.pop() else {
+        let Some(branch) = self.innermost else {
             return Err(ParmFault::BadNest);
         };
         match branch_behind(mark, branch)? {
-            None => Ok(()),
-            Some(next) => self.branches.push(next).map_err(|_| ParmFault::NoMemory),
+            None => {
+                self.innermost = self.outer.pop();
+                Ok(())
+            }
+            Some(next) => {
+                self.innermost = Some(next);
+                Ok(())
+            }
         }
     }
 }
