@@ -3,7 +3,7 @@ ghost use Rattle.std.specs.Prelude.{◌≡◌, ◌+◌, ◌≤◌, ℕ, IfSome, 
 ghost use Rattle.cur_steps.specs.Inks as spec;
 
 use crate::stretches::blank_shown;
-use ti_rows::Attributes;
+use ti_rows::{Attributes, NO_ATTRIBUTES};
 use vt_term::Color;
 
 /// How characters are printed: their attributes and colors. `None` is the default color.
@@ -143,15 +143,7 @@ impl Brush {
         ensures value { result ≡ spec.plain_brush }
     {
         Brush {
-            attributes: Attributes {
-                standout: false,
-                underline: false,
-                reverse: false,
-                blink: false,
-                dim: false,
-                bold: false,
-                invisible: false,
-            },
+            attributes: NO_ATTRIBUTES,
             foreground: None,
             background: None,
         }

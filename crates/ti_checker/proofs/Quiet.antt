@@ -1,15 +1,12 @@
 -- `csr` and `clear` change no charset, if they stand.
-use Rattle.std.proofs.Common.{◌≡◌, inl, inr, ℕ, zero, suc, ◌-◌, Bool, true, List, [], length, replicate, Some, refl, sym, ap, subst, ◌∙◌, arith}
-use Rattle.std.specs.Prelude.{slice_index_or}
+use Rattle.std.proofs.Common.{◌≡◌, inl, inr, ℕ, ◌-◌, Bool, true, List, [], Some, refl, sym, ap, subst, ◌∙◌, arith}
 use Rattle.std.proofs.lemmas.Bool.{and_parts, cases_Bool}
-use Rattle.std.proofs.lemmas.List.{get_or-replicate, length-replicate}
 use Rattle.std.proofs.lemmas.Option.{same_Some, none-some}
 use Rattle.vt_term.specs.Size.{IsSize}
 use Rattle.vt_term.specs.Text.{Splits}
-use Rattle.vt_term.specs.Look.{Look, IsPrinted, space}
-use Rattle.vt_term.specs.Grid.{look_at, uniform}
 use Rattle.vt_term.specs.Screen.{State, Screen, Charset, reset_screen}
 use Rattle.vt_term.specs.Step.{steps}
+use Rattle.vt_term.proofs.Resets.{reset_is_screen}
 use Rattle.vt_term.proofs.Runs.{runs_once, text_runs}
 use Rattle.ti_caps.specs.Entry.{Content}
 use Rattle.ti_conforms.specs.Charsets.{charset_over}
@@ -33,34 +30,12 @@ use Rattle.ti_checker.proofs.Together.{whole_screen}
 
 -- ---- a start
 
-same_cell : (n j : ℕ) → slice_index_or (replicate n space) j space ≡ space
-same_cell zero j = refl
-same_cell (suc n) zero = refl
-same_cell (suc n) (suc j) = same_cell n j
-
-blank_at : (rows cols i j : ℕ) → look_at (uniform rows cols space) i j ≡ space
-blank_at zero cols i j = refl
-blank_at (suc rows) cols zero j = same_cell cols j
-blank_at (suc rows) cols (suc i) j = blank_at rows cols i j
-
-printed : (l : Look) → l ≡ space → IsPrinted l.byte
-printed l e = let b : l.byte ≡ 32 = ap (λ (x : Look). x.byte) e in (omega arith, omega arith)
-
 abbrev pub start : ℕ → ℕ → Charset → State
 start rows cols c = record { screen = record (reset_screen rows cols) { charset = c }; rest = [] }
 
 starts_any : (rows cols : ℕ) (c : Charset) → IsSize rows cols → IsAny rows cols (start rows cols c).screen
 starts_any rows cols c size = record {
-  screen = record {
-    size = size;
-    lines = length-replicate rows (replicate cols space);
-    columns = λ i lt. ap (λ (l : List Look). length l) (get_or-replicate rows i (replicate cols space) [] lt) ∙ length-replicate cols space;
-    characters = λ i j. printed (look_at (uniform rows cols space) i j) (blank_at rows cols i j);
-    row = omega (arith, size.0);
-    col = omega (arith, size.2);
-    region = omega (arith, size.0);
-    bottom = omega (arith, size.0);
-  };
+  screen = reset_is_screen rows cols c size;
   rows_are = refl;
   cols_are = refl;
   tame = record { autowrap = refl; inserting = refl };

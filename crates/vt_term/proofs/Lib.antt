@@ -12,3 +12,4 @@ pub mod Drawn
 pub mod Charsets
 pub mod AtOnce
 pub mod Starts
+pub mod Resets
