@@ -39,6 +39,15 @@ pub struct Miss {
     pub kind: MissKind,
 }
 
+/// A place of the screen.
+#[derive(Clone, Copy)]
+struct Place {
+    /// The row, from 0.
+    row: usize,
+    /// The column, from 0.
+    col: usize,
+}
+
 /// Whether `string` serves as `cup` on a terminal of this `size` (terminfo(5), "Cursor Motions").
 ///
 /// Ok is proved: for each row and column the string expands to whole tokens, and from every state at rest they leave
@@ -75,7 +84,7 @@ fn reach_row(
     ensures why { IfErr result (λ miss. spec.TellsWhy string.now size.rows size.cols row miss.col miss.kind) }
 {
     for col in 0..size.cols {
-        match reach_place(alloc, string, size, row, col, bytes) {
+        match reach_place(alloc, string, size, Place { row, col }, bytes) {
             Ok(()) => {}
             Err(kind) => return Err(Miss { row, col, kind }),
         }
@@ -88,34 +97,30 @@ fn reach_place(
     alloc: Global,
     string: &[u8],
     size: Size,
-    row: usize,
-    col: usize,
+    place: Place,
     bytes: &mut Vec<u8>,
 ) -> Result<(), MissKind>
-    requires row_in { row < size.rows }
-    requires col_in { col < size.cols }
-    ensures reached { OnOk result (spec.StringReaches string.now size.rows size.cols row col) }
-    ensures why { IfErr result (λ kind. spec.TellsWhy string.now size.rows size.cols row col kind) }
+    requires row_in { place.row < size.rows }
+    requires col_in { place.col < size.cols }
+    ensures reached { OnOk result (spec.StringReaches string.now size.rows size.cols place.row place.col) }
+    ensures why { IfErr result (λ kind. spec.TellsWhy string.now size.rows size.cols place.row place.col kind) }
 {
-    send(alloc, string, row, col, bytes)?;
-    check_bytes(alloc, bytes.as_slice(), size, row, col)
+    send(alloc, string, place, bytes)?;
+    check_bytes(alloc, bytes.as_slice(), size, place)
 }
 
 /// Replaces the contents of `bytes` by what the string sends for one place.
-fn send(
-    alloc: Global,
-    string: &[u8],
-    row: usize,
-    col: usize,
-    bytes: &mut Vec<u8>,
-) -> Result<(), MissKind>
-    requires row_in { row < 500 }
-    requires col_in { col < 500 }
-    ensures sends { OnOk result (sent string.now (spec.place row col) ≡ Ok bytes.new.items) }
-    ensures why { IfErr result (λ kind. spec.TellsWhyUnsent string.now row col kind) }
+fn send(alloc: Global, string: &[u8], place: Place, bytes: &mut Vec<u8>) -> Result<(), MissKind>
+    requires row_in { place.row < 500 }
+    requires col_in { place.col < 500 }
+    ensures sends { OnOk result (sent string.now (spec.place place.row place.col) ≡ Ok bytes.new.items) }
+    ensures why { IfErr result (λ kind. spec.TellsWhyUnsent string.now place.row place.col kind) }
 {
     bytes.clear();
-    let params = [Param::Number(row as i32), Param::Number(col as i32)];
+    let params = [
+        Param::Number(place.row as i32),
+        Param::Number(place.col as i32),
+    ];
     match ti_parm::sent(alloc, string, &params, bytes) {
         Ok(()) => Ok(()),
         Err(ParmFault::NoMemory) => Err(MissKind::NoMemory),
@@ -124,21 +129,15 @@ fn send(
 }
 
 /// Checks that the bytes `sent` are whole tokens that leave the cursor at the place.
-fn check_bytes(
-    alloc: Global,
-    sent: &[u8],
-    size: Size,
-    row: usize,
-    col: usize,
-) -> Result<(), MissKind>
-    requires row_in { row < size.rows }
-    requires col_in { col < size.cols }
+fn check_bytes(alloc: Global, sent: &[u8], size: Size, place: Place) -> Result<(), MissKind>
+    requires row_in { place.row < size.rows }
+    requires col_in { place.col < size.cols }
     ensures whole { OnOk result (spec.IsWhole sent.now) }
-    ensures leads { OnOk result (run.Reaches size.rows size.cols sent.now row col) }
-    ensures why { IfErr result (λ kind. spec.IsMiss size.rows size.cols sent.now row col kind) }
+    ensures leads { OnOk result (run.Reaches size.rows size.cols sent.now place.row place.col) }
+    ensures why { IfErr result (λ kind. spec.IsMiss size.rows size.cols sent.now place.row place.col kind) }
 {
     match tokens(alloc, sent) {
-        Ok(found) => check_tokens(&found, size, row, col),
+        Ok(found) => check_tokens(&found, size, place),
         Err(fault) => Err(match fault.kind {
             TokenFaultKind::NoMemory => MissKind::NoMemory,
             TokenFaultKind::Unfinished | TokenFaultKind::Stuck => MissKind::Token,
@@ -147,14 +146,14 @@ fn check_bytes(
 }
 
 /// Checks that these tokens leave the cursor at the place, by their effect from rest, or else by the last one.
-fn check_tokens(tokens: &[Token], size: Size, row: usize, col: usize) -> Result<(), MissKind>
-    ensures leads { OnOk result (spec.TokensReach size.rows size.cols tokens.now row col) }
-    ensures why { IfErr result (λ kind. spec.TokensMiss size.rows size.cols tokens.now row col kind) }
+fn check_tokens(tokens: &[Token], size: Size, place: Place) -> Result<(), MissKind>
+    ensures leads { OnOk result (spec.TokensReach size.rows size.cols tokens.now place.row place.col) }
+    ensures why { IfErr result (λ kind. spec.TokensMiss size.rows size.cols tokens.now place.row place.col kind) }
 {
     match effect_of(tokens, size, &at_rest(size)) {
-        Some(effect) => check_effect(&effect, size, row, col),
+        Some(effect) => check_effect(&effect, size, place),
         None => match place_after(tokens, size) {
-            Some(place) if place == (row, col) => Ok(()),
+            Some(end) if end == (place.row, place.col) => Ok(()),
             Some(_) => Err(MissKind::Misses),
             None => Err(MissKind::Undecided),
         },
@@ -162,11 +161,11 @@ fn check_tokens(tokens: &[Token], size: Size, row: usize, col: usize) -> Result<
 }
 
 /// Checks that an effect leaves every cursor at the place.
-fn check_effect(effect: &Effect, size: Size, row: usize, col: usize) -> Result<(), MissKind>
-    ensures reached { OnOk result (spec.EndsThere size.rows size.cols effect.now row col) }
-    ensures why { IfErr result (λ kind. spec.EndsElsewhere size.rows size.cols effect.now row col kind) }
+fn check_effect(effect: &Effect, size: Size, place: Place) -> Result<(), MissKind>
+    ensures reached { OnOk result (spec.EndsThere size.rows size.cols effect.now place.row place.col) }
+    ensures why { IfErr result (λ kind. spec.EndsElsewhere size.rows size.cols effect.now place.row place.col kind) }
 {
-    if leads_all(effect.row, size.rows, row) && leads_all(effect.col, size.cols, col) {
+    if leads_all(effect.row, size.rows, place.row) && leads_all(effect.col, size.cols, place.col) {
         Ok(())
     } else {
         Err(MissKind::Misses)
