@@ -1,6 +1,6 @@
 -- A file beside that of an entry, and its entries: those of a source text, or that of a compiled file.
 use Rattle.std.specs.Prelude.{◌≡◌, ◌≢◌, ◌⊎◌, ◌==◌, ◌&&◌, ◌||◌, ℕ, Bool, true, false, List, [], ◌∷◌, ◌++◌, Option, None}
-use Rattle.std.specs.Prelude.{Ok, Err, if◌then◌else◌}
+use Rattle.std.specs.Prelude.{Result, Ok, Err, if◌then◌else◌}
 use Rattle.ti_caps.specs.Entry.{Content}
 use Rattle.ti_compiled.specs.Contents.{fit_of, read_of}
 use Rattle.ti_compiled.specs.declared.types.PackFault.{PackFault}
@@ -54,17 +54,25 @@ AreRawsBy false bytes raws = source_of bytes ≡ Ok raws
 abbrev pub AreRawsOf : List ℕ → List RawEntry → Type 0
 AreRawsOf bytes raws = AreRawsBy (is_compiled bytes) bytes raws
 
-abbrev pub LacksRawsBy : Bool → List ℕ → FurtherFault → Type 0
-LacksRawsBy true bytes (Pack fault) = IsPackedBadly bytes fault
-LacksRawsBy true bytes (Source fault) = ⊥
-LacksRawsBy true bytes NoMemory = Unit {0}
-LacksRawsBy false bytes (Pack fault) = ⊥
-LacksRawsBy false bytes (Source fault) = FailsBy fault.kind fault (source_of bytes) × (fault.kind ≢ fault_kinds.NoMemory)
-LacksRawsBy false bytes NoMemory = Unit {0}
+-- a compiled file can't be read, for this reason
+abbrev pub LacksPacked : List ℕ → FurtherFault → Type 0
+LacksPacked bytes (Pack fault) = IsPackedBadly bytes fault
+LacksPacked bytes (Source fault) = ⊥
+LacksPacked bytes NoMemory = Unit {0}
+
+-- a source can't be read, for this reason: it is the fault of its `reading`
+abbrev pub LacksSource : {A : Type 0} → Result A SourceFault → FurtherFault → Type 0
+LacksSource reading (Pack fault) = ⊥
+LacksSource reading (Source fault) = FailsBy fault.kind fault reading × (fault.kind ≢ fault_kinds.NoMemory)
+LacksSource reading NoMemory = Unit {0}
+
+abbrev pub LacksBy : {A : Type 0} → Bool → List ℕ → Result A SourceFault → FurtherFault → Type 0
+LacksBy true bytes reading fault = LacksPacked bytes fault
+LacksBy false bytes reading fault = LacksSource reading fault
 
 -- the file can't be read, for this reason
 abbrev pub LacksRaws : List ℕ → FurtherFault → Type 0
-LacksRaws bytes fault = LacksRawsBy (is_compiled bytes) bytes fault
+LacksRaws bytes fault = LacksBy (is_compiled bytes) bytes (source_of bytes) fault
 
 -- ---- the entries, each read by itself
 
@@ -83,14 +91,6 @@ AreApartBy false bytes raws faults = IsApart bytes raws faults
 abbrev pub AreApartOf : List ℕ → List RawEntry → List (Option SourceFault) → Type 0
 AreApartOf bytes raws faults = AreApartBy (is_compiled bytes) bytes raws faults
 
-abbrev pub LacksApartBy : Bool → List ℕ → FurtherFault → Type 0
-LacksApartBy true bytes (Pack fault) = IsPackedBadly bytes fault
-LacksApartBy true bytes (Source fault) = ⊥
-LacksApartBy true bytes NoMemory = Unit {0}
-LacksApartBy false bytes (Pack fault) = ⊥
-LacksApartBy false bytes (Source fault) = FailsBy fault.kind fault (apart_of bytes) × (fault.kind ≢ fault_kinds.NoMemory)
-LacksApartBy false bytes NoMemory = Unit {0}
-
 -- the file can't even be read entry by entry, for this reason
 abbrev pub LacksApart : List ℕ → FurtherFault → Type 0
-LacksApart bytes fault = LacksApartBy (is_compiled bytes) bytes fault
+LacksApart bytes fault = LacksBy (is_compiled bytes) bytes (apart_of bytes) fault

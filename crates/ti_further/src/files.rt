@@ -2,8 +2,10 @@
 
 ghost use Rattle.std.specs.Prelude.{◌≡◌, ◌∷◌, [], IfErr, IfOk, true, false};
 ghost use Rattle.std.specs.List.{AllByRecursion};
+ghost use Rattle.ti_source.specs.Apart.{apart_of};
 ghost use Rattle.ti_source.specs.Fitting.{FieldsFit, NamesFit};
 ghost use Rattle.ti_source.specs.Raw.{IsRaw};
+ghost use Rattle.ti_source.specs.Source.{source_of};
 ghost use Rattle.ti_further.specs.Compiled as compiled;
 ghost use Rattle.ti_further.specs.Files as spec;
 
@@ -100,7 +102,7 @@ fn source_fault(fault: SourceFault) -> FurtherFault
 /// The entry of a compiled file.
 fn entry_of(alloc: Global, file: &[u8]) -> Result<Entry, FurtherFault>
     ensures entry { IfOk result (λ entry. spec.IsPackedAs file.now entry) }
-    ensures fault { IfErr result (λ fault. spec.LacksRawsBy true file.now fault) }
+    ensures fault { IfErr result (λ fault. spec.LacksPacked file.now fault) }
 {
     match decode(file) {
         Ok(packed) => match packed.to_entry(alloc) {
@@ -126,7 +128,7 @@ fn alone(alloc: Global, entry: &Entry) -> Result<Vec<RawEntry>, AllocError>
 fn packed_raws(alloc: Global, file: &[u8]) -> Result<Vec<RawEntry>, FurtherFault>
     ensures entries { IfOk result (λ raws. spec.AreRawsBy true file.now raws.items) }
     ensures fit { IfOk result (λ raws. AllByRecursion IsRaw raws.items) }
-    ensures fault { IfErr result (λ fault. spec.LacksRawsBy true file.now fault) }
+    ensures fault { IfErr result (λ fault. spec.LacksPacked file.now fault) }
 {
     let entry = entry_of(alloc, file)?;
     Ok(alone(alloc, &entry)?)
@@ -136,7 +138,7 @@ fn packed_raws(alloc: Global, file: &[u8]) -> Result<Vec<RawEntry>, FurtherFault
 fn source_raws(alloc: Global, text: &[u8]) -> Result<Vec<RawEntry>, FurtherFault>
     ensures entries { IfOk result (λ raws. spec.AreRawsBy false text.now raws.items) }
     ensures fit { IfOk result (λ raws. AllByRecursion IsRaw raws.items) }
-    ensures fault { IfErr result (λ fault. spec.LacksRawsBy false text.now fault) }
+    ensures fault { IfErr result (λ fault. spec.LacksSource (source_of text.now) fault) }
 {
     match read(alloc, text) {
         Ok(raws) => Ok(raws),
@@ -165,7 +167,7 @@ fn packed_apart(alloc: Global, file: &[u8]) -> Result<Apart, FurtherFault>
     ensures entries { IfOk result (λ apart. spec.AreApartBy true file.now apart.raws.items apart.faults.items) }
     ensures fields { IfOk result (λ apart. AllByRecursion FieldsFit apart.raws.items) }
     ensures names { IfOk result (λ apart. NamesFit apart.raws.items apart.faults.items) }
-    ensures fault { IfErr result (λ fault. spec.LacksApartBy true file.now fault) }
+    ensures fault { IfErr result (λ fault. spec.LacksPacked file.now fault) }
 {
     let entry = entry_of(alloc, file)?;
     let mut faults = Vec::new(alloc);
@@ -181,7 +183,7 @@ fn source_apart(alloc: Global, text: &[u8]) -> Result<Apart, FurtherFault>
     ensures entries { IfOk result (λ apart. spec.AreApartBy false text.now apart.raws.items apart.faults.items) }
     ensures fields { IfOk result (λ apart. AllByRecursion FieldsFit apart.raws.items) }
     ensures names { IfOk result (λ apart. NamesFit apart.raws.items apart.faults.items) }
-    ensures fault { IfErr result (λ fault. spec.LacksApartBy false text.now fault) }
+    ensures fault { IfErr result (λ fault. spec.LacksSource (apart_of text.now) fault) }
 {
     match read_apart(alloc, text) {
         Ok(apart) => Ok(apart),
