@@ -11,6 +11,17 @@ use std::alloc::{AllocError, Global};
 use ti_caps::{Cap, Opener, name};
 use ti_source::escape;
 
+/// A text in three parts.
+#[derive(Clone, Copy)]
+struct Parts<'a> {
+    /// The text before a field.
+    front: &'a [u8],
+    /// The field, or what stands in its place.
+    own: &'a [u8],
+    /// The text after it.
+    back: &'a [u8],
+}
+
 /// `NAME=STRING`, as a source text has it.
 pub fn field_text(alloc: Global, cap: Cap, string: &[u8]) -> Result<Vec<u8>, AllocError>
     requires { IsTrue (string_fits string.now) }
@@ -23,13 +34,14 @@ pub fn field_text(alloc: Global, cap: Cap, string: &[u8]) -> Result<Vec<u8>, All
     Ok(text)
 }
 
-/// The three parts of a text, one after another.
-fn joined(alloc: Global, front: &[u8], own: &[u8], back: &[u8]) -> Result<Vec<u8>, AllocError>
-    ensures { IfOk result (λ text. text.items ≡ front.now ++ (own.now ++ back.now)) }
+/// The parts, one after another.
+fn joined(alloc: Global, parts: Parts<'_>) -> Result<Vec<u8>, AllocError>
+    ensures { IfOk result (λ text. text.items ≡
+        parts.entry.front.now ++ (parts.entry.own.now ++ parts.entry.back.now)) }
 {
-    let mut text = Vec::from_slice(alloc, front)?;
-    text.extend_from_slice(own)?;
-    text.extend_from_slice(back)?;
+    let mut text = Vec::from_slice(alloc, parts.front)?;
+    text.extend_from_slice(parts.own)?;
+    text.extend_from_slice(parts.back)?;
     Ok(text)
 }
 
@@ -79,28 +91,29 @@ fn added(
     ensures { IfOk result (λ text. IsWritten cap string.now (front.now ++ back.now) text.items) }
 {
     let own = spaced_field(alloc, cap, string)?;
-    joined(alloc, front, own.as_slice(), back)
+    let own = own.as_slice();
+    joined(alloc, Parts { front, own, back })
 }
 
-/// The text with the field in place of `own`; `None` if that is more than one field.
+/// The text with the field in place of its own part; `None` if that is more than one field.
 #[tactic(auto, using(crate::proofs::Written::replaced_so))]
 fn replaced(
     alloc: Global,
-    front: &[u8],
-    own: &[u8],
-    back: &[u8],
+    parts: Parts<'_>,
     cap: Cap,
     string: &[u8],
 ) -> Result<Option<Vec<u8>>, AllocError>
     requires { IsTrue (string_fits string.now) }
     ensures { IfOk result (λ found. IfSome found
-        (λ text. IsWritten cap string.now (front.now ++ (own.now ++ back.now)) text.items)) }
+        (λ text. IsWritten cap string.now
+        (parts.entry.front.now ++ (parts.entry.own.now ++ parts.entry.back.now)) text.items)) }
 {
-    if !has_no_feed(own) || !is_one_field(own) {
+    if !has_no_feed(parts.own) || !is_one_field(parts.own) {
         return Ok(None);
     }
     let field = field_text(alloc, cap, string)?;
-    let text = joined(alloc, front, field.as_slice(), back)?;
+    let own = field.as_slice();
+    let text = joined(alloc, Parts { own, ..parts })?;
     Ok(Some(text))
 }
 
@@ -128,5 +141,5 @@ pub fn written(
         return Ok(Some(after));
     }
     let (own, back) = rest.split_at(piece.length);
-    replaced(alloc, front, own, back, cap, string)
+    replaced(alloc, Parts { front, own, back }, cap, string)
 }
