@@ -52,16 +52,19 @@ number_bounded entry h i n below e =
 pub not_above : (a b : ℕ) → nat_lt a b ≡ false → b ≤ a
 not_above a b h = grind (arith, nat_tests)
 
+-- a number of a file with numbers of 16 bits
+pub narrow_number : (entry : Content) → IsEntry entry → Legacy ≡ form_for entry → (i n : ℕ) → i < 39 → Some n ≡ get_or (numbers_of entry) i None → n ≤ 32767
+narrow_number entry h f i n below e =
+    let within : i < length (numbers_of entry) = omega (arith, numbers_length entry h.size) in
+    let small : is_wide (get_or (numbers_of entry) i None) ≡ false = any_none (numbers_of entry) i (is_wide (get_or (numbers_of entry) i None)) within refl (narrow entry (sym f)) in
+    let bound : nat_lt 32767 n ≡ false = ap is_wide e ∙ small in
+    not_above 32767 n bound
+
 pub cell_small : (form : Form) (entry : Content) → IsEntry entry → form ≡ form_for entry → (i : ℕ) → i < 39 → (number : Option ℕ) → number ≡ get_or (numbers_of entry) i None
     → number_cell form number < 2 * half form
 cell_small Legacy entry h f i below None e = omega arith
 cell_small Wide entry h f i below None e = omega arith
-cell_small Legacy entry h f i below (Some n) e =
-    let within : i < length (numbers_of entry) = omega (arith, numbers_length entry h.size) in
-    let small : is_wide (get_or (numbers_of entry) i None) ≡ false = any_none (numbers_of entry) i (is_wide (get_or (numbers_of entry) i None)) within refl (narrow entry (sym f)) in
-    let bound : nat_lt 32767 n ≡ false = ap is_wide e ∙ small in
-    let most = not_above 32767 n bound in
-    omega arith
+cell_small Legacy entry h f i below (Some n) e = let most = narrow_number entry h f i n below e in omega arith
 cell_small Wide entry h f i below (Some n) e =
     let bound : n < 2147483648 = number_bounded entry h i n below e in
     omega arith

@@ -93,19 +93,18 @@ flags_step parts k old new h before now =
     now ∙ ap (λ e. with_row e k (value_of parts kinds.Flag k)) before
     ∙ partly_more (entry_of parts) k (value_of parts kinds.Flag k) (rows_size parts) (omega arith) (flag_read parts k h)
 
+-- one more capability of the kind whose capabilities begin at `first`
+kind_step : (entry : Content) (first k : ℕ) (v : Option Value) (old new : Content) → length entry.values ≡ 497 → first + k < 497 → value_at entry (first + k) ≡ v
+    → old ≡ partly entry (first + k) → new ≡ with_row old (first + k) v → new ≡ partly entry (first + (k + 1))
+kind_step entry first k v old new size h read before now =
+    let place : first + k + 1 ≡ first + (k + 1) = omega arith in
+    now ∙ ap (λ e. with_row e (first + k) v) before ∙ partly_more entry (first + k) v size h read ∙ ap (partly entry) place
+
 pub numbers_step : (parts : Parts) (k : ℕ) (old new : Content) → k < 39 → old ≡ partly (entry_of parts) (44 + k) → new ≡ with_row old (44 + k) (value_of parts kinds.Number k) → new ≡ partly (entry_of parts) (44 + (k + 1))
-numbers_step parts k old new h before now =
-    let place : 44 + k + 1 ≡ 44 + (k + 1) = omega arith in
-    now ∙ ap (λ e. with_row e (44 + k) (value_of parts kinds.Number k)) before
-    ∙ partly_more (entry_of parts) (44 + k) (value_of parts kinds.Number k) (rows_size parts) (omega arith) (number_read parts k h)
-    ∙ ap (partly (entry_of parts)) place
+numbers_step parts k old new h before now = kind_step (entry_of parts) 44 k (value_of parts kinds.Number k) old new (rows_size parts) (omega arith) (number_read parts k h) before now
 
 pub strings_step : (parts : Parts) (k : ℕ) (old new : Content) → k < 414 → old ≡ partly (entry_of parts) (83 + k) → new ≡ with_row old (83 + k) (value_of parts kinds.String k) → new ≡ partly (entry_of parts) (83 + (k + 1))
-strings_step parts k old new h before now =
-    let place : 83 + k + 1 ≡ 83 + (k + 1) = omega arith in
-    now ∙ ap (λ e. with_row e (83 + k) (value_of parts kinds.String k)) before
-    ∙ partly_more (entry_of parts) (83 + k) (value_of parts kinds.String k) (rows_size parts) (omega arith) (string_read parts k h)
-    ∙ ap (partly (entry_of parts)) place
+strings_step parts k old new h before now = kind_step (entry_of parts) 83 k (value_of parts kinds.String k) old new (rows_size parts) (omega arith) (string_read parts k h) before now
 
 -- at the end, and at the start
 pub partly_all : (parts : Parts) → partly (entry_of parts) 497 ≡ entry_of parts

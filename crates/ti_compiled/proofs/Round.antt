@@ -17,9 +17,9 @@ use Rattle.ti_compiled.specs.declared.types.PackFault.TheVariants.{TooLarge}
 use Rattle.ti_compiled.specs.Layout.{half, width}
 use Rattle.ti_compiled.specs.Contents.{filled, rows_of}
 use Rattle.ti_compiled.specs.Packed.{layout, HasNoNul, IsFlag, IsNumber, IsString, Each, Sections, HasSections}
-use Rattle.ti_compiled.specs.Written.{flags_of, numbers_of, strings_of, kept, trimmed, itself, number_cell, offsets_from, table_of, is_wide, form_for, flag_cells, number_cells, offset_cells, padding_for, written_in, written, limit, packing_of, WrittenIsPacked, WrittenIsRead}
+use Rattle.ti_compiled.specs.Written.{flags_of, numbers_of, strings_of, kept, trimmed, itself, number_cell, offsets_from, table_of, form_for, flag_cells, number_cells, offset_cells, padding_for, written_in, written, limit, packing_of, WrittenIsPacked, WrittenIsRead}
 use Rattle.ti_compiled.proofs.Again.{packed_is_read}
-use Rattle.ti_compiled.proofs.Files.{layout_size, length-offsets, limit_small, narrow, number_bounded, any_none, not_above}
+use Rattle.ti_compiled.proofs.Files.{layout_size, length-offsets, limit_small, narrow_number, number_bounded}
 use Rattle.ti_compiled.proofs.Rows.{flags_length, numbers_length, strings_length, trimmed_small}
 use Rattle.ti_compiled.proofs.Takes.{and_ok, guard_ok}
 
@@ -188,12 +188,7 @@ numbers_each form (Some n ∷ numbers) h = ((refl, h.0), numbers_each form numbe
 number_fits : (form : Form) (entry : Content) → IsEntry entry → form ≡ form_for entry → (i : ℕ) → i < 39 → (number : Option ℕ) → number ≡ get_or (numbers_of entry) i None → FitsForm form number
 number_fits form entry h f i below None e = tt
 number_fits Wide entry h f i below (Some n) e = let bound : n < 2147483648 = number_bounded entry h i n below e in bound
-number_fits Legacy entry h f i below (Some n) e =
-    let within : i < length (numbers_of entry) = omega (arith, numbers_length entry h.size) in
-    let small : is_wide (get_or (numbers_of entry) i None) ≡ false = any_none (numbers_of entry) i (is_wide (get_or (numbers_of entry) i None)) within refl (narrow entry (sym f)) in
-    let bound : nat_lt 32767 n ≡ false = ap is_wide e ∙ small in
-    let most = not_above 32767 n bound in
-    omega arith
+number_fits Legacy entry h f i below (Some n) e = let most = narrow_number entry h f i n below e in omega arith
 
 numbers_fit : (entry : Content) → IsEntry entry → AllByRecursion (FitsForm (form_for entry)) (numbers_of entry)
 numbers_fit entry h = all_by_index (FitsForm (form_for entry)) (numbers_of entry) None (λ i below.

@@ -6,7 +6,10 @@ use Rattle.std.proofs.lemmas.Bool.Decides.{nat_tests}
 use Rattle.std.proofs.lemmas.List.{take_more, take-take, append_assoc, append-nil, length-take-le, length-take, length-drop, length-map, length-append, take_all, take-append-drop, get_or-take, get_or-drop}
 use Rattle.std.proofs.lemmas.List.Concat.{flat_map-append}
 use Rattle.ti_caps.specs.Entry.{Content, value_at, has_flag, number_in, string_in, flag_at, number_at, string_at}
-use Rattle.ti_compiled.specs.Written.{flags_of, numbers_of, strings_of, kept, trimmed, string_cell, table_of, offsets_from}
+use Rattle.ti_caps.specs.Table.{count_of}
+use Rattle.ti_caps.specs.declared.types.Kind.{Kind}
+use Rattle.ti_caps.specs.declared.types.Kind.TheVariants.{Flag, Number, String}
+use Rattle.ti_compiled.specs.Written.{flags_of, numbers_of, strings_of, kept, trimmed, itself, string_cell, table_of, offsets_from, has_at, count_for}
 
 mapped : {A B : Type 0} (f : A → B) (xs : List A) (i : ℕ) (d : A) → get_or (map f xs) i (f d) ≡ f (get_or xs i d)
 mapped f [] i d = refl
@@ -79,6 +82,28 @@ kept_small there x (y ∷ ys) t e = omega arith
 pub trimmed_small : {A : Type 0} (there : A → Bool) (xs : List A) → length (trimmed there xs) ≤ length xs
 trimmed_small there [] = omega arith
 trimmed_small there (x ∷ xs) = let more = trimmed_small there xs in let one = kept_small there x (trimmed there xs) (there x) refl in omega arith
+
+-- how many items of a kind there are up to the last of the first `i` that isn't absent
+abbrev pub counted_to : Kind → Content → ℕ → ℕ
+counted_to Flag entry i = length (trimmed itself (take i (flags_of entry)))
+counted_to Number entry i = length (trimmed is_some (take i (numbers_of entry)))
+counted_to String entry i = length (trimmed is_some (take i (strings_of entry)))
+
+pub counted_more : (kind : Kind) (entry : Content) (i count : ℕ) (t : Bool) → length entry.values ≡ 497 → i < count_of kind → count ≡ counted_to kind entry i
+    → t ≡ has_at kind entry i → (if t then i + 1 else count) ≡ counted_to kind entry (i + 1)
+counted_more Flag entry i count t size h = count_step itself (flags_of entry) i false count t (omega (arith, flags_length entry size))
+counted_more Number entry i count t size h = count_step is_some (numbers_of entry) i None count t (omega (arith, numbers_length entry size))
+counted_more String entry i count t size h = count_step is_some (strings_of entry) i None count t (omega (arith, strings_length entry size))
+
+pub counted_all : (kind : Kind) (entry : Content) (i count : ℕ) → length entry.values ≡ 497 → count_of kind ≤ i → count ≡ counted_to kind entry i → count ≡ count_for kind entry
+counted_all Flag entry i count size h = count_end itself (flags_of entry) i count (omega (arith, flags_length entry size))
+counted_all Number entry i count size h = count_end is_some (numbers_of entry) i count (omega (arith, numbers_length entry size))
+counted_all String entry i count size h = count_end is_some (strings_of entry) i count (omega (arith, strings_length entry size))
+
+pub count_small : (kind : Kind) (entry : Content) → length entry.values ≡ 497 → count_for kind entry ≤ count_of kind
+count_small Flag entry size = omega (arith, trimmed_small itself (flags_of entry), flags_length entry size)
+count_small Number entry size = omega (arith, trimmed_small is_some (numbers_of entry), numbers_length entry size)
+count_small String entry size = omega (arith, trimmed_small is_some (strings_of entry), strings_length entry size)
 
 kept_take : {A : Type 0} (there : A → Bool) (x : A) (xs ys : List A) (t : Bool) → there x ≡ t → take (length ys) xs ≡ ys → take (length (kept there x ys)) (x ∷ xs) ≡ kept there x ys
 kept_take there x xs [] true e h = rw e refl

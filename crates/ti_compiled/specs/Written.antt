@@ -1,10 +1,12 @@
 -- The compiled terminfo file that is written for an entry, term(5).
-use Rattle.std.specs.Prelude.{◌≡◌, ℕ, ◌+◌, ◌-◌, ◌*◌, ◌%◌, ◌≤◌, Bool, false, List, [], ◌∷◌, ◌++◌, length, take, drop}
+use Rattle.std.specs.Prelude.{◌≡◌, ℕ, ◌+◌, ◌-◌, ◌*◌, ◌%◌, ◌≤◌, Bool, false, List, [], ◌∷◌, ◌++◌, length, get_or, take, drop}
 use Rattle.std.specs.Prelude.{map, flat_map, replicate, Option, Some, None, is_some, Result, Ok, Err, if◌then◌else◌}
 use Rattle.std.specs.Prelude.{nat_lt}
 use Rattle.std.specs.Int.{from_bool}
 use Rattle.std.specs.List.{list_any}
 use Rattle.ti_caps.specs.Entry.{Content, IsEntry, has_flag, number_in, string_in}
+use Rattle.ti_caps.specs.declared.types.Kind.{Kind}
+use Rattle.ti_caps.specs.declared.types.Kind.TheVariants.{Flag, Number, String}
 use Rattle.ti_compiled.specs.declared.types.Form.{Form}
 use Rattle.ti_compiled.specs.declared.types.Form.TheVariants.{Legacy, Wide}
 use Rattle.ti_compiled.specs.declared.types.PackFault.{PackFault}
@@ -76,6 +78,18 @@ pub record IsPlan (entry : Content) (plan : Plan) : Type 0 where
   pub few_numbers : plan.numbers ≤ 39
   pub few_strings : plan.strings ≤ 414
   pub small_table : plan.table ≤ 414 * 4096
+
+-- whether an entry has the capability at a position among those of its kind
+abbrev pub has_at : Kind → Content → ℕ → Bool
+has_at Flag entry position = get_or (flags_of entry) position false
+has_at Number entry position = is_some (get_or (numbers_of entry) position None)
+has_at String entry position = is_some (get_or (strings_of entry) position None)
+
+-- how many capabilities of a kind the file of an entry has: those up to the last one that the entry has
+abbrev pub count_for : Kind → Content → ℕ
+count_for Flag entry = length (trimmed itself (flags_of entry))
+count_for Number entry = length (trimmed is_some (numbers_of entry))
+count_for String entry = length (trimmed is_some (strings_of entry))
 
 -- the sections of an entry
 abbrev pub flag_cells : Content → List ℕ

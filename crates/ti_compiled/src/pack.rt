@@ -8,11 +8,13 @@ ghost use Rattle.std.specs.List.{list_any};
 ghost use Rattle.std.specs.Option.{option_copied};
 ghost use Rattle.ti_caps.specs.declared.types.Kind.TheVariants as kinds;
 ghost use Rattle.ti_caps.specs.Entry.{IsEntry};
+ghost use Rattle.ti_caps.specs.Table.{count_of};
 ghost use Rattle.ti_compiled.specs.Layout.{half, width};
 ghost use Rattle.ti_compiled.specs.Contents.{Gives};
 ghost use Rattle.ti_compiled.specs.Packed.{word, long, magic, number_bytes};
 ghost use Rattle.ti_compiled.specs.Written.{flags_of, numbers_of, strings_of, trimmed, itself, number_cell};
 ghost use Rattle.ti_compiled.specs.Written.{offsets_from, table_of, string_cell, is_wide, form_for, limit, IsPlan};
+ghost use Rattle.ti_compiled.specs.Written.{count_for, has_at};
 ghost use Rattle.ti_compiled.specs.Written.{written, packing_of};
 
 use crate::sections::width;
@@ -56,54 +58,41 @@ fn string_there(entry: &Entry, position: usize) -> Option<&[u8]>
     entry.get_string(cap_at(Kind::String, position))
 }
 
-/// The number of items up to the one at `position` if it is `there`, otherwise `count`.
-fn counted(there: bool, position: usize, count: usize) -> usize
-    requires { position < 500 }
-    ensures { result ≡ (if there then position + 1 else count) }
-{
-    if there { position + 1 } else { count }
-}
-
-fn count_flags(entry: &Entry) -> usize
-    requires { IsEntry entry.now }
-    ensures value { result ≡ length (trimmed itself (flags_of entry.now)) }
-    ensures range { result ≤ 44 }
-{
-    let mut count = 0;
-    for position in 0..FLAGS {
-        count = counted(flag_there(entry, position), position, count);
-    }
-    count
-}
-
-fn count_numbers(entry: &Entry) -> usize
-    requires { IsEntry entry.now }
-    ensures value { result ≡ length (trimmed is_some (numbers_of entry.now)) }
-    ensures range { result ≤ 39 }
-{
-    let mut count = 0;
-    for position in 0..NUMBERS {
-        count = counted(number_there(entry, position).is_some(), position, count);
-    }
-    count
-}
-
-fn string_is_there(entry: &Entry, position: usize) -> bool
+/// Whether the entry has the capability at `position` among those of its kind.
+fn is_there(entry: &Entry, kind: Kind, position: usize) -> bool
     requires entry { IsEntry entry.now }
-    requires place { position < 414 }
-    ensures { result ≡ is_some (slice_index_or (strings_of entry.now) position None) }
+    requires place { position < count_of kind }
+    ensures { result ≡ has_at kind entry.now position }
 {
-    string_there(entry, position).is_some()
+    match kind {
+        Kind::Flag => flag_there(entry, position),
+        Kind::Number => number_there(entry, position).is_some(),
+        Kind::String => string_there(entry, position).is_some(),
+    }
 }
 
-fn count_strings(entry: &Entry) -> usize
+/// How many capabilities of this kind there are.
+fn total(kind: Kind) -> usize
+    ensures { result ≡ count_of kind }
+{
+    match kind {
+        Kind::Flag => FLAGS,
+        Kind::Number => NUMBERS,
+        Kind::String => STRINGS,
+    }
+}
+
+/// How many capabilities of this kind the file has: those up to the last one that the entry has.
+fn count(entry: &Entry, kind: Kind) -> usize
     requires { IsEntry entry.now }
-    ensures value { result ≡ length (trimmed is_some (strings_of entry.now)) }
-    ensures range { result ≤ 414 }
+    ensures value { result ≡ count_for kind entry.now }
+    ensures range { result ≤ count_of kind }
 {
     let mut count = 0;
-    for position in 0..STRINGS {
-        count = counted(string_is_there(entry, position), position, count);
+    for position in 0..total(kind) {
+        if is_there(entry, kind, position) {
+            count = position + 1;
+        }
     }
     count
 }
@@ -161,11 +150,11 @@ fn plan_of(entry: &Entry) -> Plan
     requires { IsEntry entry.now }
     ensures { IsPlan entry.now result }
 {
-    let strings = count_strings(entry);
+    let strings = count(entry, Kind::String);
     Plan {
         form: form_for(entry),
-        flags: count_flags(entry),
-        numbers: count_numbers(entry),
+        flags: count(entry, Kind::Flag),
+        numbers: count(entry, Kind::Number),
         strings,
         table: table_size(entry, strings),
     }
