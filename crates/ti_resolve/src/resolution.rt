@@ -15,7 +15,7 @@ use crate::faults::ResolveFault;
 use crate::fill::filled;
 use crate::origins::{Origin, giving};
 use crate::search::{Index, names_of};
-use crate::walk::{Destination, MOST_USED, enter};
+use crate::walk::{Destination, MOST_USED, Trail, enter};
 use std::alloc::Global;
 use ti_caps::{Cap, Entry};
 use ti_source::RawEntry;
@@ -33,14 +33,16 @@ pub fn entered_from(
     requires { root < length index.now.raws.now }
     ensures { Gives (λ places. places.items) result (walk_at index.now.raws.now root) }
 {
-    let mut chain = Vec::new(alloc);
-    let mut entered = Vec::new(alloc);
+    let mut trail = Trail {
+        chain: Vec::new(alloc),
+        entered: Vec::new(alloc),
+    };
     let to = Destination {
         name: names_of(index.raws, root),
         place: root,
     };
-    enter(alloc, index, MOST_USED + 1, to, &mut chain, &mut entered)?;
-    Ok(entered)
+    enter(alloc, index, MOST_USED + 1, to, &mut trail)?;
+    Ok(trail.entered)
 }
 
 /// The entry at the place `root`, as `resolve_at` returns it, but with an index that serves many calls. Only the

@@ -19,6 +19,15 @@ pub(crate) struct Destination<'a> {
     pub(crate) place: usize,
 }
 
+/// Where a walk is, and what it has entered.
+#[derive(Drop)]
+pub(crate) struct Trail {
+    /// The places of the entries that led to here: each uses the next one.
+    pub(crate) chain: Vec<usize>,
+    /// The places of all entries entered so far, in that order.
+    pub(crate) entered: Vec<usize>,
+}
+
 /// The place of the entry to enter for a use of `name`; `None` if that entry was entered before.
 #[tactic(auto, using(crate::proofs::Told::told_fails), unfolding(crate::specs::Walk::target))]
 fn lead(
@@ -57,28 +66,21 @@ pub(crate) fn enter(
     index: &Index<'_>,
     depth: usize,
     to: Destination<'_>,
-    chain: &mut Vec<usize>,
-    entered: &mut Vec<usize>,
+    trail: &mut Trail,
 ) -> Result<(), ResolveFault>
     requires { to.place < length index.now.raws.now }
-    ensures walk { Gives (λ _. entered.new.items) result
-        (enter depth index.now.raws.now chain.old.items to.entry.name.now to.entry.place entered.old.items) }
-    ensures chain { OnOk result (chain.new.items ≡ chain.old.items) }
+    ensures walk { Gives (λ _. trail.new.entered.items) result
+        (enter depth index.now.raws.now trail.old.chain.items to.entry.name.now to.entry.place
+        trail.old.entered.items) }
+    ensures chain { OnOk result (trail.new.chain.items ≡ trail.old.chain.items) }
 {
     if depth == 0 {
         return Err(ResolveFault::too_many(alloc, to.name));
     }
-    chain.push(to.place)?;
-    entered.push(to.place)?;
-    follow_all(
-        alloc,
-        index,
-        depth - 1,
-        index.fields_of(to.place),
-        chain,
-        entered,
-    )?;
-    chain.pop();
+    trail.chain.push(to.place)?;
+    trail.entered.push(to.place)?;
+    follow_all(alloc, index, depth - 1, index.fields_of(to.place), trail)?;
+    trail.chain.pop();
     Ok(())
 }
 
@@ -89,16 +91,15 @@ fn follow_all(
     index: &Index<'_>,
     depth: usize,
     fields: &[Field],
-    chain: &mut Vec<usize>,
-    entered: &mut Vec<usize>,
+    trail: &mut Trail,
 ) -> Result<(), ResolveFault>
-    ensures walk { Gives (λ _. entered.new.items) result
-        (follow_uses (enter depth index.now.raws.now chain.old.items) index.now.raws.now chain.old.items
-        (uses_in fields.now) entered.old.items) }
-    ensures chain { OnOk result (chain.new.items ≡ chain.old.items) }
+    ensures walk { Gives (λ _. trail.new.entered.items) result
+        (follow_uses (enter depth index.now.raws.now trail.old.chain.items) index.now.raws.now trail.old.chain.items
+        (uses_in fields.now) trail.old.entered.items) }
+    ensures chain { OnOk result (trail.new.chain.items ≡ trail.old.chain.items) }
 {
     for field in fields {
-        follow_field(alloc, index, depth, field, chain, entered)?;
+        follow_field(alloc, index, depth, field, trail)?;
     }
     Ok(())
 }
@@ -110,17 +111,16 @@ fn follow_field(
     index: &Index<'_>,
     depth: usize,
     field: &Field,
-    chain: &mut Vec<usize>,
-    entered: &mut Vec<usize>,
+    trail: &mut Trail,
 ) -> Result<(), ResolveFault>
-    ensures walk { Gives (λ _. entered.new.items) result
-        (follow_field (enter depth index.now.raws.now chain.old.items) index.now.raws.now chain.old.items
-        field.now entered.old.items) }
-    ensures chain { OnOk result (chain.new.items ≡ chain.old.items) }
+    ensures walk { Gives (λ _. trail.new.entered.items) result
+        (follow_field (enter depth index.now.raws.now trail.old.chain.items) index.now.raws.now trail.old.chain.items
+        field.now trail.old.entered.items) }
+    ensures chain { OnOk result (trail.new.chain.items ≡ trail.old.chain.items) }
 {
     match field {
         Field::Set(_, _) | Field::Cancel(_) => Ok(()),
-        Field::Include(name) => follow(alloc, index, depth, name.as_slice(), chain, entered),
+        Field::Include(name) => follow(alloc, index, depth, name.as_slice(), trail),
     }
 }
 
@@ -131,23 +131,22 @@ fn follow(
     index: &Index<'_>,
     depth: usize,
     name: &[u8],
-    chain: &mut Vec<usize>,
-    entered: &mut Vec<usize>,
+    trail: &mut Trail,
 ) -> Result<(), ResolveFault>
-    ensures walk { Gives (λ _. entered.new.items) result
-        (and_then (target (place_named index.now.raws.now name.now) name.now chain.old.items entered.old.items)
-        (go_to (enter depth index.now.raws.now chain.old.items name.now) entered.old.items)) }
-    ensures chain { OnOk result (chain.new.items ≡ chain.old.items) }
+    ensures walk { Gives (λ _. trail.new.entered.items) result
+        (and_then (target (place_named index.now.raws.now name.now) name.now trail.old.chain.items
+        trail.old.entered.items)
+        (go_to (enter depth index.now.raws.now trail.old.chain.items name.now) trail.old.entered.items)) }
+    ensures chain { OnOk result (trail.new.chain.items ≡ trail.old.chain.items) }
 {
-    match lead(alloc, index, name, chain.as_slice(), entered.as_slice())? {
+    match lead(
+        alloc,
+        index,
+        name,
+        trail.chain.as_slice(),
+        trail.entered.as_slice(),
+    )? {
         None => Ok(()),
-        Some(place) => enter(
-            alloc,
-            index,
-            depth,
-            Destination { name, place },
-            chain,
-            entered,
-        ),
+        Some(place) => enter(alloc, index, depth, Destination { name, place }, trail),
     }
 }

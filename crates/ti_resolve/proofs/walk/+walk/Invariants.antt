@@ -17,6 +17,6 @@ decreases-follow_all l = 4 * l.depth + 3
 
 abbrev pub invariant-follow_all-loop-field : goal.invariant-follow_all-loop-field
 invariant-follow_all-loop-field l = record {
-  chain : l.chain.items ≡ l.fn.chain.items;
-  walk : follow_uses (enter l.depth l.index.raws.now l.fn.chain.items) l.index.raws.now l.fn.chain.items (uses_in (drop l.field-index l.fields)) l.entered.items ≡ follow_uses (enter l.depth l.index.raws.now l.fn.chain.items) l.index.raws.now l.fn.chain.items (uses_in l.fields) l.fn.entered.items;
+  chain : l.trail.chain.items ≡ l.fn.trail.chain.items;
+  walk : follow_uses (enter l.depth l.index.raws.now l.fn.trail.chain.items) l.index.raws.now l.fn.trail.chain.items (uses_in (drop l.field-index l.fields)) l.trail.entered.items ≡ follow_uses (enter l.depth l.index.raws.now l.fn.trail.chain.items) l.index.raws.now l.fn.trail.chain.items (uses_in l.fields) l.fn.trail.entered.items;
 }
