@@ -23,7 +23,7 @@ use Rattle.ti_source.specs.Source.{fault_at, lines_behind, read_lines, no_progre
 use Rattle.ti_source.proofs.Decodings.{either_way}
 use Rattle.ti_source.proofs.Fitness.{same_kind}
 use Rattle.ti_source.proofs.ReadBack.{whole_line, line_of, printed}
-use Rattle.ti_source.proofs.RoundTrip.{names_parts, names_read, names_inline, fields_lines, fields_read, text_prints, fine_fields}
+use Rattle.ti_source.proofs.RoundTrip.{names_parts, names_read, names_inline, fields_lines, fields_read, text_prints, fine_fields, flag_no_number, flag_no_string, number_no_string}
 use Rattle.ti_source.proofs.Spellings.{choose, both_true, is_inline}
 
 spelled_short : (b : ℕ) (letter : Option ℕ) → length (spelled_with b letter) ≤ 4
@@ -45,15 +45,6 @@ field_length : (place most : ℕ) (value : Value) → place < 497 → length (va
 unfolding field_text
 field_length place most value inside h =
     omega (arith, name_is_short place inside, length-append (name_at place) (value_text value ++ 44 ∷ 10 ∷ []), length-append (value_text value) (44 ∷ 10 ∷ []))
-
-flag_no_number : kinds.Flag ≡ kinds.Number → ⊥
-flag_no_number e = cc
-
-flag_no_string : kinds.Flag ≡ kinds.String → ⊥
-flag_no_string e = cc
-
-number_no_string : kinds.Number ≡ kinds.String → ⊥
-number_no_string e = cc
 
 value_line : (place : ℕ) (kind : Kind) (value : Value) → place < 497 → FitsPlace place (Some value) → kind_of place ≡ kind → length (field_text place value) ≤ line_most kind
 value_line place kinds.Flag values.Flag inside h e = field_length place 0 values.Flag inside (omega arith)

@@ -241,14 +241,14 @@ other_kind entry kind other rank differ e =
     (λ m _ (f : OfKind m kind) (same : place_of_rank m ≡ place_of_rank rank).
     differ (sym (same_kind (kind_of (place_of_rank m)) kind f) ∙ (ap kind_of same ∙ same_kind (kind_of (place_of_rank rank)) other e)))
 
-flag_number : kinds.Flag ≡ kinds.Number → ⊥
-flag_number e = cc
+pub flag_no_number : kinds.Flag ≡ kinds.Number → ⊥
+flag_no_number e = cc
 
-flag_string : kinds.Flag ≡ kinds.String → ⊥
-flag_string e = cc
+pub flag_no_string : kinds.Flag ≡ kinds.String → ⊥
+flag_no_string e = cc
 
-number_string : kinds.Number ≡ kinds.String → ⊥
-number_string e = cc
+pub number_no_string : kinds.Number ≡ kinds.String → ⊥
+number_no_string e = cc
 
 pub fine_fields : (entry : Content) → IsEntry entry → Fine [] (fields_of entry)
 unfolding fields_of kind_fields
@@ -256,6 +256,6 @@ fine_fields entry is =
     let flags = kind_fields entry kinds.Flag in
     let numbers = kind_fields entry kinds.Number in
     fine_both [] flags (numbers ++ kind_fields entry kinds.String) (fine_ranks entry kinds.Flag 497 [] is (omega arith) (λ m _. told_none (place_of_rank m)))
-    (fine_both flags numbers (kind_fields entry kinds.String) (fine_ranks entry kinds.Number 497 flags is (omega arith) (λ m e. other_kind entry kinds.Flag kinds.Number m flag_number e))
+    (fine_both flags numbers (kind_fields entry kinds.String) (fine_ranks entry kinds.Number 497 flags is (omega arith) (λ m e. other_kind entry kinds.Flag kinds.Number m flag_no_number e))
     (fine_ranks entry kinds.String 497 (flags ++ numbers) is (omega arith)
-    (λ m e. told_both flags numbers (place_of_rank m) (other_kind entry kinds.Flag kinds.String m flag_string e) (other_kind entry kinds.Number kinds.String m number_string e))))
+    (λ m e. told_both flags numbers (place_of_rank m) (other_kind entry kinds.Flag kinds.String m flag_no_string e) (other_kind entry kinds.Number kinds.String m number_no_string e))))
