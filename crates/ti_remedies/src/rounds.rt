@@ -30,6 +30,15 @@ pub struct Remedied {
     pub treated: Vec<Treated>,
 }
 
+/// A source text before a round.
+#[derive(Clone, Copy)]
+struct Before<'a> {
+    /// The text, and its entries.
+    source: &'a Fixed,
+    /// Which of these have a yes.
+    stood: &'a [bool],
+}
+
 /// The result of a round.
 #[derive(Drop)]
 enum Round {
@@ -85,23 +94,23 @@ fn is_none(places: &[usize]) -> bool
 fn judged<A: Adviser>(
     alloc: Global,
     adviser: &A,
-    source: &Fixed,
-    stood: &[bool],
+    before: Before<'_>,
     treated: &[Treated],
     fixed: Fixed,
 ) -> Result<Round, AllocError>
-    requires fit { AllByRecursion IsRaw source.now.raws.items }
-    requires stands { AreStandings (A.judges adviser.now) source.now.raws.items stood.now }
-    requires gives { GivesAll source.now.text.items source.now.raws.items (spec.changes_of treated.now)
+    requires fit { AllByRecursion IsRaw before.source.now.raws.items }
+    requires stands { AreStandings (A.judges adviser.now) before.source.now.raws.items before.stood.now }
+    requires gives { GivesAll before.source.now.text.items before.source.now.raws.items (spec.changes_of treated.now)
         fixed.text.items fixed.raws.items }
     ensures { IfOk result
-        (spec.IsRound (A.judges adviser.now) source.now.text.items source.now.raws.items treated.now) }
+        (spec.IsRound (A.judges adviser.now) before.entry.source.now.text.items before.entry.source.now.raws.items
+        treated.now) }
 {
-    let places = lost(alloc, adviser, stood, &fixed)?;
+    let places = lost(alloc, adviser, before.stood, &fixed)?;
     if is_none(places.as_slice()) {
         return Ok(Round::Done(fixed));
     }
-    let next = left(alloc, source, &fixed, places.as_slice(), treated)?;
+    let next = left(alloc, before.source, &fixed, places.as_slice(), treated)?;
     Ok(Round::Again(next))
 }
 
@@ -109,20 +118,20 @@ fn judged<A: Adviser>(
 fn take_together<A: Adviser>(
     alloc: Global,
     adviser: &A,
-    source: &Fixed,
-    stood: &[bool],
+    before: Before<'_>,
     treated: &[Treated],
 ) -> Result<Round, AllocError>
-    requires fit { AllByRecursion IsRaw source.now.raws.items }
-    requires stands { AreStandings (A.judges adviser.now) source.now.raws.items stood.now }
+    requires fit { AllByRecursion IsRaw before.source.now.raws.items }
+    requires stands { AreStandings (A.judges adviser.now) before.source.now.raws.items before.stood.now }
     requires fits { AllByRecursion Fits (map (λ one. one.remedy) treated.now) }
     ensures { IfOk result
-        (spec.IsRound (A.judges adviser.now) source.now.text.items source.now.raws.items treated.now) }
+        (spec.IsRound (A.judges adviser.now) before.entry.source.now.text.items before.entry.source.now.raws.items
+        treated.now) }
 {
     let changes = changes_of(alloc, treated)?;
-    let (text, raws) = (source.text.as_slice(), source.raws.as_slice());
+    let (text, raws) = (before.source.text.as_slice(), before.source.raws.as_slice());
     match give_all(alloc, text, raws, changes.as_slice()) {
-        Ok(fixed) => judged(alloc, adviser, source, stood, treated, fixed),
+        Ok(fixed) => judged(alloc, adviser, before, treated, fixed),
         Err(ChangeFault::NoMemory) => Err(AllocError),
         Err(ChangeFault::Unplaced(place)) => {
             let next = without_unplaced(alloc, place, treated)?;
@@ -160,9 +169,10 @@ fn after_rounds<A: Adviser>(
         source.now.raws.items (map (λ one. one.remedy) start.now) done.treated.items done.fixed.text.items
         done.fixed.raws.items)) }
 {
+    let before = Before { source, stood };
     let mut treated = copied(alloc, start)?;
     for _round in 0..ROUNDS {
-        match take_together(alloc, adviser, source, stood, treated.as_slice())? {
+        match take_together(alloc, adviser, before, treated.as_slice())? {
             Round::Done(fixed) => return Ok(Some(Remedied { fixed, treated })),
             Round::Again(next) => treated = next,
         }

@@ -9,12 +9,12 @@ lost-requires-clause-as_many g c = c.requires.stands.as_many ∙ sym c.requires.
 -- no entry loses its yes
 pub returns-then-is_none : goal.returns-then-is_none
 returns-then-is_none g c =
-    done_so (g.A.Adviser.judges c.args.adviser.now) c.args.source.now.text.items c.args.source.now.raws.items c.args.treated.now c.args.fixed c.args.stood.now c.in_ok-places.places.items
+    done_so (g.A.Adviser.judges c.args.adviser.now) c.args.before.source.now.text.items c.args.before.source.now.raws.items c.args.treated.now c.args.fixed c.args.before.stood.now c.in_ok-places.places.items
     c.requires.stands c.requires.gives c.in_ok-places.ensures (sym c.as_slice.ensures.value ∙ c.is_none.ensures c.if-is_none.true)
 
 -- some do
 pub returns : goal.returns
 returns g c =
-    again_so (g.A.Adviser.judges c.args.adviser.now) c.args.source.now.text.items c.args.source.now.raws.items c.args.treated.now c.args.fixed c.args.stood.now c.in_ok-places.places.items c.in_ok-next.next
+    again_so (g.A.Adviser.judges c.args.adviser.now) c.args.before.source.now.text.items c.args.before.source.now.raws.items c.args.treated.now c.args.fixed c.args.before.stood.now c.in_ok-places.places.items c.in_ok-next.next
     c.requires.stands c.requires.gives c.in_ok-places.ensures
     (subst (λ (places : List ℕ). AreLeft (IsLeftIfLost places) c.args.treated.now c.in_ok-next.next.items) c.as_slice-2.ensures.value c.in_ok-next.ensures)

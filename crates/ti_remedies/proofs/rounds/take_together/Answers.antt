@@ -15,4 +15,4 @@ judged-requires-clause-gives g c =
 
 -- no place was found for some
 pub returns : goal.returns
-returns g c = unplaced_so (g.A.Adviser.judges c.args.adviser.now) c.args.source.now.text.items c.args.source.now.raws.items c.args.treated.now c.in_ok-next-in-Err-Unplaced.next c.in_ok-next-in-Err-Unplaced.ensures
+returns g c = unplaced_so (g.A.Adviser.judges c.args.adviser.now) c.args.before.source.now.text.items c.args.before.source.now.raws.items c.args.treated.now c.in_ok-next-in-Err-Unplaced.next c.in_ok-next-in-Err-Unplaced.ensures
