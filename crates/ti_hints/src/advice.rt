@@ -40,20 +40,28 @@ pub fn advice_on(alloc: Global, entry: &Entry, size: Size) -> Result<Vec<Vec<u8>
     }
     let colors: [&[u8]; 3] = [b"setaf", b"setab", b"op"];
     if let Some(first) = colors.iter().find(|it| has(entry, it)) {
-        add_missing(alloc, entry, first, &colors, NO_COLORS, &mut advice)?;
+        let needs = Needs {
+            subject: first,
+            names: &colors,
+            outcome: NO_COLORS,
+        };
+        add_missing(alloc, entry, needs, &mut advice)?;
     }
     if has(entry, b"acsc") {
-        add_missing(
-            alloc,
-            entry,
-            b"acsc",
-            &[b"smacs", b"rmacs"],
-            NO_LINES,
-            &mut advice,
-        )?;
+        let needs = Needs {
+            subject: b"acsc",
+            names: &[b"smacs", b"rmacs"],
+            outcome: NO_LINES,
+        };
+        add_missing(alloc, entry, needs, &mut advice)?;
     }
     if has(entry, b"civis") {
-        add_missing(alloc, entry, b"civis", &[b"cnorm"], NO_HIDING, &mut advice)?;
+        let needs = Needs {
+            subject: b"civis",
+            names: &[b"cnorm"],
+            outcome: NO_HIDING,
+        };
+        add_missing(alloc, entry, needs, &mut advice)?;
     }
     Ok(advice)
 }
@@ -73,18 +81,27 @@ fn string_of<'a>(entry: &'a Entry, name: &[u8]) -> Option<&'a [u8]> {
     entry.get_string(by_name(name)?)
 }
 
-/// Adds the strings `needed` beside `subject` that are missing, and the `outcome`, if any are.
+/// The strings that are needed beside another.
+#[derive(Clone, Copy)]
+struct Needs<'a> {
+    /// The name of the string that they serve.
+    subject: &'a [u8],
+    /// Their names.
+    names: &'a [&'a [u8]],
+    /// What follows if any of them is missing.
+    outcome: &'a [u8],
+}
+
+/// Adds those of the strings that `entry` needs which it doesn't have, and what follows, if there are any.
 fn add_missing(
     alloc: Global,
     entry: &Entry,
-    subject: &[u8],
-    needed: &[&[u8]],
-    outcome: &[u8],
+    needs: Needs<'_>,
     advice: &mut Vec<Vec<u8>>,
 ) -> Result<(), AllocError> {
     let mut missing = Vec::new(alloc);
     let mut count: usize = 0;
-    for name in needed {
+    for name in needs.names {
         if !has(entry, name) {
             missing.extend_from_slice(if count == 0 { b": " } else { b" and " })?;
             missing.extend_from_slice(name)?;
@@ -94,10 +111,10 @@ fn add_missing(
     if count == 0 {
         return Ok(());
     }
-    let mut text = Vec::from_slice(alloc, subject)?;
+    let mut text = Vec::from_slice(alloc, needs.subject)?;
     text.extend_from_slice(missing.as_slice())?;
     text.extend_from_slice(if count == 1 { b" is" } else { b" are" })?;
-    text.extend_from_slice(outcome)?;
+    text.extend_from_slice(needs.outcome)?;
     advice.push(text)?;
     Ok(())
 }

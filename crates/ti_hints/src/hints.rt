@@ -204,7 +204,10 @@ fn add_line_hints(
     reading: &mut Reading<'_>,
     remarks: &mut Remarks,
 ) -> Result<(), AllocError> {
-    let path = reading.scope.path;
+    let spot = Spot {
+        line: number,
+        path: reading.scope.path,
+    };
     let mut rest = fields;
     for _ in 0..fields.len() {
         if rest.is_empty() {
@@ -212,11 +215,11 @@ fn add_line_hints(
         }
         let (field, after) = next_field(rest);
         if let Some(words) = field_words(&field, &mut reading.seen) {
-            add_hint(alloc, number, path, field.name, words, remarks)?;
+            add_hint(alloc, spot, field.name, words, remarks)?;
         }
         if let Some(letter) = field.odd_escape() {
             let words = odd_words(alloc, letter)?;
-            add_hint(alloc, number, path, field.name, words.as_slice(), remarks)?;
+            add_hint(alloc, spot, field.name, words.as_slice(), remarks)?;
         }
         rest = after;
     }
@@ -274,26 +277,38 @@ fn add_caret(
 ) -> Result<(), AllocError> {
     let mut subject = Vec::from_slice(alloc, b"in ")?;
     subject.extend_from_slice(name(hint.cap))?;
-    add_hint(alloc, hint.line, path, subject.as_slice(), CARET, remarks)
+    let spot = Spot {
+        line: hint.line,
+        path,
+    };
+    add_hint(alloc, spot, subject.as_slice(), CARET, remarks)
 }
 
 const CARET: &[u8] =
     b" `%^` is read as `%` and a control character; exclusive or is written `%\\^`";
 
-/// Adds the hint on the line `number` with `what` about the `subject`, and with the `path` of the file, if there is
-/// one.
+/// A line of a file.
+#[derive(Clone, Copy)]
+struct Spot<'a> {
+    /// The line's number, from 1.
+    line: usize,
+    /// The file's path, if hints are to name it.
+    path: Option<&'a str>,
+}
+
+/// Adds the hint at the `spot` with `what` about the `subject`.
 fn add_hint(
     alloc: Global,
-    number: usize,
-    path: Option<&str>,
+    spot: Spot<'_>,
     subject: &[u8],
     what: &[u8],
     remarks: &mut Remarks,
 ) -> Result<(), AllocError> {
-    let mut words = format!(in alloc; "hint line {number}: ")?.into_bytes();
+    let line = spot.line;
+    let mut words = format!(in alloc; "hint line {line}: ")?.into_bytes();
     words.extend_from_slice(subject)?;
     words.extend_from_slice(what)?;
-    if let Some(path) = path {
+    if let Some(path) = spot.path {
         words.extend_from_slice(b", in ")?;
         words.extend_from_slice(path.as_bytes())?;
     }

@@ -134,6 +134,14 @@ enum Outcome {
     Unseen,
 }
 
+/// A run of a string.
+#[derive(Clone, Copy)]
+struct Run<'a> {
+    outcome: Outcome,
+    /// What the string should have done.
+    words: &'a [u8],
+}
+
 /// The state of T that a run leaves.
 #[derive(Drop)]
 struct Left {
@@ -168,29 +176,32 @@ fn add_string(alloc: Global, entry: &Entry, cap: Cap, tried: &mut Tried) -> Resu
     let name = name(cap);
     if let Some(deed) = DEEDS.iter().find(|deed| deed.name == name) {
         let outcome = deed_outcome(alloc, entry, cap, deed)?;
-        return add_outcome(alloc, entry, cap, outcome, deed.words, tried);
+        let words = deed.words;
+        return add_run(alloc, entry, cap, Run { outcome, words }, tried);
     }
     if let Some((_, begun)) = ENDS.iter().find(|end| end.0 == name) {
         let outcome = end_outcome(alloc, entry, cap, begun)?;
         let words = joined(alloc, b"end ", begun)?;
-        return add_outcome(alloc, entry, cap, outcome, words.as_slice(), tried);
+        let words = words.as_slice();
+        return add_run(alloc, entry, cap, Run { outcome, words }, tried);
     }
     tried.unseen.push(cap)?;
     Ok(())
 }
 
-/// Adds the `outcome` of a run of the string `cap` of `entry`, which should have done what the `words` say.
-fn add_outcome(
+/// Adds the `run` of the string `cap` of `entry`.
+fn add_run(
     alloc: Global,
     entry: &Entry,
     cap: Cap,
-    outcome: Outcome,
-    words: &[u8],
+    run: Run<'_>,
     tried: &mut Tried,
 ) -> Result<(), AllocError> {
-    match outcome {
+    match run.outcome {
         Outcome::Right => tried.right = tried.right.saturating_add(1),
-        Outcome::Wrong => tried.advice.push(wrong_words(alloc, entry, cap, words)?)?,
+        Outcome::Wrong => tried
+            .advice
+            .push(wrong_words(alloc, entry, cap, run.words)?)?,
         Outcome::Unseen => tried.unseen.push(cap)?,
     }
     Ok(())
