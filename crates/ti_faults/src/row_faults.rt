@@ -14,6 +14,13 @@ use ti_conforms::NO_LOOKS;
 use ti_rows::{CAPABILITIES, Row};
 use vt_term::Size;
 
+/// An entry, and the size at which it is judged.
+#[derive(Clone, Copy)]
+struct Asked<'a> {
+    entry: &'a Entry,
+    size: Size,
+}
+
 /// The first row, from the capability's row `first` on, for which the string is at fault.
 fn string_fault(
     alloc: Global,
@@ -42,22 +49,17 @@ fn string_fault(
 
 /// The refusal about the first faulty row of the capability at `place` in the order of names, if it is checked and has
 /// such a row.
-fn cap_fault(
-    alloc: Global,
-    entry: &Entry,
-    place: usize,
-    size: Size,
-    judge: &mut Judge,
-) -> Option<No>
+fn cap_fault(alloc: Global, asked: Asked<'_>, place: usize, judge: &mut Judge) -> Option<No>
     requires { place < capabilities }
-    ensures none { IfNone result (CapStands entry.now size.rows size.cols place) }
-    ensures some { IfSome result (spec.IsCapFault entry.now size.rows size.cols place) }
+    ensures none { IfNone result (CapStands asked.entry.entry.now asked.entry.size.rows asked.entry.size.cols place) }
+    ensures some { IfSome result
+        (spec.IsCapFault asked.entry.entry.now asked.entry.size.rows asked.entry.size.cols place) }
 {
     let Some(first) = Row::first(place) else {
         return None;
     };
-    match checked_string(entry, first) {
-        Some(string) => string_fault(alloc, string, first, size, judge),
+    match checked_string(asked.entry, first) {
+        Some(string) => string_fault(alloc, string, first, asked.size, judge),
         None => None,
     }
 }
@@ -66,16 +68,16 @@ fn cap_fault(
 #[tactic(auto, using(crate::proofs::Caps::stands_added, crate::proofs::Caps::fault_added))]
 fn push_cap_fault(
     alloc: Global,
-    entry: &Entry,
+    asked: Asked<'_>,
     place: usize,
-    size: Size,
     judge: &mut Judge,
     nos: &mut Vec<No>,
 ) -> Result<(), AllocError>
     requires { place < capabilities }
-    ensures { OnOk result (spec.AddsCap entry.now size.rows size.cols place nos.old.items nos.new.items) }
+    ensures { OnOk result (spec.AddsCap asked.entry.entry.now asked.entry.size.rows asked.entry.size.cols place
+        nos.old.items nos.new.items) }
 {
-    match cap_fault(alloc, entry, place, size, judge) {
+    match cap_fault(alloc, asked, place, judge) {
         None => Ok(()),
         Some(no) => push_claim(no, nos),
     }
@@ -95,10 +97,11 @@ fn push_claim(no: No, nos: &mut Vec<No>) -> Result<(), AllocError>
 pub(crate) fn row_faults(alloc: Global, entry: &Entry, size: Size) -> Result<Vec<No>, AllocError>
     ensures { IfOk result (λ nos. spec.OfCaps entry.now size.rows size.cols capabilities nos.items) }
 {
+    let asked = Asked { entry, size };
     let mut nos = Vec::new(alloc);
     let mut judge = Judge::new(alloc)?;
     for place in 0..CAPABILITIES {
-        push_cap_fault(alloc, entry, place, size, &mut judge, &mut nos)?;
+        push_cap_fault(alloc, asked, place, &mut judge, &mut nos)?;
     }
     Ok(nos)
 }
