@@ -25,6 +25,8 @@ pub mod BasicTexts
 pub mod BasicAgreement
 pub mod BasicAlone
 pub mod Disagreements
+pub mod Spellings
+pub mod Drafts
 pub mod Lengths
 pub mod Smallness
 pub mod Certified

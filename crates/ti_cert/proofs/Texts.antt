@@ -38,7 +38,7 @@ same_said s t a e f = cc
 never_fails : (s : Said) (e : LineFault CertFaultKind) → (a : Answer) → a ≡ Ok s → a ≡ Err e → ⊥
 never_fails s e a f g = cc
 
-row_passes : (rows cols : ℕ) (lines : List RowLine) (line : RowLine) (after u : Said) → JudgesRow rows cols lines line after (Ok u) → StandsNext rows cols lines line × (u ≡ after)
+pub row_passes : (rows cols : ℕ) (lines : List RowLine) (line : RowLine) (after u : Said) → JudgesRow rows cols lines line after (Ok u) → StandsNext rows cols lines line × (u ≡ after)
 row_passes rows cols lines line after u (NotAllowed never e) = absurd (never_errs u _ (Ok u) refl e)
 row_passes rows cols lines line after u (TooLate range late e) = absurd (never_errs u _ (Ok u) refl e)
 row_passes rows cols lines line after u (TooEarly range behind row first e) = absurd (never_errs u _ (Ok u) refl e)
@@ -48,7 +48,7 @@ row_passes rows cols lines line after u (Untrue place effect has never e) = absu
 row_passes rows cols lines line after u (Unasked place has never kind misfit e) = absurd (never_errs u _ (Ok u) refl e)
 row_passes rows cols lines line after u (Stands place has asked e) = (record { place = place; has = has; asked = asked }, same_said u after (Ok u) refl e)
 
-last_passes : (rows cols : ℕ) (pairs : Option (List ℕ)) (lines : List RowLine) (u : Said) → JudgesLast rows cols pairs lines (Ok u)
+pub last_passes : (rows cols : ℕ) (pairs : Option (List ℕ)) (lines : List RowLine) (u : Said) → JudgesLast rows cols pairs lines (Ok u)
     → IsComplete rows cols lines None × OfLines rows cols lines (λ t. GoesTogether (is_some pairs) t) × (u ≡ Ended pairs lines)
 last_passes rows cols pairs lines u (Lacks row first e) = absurd (never_errs u _ (Ok u) refl e)
 last_passes rows cols pairs lines u (Clashes complete kind clash e) = absurd (never_errs u _ (Ok u) refl e)

@@ -13,3 +13,4 @@ pub mod Verified
 pub mod Basic
 pub mod Disagreements
 pub mod Lengths
+pub mod Certification

@@ -34,7 +34,7 @@ const LIMIT: u32 = 67_108_864;
 
 /// The line that comes next.
 #[derive(Clone, Copy)]
-enum Awaited {
+pub(crate) enum Awaited {
     /// The first line, with the size.
     First,
     /// The line of alternate characters, if there is one.
@@ -61,16 +61,16 @@ impl Awaited {
 
 /// The result of a certificate's lines so far.
 #[derive(Drop)]
-struct Progress {
-    size: Size,
+pub(crate) struct Progress {
+    pub size: Size,
     known: Known,
-    acsc: Option<Bytes>,
+    pub acsc: Option<Bytes>,
     place: Place,
     awaited: Awaited,
     /// Reads the bytes of lines.
     scanner: Scanner,
     /// The bytes of the line before, whose memory is used again for the next line.
-    room: Bytes,
+    pub room: Bytes,
 }
 
 /// Whether `text` is the first line of a certificate for `size`.
@@ -98,7 +98,7 @@ fn misplaced(alloc: Global, text: &[u8]) -> CertFaultKind
 
 impl Progress {
     #[tactic(auto, using(crate::proofs::AuditSteps::starts_so))]
-    fn new(alloc: Global, size: Size) -> Result<Progress, AllocError>
+    pub fn new(alloc: Global, size: Size) -> Result<Progress, AllocError>
         ensures { IfOk result (spec.Starts size.rows size.cols) }
     {
         Ok(Progress {
@@ -160,7 +160,7 @@ impl Progress {
     }
 
     #[tactic(auto, using(crate::proofs::AuditSteps::row_misplaced, crate::proofs::AuditSteps::row_cut, crate::proofs::AuditSteps::row_misshows, crate::proofs::AuditSteps::row_stands))]
-    fn judge_row(&mut self, line: RowLine) -> Result<(), CertFaultKind>
+    pub fn judge_row(&mut self, line: RowLine) -> Result<(), CertFaultKind>
         ensures ok { OnOk result (spec.AnswersRow self.old line (Ok self.new)) }
         ensures err { IfErr result (λ kind. spec.OrNoMemory kind (spec.AnswersRow self.old line)) }
     {
@@ -178,7 +178,7 @@ impl Progress {
     }
 
     #[tactic(auto, using(crate::proofs::AuditSteps::last_lacks, crate::proofs::AuditSteps::last_clashes, crate::proofs::AuditSteps::last_closes))]
-    fn judge_end(&mut self, alloc: Global) -> Result<(), CertFaultKind>
+    pub fn judge_end(&mut self, alloc: Global) -> Result<(), CertFaultKind>
         ensures ok { OnOk result (spec.AnswersLast self.old (Ok self.new)) }
         ensures err { IfErr result (λ kind. spec.OrNoMemory kind (spec.AnswersLast self.old)) }
     {
@@ -193,7 +193,7 @@ impl Progress {
     }
 
     /// The table of a text that was read to its end.
-    fn into_table(self) -> Table
+    pub fn into_table(self) -> Table
         requires { spec.IsWholeRead self }
         ensures made { spec.IsTableMade self result }
         ensures judged { IsJudged (table_of result) }

@@ -4,6 +4,7 @@
 mod agreement;
 mod audits;
 mod certificates;
+mod certification;
 mod clashes;
 mod endings;
 mod faults;
@@ -18,6 +19,7 @@ mod verification;
 
 pub use agreement::agrees;
 pub use audits::{audit, audit_from};
+pub use certification::{CertifyFault, certify};
 pub use clashes::{AllClashes, Clash, Resync, all_clashes, first_clash};
 pub use faults::{AgreeFault, CertFault, CertFaultKind, VerifyFault};
 pub use table::Table;

@@ -91,7 +91,7 @@ fn can_switch(table: &Table) -> bool
 }
 
 impl Checked {
-    fn new(alloc: Global, table: Table) -> Result<Checked, AllocError>
+    pub(crate) fn new(alloc: Global, table: Table) -> Result<Checked, AllocError>
         requires { spec.IsVerified table }
         ensures { IfOk result (λ checked. checked ≡ table) }
     {

@@ -1,0 +1,198 @@
+-- The lines that a draft has are those of a text that is accepted.
+use Rattle.std.proofs.Common.{◌≡◌, ◌<◌, ◌≤◌, ◌+◌, ◌*◌, ℕ, List, [], ◌∷◌, ◌++◌, length, reverse, is_some, Option, Some, None, Ok, refl, sym, ap, subst, ◌∙◌, arith, append-nil}
+use Rattle.std.specs.List.{AllByRecursion}
+use Rattle.std.proofs.lemmas.List.{reverse-reverse}
+use Rattle.hex.specs.Hex.{lower_digits}
+use Rattle.hex.proofs.HexLemmas.{length-encode_with}
+use Rattle.vt_effects.specs.declared.effects.Effect.{Effect}
+use Rattle.vt_term.specs.Size.{IsSize}
+use Rattle.ti_caps.specs.Entry.{Content, IsEntry, string_at, value_at}
+use Rattle.ti_conforms.specs.Entries.{acsc}
+use Rattle.ti_lines.specs.declared.row_lines.RowLine.{RowLine}
+use Rattle.ti_lines.specs.Heads.{size_text, acsc_text}
+use Rattle.ti_lines.specs.Hex.{hex_text}
+use Rattle.ti_lines.specs.RowLines.{line_text, IsLine}
+use Rattle.ti_lines.specs.Texts.{acsc_lines, row_lines, ended, IsAcsc}
+use Rattle.ti_rows.specs.declared.rows.Row.{Row}
+use Rattle.ti_cert.specs.Audits.{TellsNow, Tells, Stands, Steps, AnswersRow, AnswersLast, Starts, IsTableMade}
+use Rattle.ti_cert.specs.Certification.{HasText, text_bytes, Follow, most, ArePairsShort, IsDraft, GoesOn, TakesRoom, IsFinished}
+use Rattle.ti_cert.specs.Certificates.{Said, Nothing, Listing, Ended, JudgesRow, JudgesLast, IsAnswer, limit}
+use Rattle.ti_cert.specs.Clashes.{GoesTogether, OfLines}
+use Rattle.ti_cert.specs.Known.{Known}
+use Rattle.ti_cert.specs.Order.{IsComplete}
+use Rattle.ti_cert.specs.Strings.{row_string, total}
+use Rattle.ti_cert.specs.Table.{CheckedTable}
+use Rattle.ti_cert.specs.Texts.{IsCertificate, StandInOrder, StandsNext}
+use Rattle.ti_cert.specs.declared.audits.Awaited.{Awaited}
+use Rattle.ti_cert.specs.declared.audits.Awaited.TheVariants as lines_awaited
+use Rattle.ti_cert.specs.declared.audits.Progress.{Progress}
+use Rattle.ti_cert.specs.declared.certification.Draft.{Draft}
+use Rattle.ti_cert.proofs.AuditSteps.{sized, stands_at}
+use Rattle.ti_cert.proofs.BasicLines.{size_is, size_short}
+use Rattle.ti_cert.proofs.Converse.{accepted_certificate}
+use Rattle.ti_cert.proofs.Spellings.{line_is, pairs_are}
+use Rattle.ti_cert.proofs.Texts.{row_passes, last_passes, ended_length, few_bytes, turned}
+
+-- ---- one line after another
+
+starts_at : (p : Progress) (awaited : Awaited) → Tells p awaited Nothing → Stands p []
+starts_at p lines_awaited.First t = t.0
+starts_at p lines_awaited.Acsc t = absurd t
+starts_at p lines_awaited.Rows t = absurd t
+starts_at p (lines_awaited.Ended settled) t = absurd t
+
+pub begins : (rows cols : ℕ) (pairs : Option (List ℕ)) (p : Progress) (d : Draft) → Starts rows cols p → d.progress ≡ record p { acsc = pairs } → d.room ≡ most → IsDraft rows cols pairs d
+begins rows cols pairs p d s same room =
+    let st : Stands p [] = starts_at p p.awaited s.tells in
+    record {
+      lines = [];
+      stands = subst (λ (x : Progress). Stands x []) (sym same) (record { rows = st.rows; cols = st.cols; holds = st.holds; lists = st.lists; place = st.place });
+      rows_are = ap (λ (x : Progress). x.size.rows) same ∙ s.rows;
+      cols_are = ap (λ (x : Progress). x.size.cols) same ∙ s.cols;
+      pairs_are = ap (λ (x : Progress). x.acsc) same;
+      follow = tt;
+      few = omega (arith, room);
+    }
+
+listing_at : (p : Progress) (awaited : Awaited) (pairs : Option (List ℕ)) (lines : List RowLine) → Tells p awaited (Listing pairs lines) → Stands p lines × (p.acsc ≡ pairs)
+listing_at p lines_awaited.Rows pairs lines t = (t.0, t.1)
+listing_at p lines_awaited.First pairs lines t = absurd t
+listing_at p lines_awaited.Acsc pairs lines t = absurd t
+listing_at p (lines_awaited.Ended settled) pairs lines t = absurd t
+
+-- one more line that stands, whose text fits into the room
+pub pushed : (old mid taken new : Draft) (row : Row) (effect : Effect) (a b : List ℕ) (q : Progress) (room : List ℕ) → mid.progress ≡ record old.progress { room = room } → mid.room ≡ old.room → a ≡ b
+    → TakesRoom (record { row = row; bytes = a; effect = effect }) mid taken → AnswersRow taken.progress (record { row = row; bytes = b; effect = effect }) (Ok q) → new.progress ≡ q → new.room ≡ taken.room → GoesOn old new
+pushed old mid taken new row effect a b q room is_mid room_mid bytes_same takes answers same room_new = λ rows cols pairs d.
+    let line : RowLine = record { row = row; bytes = b; effect = effect } in
+    let p : Progress = taken.progress in
+    let is : p ≡ record old.progress { room = room } = takes.same ∙ is_mid in
+    let taken_of : taken.room + (length (line_text line) + 1) ≡ mid.room = subst (λ (x : List ℕ). taken.room + (length (line_text (record { row = row; bytes = x; effect = effect })) + 1) ≡ mid.room) bytes_same takes.taken in
+    let before : Stands p d.lines = subst (λ (x : Progress). Stands x d.lines) (sym is) (record { rows = d.stands.rows; cols = d.stands.cols; holds = d.stands.holds; lists = d.stands.lists; place = d.stands.place }) in
+    let s : Steps q p.size.rows p.size.cols (JudgesRow p.size.rows p.size.cols d.lines line (Listing pairs (line ∷ d.lines))) = answers pairs d.lines before (ap (λ (x : Progress). x.acsc) is ∙ d.pairs_are) in
+    let r = row_passes p.size.rows p.size.cols d.lines line (Listing pairs (line ∷ d.lines)) s.after s.judges in
+    let t = listing_at q q.awaited pairs (line ∷ d.lines) (subst (λ (x : Said). TellsNow q x) r.1 s.tells) in
+    let rows_same : p.size.rows ≡ rows = ap (λ (x : Progress). x.size.rows) is ∙ d.rows_are in
+    let cols_same : p.size.cols ≡ cols = ap (λ (x : Progress). x.size.cols) is ∙ d.cols_are in
+    let f = d.few in
+    record {
+      lines = line ∷ d.lines;
+      stands = subst (λ (x : Progress). Stands x (line ∷ d.lines)) (sym same) t.0;
+      rows_are = ap (λ (x : Progress). x.size.rows) same ∙ (s.rows ∙ rows_same);
+      cols_are = ap (λ (x : Progress). x.size.cols) same ∙ (s.cols ∙ cols_same);
+      pairs_are = ap (λ (x : Progress). x.acsc) same ∙ t.1;
+      follow = (sized (λ r c. StandsNext r c d.lines line) p.size.rows p.size.cols rows cols rows_same cols_same r.0, d.follow);
+      few = omega (arith, f, taken_of, room_mid, room_new);
+    }
+
+-- ---- all lines in the order of a text
+
+in_order : (rows cols : ℕ) (before lines : List RowLine) → Follow rows cols before → StandInOrder rows cols before lines → StandInOrder rows cols [] (reverse before ++ lines)
+in_order rows cols [] lines f s = s
+in_order rows cols (line ∷ before) lines f s = subst (λ (l : List RowLine). StandInOrder rows cols [] l) (sym (turned line before lines)) (in_order rows cols before (line ∷ lines) f.1 (f.0, s))
+
+each_is : (rows cols : ℕ) (before lines : List RowLine) → IsSize rows cols → Follow rows cols before → AllByRecursion IsLine lines → AllByRecursion IsLine (reverse before ++ lines)
+each_is rows cols [] lines size f each = each
+each_is rows cols (line ∷ before) lines size f each = subst (λ (l : List RowLine). AllByRecursion IsLine l) (sym (turned line before lines))
+    (each_is rows cols before (line ∷ lines) size f.1 (line_is rows cols line size f.0.place.range f.0.has, each))
+
+lines_length : (before lines : List RowLine) → length (ended (row_lines (reverse before ++ lines))) ≡ text_bytes before + length (ended (row_lines lines))
+lines_length [] lines = omega arith
+lines_length (line ∷ before) lines =
+    let e : length (ended (row_lines (reverse (line ∷ before) ++ lines))) ≡ length (ended (row_lines (reverse before ++ (line ∷ lines)))) = ap (λ (l : List RowLine). length (ended (row_lines l))) (turned line before lines) in
+    let h : length (ended (row_lines (reverse before ++ (line ∷ lines)))) ≡ text_bytes before + length (ended (row_lines (line ∷ lines))) = lines_length before (line ∷ lines) in
+    let l = ended_length (line_text line) (row_lines lines) in
+    omega (arith, e, h, l)
+
+hex_short : (bytes : List ℕ) → length (hex_text bytes) ≤ 2 * length bytes + 1
+hex_short [] = omega arith
+hex_short (b ∷ bytes) = let l = length-encode_with lower_digits (b ∷ bytes) in omega (arith, l)
+
+pairs_short : (pairs : Option (List ℕ)) (rest : List (List ℕ)) → ArePairsShort pairs → length (ended (acsc_lines pairs ++ rest)) ≤ 2000100 + length (ended rest)
+pairs_short None rest short = omega arith
+pairs_short (Some bytes) rest short =
+    let l = ended_length (acsc_text bytes) rest in
+    let h : length (hex_text bytes) ≤ 2 * length bytes + 1 = hex_short bytes in
+    let a : length (acsc_text bytes) ≡ 5 + length (hex_text bytes) = omega arith in
+    omega (arith, l, h, a, short)
+
+-- the text of these lines, which are listed with the latest first
+abbrev text_of : ℕ → ℕ → Option (List ℕ) → List RowLine → List ℕ
+text_of rows cols pairs lines = ended (size_text rows cols ∷ (acsc_lines pairs ++ row_lines (reverse lines)))
+
+text_short : (rows cols : ℕ) (pairs : Option (List ℕ)) (lines : List RowLine) → IsSize rows cols → ArePairsShort pairs → text_bytes lines ≤ most → length (text_of rows cols pairs lines) ≤ limit
+text_short rows cols pairs lines size short few =
+    let first = ended_length (size_text rows cols) (acsc_lines pairs ++ row_lines (reverse lines)) in
+    let s : length (size_text rows cols) < 100 = size_short rows cols size in
+    let p : length (ended (acsc_lines pairs ++ row_lines (reverse lines))) ≤ 2000100 + length (ended (row_lines (reverse lines))) = pairs_short pairs (row_lines (reverse lines)) short in
+    let e : length (ended (row_lines (reverse lines))) ≡ length (ended (row_lines (reverse lines ++ []))) = ap (λ (l : List RowLine). length (ended (row_lines l))) (sym (append-nil (reverse lines))) in
+    let l : length (ended (row_lines (reverse lines ++ []))) ≡ text_bytes lines + length (ended (row_lines [])) = lines_length lines [] in
+    let last : length (ended (row_lines [])) ≡ 4 = refl in
+    omega (arith, first, s, p, e, l, last, few)
+
+certificate : (rows cols : ℕ) (pairs : Option (List ℕ)) (lines : List RowLine) → IsSize rows cols → IsAcsc pairs → ArePairsShort pairs → Follow rows cols lines → IsComplete rows cols lines None → text_bytes lines ≤ most
+    → IsCertificate rows cols (text_of rows cols pairs lines) pairs (reverse lines)
+certificate rows cols pairs lines size acsc short follow complete few = record {
+  spelled = record {
+    size = size_is rows cols size;
+    acsc = acsc;
+    lines = subst (λ (l : List RowLine). AllByRecursion IsLine l) (append-nil (reverse lines)) (each_is rows cols lines [] size follow tt);
+    spelled = refl;
+  };
+  stands = subst (λ (l : List RowLine). StandInOrder rows cols [] l) (append-nil (reverse lines)) (in_order rows cols lines [] follow complete);
+  few = text_short rows cols pairs lines size short few;
+}
+
+-- the last line
+pub finishes : (rows cols : ℕ) (pairs : Option (List ℕ)) (d : Draft) (q : Progress) → IsSize rows cols → IsAcsc pairs → ArePairsShort pairs → IsDraft rows cols pairs d → AnswersLast d.progress (Ok q) → IsFinished rows cols pairs q
+finishes rows cols pairs d q size acsc short draft answers =
+    let s : Steps q d.progress.size.rows d.progress.size.cols (JudgesLast d.progress.size.rows d.progress.size.cols pairs draft.lines) = answers pairs draft.lines draft.stands draft.pairs_are in
+    let l = last_passes d.progress.size.rows d.progress.size.cols pairs draft.lines s.after s.judges in
+    let tells : TellsNow q (Ended pairs draft.lines) = subst (λ (x : Said). TellsNow q x) l.2 s.tells in
+    let st = stands_at q q.awaited pairs draft.lines tells in
+    let complete : IsComplete rows cols draft.lines None = sized (λ r c. IsComplete r c draft.lines None) d.progress.size.rows d.progress.size.cols rows cols draft.rows_are draft.cols_are l.0 in
+    let together : OfLines rows cols draft.lines (λ t. GoesTogether (is_some pairs) t)
+    = sized (λ r c. OfLines r c draft.lines (λ t. GoesTogether (is_some pairs) t)) d.progress.size.rows d.progress.size.cols rows cols draft.rows_are draft.cols_are l.1 in
+    let f = draft.few in
+    record {
+      whole = record { pairs = pairs; lines = draft.lines; tells = tells };
+      stands = st.0;
+      rows_are = s.rows ∙ draft.rows_are;
+      cols_are = s.cols ∙ draft.cols_are;
+      pairs_are = st.1;
+      text = text_of rows cols pairs draft.lines;
+      says = subst (λ (ls : List RowLine). IsAnswer rows cols (text_of rows cols pairs draft.lines) (Ok (Ended pairs ls))) (reverse-reverse draft.lines)
+          (accepted_certificate rows cols (text_of rows cols pairs draft.lines) pairs (reverse draft.lines)
+          (certificate rows cols pairs draft.lines size acsc short draft.follow complete (omega (arith, f)))
+          (subst (λ (ls : List RowLine). OfLines rows cols ls (λ t. GoesTogether (is_some pairs) t)) (sym (reverse-reverse draft.lines)) together));
+    }
+
+-- the last line, behind those that the entry's strings have
+pub finished : (entry : Content) (rows cols : ℕ) (pairs : Option (List ℕ)) (old new : Draft) (q : Progress) → IsSize rows cols → IsEntry entry → pairs ≡ string_at entry acsc → ArePairsShort pairs → IsDraft rows cols pairs old → GoesOn old new
+    → AnswersLast new.progress (Ok q) → IsFinished rows cols pairs q
+finished entry rows cols pairs old new q size is same short draft on answers =
+    finishes rows cols pairs new q size (subst IsAcsc (sym same) (pairs_are (value_at entry acsc) (is.bytes acsc))) short (on rows cols pairs draft) answers
+
+-- ---- the table
+
+pub sizes_in_table : (rows cols : ℕ) (pairs : Option (List ℕ)) (q : Progress) (table : CheckedTable) → IsFinished rows cols pairs q → IsTableMade q table → (table.known.strings.rows ≡ rows) × (table.known.strings.cols ≡ cols)
+sizes_in_table rows cols pairs q table f made =
+    (ap (λ (k : Known). k.strings.rows) made.known ∙ (f.stands.rows ∙ f.rows_are), ap (λ (k : Known). k.strings.cols) made.known ∙ (f.stands.cols ∙ f.cols_are))
+
+pub has_text : (rows cols : ℕ) (pairs : Option (List ℕ)) (q : Progress) (table : CheckedTable) → IsFinished rows cols pairs q → IsTableMade q table → HasText rows cols table
+has_text rows cols pairs q table f made = record {
+  text = f.text;
+  is = record {
+    lines = f.whole.lines;
+    says = subst (λ (o : Option (List ℕ)). IsAnswer rows cols f.text (Ok (Ended o f.whole.lines))) (sym (made.acsc ∙ f.pairs_are)) f.says;
+    found = λ row bytes h. f.stands.lists.found row bytes (ap (λ (k : Known). row_string k.strings row) (sym made.known) ∙ h);
+    kept = λ line a. ap (λ (k : Known). row_string k.strings line.row) made.known ∙ f.stands.lists.kept line a;
+  };
+}
+
+pub few_in_table : (rows cols : ℕ) (pairs : Option (List ℕ)) (q : Progress) (table : CheckedTable) → IsFinished rows cols pairs q → IsTableMade q table → total table.known.strings < limit
+few_in_table rows cols pairs q table f made =
+    let few = few_bytes rows cols f.text pairs f.whole.lines f.says in
+    let is = f.stands.lists.total_is in
+    let same : total table.known.strings ≡ total q.known.strings = ap (λ (k : Known). total k.strings) made.known in
+    omega (arith, few, is, same)

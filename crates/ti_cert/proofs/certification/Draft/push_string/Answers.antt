@@ -1,0 +1,20 @@
+use Rattle.std.proofs.Common.{sym}
+use Rattle.ti_rows.proofs.ListFacts.{next_follows}
+use Rattle.ti_conforms.proofs.Walks.{nearer}
+use Rattle.ti_cert.proofs.certification.Draft.push_string.Goals as goal
+
+pub loop-next-init : goal.loop-next-init
+loop-next-init c = record { range = c.requires.range; on = λ rows cols pairs d. d }
+
+pub loop-next-smaller : goal.loop-next-smaller
+loop-next-smaller c =
+    let f = next_follows c.args.size.rows c.args.size.cols c.loop-next.row c.in-Some.next c.args.size.limits c.loop-next.invariant.range (sym c.in-Some.ensures) in
+    nearer c.args.size.rows c.args.size.cols c.loop-next.row c.in-Some.next c.args.size.limits f f.range
+
+pub loop-next-preserved : goal.loop-next-preserved
+loop-next-preserved c =
+    let f = next_follows c.args.size.rows c.args.size.cols c.loop-next.row c.in-Some.next c.args.size.limits c.loop-next.invariant.range (sym c.in-Some.ensures) in
+    record { range = f.range; on = λ rows cols pairs d. c.in_ok-push_row.ensures rows cols pairs (c.loop-next.invariant.on rows cols pairs d) }
+
+pub returns-in-None : goal.returns-in-None
+returns-in-None c = λ rows cols pairs d. c.in_ok-push_row.ensures rows cols pairs (c.loop-next.invariant.on rows cols pairs d)

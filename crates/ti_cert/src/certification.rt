@@ -1,0 +1,279 @@
+//! A table of an entry's strings, made without the text of a certificate.
+
+ghost use Rattle.std.specs.Prelude.{◌≡◌, ◌<◌, IfOk, OnOk};
+ghost use Rattle.ti_caps.specs.Entry.{string_at};
+ghost use Rattle.ti_conforms.specs.Conforms.{Conforms};
+ghost use Rattle.ti_conforms.specs.Entries as entries;
+ghost use Rattle.ti_conforms.specs.Judged.{IsJudged};
+ghost use Rattle.ti_conforms.specs.Looks.{LooksStand};
+ghost use Rattle.ti_rows.specs.Lists.{IsFirst};
+ghost use Rattle.ti_cert.specs.Certificates.{limit};
+ghost use Rattle.ti_cert.specs.Certification as spec;
+ghost use Rattle.ti_cert.specs.Strings.{total};
+ghost use Rattle.ti_cert.specs.Table.{table_of};
+ghost use Rattle.ti_cert.specs.Verified.{Resyncs};
+
+use crate::agreement::agrees;
+use crate::audits::Progress;
+use crate::faults::{AgreeFault, CertFaultKind};
+use crate::table::Table;
+use crate::tokens::row_effect;
+use crate::verification::Checked;
+use std::alloc::{AllocError, Global};
+use std::mem;
+use ti_caps::{Bytes, Entry};
+use ti_conforms::{SendFault, acsc, is_checked};
+use ti_forms::{push_row_line, send_into};
+use ti_lines::RowLine;
+use ti_rows::{CAPABILITIES, Row};
+use vt_effects::Effect;
+use vt_term::{Scanner, Size};
+
+/// The reason why an entry isn't certified.
+#[derive(Clone, Copy, Debug, PartialEq, Eq)]
+pub enum CertifyFault {
+    /// The entry has no certificate for the size, or one that is nearly as long as a certificate may be.
+    Refused,
+    /// Out of memory.
+    NoMemory,
+}
+
+impl From<AllocError> for CertifyFault {
+    fn from(_: AllocError) -> CertifyFault {
+        CertifyFault::NoMemory
+    }
+}
+
+impl From<CertFaultKind> for CertifyFault {
+    fn from(kind: CertFaultKind) -> CertifyFault {
+        if matches!(kind, CertFaultKind::NoMemory) {
+            CertifyFault::NoMemory
+        } else {
+            CertifyFault::Refused
+        }
+    }
+}
+
+impl From<SendFault> for CertifyFault {
+    fn from(fault: SendFault) -> CertifyFault {
+        if matches!(fault, SendFault::NoMemory) {
+            CertifyFault::NoMemory
+        } else {
+            CertifyFault::Refused
+        }
+    }
+}
+
+impl From<AgreeFault> for CertifyFault {
+    fn from(fault: AgreeFault) -> CertifyFault {
+        if matches!(fault, AgreeFault::NoMemory) {
+            CertifyFault::NoMemory
+        } else {
+            CertifyFault::Refused
+        }
+    }
+}
+
+/// The most bytes that the text of the lines about capabilities may have.
+const MOST: usize = 60_000_000;
+
+/// The most bytes that the pairs of alternate characters may have.
+const MOST_PAIRS: usize = 1_000_000;
+
+/// The lines that were judged so far, and the memory in which they are made.
+#[derive(Drop)]
+struct Draft {
+    progress: Progress,
+    /// The number of bytes that the text of further lines may have.
+    room: usize,
+    /// Reads the bytes of strings.
+    scanner: Scanner,
+    /// The text of the line before, and of its effect.
+    text: Vec<u8>,
+    words: Vec<u8>,
+}
+
+/// The entry's pairs of alternate characters. Refuses more than [`MOST_PAIRS`] bytes.
+fn pairs_of(alloc: Global, entry: &Entry) -> Result<Option<Bytes>, CertifyFault>
+    ensures same { IfOk result (λ pairs. pairs ≡ string_at entry.now entries.acsc) }
+    ensures short { IfOk result (λ pairs. spec.ArePairsShort pairs) }
+{
+    match entry.get_string(acsc()) {
+        None => Ok(None),
+        Some(pairs) if pairs.len() <= MOST_PAIRS => Ok(Some(Bytes::from_slice(alloc, pairs)?)),
+        Some(_) => Err(CertifyFault::Refused),
+    }
+}
+
+/// The effect of `bytes` from the start of `row`. Refuses bytes that have none.
+fn effect_of(
+    scanner: &mut Scanner,
+    bytes: &[u8],
+    row: Row,
+    size: Size,
+) -> Result<Effect, CertifyFault> {
+    match row_effect(scanner, bytes, row, size)? {
+        Some(effect) => Ok(effect),
+        None => Err(CertifyFault::Refused),
+    }
+}
+
+impl Draft {
+    /// No lines about capabilities yet.
+    fn new(alloc: Global, size: Size, pairs: Option<Bytes>) -> Result<Draft, AllocError>
+        ensures { IfOk result (spec.IsDraft size.rows size.cols pairs) }
+    {
+        let mut progress = Progress::new(alloc, size)?;
+        progress.acsc = pairs;
+        Ok(Draft {
+            progress,
+            room: MOST,
+            scanner: Scanner::new(alloc)?,
+            text: Vec::new(alloc),
+            words: Vec::new(alloc),
+        })
+    }
+
+    /// Takes the room of the line of `row` with these `bytes` and this `effect`. Refuses it if there is too little.
+    fn take_room(&mut self, row: Row, bytes: &[u8], effect: &Effect) -> Result<(), CertifyFault>
+        ensures { OnOk result (spec.TakesRoom (record { row = row; bytes = bytes.now; effect = effect.now })
+            self.old self.new) }
+    {
+        self.text.clear();
+        push_row_line(row, bytes, effect, &mut self.words, &mut self.text)?;
+        let length = self.text.len();
+        if length < self.room {
+            self.room -= length + 1;
+            Ok(())
+        } else {
+            Err(CertifyFault::Refused)
+        }
+    }
+
+    /// Judges the bytes that `string` sends for `row`, and adds their line.
+    fn push_row(&mut self, alloc: Global, string: &[u8], row: Row) -> Result<(), CertifyFault>
+        ensures { OnOk result (spec.GoesOn self.old self.new) }
+    {
+        let room = mem::replace(&mut self.progress.room, Bytes::from_vec(Vec::new(alloc)));
+        let mut bytes = room.into_vec();
+        send_into(alloc, string, row, &mut bytes)?;
+        let effect = effect_of(&mut self.scanner, &bytes, row, self.progress.size)?;
+        self.take_room(row, &bytes, &effect)?;
+        self.progress.judge_row(RowLine {
+            row,
+            bytes: Bytes::from_vec(bytes),
+            effect,
+        })?;
+        Ok(())
+    }
+
+    /// Adds the lines of `string`, that of the capability whose first row is `first`.
+    fn push_string(
+        &mut self,
+        alloc: Global,
+        string: &[u8],
+        first: Row,
+        size: Size,
+    ) -> Result<(), CertifyFault>
+        requires { IsFirst size.rows size.cols first }
+        ensures { OnOk result (spec.GoesOn self.old self.new) }
+    {
+        let mut row = first;
+        loop {
+            self.push_row(alloc, string, row)?;
+            match row.next(size) {
+                Some(next) => row = next,
+                None => return Ok(()),
+            }
+        }
+    }
+
+    /// Adds the lines of the capability whose first row is `first`, if the entry has it and it is checked.
+    fn push_cap(
+        &mut self,
+        alloc: Global,
+        entry: &Entry,
+        first: Row,
+        size: Size,
+    ) -> Result<(), CertifyFault>
+        requires { IsFirst size.rows size.cols first }
+        ensures { OnOk result (spec.GoesOn self.old self.new) }
+    {
+        if !is_checked(entry, first) {
+            return Ok(());
+        }
+        match entry.get_string(first.cap()) {
+            Some(string) => self.push_string(alloc, string, first, size),
+            None => Ok(()),
+        }
+    }
+
+    /// Adds the lines of the capability at `place` in the order of names.
+    fn push_at(
+        &mut self,
+        alloc: Global,
+        entry: &Entry,
+        place: usize,
+        size: Size,
+    ) -> Result<(), CertifyFault>
+        ensures { OnOk result (spec.GoesOn self.old self.new) }
+    {
+        match Row::first(place) {
+            Some(first) => self.push_cap(alloc, entry, first, size),
+            None => Ok(()),
+        }
+    }
+
+    /// Adds the lines of all checked capabilities of the entry.
+    fn push_caps(&mut self, alloc: Global, entry: &Entry, size: Size) -> Result<(), CertifyFault>
+        ensures { OnOk result (spec.GoesOn self.old self.new) }
+    {
+        for place in 0..CAPABILITIES {
+            self.push_at(alloc, entry, place, size)?;
+        }
+        Ok(())
+    }
+}
+
+/// The table of the strings of `entry`, each of which is judged, and then all together.
+fn judged_table(alloc: Global, entry: &Entry, size: Size) -> Result<Table, CertifyFault>
+    ensures judged { IfOk result (λ table. IsJudged (table_of table)) }
+    ensures looks { IfOk result (λ table. LooksStand (table_of table)) }
+    ensures rows { IfOk result (λ table. table.known.strings.rows ≡ size.rows) }
+    ensures cols { IfOk result (λ table. table.known.strings.cols ≡ size.cols) }
+    ensures few { IfOk result (λ table. total table.known.strings < limit) }
+    ensures text { IfOk result (spec.HasText size.rows size.cols) }
+{
+    // only this call's contract says that the entry's strings fit
+    let _ = entry.names();
+    let pairs = pairs_of(alloc, entry)?;
+    let mut draft = Draft::new(alloc, size, pairs)?;
+    draft.push_caps(alloc, entry, size)?;
+    draft.progress.judge_end(alloc)?;
+    Ok(draft.progress.into_table())
+}
+
+/// The strings of `entry` for `size`, if the entry has a certificate: those that `verify` returns for the text that
+/// `check` of `ti_checker` writes, with no text made. Each string is judged once, and all strings together at the end.
+/// A program that keeps a certificate has it from `check`, and gives it to [`verify`](crate::verify).
+///
+/// # Errors
+/// `Refused` if the entry has no certificate, or if its text may have more than 60,000,000 bytes; `check` says why.
+/// `NoMemory` if memory runs out.
+pub fn certify(alloc: Global, entry: &Entry, size: Size) -> Result<Checked, CertifyFault>
+    ensures text { IfOk result (spec.HasText size.rows size.cols) }
+    ensures conforms { IfOk result (λ _. Conforms entry.now size.rows size.cols) }
+    ensures rows { IfOk result (λ checked. checked.known.strings.rows ≡ size.rows) }
+    ensures cols { IfOk result (λ checked. checked.known.strings.cols ≡ size.cols) }
+    ensures sends { IfOk result (λ checked. entries.EntryAgrees size.rows size.cols entry.now
+        (table_of checked).line_of) }
+    ensures acsc { IfOk result (λ checked. checked.acsc ≡ string_at entry.now entries.acsc) }
+    ensures resyncs { IfOk result (λ checked. Resyncs (table_of checked)) }
+{
+    let table = judged_table(alloc, entry, size)?;
+    agrees(alloc, &table, entry)?;
+    match Checked::new(alloc, table) {
+        Ok(checked) => Ok(checked),
+        Err(_) => Err(CertifyFault::NoMemory),
+    }
+}
