@@ -1,9 +1,7 @@
 -- The bytes that the standard's strings send.
-use Rattle.std.proofs.Common.{◌≡◌, ℕ, ◌+◌, ◌<◌, ◌≤◌, List, Result, Ok, sym, ap, subst, arith}
-use Rattle.std.specs.Prelude.{◌≢◌}
+use Rattle.std.proofs.Common.{◌≡◌, ℕ, ◌+◌, ◌<◌, ◌≤◌, List, sym, subst, arith}
 use Rattle.ti_rows.specs.declared.rows.Row.{Row}
 use Rattle.ti_rows.specs.declared.rows.Row.TheVariants.{Cup, Hpa, Vpa, Cub, Cuf, Cuu, Cud, Ech, Csr}
-use Rattle.ti_parm.specs.Meaning.{State, ReadsUnset}
 use Rattle.ti_conforms.specs.Sends.{Sends, values}
 use Rattle.ti_forms.specs.Forms.{HasForm, ToPlace, ToColumn, ToLine, Left, Right, Upward, Downward, Erasing, Bounding}
 use Rattle.ti_forms.specs.Forms.{number_string, place_string, places_string, with_number, with_numbers}

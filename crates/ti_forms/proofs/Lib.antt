@@ -2,5 +2,5 @@ mod Digits
 pub mod FormEffects
 pub mod FormRuns
 pub mod FormSends
-mod LineTexts
+pub mod LineTexts
 mod Sequences

@@ -1,10 +1,11 @@
 -- The text of the line about a row with a standard string, part by part.
-use Rattle.std.proofs.Common.{◌≡◌, ℕ, zero, suc, ◌+◌, ◌/◌, ◌%◌, ◌==◌, ◌<◌, ◌≤◌, ◌^◌, true, List, [], ◌∷◌, ◌++◌, Some, refl, sym, ap, ◌∙◌, subst, arith, append_assoc, append-nil, lit<}
+use Rattle.std.proofs.Common.{◌≡◌, ℕ, zero, suc, ◌+◌, ◌/◌, ◌%◌, ◌==◌, ◌<◌, ◌≤◌, ◌^◌, true, List, [], ◌∷◌, ◌++◌, Some, refl, sym, ap, ◌∙◌, subst, arith, append_assoc, append-nil, length, length-append, lit<}
 use Rattle.std.specs.Prelude.{slice_index}
 use Rattle.std.specs.Fmt.{decimal}
 use Rattle.std.specs.List.{AllByRecursion}
 use Rattle.std.proofs.lemmas.Bool.{agree_below_at, eqb-true}
-use Rattle.std.proofs.lemmas.Fmt.{decimal_digit, decimal_step}
+use Rattle.std.proofs.lemmas.Fmt.{decimal_digit, decimal_step, length-decimal-le}
+use Rattle.hex.proofs.HexLemmas.{length-encode_with}
 use Rattle.hex.specs.Hex.{IsBytes, encode_lower, encode_with, lower_digits}
 use Rattle.vt_term.specs.Text.{IsParameter}
 use Rattle.vt_term.proofs.Decimals.{all_append}
@@ -283,3 +284,61 @@ is_text_of row text line m e = subst (λ (l : RowLine). IsTextOf text l) (sym e)
 
 pub no_other : (row : Row) (text : List ℕ) (line other : RowLine) → IsStandardLine row text → line ≡ standard_line row → IsTextOf text other → Some line ≡ Some other
 no_other row text line other m e o = ap (λ (l : RowLine). Some l) (one_line text line other (is_text_of row text line m e) o)
+
+-- ---- the length of the line
+
+three : (n : ℕ) → n ≤ 501 → length (decimal n) ≤ 3
+three n h = length-decimal-le 3 n (omega arith) (omega (arith, h)) (omega (arith, h, lit< {m = 502} {n = 2 ^ 64} tt))
+
+-- the line of a sequence with one number
+one_short : (text name middle behind : List ℕ) (n m last : ℕ) → n ≤ 500 → m ≤ 501 → length name ≤ 4 → length middle ≤ 6 → length behind ≤ 10 → text ≡ (name ++ (decimal n ++ (32 ∷ []))) ++ (encode_lower (with_number m last) ++ (middle ++ behind)) → length text ≤ 64
+one_short text name middle behind n m last hn hm a b d e =
+    let whole : length text ≡ length ((name ++ (decimal n ++ (32 ∷ []))) ++ (encode_lower (with_number m last) ++ (middle ++ behind))) = ap (λ (l : List ℕ). length l) e in
+    let p = length-append (name ++ (decimal n ++ (32 ∷ []))) (encode_lower (with_number m last) ++ (middle ++ behind)) in
+    let q = length-append name (decimal n ++ (32 ∷ [])) in
+    let r = length-append (decimal n) (32 ∷ []) in
+    let s = length-append (encode_lower (with_number m last)) (middle ++ behind) in
+    let t = length-append middle behind in
+    let u = length-encode_with lower_digits (with_number m last) in
+    let v = length-append (decimal m) (last ∷ []) in
+    omega (arith, whole, p, q, r, s, t, u, v, a, b, d, three n (omega (arith, hn)), three m hm)
+
+-- the line of a sequence with two numbers
+two_short : (text name middle behind : List ℕ) (k n last : ℕ) → k ≤ 500 → n ≤ 500 → length name ≤ 4 → length middle + length behind ≤ 32 → text ≡ (name ++ (decimal k ++ ((32 ∷ []) ++ (decimal n ++ (32 ∷ []))))) ++ (encode_lower (with_numbers (k + 1) (n + 1) last) ++ (middle ++ behind)) → length text ≤ 64
+two_short text name middle behind k n last hk hn a b e =
+    let whole : length text ≡ length ((name ++ (decimal k ++ ((32 ∷ []) ++ (decimal n ++ (32 ∷ []))))) ++ (encode_lower (with_numbers (k + 1) (n + 1) last) ++ (middle ++ behind))) = ap (λ (l : List ℕ). length l) e in
+    let p = length-append (name ++ (decimal k ++ ((32 ∷ []) ++ (decimal n ++ (32 ∷ []))))) (encode_lower (with_numbers (k + 1) (n + 1) last) ++ (middle ++ behind)) in
+    let q = length-append name (decimal k ++ ((32 ∷ []) ++ (decimal n ++ (32 ∷ [])))) in
+    let r = length-append (decimal k) ((32 ∷ []) ++ (decimal n ++ (32 ∷ []))) in
+    let w = length-append (decimal n) (32 ∷ []) in
+    let s = length-append (encode_lower (with_numbers (k + 1) (n + 1) last)) (middle ++ behind) in
+    let t = length-append middle behind in
+    let u = length-encode_with lower_digits (with_numbers (k + 1) (n + 1) last) in
+    let v = length-append (decimal (k + 1)) (59 ∷ (decimal (n + 1) ++ last ∷ [])) in
+    let x = length-append (decimal (n + 1)) (last ∷ []) in
+    omega (arith, whole, p, q, r, w, s, t, u, v, x, a, b, three k (omega (arith, hk)), three n (omega (arith, hn)), three (k + 1) (omega (arith, hk)), three (n + 1) (omega (arith, hn)))
+
+-- a number and a word behind it
+behind_short : (n : ℕ) (word : List ℕ) → n ≤ 500 → length word ≤ 7 → length (decimal n ++ word) ≤ 10
+behind_short n word h a = let l = length-append (decimal n) word in omega (arith, l, a, three n (omega (arith, h)))
+
+abbrev IsShortLine : Row → Type 0
+IsShortLine row = length (line_text (standard_line row)) ≤ 64
+
+-- no line about a row with a standard string is longer than this
+pub line_short : (row : Row) → HasForm row → IsShortLine row
+line_short row (ToPlace k n e h g) = subst (λ (r : Row). IsShortLine r) (sym e)
+    (two_short _ (99 ∷ 117 ∷ 112 ∷ 32 ∷ []) (32 ∷ 114 ∷ 111 ∷ 119 ∷ 61 ∷ []) (decimal k ++ ((32 ∷ 99 ∷ 111 ∷ 108 ∷ 61 ∷ []) ++ (decimal n ++ (32 ∷ 110 ∷ 111 ∷ 112 ∷ 101 ∷ 110 ∷ 100 ∷ [])))) k n 72 h g (omega arith)
+    (omega (arith, length-append (decimal k) ((32 ∷ 99 ∷ 111 ∷ 108 ∷ 61 ∷ []) ++ (decimal n ++ (32 ∷ 110 ∷ 111 ∷ 112 ∷ 101 ∷ 110 ∷ 100 ∷ []))), length-append (decimal n) (32 ∷ 110 ∷ 111 ∷ 112 ∷ 101 ∷ 110 ∷ 100 ∷ []), three k (omega (arith, h)), three n (omega (arith, g))))
+    (whole_cup k n))
+line_short row (Bounding k n e h g) = subst (λ (r : Row). IsShortLine r) (sym e)
+    (two_short _ (99 ∷ 115 ∷ 114 ∷ 32 ∷ []) (32 ∷ 114 ∷ 111 ∷ 119 ∷ 61 ∷ 48 ∷ 32 ∷ 99 ∷ 111 ∷ 108 ∷ 61 ∷ 48 ∷ 32 ∷ 110 ∷ 111 ∷ 112 ∷ 101 ∷ 110 ∷ 100 ∷ 32 ∷ 114 ∷ 111 ∷ 119 ∷ 115 ∷ 58 ∷ []) (decimal k ++ ((44 ∷ []) ++ (decimal n))) k n 114 h g (omega arith)
+    (omega (arith, length-append (decimal k) ((44 ∷ []) ++ (decimal n)), three k (omega (arith, h)), three n (omega (arith, g))))
+    (whole_csr k n))
+line_short row (ToColumn n e h) = subst (λ (r : Row). IsShortLine r) (sym e) (one_short _ (104 ∷ 112 ∷ 97 ∷ 32 ∷ []) (32 ∷ 99 ∷ 111 ∷ 108 ∷ 61 ∷ []) (decimal n ++ (32 ∷ 110 ∷ 111 ∷ 112 ∷ 101 ∷ 110 ∷ 100 ∷ [])) n (n + 1) 71 h (omega (arith, h)) (omega arith) (omega arith) (behind_short n _ h (omega arith)) (whole_hpa n))
+line_short row (ToLine n e h) = subst (λ (r : Row). IsShortLine r) (sym e) (one_short _ (118 ∷ 112 ∷ 97 ∷ 32 ∷ []) (32 ∷ 114 ∷ 111 ∷ 119 ∷ 61 ∷ []) (decimal n ++ (32 ∷ 110 ∷ 111 ∷ 112 ∷ 101 ∷ 110 ∷ 100 ∷ [])) n (n + 1) 100 h (omega (arith, h)) (omega arith) (omega arith) (behind_short n _ h (omega arith)) (whole_vpa n))
+line_short row (Left n e g h) = subst (λ (r : Row). IsShortLine r) (sym e) (one_short _ (99 ∷ 117 ∷ 98 ∷ 32 ∷ []) (32 ∷ 99 ∷ 111 ∷ 108 ∷ 45 ∷ []) (decimal n ++ (32 ∷ 110 ∷ 111 ∷ 112 ∷ 101 ∷ 110 ∷ 100 ∷ [])) n n 68 h (omega (arith, h)) (omega arith) (omega arith) (behind_short n _ h (omega arith)) (whole_cub n))
+line_short row (Right n e g h) = subst (λ (r : Row). IsShortLine r) (sym e) (one_short _ (99 ∷ 117 ∷ 102 ∷ 32 ∷ []) (32 ∷ 99 ∷ 111 ∷ 108 ∷ 43 ∷ []) (decimal n ++ (32 ∷ 110 ∷ 111 ∷ 112 ∷ 101 ∷ 110 ∷ 100 ∷ [])) n n 67 h (omega (arith, h)) (omega arith) (omega arith) (behind_short n _ h (omega arith)) (whole_cuf n))
+line_short row (Upward n e g h) = subst (λ (r : Row). IsShortLine r) (sym e) (one_short _ (99 ∷ 117 ∷ 117 ∷ 32 ∷ []) (32 ∷ 114 ∷ 111 ∷ 119 ∷ 45 ∷ []) (decimal n ++ (32 ∷ 110 ∷ 111 ∷ 112 ∷ 101 ∷ 110 ∷ 100 ∷ [])) n n 65 h (omega (arith, h)) (omega arith) (omega arith) (behind_short n _ h (omega arith)) (whole_cuu n))
+line_short row (Downward n e g h) = subst (λ (r : Row). IsShortLine r) (sym e) (one_short _ (99 ∷ 117 ∷ 100 ∷ 32 ∷ []) (32 ∷ 114 ∷ 111 ∷ 119 ∷ 43 ∷ []) (decimal n ++ (32 ∷ 110 ∷ 111 ∷ 112 ∷ 101 ∷ 110 ∷ 100 ∷ [])) n n 66 h (omega (arith, h)) (omega arith) (omega arith) (behind_short n _ h (omega arith)) (whole_cud n))
+line_short row (Erasing n e g h) = subst (λ (r : Row). IsShortLine r) (sym e) (one_short _ (101 ∷ 99 ∷ 104 ∷ 32 ∷ []) (32 ∷ 110 ∷ 101 ∷ 120 ∷ 116 ∷ 61 ∷ []) (decimal n) n n 88 h (omega (arith, h)) (omega arith) (omega arith) (let l = three n (omega (arith, h)) in omega (arith, l)) (whole_ech n))

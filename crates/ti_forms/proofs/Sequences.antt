@@ -1,12 +1,12 @@
 -- A control sequence of digits, its function, and the character sets that it keeps.
-use Rattle.std.proofs.Common.{◌≡◌, ℕ, ◌+◌, ◌-◌, ◌^◌, ◌<◌, ◌≤◌, ◌==◌, ◌&&◌, Bool, true, false, if◌then◌else◌, map, List, [], ◌∷◌, ◌++◌, length, take, get_or, min, Option, Some, refl, sym, ap, ◌∙◌, inl, inr, arith, length-append, append_assoc, lit<}
+use Rattle.std.proofs.Common.{◌≡◌, ℕ, ◌-◌, ◌^◌, ◌<◌, ◌≤◌, ◌&&◌, Bool, true, false, if◌then◌else◌, map, List, [], ◌∷◌, ◌++◌, length, take, get_or, min, Option, Some, refl, sym, ap, ◌∙◌, inl, inr, arith, length-append, append_assoc, lit<}
 use Rattle.std.proofs.lemmas.Fmt.{length-decimal-le}
 use Rattle.std.proofs.lemmas.List.{take_at, get_or_at}
 use Rattle.std.specs.Fmt as std
 use Rattle.std.specs.List.{AllByRecursion, list_all}
 use Rattle.vt_term.specs.Text.{IsFinal, IsParameter, IsWhole}
-use Rattle.vt_term.specs.Parameters.{decimal, number_of, numbers, is_numeral}
-use Rattle.vt_term.specs.Function.{Function, function_of, marked, named, of_numbers, sequence}
+use Rattle.vt_term.specs.Parameters.{number_of, numbers, is_numeral}
+use Rattle.vt_term.specs.Function.{function_of, marked, named, of_numbers, sequence}
 use Rattle.vt_term.proofs.Decimals as numerals
 use Rattle.vt_term.proofs.Moves.{SpellsNumber, spells}
 use Rattle.ti_forms.specs.Forms.{with_number, with_numbers}

@@ -133,3 +133,8 @@ pub record IsStandardText (row : Row) (string text : List ℕ) : Type 0 where
   pub has : HasForm row
   pub string_is : string ≡ standard_string row
   pub text_is : text ≡ line_text (standard_line row)
+
+-- the string is the standard's for the row, and these are the bytes that it sends
+pub record IsStandardSent (row : Row) (string bytes : List ℕ) : Type 0 where
+  pub form : IsOfForm row bytes
+  pub string_is : string ≡ standard_string row

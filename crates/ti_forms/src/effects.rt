@@ -1,4 +1,4 @@
-//! What the bytes of a row do.
+//! The effects of the bytes of rows.
 
 ghost use Rattle.std.specs.Prelude.{◌≡◌, ℕ, IfErr, IfOk, IfSome, List, OnOk, Some, []};
 ghost use Rattle.ti_conforms.specs.Charsets.{joined, reach_of};

@@ -13,4 +13,4 @@ mod texts;
 pub use agreement::entry_agrees;
 pub use effects::{learn_row, row_effect};
 pub use lines::{push_row_line, read_row_line, standard_text};
-pub use sends::send_into;
+pub use sends::{send_into, standard_into};

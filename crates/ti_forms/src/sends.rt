@@ -1,10 +1,10 @@
 //! The bytes that a string sends for a row.
 
-ghost use Rattle.std.specs.Prelude.{◌≡◌, ◌<◌, IfErr, IfSome, OnOk};
+ghost use Rattle.std.specs.Prelude.{◌≡◌, ◌<◌, IfErr, IfOk, IfSome, IsTrue, OnOk};
 ghost use Rattle.ti_conforms.specs.Sends.{IsUnsent, Sends};
-ghost use Rattle.ti_forms.specs.Forms.{bytes_of};
+ghost use Rattle.ti_forms.specs.Forms.{IsStandardSent, bytes_of};
 
-use crate::forms::{Form, form_sent};
+use crate::forms::{Form, form_of, form_sent, is_standard};
 use std::alloc::{AllocError, Global};
 use ti_conforms::SendFault;
 use ti_rows::Row;
@@ -40,5 +40,19 @@ pub fn send_into(
             Err(_) => Err(SendFault::NoMemory),
         },
         None => ti_conforms::send_into(alloc, string, row, bytes),
+    }
+}
+
+/// Whether `string` is the standard's for the row's capability: then the content of `bytes` is replaced by what it sends
+/// for `row`, which has the row's standard effect. If not, `bytes` stays. Fails if memory runs out.
+pub fn standard_into(string: &[u8], row: Row, bytes: &mut Vec<u8>) -> Result<bool, AllocError>
+    ensures { IfOk result (λ standard. IsTrue standard → IsStandardSent row string.now bytes.new.items) }
+{
+    match form_of(row) {
+        Some(form) if is_standard(string, row) => match form_into(form, bytes) {
+            Ok(()) => Ok(true),
+            Err(fault) => Err(fault),
+        },
+        _ => Ok(false),
     }
 }
