@@ -1,5 +1,5 @@
 -- The lines that a draft has are those of a text that is accepted.
-use Rattle.std.proofs.Common.{◌≡◌, ◌<◌, ◌≤◌, ◌+◌, ◌*◌, ℕ, List, [], ◌∷◌, ◌++◌, length, reverse, is_some, Option, Some, None, Ok, refl, sym, ap, subst, ◌∙◌, arith, append-nil}
+use Rattle.std.proofs.Common.{◌≡◌, ◌<◌, ◌≤◌, ◌+◌, ◌*◌, ℕ, true, List, [], ◌∷◌, ◌++◌, length, reverse, is_some, Option, Some, None, Ok, refl, sym, ap, subst, ◌∙◌, arith, append-nil}
 use Rattle.std.specs.List.{AllByRecursion}
 use Rattle.std.proofs.lemmas.List.{reverse-reverse}
 use Rattle.hex.specs.Hex.{lower_digits}
@@ -13,24 +13,29 @@ use Rattle.ti_lines.specs.Heads.{size_text, acsc_text}
 use Rattle.ti_lines.specs.Hex.{hex_text}
 use Rattle.ti_lines.specs.RowLines.{line_text, IsLine}
 use Rattle.ti_lines.specs.Texts.{acsc_lines, row_lines, ended, IsAcsc}
+use Rattle.ti_forms.specs.Forms.{HasForm, IsOfForm, standard_bytes, standard_effect, standard_line}
+use Rattle.ti_forms.proofs.LineTexts.{line_short}
+use Rattle.ti_rows.specs.Names.{order}
 use Rattle.ti_rows.specs.declared.rows.Row.{Row}
 use Rattle.ti_cert.specs.Audits.{TellsNow, Tells, Stands, Steps, AnswersRow, AnswersLast, Starts, IsTableMade}
 use Rattle.ti_cert.specs.Certification.{HasText, text_bytes, Follow, most, ArePairsShort, IsDraft, GoesOn, TakesRoom, IsFinished}
 use Rattle.ti_cert.specs.Certificates.{Said, Nothing, Listing, Ended, JudgesRow, JudgesLast, IsAnswer, limit}
 use Rattle.ti_cert.specs.Clashes.{GoesTogether, OfLines}
-use Rattle.ti_cert.specs.Known.{Known}
+use Rattle.ti_cert.specs.Known.{Known, Holds}
 use Rattle.ti_cert.specs.Order.{IsComplete}
-use Rattle.ti_cert.specs.Strings.{row_string, total}
+use Rattle.ti_cert.specs.Places.{place_fault}
+use Rattle.ti_cert.specs.Strings.{Adds, allows, group_at, row_string, total}
 use Rattle.ti_cert.specs.Table.{CheckedTable}
 use Rattle.ti_cert.specs.Texts.{IsCertificate, StandInOrder, StandsNext}
 use Rattle.ti_cert.specs.declared.audits.Awaited.{Awaited}
 use Rattle.ti_cert.specs.declared.audits.Awaited.TheVariants as lines_awaited
 use Rattle.ti_cert.specs.declared.audits.Progress.{Progress}
 use Rattle.ti_cert.specs.declared.certification.Draft.{Draft}
-use Rattle.ti_cert.proofs.AuditSteps.{sized, stands_at}
+use Rattle.ti_cert.proofs.AuditSteps.{row_stands_at, sized, stands_at}
 use Rattle.ti_cert.proofs.BasicLines.{size_is, size_short}
 use Rattle.ti_cert.proofs.Converse.{accepted_certificate}
 use Rattle.ti_cert.proofs.Spellings.{line_is, pairs_are}
+use Rattle.ti_cert.proofs.Standards.{StandardTells, standard_tells}
 use Rattle.ti_cert.proofs.Texts.{row_passes, last_passes, ended_length, few_bytes, turned}
 
 -- ---- one line after another
@@ -67,7 +72,7 @@ pushed old mid taken new row effect a b q room is_mid room_mid bytes_same takes 
     let line : RowLine = record { row = row; bytes = b; effect = effect } in
     let p : Progress = taken.progress in
     let is : p ≡ record old.progress { room = room } = takes.same ∙ is_mid in
-    let taken_of : taken.room + (length (line_text line) + 1) ≡ mid.room = subst (λ (x : List ℕ). taken.room + (length (line_text (record { row = row; bytes = x; effect = effect })) + 1) ≡ mid.room) bytes_same takes.taken in
+    let taken_of : taken.room + (length (line_text line) + 1) ≤ mid.room = subst (λ (x : List ℕ). taken.room + (length (line_text (record { row = row; bytes = x; effect = effect })) + 1) ≤ mid.room) bytes_same takes.taken in
     let before : Stands p d.lines = subst (λ (x : Progress). Stands x d.lines) (sym is) (record { rows = d.stands.rows; cols = d.stands.cols; holds = d.stands.holds; lists = d.stands.lists; place = d.stands.place }) in
     let s : Steps q p.size.rows p.size.cols (JudgesRow p.size.rows p.size.cols d.lines line (Listing pairs (line ∷ d.lines))) = answers pairs d.lines before (ap (λ (x : Progress). x.acsc) is ∙ d.pairs_are) in
     let r = row_passes p.size.rows p.size.cols d.lines line (Listing pairs (line ∷ d.lines)) s.after s.judges in
@@ -84,6 +89,38 @@ pushed old mid taken new row effect a b q room is_mid room_mid bytes_same takes 
       follow = (sized (λ r c. StandsNext r c d.lines line) p.size.rows p.size.cols rows cols rows_same cols_same r.0, d.follow);
       few = omega (arith, f, taken_of, room_mid, room_new);
     }
+
+-- the line of a standard string stands
+pub standard_stands : (p q : Progress) (row : Row) (bytes : List ℕ) (new : Known) (last : Option Row) → q ≡ p → IsOfForm row bytes → allows q.known.strings.rows q.known.strings.cols row ≡ true
+    → place_fault q.known.strings.rows q.known.strings.cols q.place.last (length (group_at q.known.strings (order row))) row ≡ None
+    → Adds p.known.strings new.strings row bytes → new.looks ≡ p.known.looks → (Holds p.known → Holds new) → last ≡ Some row
+    → AnswersRow p (standard_line row) (Ok (record { size = p.size; known = new; acsc = p.acsc; place = record { last = last }; awaited = lines_awaited.Rows; scanner = p.scanner; room = p.room }))
+standard_stands p q row bytes new last is form fits place adds looks holds after =
+    let t : StandardTells p.known row bytes = standard_tells p.known row bytes form (subst (λ (x : Progress). allows x.known.strings.rows x.known.strings.cols row ≡ true) is fits) in
+    let here : place_fault p.known.strings.rows p.known.strings.cols p.place.last (length (group_at p.known.strings (order row))) row ≡ None
+    = subst (λ (x : Progress). place_fault x.known.strings.rows x.known.strings.cols x.place.last (length (group_at x.known.strings (order row))) row ≡ None) is place in
+    row_stands_at p (standard_line row) p p.known bytes t.tokens (standard_effect row) p.known.looks new refl refl form.bytes_are here t.splits t.has refl t.looks_are adds looks holds last after p.scanner p.room
+
+-- one more line with a standard string
+pub standard_pushed : (old new : Draft) (row : Row) (q : Progress) → HasForm row → AnswersRow old.progress (standard_line row) (Ok q) → new.progress ≡ q → new.room + 65 ≤ old.room → GoesOn old new
+standard_pushed old new row q has answers same taken =
+    let short : length (line_text (standard_line row)) ≤ 64 = line_short row has in
+    pushed old old (record old { room = new.room }) new row (standard_effect row) (standard_bytes row) (standard_bytes row) q old.progress.room refl refl refl (record { same = refl; taken = omega (arith, short, taken) }) answers same refl
+
+-- the memory in which bytes are made doesn't matter
+pub rebuffered : (old mid new : Draft) → mid.progress ≡ old.progress → mid.room ≡ old.room → GoesOn mid new → GoesOn old new
+rebuffered old mid new same room on = λ rows cols pairs d. on rows cols pairs (
+    let f = d.few in
+    record {
+      lines = d.lines;
+      stands = subst (λ (x : Progress). Stands x d.lines) (sym same) d.stands;
+      rows_are = ap (λ (x : Progress). x.size.rows) same ∙ d.rows_are;
+      cols_are = ap (λ (x : Progress). x.size.cols) same ∙ d.cols_are;
+      pairs_are = ap (λ (x : Progress). x.acsc) same ∙ d.pairs_are;
+      follow = d.follow;
+      few = omega (arith, f, room);
+    }
+    )
 
 -- ---- all lines in the order of a text
 

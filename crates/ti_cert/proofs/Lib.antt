@@ -26,6 +26,7 @@ pub mod BasicAgreement
 pub mod BasicAlone
 pub mod Disagreements
 pub mod Spellings
+pub mod Standards
 pub mod Drafts
 pub mod Lengths
 pub mod Smallness

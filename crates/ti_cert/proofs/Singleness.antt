@@ -26,7 +26,7 @@ use Rattle.ti_cert.specs.Order.{Precedes, GivesBytes, IsFirstLacking, IsComplete
 use Rattle.ti_cert.specs.Clashes.{Misswitches, StaysGraphic, BeginsOpen, IsClash, GoesTogether, kind_of, OfLines}
 use Rattle.ti_cert.specs.declared.clashes.Clash.{Clash}
 use Rattle.ti_cert.specs.declared.clashes.Clash.TheVariants as clashes
-use Rattle.ti_cert.specs.Certificates.{missing_line, Said, Nothing, Sized, Listing, Ended, IsWholeText, HasEffect, HasNoEffect, IsMisfit, Mislooks, Misdoes, IsAskedFor, JudgesRow, NotAllowed, TooLate, TooEarly, Cut, Wild, Untrue, Unasked, Stands, JudgesLast, Lacks, Clashes, Closes, JudgesLater, IsLast, IsRow, IsMisplaced, IsNone, JudgesSecond, HasPairs, HasNoPairs, JudgesFirst, HasSize, HasNoSize, JudgesLine, JudgesEnd, rules_of, limit, IsAnswer, CertFault}
+use Rattle.ti_cert.specs.Certificates.{missing_line, Said, Nothing, Sized, Listing, Ended, IsWholeText, HasEffect, HasNoEffect, IsMisfit, Mislooks, Misdoes, IsAskedFor, JudgesRow, NotAllowed, TooLate, TooEarly, Cut, Wild, Untrue, Unasked, Stands, JudgesLast, Lacks, Clashes, Closes, JudgesLater, IsLast, IsRow, IsMisplaced, IsNone, JudgesSecond, HasPairs, HasNoPairs, JudgesFirst, HasSize, HasNoSize, JudgesLine, JudgesEnd, rules_of, limit, IsAnswer}
 use Rattle.ti_cert.specs.Texts.{OneTable, OneFault, NoOther}
 use Rattle.ti_cert.specs.declared.faults.CertFaultKind.{CertFaultKind}
 use Rattle.ti_cert.specs.declared.faults.CertFaultKind.TheVariants.{BadLine, OutOfOrder, NotWhole, NotTame, NotShown}

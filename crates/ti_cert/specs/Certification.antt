@@ -55,7 +55,7 @@ GoesOn old new = (rows cols : ℕ) (pairs : Option (List ℕ)) → IsDraft rows 
 -- the text of the line fits into the room
 pub record TakesRoom (line : RowLine) (old new : Draft) : Type 0 where
   pub same : new.progress ≡ old.progress
-  pub taken : new.room + (length (line_text line) + 1) ≡ old.room
+  pub taken : new.room + (length (line_text line) + 1) ≤ old.room
 
 -- all lines are judged, with the last one
 pub record IsFinished (rows cols : ℕ) (pairs : Option (List ℕ)) (p : Progress) : Type 0 where

@@ -13,7 +13,6 @@ use Rattle.ti_cert.specs.Table.{CheckedTable}
 use Rattle.ti_cert.specs.Clashes.{GoesTogether, OfLines}
 use Rattle.ti_cert.specs.Order.{GivesBytes, IsComplete, IsInPlace}
 use Rattle.ti_cert.specs.Certificates.{Said, Ended, HasEffect, IsAskedFor, IsAnswer, limit, CertFault}
-use Rattle.ti_cert.specs.declared.faults.CertFaultKind.{CertFaultKind}
 use Rattle.ti_cert.specs.declared.faults.CertFaultKind.TheVariants.{NoMemory, ReadFailed}
 use Rattle.ti_cert.specs.declared.faults.VerifyFault.{VerifyFault}
 use Rattle.ti_cert.specs.declared.faults.VerifyFault.TheVariants.{Cert, Agree}

@@ -2,6 +2,7 @@
 
 ghost use Rattle.std.specs.Prelude.{◌≡◌, ◌<◌, ℕ, Bool, List, true, false, IfOk, IfErr, OnOk, Ok};
 ghost use Rattle.ti_conforms.specs.Judged.{IsJudged};
+ghost use Rattle.ti_forms.specs.Forms.{IsOfForm, standard_line};
 ghost use Rattle.ti_lines.specs.Heads.{IsSizeText};
 ghost use Rattle.ti_lines.specs.Reader.{Rose};
 ghost use Rattle.ti_cert.specs.Basic.{IsStopped, basic_text};
@@ -26,7 +27,7 @@ use ti_forms::read_row_line;
 use ti_lines::{
     Judge, LineFault, Reader, RowLine, is_end_line, judge_lines, read_acsc_line, read_size_line,
 };
-use ti_rows::CAPABILITIES;
+use ti_rows::{CAPABILITIES, Row};
 use vt_term::{Scanner, Size};
 
 /// The most bytes that a certificate has.
@@ -174,6 +175,19 @@ impl Progress {
         self.place = Place::after(row);
         self.awaited = Awaited::Rows;
         self.room = line.bytes;
+        Ok(())
+    }
+
+    /// Adds the line of `row` with the `bytes` that its standard string sends, if it may come in this place. Nothing
+    /// else of it has to be judged.
+    pub fn add_standard(&mut self, row: Row, bytes: &[u8]) -> Result<(), CertFaultKind>
+        requires { IsOfForm row bytes.now }
+        ensures { OnOk result (spec.AnswersRow self.old (standard_line row) (Ok self.new)) }
+    {
+        self.place.check(row, &self.known.strings)?;
+        self.known.add_standard(row, bytes)?;
+        self.place = Place::after(row);
+        self.awaited = Awaited::Rows;
         Ok(())
     }
 

@@ -6,6 +6,7 @@ ghost use Rattle.ti_conforms.specs.Conforms.{Conforms};
 ghost use Rattle.ti_conforms.specs.Entries as entries;
 ghost use Rattle.ti_conforms.specs.Judged.{IsJudged};
 ghost use Rattle.ti_conforms.specs.Looks.{LooksStand};
+ghost use Rattle.ti_forms.specs.Forms.{IsOfForm};
 ghost use Rattle.ti_rows.specs.Lists.{IsFirst};
 ghost use Rattle.ti_cert.specs.Certificates.{limit};
 ghost use Rattle.ti_cert.specs.Certification as spec;
@@ -23,7 +24,7 @@ use std::alloc::{AllocError, Global};
 use std::mem;
 use ti_caps::{Bytes, Entry};
 use ti_conforms::{SendFault, acsc, is_checked};
-use ti_forms::{push_row_line, send_into};
+use ti_forms::{push_row_line, send_into, standard_into};
 use ti_lines::RowLine;
 use ti_rows::{CAPABILITIES, Row};
 use vt_effects::Effect;
@@ -77,6 +78,9 @@ impl From<AgreeFault> for CertifyFault {
 /// The most bytes that the text of the lines about capabilities may have.
 const MOST: usize = 60_000_000;
 
+/// The most bytes that the line about a row with a standard string has, with its LF.
+const LONGEST: usize = 65;
+
 /// The most bytes that the pairs of alternate characters may have.
 const MOST_PAIRS: usize = 1_000_000;
 
@@ -86,6 +90,8 @@ struct Draft {
     progress: Progress,
     /// The number of bytes that the text of further lines may have.
     room: usize,
+    /// The bytes of the standard's string judged last.
+    bytes: Vec<u8>,
     /// Reads the bytes of strings.
     scanner: Scanner,
     /// The text of the line before, and of its effect.
@@ -128,6 +134,7 @@ impl Draft {
         Ok(Draft {
             progress,
             room: MOST,
+            bytes: Vec::new(alloc),
             scanner: Scanner::new(alloc)?,
             text: Vec::new(alloc),
             words: Vec::new(alloc),
@@ -150,8 +157,22 @@ impl Draft {
         }
     }
 
+    /// Adds the line of `row` with the draft's `bytes`, which must be those of its standard string.
+    fn push_standard(&mut self, row: Row) -> Result<(), CertifyFault>
+        requires { IsOfForm row self.old.bytes.items }
+        ensures { OnOk result (spec.GoesOn self.old self.new) }
+    {
+        let room = self.room;
+        if room < LONGEST {
+            return Err(CertifyFault::Refused);
+        }
+        self.progress.add_standard(row, &self.bytes)?;
+        self.room = room - LONGEST;
+        Ok(())
+    }
+
     /// Judges the bytes that `string` sends for `row`, and adds their line.
-    fn push_row(&mut self, alloc: Global, string: &[u8], row: Row) -> Result<(), CertifyFault>
+    fn push_judged(&mut self, alloc: Global, string: &[u8], row: Row) -> Result<(), CertifyFault>
         ensures { OnOk result (spec.GoesOn self.old self.new) }
     {
         let room = mem::replace(&mut self.progress.room, Bytes::from_vec(Vec::new(alloc)));
@@ -165,6 +186,18 @@ impl Draft {
             effect,
         })?;
         Ok(())
+    }
+
+    /// Adds the line of `row`, for which `string` sends the bytes. Nothing of the standard's strings has to be judged.
+    fn push_row(&mut self, alloc: Global, string: &[u8], row: Row) -> Result<(), CertifyFault>
+        ensures { OnOk result (spec.GoesOn self.old self.new) }
+    {
+        let standard = standard_into(string, row, &mut self.bytes)?;
+        if standard {
+            self.push_standard(row)
+        } else {
+            self.push_judged(alloc, string, row)
+        }
     }
 
     /// Adds the lines of `string`, that of the capability whose first row is `first`.

@@ -1,6 +1,7 @@
 //! The facts known from the lines of a certificate that were read so far.
 
 ghost use Rattle.std.specs.Prelude.{◌≡◌, [], length, replicate, IfOk, IfErr, OnOk, IsTrue, true, List, ℕ};
+ghost use Rattle.ti_forms.specs.Forms.{IsOfForm};
 ghost use Rattle.ti_rows.specs.Lists.{rank};
 ghost use Rattle.ti_rows.specs.Names.{order, capabilities};
 ghost use Rattle.ti_conforms.specs.Table.{settles};
@@ -158,5 +159,21 @@ impl Known {
             }
             Err(fault) => Err(not_whole(fault)),
         }
+    }
+
+    /// Adds a line about `row` with the `bytes` that its standard string sends: it teaches no look, and changes no
+    /// charset.
+    pub fn add_standard(&mut self, row: Row, bytes: &[u8]) -> Result<(), AllocError>
+        requires range { allows self.old.strings.rows self.old.strings.cols row ≡ true }
+        requires place { rank self.old.strings.rows self.old.strings.cols row
+            ≡ length (group_at self.old.strings (order row)) }
+        requires form { IsOfForm row bytes.now }
+        ensures holds { OnOk result (spec.Holds self.old → spec.Holds self.new) }
+        ensures strings { OnOk result (Adds self.old.strings self.new.strings row bytes.now) }
+        ensures looks { OnOk result (self.new.looks ≡ self.old.looks) }
+    {
+        self.strings.push(row, bytes)?;
+        push_change(&mut self.changes, row, Effect::unchanged().charset)?;
+        Ok(())
     }
 }

@@ -1,7 +1,13 @@
-use Rattle.std.proofs.Common.{refl, sym, ◌∙◌}
-use Rattle.ti_cert.proofs.Drafts.{pushed}
+use Rattle.std.proofs.Common.{refl}
+use Rattle.std.proofs.lemmas.Result.{on_ok_weaker}
+use Rattle.ti_cert.proofs.Drafts.{rebuffered}
 use Rattle.ti_cert.proofs.certification.Draft.push_row.Goals as goal
 
-pub returns : goal.returns
-returns c = pushed c.args.self.now _ c.take_room.new.self _ c.args.row c.in_ok-effect.effect _ _ c.judge_row.new.self c.replace-room.new.dest refl refl (c.deref-2.ensures.value ∙ sym c.from_vec-2.ensures)
-    c.in_ok-take_room.ensures c.in_ok-judge_row.ensures.ok refl refl
+pub push_standard-requires : goal.push_standard-requires
+push_standard-requires c = (c.in_ok-standard.ensures c.if-standard.true).form
+
+pub returns-then-standard : goal.returns-then-standard
+returns-then-standard c = on_ok_weaker c.push_standard.result (λ on. rebuffered c.args.self.now _ c.push_standard.new.self refl refl on) c.push_standard.ensures
+
+pub returns-else-standard : goal.returns-else-standard
+returns-else-standard c = on_ok_weaker c.push_judged.result (λ on. rebuffered c.args.self.now _ c.push_judged.new.self refl refl on) c.push_judged.ensures
