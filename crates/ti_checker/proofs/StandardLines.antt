@@ -1,8 +1,7 @@
--- What a row's standard string does is what the row asks for.
-use Rattle.std.proofs.Common.{◌≡◌, ℕ, List, [], ◌∷◌, ◌++◌, Some, refl, sym, ap, subst, ◌∙◌}
+-- The standard's string of a row does what the row asks for.
+use Rattle.std.proofs.Common.{◌≡◌, ℕ, List, [], ◌∷◌, ◌++◌, refl, sym, ap, ◌∙◌}
 use Rattle.vt_effects.specs.Effect.{unchanged}
 use Rattle.vt_term.specs.Text.{Splits}
-use Rattle.vt_effects.specs.declared.effects.Effect.{Effect}
 use Rattle.vt_effects.specs.declared.effects.Sets.{Sets}
 use Rattle.ti_rows.specs.Lists.{Follows, IsInRange}
 use Rattle.ti_rows.specs.Looks.{learned}
@@ -13,33 +12,16 @@ use Rattle.ti_conforms.specs.Charsets.{joined, reach_of}
 use Rattle.ti_conforms.specs.Table.{settles}
 use Rattle.ti_conforms.specs.declared.reach.Reach.{Reach}
 use Rattle.ti_cert.specs.Known.{with_change}
-use Rattle.ti_forms.specs.Forms.{HasForm, ToPlace, ToColumn, ToLine, Left, Right, Upward, Downward, Erasing, Bounding}
+use Rattle.ti_cert.proofs.Standards.{plain}
 use Rattle.ti_forms.specs.Forms.{IsOfForm, IsStandardText, standard_bytes, standard_effect, standard_line}
 use Rattle.ti_forms.proofs.FormEffects.{form_has_effect, form_learned}
 use Rattle.ti_forms.proofs.FormSends.{form_sends}
 use Rattle.ti_checker.specs.First.{SendsAsked}
 use Rattle.ti_checker.specs.Limit.{AddsLine, IsLineFor}
 use Rattle.ti_checker.specs.Switches.{IsSeenToo}
-use Rattle.ti_checker.specs.Taught.{IsAskedOf, IsTaught}
+use Rattle.ti_checker.specs.Taught.{IsTaught}
 use Rattle.ti_checker.proofs.Misjudgements.{sends_asked, taught_next}
 use Rattle.ti_checker.proofs.Settled.{is_seen_too}
-
--- the effect is the one that the row asks for, whatever the looks are; it teaches none, and it changes no character set
-record IsPlain (row : Row) : Type 0 where
-  pub asked : (looks : Looks) → IsAskedOf looks row (standard_effect row)
-  pub untaught : (looks : Looks) → looks ≡ learned row (standard_effect row) looks
-  pub same_sets : unchanged.charset ≡ (standard_effect row).charset
-
-plain : (row : Row) → HasForm row → IsPlain row
-plain row (ToPlace line column e h k) = subst (λ (r : Row). IsPlain r) (sym e) (record { asked = λ l. refl; untaught = λ l. refl; same_sets = refl })
-plain row (ToColumn column e h) = subst (λ (r : Row). IsPlain r) (sym e) (record { asked = λ l. refl; untaught = λ l. refl; same_sets = refl })
-plain row (ToLine line e h) = subst (λ (r : Row). IsPlain r) (sym e) (record { asked = λ l. refl; untaught = λ l. refl; same_sets = refl })
-plain row (Left n e g h) = subst (λ (r : Row). IsPlain r) (sym e) (record { asked = λ l. refl; untaught = λ l. refl; same_sets = refl })
-plain row (Right n e g h) = subst (λ (r : Row). IsPlain r) (sym e) (record { asked = λ l. refl; untaught = λ l. refl; same_sets = refl })
-plain row (Upward n e g h) = subst (λ (r : Row). IsPlain r) (sym e) (record { asked = λ l. refl; untaught = λ l. refl; same_sets = refl })
-plain row (Downward n e g h) = subst (λ (r : Row). IsPlain r) (sym e) (record { asked = λ l. refl; untaught = λ l. refl; same_sets = refl })
-plain row (Erasing n e g h) = subst (λ (r : Row). IsPlain r) (sym e) (record { asked = λ l. refl; untaught = λ l. refl; same_sets = refl })
-plain row (Bounding top bottom e h k) = subst (λ (r : Row). IsPlain r) (sym e) (record { asked = λ l. refl; untaught = λ l. refl; same_sets = refl })
 
 -- ---- the line of a standard string
 
@@ -53,13 +35,13 @@ line_for rows cols string row text range is =
 
 pub standard_right : (rows cols : ℕ) (string : List ℕ) (row : Row) (looks : Looks) (text : List ℕ) → IsInRange rows cols row → IsTaught rows cols string row looks → IsStandardText row string text → SendsAsked rows cols string row
 standard_right rows cols string row looks text range taught is =
-    sends_asked rows cols string row looks (standard_bytes row) (standard_effect row) taught (line_for rows cols string row text range is) ((plain row is.has).asked looks)
+    sends_asked rows cols string row looks (standard_bytes row) (standard_effect row) taught (line_for rows cols string row text range is) ((plain row is.has).asked_for (learned row (standard_effect row) looks))
 
 pub standard_taught : (rows cols : ℕ) (string : List ℕ) (row : Row) (looks : Looks) (text : List ℕ) → IsInRange rows cols row → IsTaught rows cols string row looks → IsStandardText row string text
     → (next : Row) → Follows rows cols row next → IsTaught rows cols string next looks
 standard_taught rows cols string row looks text range taught is next follows =
     taught_next rows cols string row looks looks (standard_bytes row) (standard_effect row) range taught (line_for rows cols string row text range is)
-    ((plain row is.has).asked looks) ((plain row is.has).untaught looks) next follows
+    ((plain row is.has).asked_for (learned row (standard_effect row) looks)) ((plain row is.has).untaught looks) next follows
 
 pub standard_adds : (rows cols : ℕ) (string : List ℕ) (row : Row) (text line old new : List ℕ) → IsInRange rows cols row → IsStandardText row string text → line ≡ text → new ≡ old ++ (line ++ 10 ∷ []) → AddsLine rows cols string row old new
 standard_adds rows cols string row text line old new range is same e = record {
