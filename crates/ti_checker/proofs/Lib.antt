@@ -40,3 +40,4 @@ pub mod Erasing
 pub mod Modes
 pub mod Complete
 pub mod ClashLists
+pub mod Owned
