@@ -6,3 +6,4 @@ pub mod Rows
 mod Slots
 mod Told
 mod Openings
+mod Owning

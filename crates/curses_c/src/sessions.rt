@@ -9,7 +9,7 @@ ghost use Rattle.curses_c.specs.Sessions.{Answers, Fetches, IsOpened, IsOwnTable
 ghost use Rattle.curses_c.specs.Sessions.{LacksOwn, Opens, closed};
 
 use crate::codes::{Failure, OK, answer_code, failure_code};
-use crate::entries::{Described, Subject, certificate_of, checked_by, describe};
+use crate::entries::{Described, Subject, certificate_of, certified, checked_by, describe};
 use crate::handles::Handle;
 use crate::held::Held;
 use crate::queries::Standing;
@@ -84,12 +84,16 @@ fn checked_for(alloc: Global, described: &Described, certificate: &[u8]) -> Resu
     }
 }
 
-/// Makes the certificate of the entry of `described`, and verifies it.
+/// The strings of the entry of `described`. Where none are found without a text, makes the certificate and verifies it,
+/// which says what is wrong.
 fn checked_by_own(alloc: Global, described: &Described) -> Result<Checked, Failure>
     ensures shown { IfOk result (IsShown described.now.entry described.now.size.rows described.now.size.cols) }
     ensures accepted { IfOk result (IsOwnTable described.now.entry described.now.size.rows described.now.size.cols) }
     ensures lacks { IfErr result (LacksOwn described.now.entry described.now.size.rows described.now.size.cols) }
 {
+    if let Some(checked) = certified(alloc, described) {
+        return Ok(checked);
+    }
     let text = certificate_of(alloc, described)?;
     checked_by(alloc, described, text.as_slice())
 }
