@@ -2,9 +2,13 @@
 //! verified certificate; the painter and the wire on which its bytes are sent; sessions, and calls as values.
 #![tactic(auto)]
 
-// A terminal: its size, its entry from a source text, and the facts that a certificate shows of the entry.
+// A terminal: its size, its entry from a source text, and the facts that are shown of the entry. `certify` shows them by
+// the entry alone, and needs no file beside it. `verify` takes a certificate that was kept, such as the output of
+// `ticurses check`, and shows that it is the entry's.
 pub use ti_caps::Entry;
-pub use ti_cert::{AgreeFault, CertFault, CertFaultKind, Checked, VerifyFault, verify};
+pub use ti_cert::{
+    AgreeFault, CertFault, CertFaultKind, CertifyFault, Checked, VerifyFault, certify, verify,
+};
 pub use ti_conforms::Certificate;
 pub use ti_reach::{Miss, MissKind, reach_cup};
 pub use ti_resolve::{ResolveFault, resolve};
