@@ -2,8 +2,8 @@
 //! verified certificate; the painter and the wire on which its bytes are sent; sessions, and calls as values.
 #![tactic(auto)]
 
-// A terminal: its size, its entry from a source text, and the facts that are shown of the entry. `certify` shows them by
-// the entry alone, and needs no file beside it. `verify` takes a certificate that was kept, such as the output of
+// A terminal: its size, its entry from a source text, and the facts that are shown of the entry. `certify` shows them
+// by the entry alone, and needs no file beside it. `verify` takes a certificate that was kept, such as the output of
 // `ticurses check`, and shows that it is the entry's.
 pub use ti_caps::Entry;
 pub use ti_cert::{
