@@ -103,7 +103,7 @@ impl Window {
     {
         put.check_cell()?;
         let n = count_to(n, self.area.cols - self.col);
-        self.fill_cells(grid, self.row, self.col, n, self.content(put));
+        self.fill_cells(grid, self.col, n, self.content(put));
         Ok(())
     }
 
@@ -116,7 +116,7 @@ impl Window {
     {
         put.check_cell()?;
         let n = count_to(n, self.area.rows - self.row);
-        self.fill_column(grid, self.row, self.col, n, self.content(put));
+        grid.fill(self.column(self.row, self.col, n), self.content(put));
         Ok(())
     }
 
@@ -178,8 +178,8 @@ impl Window {
         let right = self.area.cols - 1;
         self.fill_lines(grid, 0, 1, self.content(border.top));
         self.fill_lines(grid, last, 1, self.content(border.bottom));
-        self.fill_column(grid, 0, 0, self.area.rows, self.content(border.left));
-        self.fill_column(grid, 0, right, self.area.rows, self.content(border.right));
+        self.fill_column(grid, 0, self.content(border.left));
+        self.fill_column(grid, right, self.content(border.right));
     }
 
     fn draw_corners(&self, grid: &mut Grid<Cell>, border: &Border)
@@ -190,10 +190,10 @@ impl Window {
     {
         let last = self.area.rows - 1;
         let right = self.area.cols - 1;
-        self.fill_cells(grid, 0, 0, 1, self.content(border.top_left));
-        self.fill_cells(grid, 0, right, 1, self.content(border.top_right));
-        self.fill_cells(grid, last, 0, 1, self.content(border.bottom_left));
-        self.fill_cells(grid, last, right, 1, self.content(border.bottom_right));
+        self.put_at(grid, 0, 0, self.content(border.top_left));
+        self.put_at(grid, 0, right, self.content(border.top_right));
+        self.put_at(grid, last, 0, self.content(border.bottom_left));
+        self.put_at(grid, last, right, self.content(border.bottom_right));
     }
 
     fn scroll_region(&self, grid: &mut Grid<Cell>, n: i32)

@@ -18,13 +18,7 @@ impl Window {
         ensures value { done grid.new self.now ≡ clear_line (canvas grid.old self.now) }
         ensures shape { shape_of grid.new ≡ shape_of grid.old }
     {
-        self.fill_cells(
-            grid,
-            self.row,
-            self.col,
-            self.area.cols - self.col,
-            self.background,
-        );
+        self.fill_cells(grid, self.col, self.area.cols - self.col, self.background);
     }
 
     /// Erases the cells from the cursor to the window's end (`clrtobot`).
@@ -70,8 +64,8 @@ impl Window {
         ensures shape { shape_of grid.new ≡ shape_of grid.old }
     {
         let rest = self.area.cols - (self.col + 1);
-        self.shift_cells(grid, self.row, self.col, self.col + 1, rest);
-        self.fill_cells(grid, self.row, self.area.cols - 1, 1, self.background);
+        self.shift_cells(grid, self.col, self.col + 1, rest);
+        self.fill_cells(grid, self.area.cols - 1, 1, self.background);
     }
 
     // Inserts the cell at the cursor; the rest of the line moves right.
@@ -81,8 +75,8 @@ impl Window {
         ensures shape { shape_of grid.new ≡ shape_of grid.old }
     {
         let rest = self.area.cols - (self.col + 1);
-        self.shift_cells(grid, self.row, self.col + 1, self.col, rest);
-        self.fill_cells(grid, self.row, self.col, 1, cell);
+        self.shift_cells(grid, self.col + 1, self.col, rest);
+        self.put_cell(grid, cell);
     }
 
     // Of `height` lines from `from` on, drops the upper `n`, moves the others up, and fills those
@@ -121,15 +115,24 @@ impl Window {
         grid.fill(self.lines(from, n), cell);
     }
 
-    // Fills `n` cells of one of the window's lines with `cell`.
-    pub(crate) fn fill_cells(&self, grid: &mut Grid<Cell>, row: u16, from: u16, n: u16, cell: Cell)
+    // Fills `n` cells of the cursor's line with `cell`.
+    pub(crate) fn fill_cells(&self, grid: &mut Grid<Cell>, from: u16, n: u16, cell: Cell)
         requires canvas { IsCanvas grid.old self.now }
-        requires row_within { row < self.now.area.rows }
         requires within { from + n ≤ self.now.area.cols }
-        ensures value { grid.new ≡ filled (cells_of self.now row from n) cell grid.old }
+        ensures value { grid.new ≡ filled (cells_of self.now self.now.row from n) cell grid.old }
         ensures shape { shape_of grid.new ≡ shape_of grid.old }
     {
-        grid.fill(self.cells(row, from, n), cell);
+        grid.fill(self.cells(self.row, from, n), cell);
+    }
+
+    // Fills the window's column `col` with `cell`.
+    pub(crate) fn fill_column(&self, grid: &mut Grid<Cell>, col: u16, cell: Cell)
+        requires canvas { IsCanvas grid.old self.now }
+        requires within { col < self.now.area.cols }
+        ensures value { grid.new ≡ filled (column_of self.now 0 col self.now.area.rows) cell grid.old }
+        ensures shape { shape_of grid.new ≡ shape_of grid.old }
+    {
+        grid.fill(self.column(0, col, self.area.rows), cell);
     }
 
     // Writes `cell` at the cursor.
@@ -138,22 +141,22 @@ impl Window {
         ensures value { grid.new ≡ filled (cells_of self.now self.now.row self.now.col 1) cell grid.old }
         ensures shape { shape_of grid.new ≡ shape_of grid.old }
     {
-        grid.set(
-            self.area.top as usize + self.row as usize,
-            self.area.left as usize + self.col as usize,
-            cell,
-        );
+        self.put_at(grid, self.row, self.col, cell);
     }
 
-    // Fills `n` cells of one of the window's columns with `cell`.
-    pub(crate) fn fill_column(&self, grid: &mut Grid<Cell>, from: u16, col: u16, n: u16, cell: Cell)
+    // Writes `cell` at a place of the window.
+    pub(crate) fn put_at(&self, grid: &mut Grid<Cell>, row: u16, col: u16, cell: Cell)
         requires canvas { IsCanvas grid.old self.now }
+        requires row_within { row < self.now.area.rows }
         requires col_within { col < self.now.area.cols }
-        requires within { from + n ≤ self.now.area.rows }
-        ensures value { grid.new ≡ filled (column_of self.now from col n) cell grid.old }
+        ensures value { grid.new ≡ filled (cells_of self.now row col 1) cell grid.old }
         ensures shape { shape_of grid.new ≡ shape_of grid.old }
     {
-        grid.fill(self.column(from, col, n), cell);
+        grid.set(
+            self.area.top as usize + row as usize,
+            self.area.left as usize + col as usize,
+            cell,
+        );
     }
 
     // Copies the `n` lines from `from` on to those from `to` on.
@@ -172,20 +175,19 @@ impl Window {
         grid.shift(self.lines(to, n), source);
     }
 
-    // Copies the `n` cells of a line from `from` on to those from `to` on.
-    fn shift_cells(&self, grid: &mut Grid<Cell>, row: u16, to: u16, from: u16, n: u16)
+    // Copies the `n` cells of the cursor's line from `from` on to those from `to` on.
+    fn shift_cells(&self, grid: &mut Grid<Cell>, to: u16, from: u16, n: u16)
         requires canvas { IsCanvas grid.old self.now }
-        requires row_within { row < self.now.area.rows }
         requires to_within { to + n ≤ self.now.area.cols }
         requires from_within { from + n ≤ self.now.area.cols }
-        ensures value { grid.new ≡ shifted (cells_of self.now row to n)
-            (place (self.now.area.top + row) (self.now.area.left + from)) grid.old }
+        ensures value { grid.new ≡ shifted (cells_of self.now self.now.row to n)
+            (place (self.now.area.top + self.now.row) (self.now.area.left + from)) grid.old }
         ensures shape { shape_of grid.new ≡ shape_of grid.old }
     {
         let source = Place {
-            row: self.area.top + row,
+            row: self.area.top + self.row,
             col: self.area.left + from,
         };
-        grid.shift(self.cells(row, to, n), source);
+        grid.shift(self.cells(self.row, to, n), source);
     }
 }
