@@ -42,7 +42,7 @@ pub fn subpad(
     let (height, width) = pad_size(desk, id)?;
     let geometry = Geometry::new(lines, cols, y, x);
     let area = area_within(height, width, geometry, Refusal::OutOfWindow)?;
-    desk.add_subpad(n, id, area.top, area.left, area.rows, area.cols);
+    desk.add_subpad(n, id, area);
     Ok(())
 }
 

@@ -7,7 +7,7 @@ use crate::checks::pad_size;
 use crate::ranges::{at_least_zero, between, from, start};
 use cur_drawing::rectangle;
 use cur_screens::Virtual;
-use cur_windows::{Desk, Refusal, in_order};
+use cur_windows::{Desk, Place, Refusal, in_order};
 
 /// Copies the cells of pad `id` from row `row` and column `col` on to the rows `top` to `bottom` and
 /// columns `left` to `right` of the virtual screen, and keeps all its other cells (X/Open Curses,
@@ -44,8 +44,10 @@ pub fn pnoutrefresh(
         from(start(col), to.cols, width),
         Refusal::OutOfWindow,
     )?;
-    desk.show_part(
-        id, part.top, part.left, part.rows, part.cols, to.top, to.left, screen,
-    );
+    let place = Place {
+        row: to.top,
+        col: to.left,
+    };
+    desk.show_part(id, part, place, screen);
     Ok(())
 }

@@ -15,7 +15,7 @@ use crate::stale_marks::StaleMarks;
 use cur_calls::{Call, Put};
 use cur_screens::Virtual;
 use cur_update::{Painter, Wire, cells_bounded};
-use cur_windows::{Desk, Size};
+use cur_windows::{Desk, Size, WindowLines};
 use std::alloc::{AllocError, Global};
 use std::marker::Model;
 use ti_conforms::Certificate;
@@ -89,11 +89,14 @@ impl<C: Certificate> Session<C> {
     pub fn noutrefresh_lines(&mut self, window: usize, top: i32, bottom: i32) -> Answer
         ensures { (self.new, result) ≡ lines_shown window top bottom self.old }
     {
+        let lines = WindowLines {
+            window,
+            top,
+            bottom,
+        };
         answer_of(
             self.desk.noutrefresh_lines_marked(
-                window,
-                top,
-                bottom,
+                lines,
                 &mut self.screen,
                 &mut self.stale.window,
                 &mut self.stale.screen,

@@ -11,147 +11,152 @@ use crate::marks::Marks;
 use cur_drawing::{Cell, SkipSpaces};
 use grids::{Area, Grid, Place};
 
-/// A rectangle `area` of a grid, and the place `from` of a grid whose cells it gets, without the
-/// spaces among them if `skip`.
+/// A copy to the rectangle `area` of a grid: it gets the cells of a grid from the place `from` on.
 #[derive(Clone, Copy)]
-pub struct Patch {
+pub struct AreaCopy {
     pub area: Area,
     pub from: Place,
+}
+
+/// A copy between grids, without the spaces among the copied cells if `skip`.
+#[derive(Clone, Copy)]
+pub struct Patch {
+    pub copy: AreaCopy,
     pub skip: bool,
 }
 
 /// Copies the cells of `source` into the rectangle of `patch`. Both rectangles must be in their grids.
 pub fn overlay_from(grid: &mut Grid<Cell>, source: &Grid<Cell>, patch: Patch)
-    requires target { Fits patch.area grid.old }
-    requires source { Fits (moved_to patch.area patch.from) source.now }
-    ensures value { grid.new ≡ overlaid patch.area patch.from patch.skip source.now grid.old }
+    requires target { Fits patch.copy.area grid.old }
+    requires source { Fits (moved_to patch.copy.area patch.copy.from) source.now }
+    ensures value { grid.new ≡ overlaid patch.copy.area patch.copy.from patch.skip source.now grid.old }
     ensures shape { shape_of grid.new ≡ shape_of grid.old }
 {
     if patch.skip {
-        grid.merge_from(patch.area, source, patch.from, &SkipSpaces);
+        grid.merge_from(patch.copy.area, source, patch.copy.from, &SkipSpaces);
     } else {
-        grid.copy_from(patch.area, source, patch.from);
+        grid.copy_from(patch.copy.area, source, patch.copy.from);
     }
 }
 
 /// Copies the grid's own cells into the rectangle of `patch`, as if all were read first. Both
 /// rectangles must be in the grid.
 pub fn overlay_shift(grid: &mut Grid<Cell>, patch: Patch)
-    requires target { Fits patch.area grid.old }
-    requires source { Fits (moved_to patch.area patch.from) grid.old }
-    ensures value { grid.new ≡ overlaid patch.area patch.from patch.skip grid.old grid.old }
+    requires target { Fits patch.copy.area grid.old }
+    requires source { Fits (moved_to patch.copy.area patch.copy.from) grid.old }
+    ensures value { grid.new ≡ overlaid patch.copy.area patch.copy.from patch.skip grid.old grid.old }
     ensures shape { shape_of grid.new ≡ shape_of grid.old }
 {
     if patch.skip {
-        grid.merge_shift(patch.area, patch.from, &SkipSpaces);
+        grid.merge_shift(patch.copy.area, patch.copy.from, &SkipSpaces);
     } else {
-        grid.shift(patch.area, patch.from);
+        grid.shift(patch.copy.area, patch.copy.from);
     }
 }
 
-/// Copies the cells of `source` from the place `from` on into the rectangle `area`, which must
-/// already have them outside the marks `touched`. In each line only the cells from the first one
-/// that differs to the last one are written, and these are added to `marks`.
+/// Copies cells of `source` as `copy` says. The rectangle must already have them outside the marks
+/// `touched`. In each line only the cells from the first one that differs to the last one are
+/// written, and these are added to `marks`.
 pub fn copy_changed(
     grid: &mut Grid<Cell>,
-    area: Area,
     source: &Grid<Cell>,
-    from: Place,
+    copy: AreaCopy,
     touched: &Marks,
     marks: &mut Marks,
 )
-    requires target { Fits area grid.old }
-    requires source { Fits (moved_to area from) source.now }
-    requires places { ArePlaces area from }
-    requires touched { IsCopiedBut touched.now area from source.now grid.old }
-    ensures value { grid.new ≡ copied area from source.now grid.old }
+    requires target { Fits copy.area grid.old }
+    requires source { Fits (moved_to copy.area copy.from) source.now }
+    requires places { ArePlaces copy.area copy.from }
+    requires touched { IsCopiedBut touched.now copy.area copy.from source.now grid.old }
+    ensures value { grid.new ≡ copied copy.area copy.from source.now grid.old }
     ensures shape { shape_of grid.new ≡ shape_of grid.old }
     ensures marked { Keeps marks.old grid.old marks.new grid.new }
     ensures only { MarksOnly marks.old grid.old marks.new grid.new }
 {
+    let AreaCopy { area, from } = copy;
     let rows = touched.rows_from(area.top, area.rows);
-    let part = Area {
-        top: area.top + rows.at,
-        left: area.left,
-        rows: rows.size,
-        cols: area.cols,
+    let lines = AreaCopy {
+        area: Area {
+            top: area.top + rows.at,
+            rows: rows.size,
+            ..area
+        },
+        from: Place {
+            row: from.row + rows.at,
+            ..from
+        },
     };
-    let place = Place {
-        row: from.row + rows.at,
-        col: from.col,
-    };
-    copy_changed_lines(grid, part, source, place, touched, marks);
+    copy_changed_lines(grid, source, lines, touched, marks);
 }
 
 // Copies and marks as `copy_changed` does, line by line.
 fn copy_changed_lines(
     grid: &mut Grid<Cell>,
-    area: Area,
     source: &Grid<Cell>,
-    from: Place,
+    copy: AreaCopy,
     touched: &Marks,
     marks: &mut Marks,
 )
-    requires target { Fits area grid.old }
-    requires source { Fits (moved_to area from) source.now }
-    requires places { ArePlaces area from }
-    requires touched { IsCopiedBut touched.now area from source.now grid.old }
-    ensures value { grid.new ≡ copied area from source.now grid.old }
+    requires target { Fits copy.area grid.old }
+    requires source { Fits (moved_to copy.area copy.from) source.now }
+    requires places { ArePlaces copy.area copy.from }
+    requires touched { IsCopiedBut touched.now copy.area copy.from source.now grid.old }
+    ensures value { grid.new ≡ copied copy.area copy.from source.now grid.old }
     ensures shape { shape_of grid.new ≡ shape_of grid.old }
     ensures marked { Keeps marks.old grid.old marks.new grid.new }
     ensures only { MarksOnly marks.old grid.old marks.new grid.new }
 {
-    for k in 0..area.rows {
+    for k in 0..copy.area.rows {
+        let AreaCopy { area, from } = copy;
         let row = area.top + k;
         let span = touched.columns_from(row, area.left, area.cols);
-        let part = Area {
-            top: row,
-            left: area.left + span.at,
-            rows: 1,
-            cols: span.size,
+        let line = AreaCopy {
+            area: Area {
+                top: row,
+                left: area.left + span.at,
+                rows: 1,
+                cols: span.size,
+            },
+            from: Place {
+                row: from.row + k,
+                col: from.col + span.at,
+            },
         };
-        let place = Place {
-            row: from.row + k,
-            col: from.col + span.at,
-        };
-        copy_changed_line(grid, part, source, place, marks);
+        copy_changed_line(grid, source, line, marks);
     }
 }
 
 // Copies and marks as `copy_changed` does, in a rectangle of one line whose cells may all differ.
-fn copy_changed_line(
-    grid: &mut Grid<Cell>,
-    area: Area,
-    source: &Grid<Cell>,
-    from: Place,
-    marks: &mut Marks,
-)
-    requires one { area.rows ≡ 1 }
-    requires target { Fits area grid.old }
-    requires source { Fits (moved_to area from) source.now }
-    requires places { ArePlaces area from }
-    ensures value { grid.new ≡ copied area from source.now grid.old }
+fn copy_changed_line(grid: &mut Grid<Cell>, source: &Grid<Cell>, copy: AreaCopy, marks: &mut Marks)
+    requires one { copy.area.rows ≡ 1 }
+    requires target { Fits copy.area grid.old }
+    requires source { Fits (moved_to copy.area copy.from) source.now }
+    requires places { ArePlaces copy.area copy.from }
+    ensures value { grid.new ≡ copied copy.area copy.from source.now grid.old }
     ensures shape { shape_of grid.new ≡ shape_of grid.old }
     ensures marked { Keeps marks.old grid.old marks.new grid.new }
     ensures only { MarksOnly marks.old grid.old marks.new grid.new }
 {
+    let AreaCopy { area, from } = copy;
     let old = part_of(grid.line(area.top as usize), area.left, area.cols);
     let new = part_of(source.line(from.row as usize), from.col, area.cols);
     let Some(span) = changed(old, new) else {
         return;
     };
-    let part = Area {
-        top: area.top,
-        left: area.left + span.at,
-        rows: 1,
-        cols: span.size,
+    let part = AreaCopy {
+        area: Area {
+            top: area.top,
+            left: area.left + span.at,
+            rows: 1,
+            cols: span.size,
+        },
+        from: Place {
+            row: from.row,
+            col: from.col + span.at,
+        },
     };
-    let place = Place {
-        row: from.row,
-        col: from.col + span.at,
-    };
-    copy_cells(grid, part, source, place);
-    marks.mark(part.top, part.left, part.left + part.cols);
+    copy_cells(grid, source, part);
+    marks.mark(area.top, part.area.left, part.area.left + part.area.cols);
 }
 
 /// Copies the cells of `source` at the same places into the rectangle `area`, which must begin at the
@@ -210,32 +215,34 @@ fn copy_marked_row(grid: &mut Grid<Cell>, area: Area, k: u16, source: &Grid<Cell
         rows: 1,
         cols: span.size,
     };
-    copy_cells(grid, part, source, Place { row, col: left });
+    let from = Place { row, col: left };
+    copy_cells(grid, source, AreaCopy { area: part, from });
 }
 
-// Copies the cells of `source` from a place on into the rectangle; one cell without a loop.
-fn copy_cells(grid: &mut Grid<Cell>, area: Area, source: &Grid<Cell>, from: Place)
-    requires target { Fits area grid.old }
-    requires source { Fits (moved_to area from) source.now }
-    ensures value { grid.new ≡ copied area from source.now grid.old }
+// Copies cells of `source` as `copy` says; one cell without a loop.
+fn copy_cells(grid: &mut Grid<Cell>, source: &Grid<Cell>, copy: AreaCopy)
+    requires target { Fits copy.area grid.old }
+    requires source { Fits (moved_to copy.area copy.from) source.now }
+    ensures value { grid.new ≡ copied copy.area copy.from source.now grid.old }
     ensures shape { shape_of grid.new ≡ shape_of grid.old }
 {
-    if area.rows == 1 && area.cols == 1 {
-        copy_cell(grid, area, source, from);
+    if copy.area.rows == 1 && copy.area.cols == 1 {
+        copy_cell(grid, source, copy);
     } else {
-        grid.copy_from(area, source, from);
+        grid.copy_from(copy.area, source, copy.from);
     }
 }
 
-// Copies the cell at a place of `source` into a rectangle of one place.
-fn copy_cell(grid: &mut Grid<Cell>, area: Area, source: &Grid<Cell>, from: Place)
-    requires rows { area.rows ≡ 1 }
-    requires cols { area.cols ≡ 1 }
-    requires target { Fits area grid.old }
-    requires source { Fits (moved_to area from) source.now }
-    ensures value { grid.new ≡ copied area from source.now grid.old }
+// Copies a cell of `source` into a rectangle of one place.
+fn copy_cell(grid: &mut Grid<Cell>, source: &Grid<Cell>, copy: AreaCopy)
+    requires rows { copy.area.rows ≡ 1 }
+    requires cols { copy.area.cols ≡ 1 }
+    requires target { Fits copy.area grid.old }
+    requires source { Fits (moved_to copy.area copy.from) source.now }
+    ensures value { grid.new ≡ copied copy.area copy.from source.now grid.old }
     ensures shape { shape_of grid.new ≡ shape_of grid.old }
 {
+    let AreaCopy { area, from } = copy;
     let cell = source.get(from.row as usize, from.col as usize);
     grid.set(area.top as usize, area.left as usize, cell);
 }

@@ -54,14 +54,13 @@ pub fn joined(before: Option<Scroll>, later: Option<Scroll>) -> Option<Scroll> {
 pub(crate) fn remember(
     owners: &mut Owners,
     scrolled: &mut Option<Scroll>,
-    later: Option<Scroll>,
     copy: ScreenCopy,
     cols: u16,
 ) {
-    if scrolled.is_some() || later.is_some() {
-        remember_scroll(owners, scrolled, later, copy, cols);
-    } else if copy.area.cols == cols {
-        owners.cover(copy.area, copy.root);
+    if scrolled.is_some() || copy.scrolled.is_some() {
+        remember_scroll(owners, scrolled, copy, cols);
+    } else if copy.part.area.cols == cols {
+        owners.cover(copy.part.area, copy.root);
     }
 }
 
@@ -70,12 +69,11 @@ pub(crate) fn remember(
 fn remember_scroll(
     owners: &mut Owners,
     scrolled: &mut Option<Scroll>,
-    later: Option<Scroll>,
     copy: ScreenCopy,
     cols: u16,
 ) {
     let kept = owners.take(copy, cols, *scrolled);
-    *scrolled = later_of(kept, later);
+    *scrolled = later_of(kept, copy.scrolled);
 }
 
 // The scroll to remember on the screen: the later one, if there was one, else `before`.
@@ -168,15 +166,15 @@ impl Owners {
     // The scroll to remember after this copy to a screen of `cols` columns: none if the
     // copy takes the last row that was still its grid's. A narrower copy takes no rows.
     fn take(&mut self, copy: ScreenCopy, cols: u16, before: Option<Scroll>) -> Option<Scroll> {
-        if copy.area.cols != cols {
+        if copy.part.area.cols != cols {
             return before;
         }
         let Some(scroll) = before else {
-            self.cover(copy.area, copy.root);
+            self.cover(copy.part.area, copy.root);
             return None;
         };
         let was = self.keep(scroll);
-        self.cover(copy.area, copy.root);
+        self.cover(copy.part.area, copy.root);
         if was && !self.keep(scroll) {
             return None;
         }

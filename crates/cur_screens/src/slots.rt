@@ -16,6 +16,13 @@ pub struct Origin {
     pub pad: bool,
 }
 
+/// The numbers of lines and columns of a screen.
+#[derive(Clone, Copy)]
+pub struct Extent {
+    pub rows: u16,
+    pub cols: u16,
+}
+
 /// A window with the number of its grid and, if it is a subwindow, that of its parent.
 #[derive(Clone, Copy)]
 pub struct Slot {

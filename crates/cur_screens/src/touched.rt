@@ -10,7 +10,7 @@ ghost use Rattle.cur_screens.specs.Touched.{MarksGrid, MarksLines, Spreads, Touc
 ghost use Rattle.cur_screens.specs.Touched.{grid_marks};
 
 use crate::marks::Marks;
-use crate::slots::{Origin, Slot, WINDOWS};
+use crate::slots::{Extent, Origin, Slot, WINDOWS};
 use cur_drawing::{Area, Put, Refusal, Window};
 use std::alloc::{AllocError, Global};
 use std::marker::Model;
@@ -356,30 +356,30 @@ fn use_until(grids: &mut Vec<Marks>, used: usize, end: usize) -> usize
     used
 }
 
-/// Adds the screen's marks to those of each grid but the one `but`, on a screen of `rows` lines and
-/// `cols` columns.
-pub fn spread(touched: &mut Touched, but: usize, marks: &Marks, rows: u16, cols: u16)
-    ensures { Spreads touched.old touched.new but marks.now rows cols }
+/// Adds the screen's marks to those of each grid but the one `but`, on a screen of this size.
+pub fn spread(touched: &mut Touched, but: usize, marks: &Marks, size: Extent)
+    ensures { Spreads touched.old touched.new but marks.now size.rows size.cols }
 {
-    spread_over(&mut touched.grids, touched.used, but, marks, rows, cols);
+    spread_over(&mut touched.grids, touched.used, but, marks, size);
 }
 
 // Adds the marks as `spread` does, to the grids in use.
-fn spread_over(grids: &mut Vec<Marks>, used: usize, but: usize, marks: &Marks, rows: u16, cols: u16)
-    ensures { Spreads (full_from used grids.old.items) (full_from used grids.new.items) but marks.now rows cols }
+fn spread_over(grids: &mut Vec<Marks>, used: usize, but: usize, marks: &Marks, size: Extent)
+    ensures { Spreads (full_from used grids.old.items) (full_from used grids.new.items) but marks.now
+        size.rows size.cols }
 {
     for k in 0..used.min(grids.len()) {
         if k != but {
-            join_grid(&mut grids[k], marks, rows, cols);
+            join_grid(&mut grids[k], marks, size);
         }
     }
 }
 
 // Adds the screen's marks to those of one grid, unless all of it is marked.
-fn join_grid(grid: &mut Marks, marks: &Marks, rows: u16, cols: u16)
-    ensures { JoinsMarks grid.old marks.now rows cols grid.new }
+fn join_grid(grid: &mut Marks, marks: &Marks, size: Extent)
+    ensures { JoinsMarks grid.old marks.now size.rows size.cols grid.new }
 {
     if !grid.is_full() {
-        grid.join(marks, rows, cols);
+        grid.join(marks, size.rows, size.cols);
     }
 }

@@ -6,7 +6,7 @@ ghost use Rattle.cur_screens.specs.Marks.{AreSame, IsCopiedBut, Keeps, MarksOnly
 ghost use Rattle.cur_drawing.specs.Spans.{ArePlaces};
 ghost use Rattle.cur_screens.specs.VirtualScreen as spec;
 
-use crate::copies::{copy_changed, copy_marked};
+use crate::copies::{AreaCopy, copy_changed, copy_marked};
 use crate::hints::{Hint, Owners, Scroll, remember};
 use crate::marks::Marks;
 use cur_drawing::{Cell, PAIRS, Refusal, all_cells, place_below};
@@ -25,15 +25,15 @@ pub struct Colors {
     pub background: Option<u8>,
 }
 
-/// A copy to the virtual screen: its rectangle `area` gets the cells of the grid `root` from the place
-/// `from` on, and the screen gets this cursor; the next refresh clears the terminal if `clears`.
+/// A copy of cells of the grid `root` to the virtual screen, which gets this cursor; the next refresh
+/// clears the terminal if `clears`. A `scrolled` region replaces the one that the screen remembers.
 #[derive(Clone, Copy)]
 pub struct ScreenCopy {
-    pub area: Area,
-    pub from: Place,
+    pub part: AreaCopy,
     pub cursor: Option<Place>,
     pub clears: bool,
     pub root: u8,
+    pub scrolled: Option<Scroll>,
 }
 
 /// The picture that the terminal must show: cells, a cursor or none, and the colors of the pairs.
@@ -241,33 +241,20 @@ impl Virtual {
     /// Copies a rectangle of `grid` to the screen, as `copy` says. Only cells marked in `touched` can differ; those
     /// that do are added to `marks`. A `scrolled` region replaces the one that is remembered. Takes no memory.
     #[inline(always)]
-    pub fn show(
-        &mut self,
-        copy: ScreenCopy,
-        grid: &Grid<Cell>,
-        scrolled: Option<Scroll>,
-        touched: &Marks,
-        marks: &mut Marks,
-    )
-        requires rows { copy.area.top + copy.area.rows ≤ (self.old).rows }
-        requires cols { copy.area.left + copy.area.cols ≤ (self.old).cols }
-        requires source { Fits (moved_to copy.area copy.from) grid.now }
-        requires places { ArePlaces copy.area copy.from }
+    pub fn show(&mut self, copy: ScreenCopy, grid: &Grid<Cell>, touched: &Marks, marks: &mut Marks)
+        requires rows { copy.part.area.top + copy.part.area.rows ≤ (self.old).rows }
+        requires cols { copy.part.area.left + copy.part.area.cols ≤ (self.old).cols }
+        requires source { Fits (moved_to copy.part.area copy.part.from) grid.now }
+        requires places { ArePlaces copy.part.area copy.part.from }
         requires cursor { IfSome copy.cursor (λ p. (p.row < (self.old).rows) × (p.col < (self.old).cols)) }
-        requires touched { IsCopiedBut touched.now copy.area copy.from grid.now (self.old).grid }
-        ensures value { self.new ≡ spec.shown copy.area grid.now copy.from copy.cursor copy.clears self.old }
+        requires touched { IsCopiedBut touched.now copy.part.area copy.part.from grid.now (self.old).grid }
+        ensures value { self.new ≡ spec.shown copy.part.area grid.now copy.part.from copy.cursor copy.clears self.old }
         ensures marked { Keeps marks.old (self.old).grid marks.new (self.new).grid }
         ensures only { MarksOnly marks.old (self.old).grid marks.new (self.new).grid }
         ensures legal { spec.IsScreen self.old }
     {
-        copy_changed(&mut self.grid, copy.area, grid, copy.from, touched, marks);
-        remember(
-            &mut self.owners,
-            &mut self.scrolled,
-            scrolled,
-            copy,
-            self.cols,
-        );
+        copy_changed(&mut self.grid, grid, copy.part, touched, marks);
+        remember(&mut self.owners, &mut self.scrolled, copy, self.cols);
         self.cursor = copy.cursor;
         self.clearok = self.clearok | copy.clears;
     }

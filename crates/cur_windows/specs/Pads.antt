@@ -13,10 +13,6 @@ use Rattle.cur_screens.specs.Slots.{whole_area}
 use Rattle.cur_windows.specs.Creations.{root_added}
 use Rattle.cur_screens.specs.VirtualScreen.{Screen, shown}
 
--- the rectangle of `rows` rows and `cols` columns from row `y` and column `x` on
-abbrev pub area : ℕ → ℕ → ℕ → ℕ → Area
-area y x rows cols = record { top = y; left = x; rows = rows; cols = cols }
-
 abbrev pub pad_of : State → Result Slot Refusal → Result Bool Refusal
 pad_of d (Ok s) = Ok (origin_at d s.root).pad
 pad_of d (Err e) = Err e

@@ -1,14 +1,16 @@
 -- The marks of the grids of a desk: the places where each may differ from the virtual screen, and the marks that a
 -- call adds.
-use Rattle.std.specs.Prelude.{ℕ, ◌≡◌, ◌≢◌, ◌<◌, ◌≤◌, ◌⊎◌, length, true, false, None, Result, Ok, Err}
+use Rattle.std.specs.Prelude.{ℕ, ◌≡◌, ◌≢◌, ◌<◌, ◌≤◌, ◌⊎◌, length, true, false, None, Result, Ok, Err, IfErr, IfOk}
+use Rattle.cur_drawing.specs.declared.puts.Put.{Put}
 use Rattle.cur_drawing.specs.declared.refusals.Refusal.{Refusal}
+use Rattle.cur_drawing.specs.declared.refusals.Refusal.TheVariants.{NoScroll}
 use Rattle.cur_drawing.specs.Grids.{Grid}
 use Rattle.cur_screens.specs.Marks.{AreUnmarkedBeside, IsUnmarked, Marking, none_marked}
 use Rattle.cur_screens.specs.declared.slots.Slot.{Slot}
 use Rattle.cur_windows.specs.Desks.{State, grid_at, origin_at, slot_of}
 use Rattle.cur_windows.specs.Refreshes.{area_on_screen}
-use Rattle.cur_screens.specs.Touched.{IsShownBut, IsWrittenLine, Markings, MarksArea, MarksNoMore, cells_shown}
-use Rattle.cur_screens.specs.Touched.{grid_marks}
+use Rattle.cur_screens.specs.Touched.{IsOneCell, IsShownBut, IsWrittenLine, Markings, MarksArea, MarksNoMore}
+use Rattle.cur_screens.specs.Touched.{cells_shown, grid_marks}
 
 -- a screen shows the cells of each grid, except where the grid is marked; a pad's isn't on the screen
 abbrev pub ShowsBut : Markings → State → Grid → Type 0
@@ -57,6 +59,15 @@ WritesLine k d (Err e) t i = ⊥
 pub record MarksWritten (t u : Markings) (d e : State) (id : ℕ) : Type 0 where
   pub only : (k i j : ℕ) → IsUnmarked (grid_marks t k) i j → (WritesLine k d (slot_of d id) (slot_of e id) i → ⊥)
       → IsUnmarked (grid_marks u k) i j
+
+-- addch marks what it changes, and no other lines; a character that becomes one cell of the cursor's line marks that
+-- cell alone, and a call that is refused before it writes marks nothing
+pub record MarksAdded (p : Put) (id : ℕ) (t : Markings) (d : State) (u : Markings) (e : State)
+    (r : Result (Unit {0}) Refusal) : Type 0 where
+  pub touched : KeepsShown t d u e
+  pub only : MarksWritten t u d e id
+  pub cells : IfOk (slot_of d id) (λ s. IsOneCell s.window p → MarksCellsAlone t u d s 1)
+  pub refused : IfErr r (λ x. x ≢ NoScroll → u ≡ t)
 
 -- a window as large as the screen
 pub record IsScreenful (d : State) (s : Slot) : Type 0 where

@@ -1,10 +1,10 @@
 //! The calls on one window.
-ghost use Rattle.std.specs.Prelude.{◌≡◌, ◌≢◌, bit_and, bit_or, ◌-◌, IfErr, IfOk, length, option_map};
+ghost use Rattle.std.specs.Prelude.{◌≡◌, bit_and, bit_or, ◌-◌, IfOk, length, option_map};
 ghost use Rattle.cur_windows.specs.Desks as spec;
 ghost use Rattle.cur_drawing.specs.Calls as call;
 ghost use Rattle.cur_drawing.specs.Windows as window;
-ghost use Rattle.cur_screens.specs.Touched.{FitsLine, IsOneCell};
-ghost use Rattle.cur_windows.specs.TouchedWindows.{KeepsShown, MarksCellsAlone, MarksWritten};
+ghost use Rattle.cur_screens.specs.Touched.{FitsLine};
+ghost use Rattle.cur_windows.specs.TouchedWindows.{KeepsShown, MarksAdded, MarksCellsAlone, MarksWritten};
 
 use crate::desks::Desk;
 use crate::regions::{note_writing, region_of};
@@ -147,11 +147,7 @@ impl Desk {
         touched: &mut Touched,
     ) -> Result<(), Refusal>
         ensures step { spec.step self.new result ≡ spec.on_window self.old id (call.added put) }
-        ensures touched { KeepsShown touched.old self.old touched.new self.new }
-        ensures only { MarksWritten touched.old touched.new self.old self.new id }
-        ensures cells { IfOk (spec.slot_of self.old id) (λ s. IsOneCell s.window put
-            → MarksCellsAlone touched.old touched.new self.old s 1) }
-        ensures refused { IfErr result (λ e. e ≢ Refusal.NoScroll → touched.new ≡ touched.old) }
+        ensures marks { MarksAdded put id touched.old self.old touched.new self.new result }
     {
         let slot = self.find(id)?;
         let start = start_of(&slot.window, put);
@@ -172,11 +168,7 @@ impl Desk {
     #[inline(never)]
     fn add_any(&mut self, id: usize, put: Put, touched: &mut Touched) -> Result<(), Refusal>
         ensures step { spec.step self.new result ≡ spec.on_window self.old id (call.added put) }
-        ensures touched { KeepsShown touched.old self.old touched.new self.new }
-        ensures only { MarksWritten touched.old touched.new self.old self.new id }
-        ensures cells { IfOk (spec.slot_of self.old id) (λ s. IsOneCell s.window put
-            → MarksCellsAlone touched.old touched.new self.old s 1) }
-        ensures refused { IfErr result (λ e. e ≢ Refusal.NoScroll → touched.new ≡ touched.old) }
+        ensures marks { MarksAdded put id touched.old self.old touched.new self.new result }
     {
         let mut slot = self.find(id)?;
         let origin = self.origin_of(&slot);

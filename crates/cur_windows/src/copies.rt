@@ -9,9 +9,16 @@ ghost use Rattle.cur_windows.specs.Copies.{common_part, copywin, in_order, spans
 use crate::creations::in_range;
 use crate::desks::Desk;
 use cur_drawing::{Cell, CopySpan, Refusal, common, matched};
-use cur_screens::{Patch, Slot, overlay_from, overlay_shift};
+use cur_screens::{AreaCopy, Patch, Slot, overlay_from, overlay_shift};
 use grids::{Area, Grid, Place};
 use std::mem;
+
+/// The lines and the columns of a copy between two windows.
+#[derive(Clone, Copy)]
+struct CopySpans {
+    rows: CopySpan,
+    cols: CopySpan,
+}
 
 // Copying from a window to another one, or to itself, as if the source were read first. It takes no memory.
 impl Desk {
@@ -64,7 +71,7 @@ impl Desk {
         let Some(cols) = cols else {
             return Err(Refusal::OutOfWindow);
         };
-        self.copy_spans(&source, &target, rows, cols, skip);
+        self.copy_spans(&source, &target, CopySpans { rows, cols }, skip);
         Ok(())
     }
 
@@ -82,29 +89,23 @@ impl Desk {
         let rows = common(from.top, from.rows, to.top, to.rows);
         let cols = common(from.left, from.cols, to.left, to.cols);
         if let (Some(rows), Some(cols)) = (rows, cols) {
-            self.copy_spans(&source, &target, rows, cols, skip);
+            self.copy_spans(&source, &target, CopySpans { rows, cols }, skip);
         }
         Ok(())
     }
 
     // Copies these lines and columns of the source to the target.
-    fn copy_spans(
-        &mut self,
-        source: &Slot,
-        target: &Slot,
-        rows: CopySpan,
-        cols: CopySpan,
-        skip: bool,
-    )
+    fn copy_spans(&mut self, source: &Slot, target: &Slot, spans: CopySpans, skip: bool)
         requires source_root { (source.now).root < 64 }
         requires source_canvas { IsCanvas (spec.grid_at self.old (source.now).root) (source.now).window }
         requires target_root { (target.now).root < 64 }
         requires target_canvas { IsCanvas (spec.grid_at self.old (target.now).root) (target.now).window }
-        requires rows { IsWithin (source.now).window.area.rows (target.now).window.area.rows rows }
-        requires cols { IsWithin (source.now).window.area.cols (target.now).window.area.cols cols }
-        ensures { self.new ≡ spans_copied self.old source.now target.now rows cols skip }
+        requires rows { IsWithin (source.now).window.area.rows (target.now).window.area.rows spans.rows }
+        requires cols { IsWithin (source.now).window.area.cols (target.now).window.area.cols spans.cols }
+        ensures { self.new ≡ spans_copied self.old source.now target.now spans.rows spans.cols skip }
     {
-        let patch = Patch {
+        let CopySpans { rows, cols } = spans;
+        let copy = AreaCopy {
             area: Area {
                 top: target.window.area.top + rows.to,
                 left: target.window.area.left + cols.to,
@@ -115,11 +116,10 @@ impl Desk {
                 row: source.window.area.top + rows.from,
                 col: source.window.area.left + cols.from,
             },
-            skip,
         };
         let spare = Grid::empty(self.alloc);
         let (source, target) = (source.root as usize, target.root as usize);
-        copy_between(&mut self.grids, source, target, spare, patch);
+        copy_between(&mut self.grids, source, target, spare, Patch { copy, skip });
     }
 }
 
@@ -134,9 +134,9 @@ fn copy_between(
 )
     requires source { source < length grids.old }
     requires target { target < length grids.old }
-    requires area { Fits patch.area (slice_index_or grids.old target []) }
-    requires from { Fits (moved_to patch.area patch.from) (slice_index_or grids.old source []) }
-    ensures { grids.new ≡ slice_set grids.old target (overlaid patch.area patch.from patch.skip
+    requires area { Fits patch.copy.area (slice_index_or grids.old target []) }
+    requires from { Fits (moved_to patch.copy.area patch.copy.from) (slice_index_or grids.old source []) }
+    ensures { grids.new ≡ slice_set grids.old target (overlaid patch.copy.area patch.copy.from patch.skip
         (slice_index_or grids.old source []) (slice_index_or grids.old target [])) }
 {
     if source == target {

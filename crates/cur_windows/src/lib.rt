@@ -20,6 +20,7 @@ pub use creations::in_range;
 pub use cur_drawing::{Area, Attrs, Border, Cell, Place, Put, Refusal, Window};
 pub use cur_screens::{Hint, Marks, Touched, Virtual, WINDOWS, first_diff, last_diff};
 pub use desks::Desk;
+pub use lines::WindowLines;
 pub use rows::RowMut;
 pub use std::alloc::AllocError as NoMemory;
 pub use views::{Part, View};

@@ -10,9 +10,18 @@ ghost use Rattle.cur_windows.specs.Refreshes as copies;
 ghost use Rattle.cur_windows.specs.TouchedWindows.{ShowsBut};
 
 use crate::desks::Desk;
+use crate::refreshes::SlotLines;
 use cur_drawing::{Refusal, place_below};
-use cur_screens::{Marks, Slot, Touched, Virtual, spread};
+use cur_screens::{Extent, Marks, Touched, Virtual, spread};
 use grids::Area;
+
+/// The lines `top` to `bottom` of window `window`, counted from its first one; there may be no such lines.
+#[derive(Clone, Copy)]
+pub struct WindowLines {
+    pub window: usize,
+    pub top: i32,
+    pub bottom: i32,
+}
 
 impl Desk {
     /// Copies the lines `top` to `bottom` of window `id` to the virtual screen, whose other places keep their cells.
@@ -33,7 +42,12 @@ impl Desk {
     {
         let mut touched = Touched::unknown(self.alloc);
         let mut marks = Marks::unknown(self.alloc);
-        self.noutrefresh_lines_marked(id, top, bottom, screen, &mut touched, &mut marks)
+        let lines = WindowLines {
+            window: id,
+            top,
+            bottom,
+        };
+        self.noutrefresh_lines_marked(lines, screen, &mut touched, &mut marks)
     }
 
     /// Copies as `noutrefresh_lines` does, but looks only at the marked places of the window's grid. Outside the marks
@@ -42,9 +56,7 @@ impl Desk {
     /// there is added to the marks of each other grid.
     pub fn noutrefresh_lines_marked(
         &mut self,
-        id: usize,
-        top: i32,
-        bottom: i32,
+        lines: WindowLines,
         screen: &mut Virtual,
         touched: &mut Touched,
         marks: &mut Marks,
@@ -53,49 +65,58 @@ impl Desk {
         requires cols { (screen.old).cols ≡ (self.old).cols }
         requires touched { ShowsBut touched.old self.old (screen.old).grid }
         ensures step { copies.refresh self.new screen.new result
-            ≡ copies.noutrefresh_lines self.old screen.old id top bottom }
+            ≡ copies.noutrefresh_lines self.old screen.old lines.window lines.top lines.bottom }
         ensures touched { ShowsBut touched.new self.new (screen.new).grid }
-        ensures copied { IfOk result (λ _. (s : Slot) → spec.slot_of self.old id ≡ Ok s
+        ensures copied { IfOk result (λ _. (s : Slot) → spec.slot_of self.old lines.window ≡ Ok s
             → Spreads touched.old touched.new s.root marks.new (self.old).rows (self.old).cols) }
         ensures refused { IfErr result (λ _. touched.new ≡ touched.old) }
         ensures marked { Keeps marks.old (screen.old).grid marks.new (screen.new).grid }
         ensures only { MarksOnly marks.old (screen.old).grid marks.new (screen.new).grid }
     {
-        let slot = self.slot(id)?;
-        self.check_window(slot)?;
-        let part = lines_of(slot.window.area, top, bottom)?;
-        self.copy_lines(slot, part, screen, touched, marks);
-        let slot = *slot;
-        self.end_copy(id, slot);
+        let WindowLines {
+            window,
+            top,
+            bottom,
+        } = lines;
+        let slot = self.find(window)?;
+        self.check_window(&slot)?;
+        let area = lines_of(slot.window.area, top, bottom)?;
+        let part = SlotLines { slot, area };
+        self.copy_lines(part, screen, touched, marks);
+        self.end_copy(window, slot);
         Ok(())
     }
 
-    // Copies the lines `part` of the window to the screen, with its cursor, its `clearok` and the desk's hint.
+    // Copies these lines of the window to the screen, with its cursor, its `clearok` and the desk's hint.
     fn copy_lines(
         &self,
-        slot: &Slot,
-        part: Area,
+        lines: SlotLines,
         screen: &mut Virtual,
         touched: &mut Touched,
         marks: &mut Marks,
     )
-        requires canvas { IsCanvas (spec.grid_at self.now (slot.now).root) (slot.now).window }
-        requires root { (slot.now).root < 64 }
-        requires window { (spec.origin_at self.now (slot.now).root).pad ≡ false }
-        requires lines { copies.AreLinesOf (slot.now).window.area part }
+        requires canvas { IsCanvas (spec.grid_at self.now lines.slot.root) lines.slot.window }
+        requires root { lines.slot.root < 64 }
+        requires window { (spec.origin_at self.now lines.slot.root).pad ≡ false }
+        requires lines { copies.AreLinesOf lines.slot.window.area lines.area }
         requires rows { (screen.old).rows ≡ (self.now).rows }
         requires cols { (screen.old).cols ≡ (self.now).cols }
         requires touched { ShowsBut touched.old self.now (screen.old).grid }
-        ensures value { screen.new ≡ shown (copies.part_on_screen self.now slot.now part)
-            (spec.grid_at self.now (slot.now).root) (place part.top part.left)
-            (copies.cursor_on_screen self.now slot.now) (slot.now).window.clears screen.old }
+        ensures value { screen.new ≡ shown (copies.part_on_screen self.now lines.slot lines.area)
+            (spec.grid_at self.now lines.slot.root) (place lines.area.top lines.area.left)
+            (copies.cursor_on_screen self.now lines.slot) lines.slot.window.clears screen.old }
         ensures touched { ShowsBut touched.new self.now (screen.new).grid }
-        ensures copied { Spreads touched.old touched.new (slot.now).root marks.new (self.now).rows (self.now).cols }
+        ensures copied { Spreads touched.old touched.new lines.slot.root marks.new (self.now).rows (self.now).cols }
         ensures marked { Keeps marks.old (screen.old).grid marks.new (screen.new).grid }
         ensures only { MarksOnly marks.old (screen.old).grid marks.new (screen.new).grid }
     {
-        self.show_lines(slot, part, screen, touched, marks);
-        spread(touched, slot.root as usize, marks, self.rows, self.cols);
+        let SlotLines { slot, .. } = lines;
+        self.show_lines(lines, screen, touched, marks);
+        let size = Extent {
+            rows: self.rows,
+            cols: self.cols,
+        };
+        spread(touched, slot.root as usize, marks, size);
     }
 }
 

@@ -1,14 +1,13 @@
 //! The calls that the crate of pads uses.
 ghost use Rattle.std.specs.Prelude.{◌≡◌, ◌<◌, ◌≤◌, ◌+◌, None, IfOk, IsOk, MatchResult};
-ghost use Rattle.cur_drawing.specs.Calls.{place};
 ghost use Rattle.cur_drawing.specs.Spans.{IsAreaWithin};
 ghost use Rattle.cur_windows.specs.Desks as spec;
 ghost use Rattle.cur_windows.specs.Creations as make;
-ghost use Rattle.cur_windows.specs.Pads.{area, is_pad, pad_added, part_shown};
+ghost use Rattle.cur_windows.specs.Pads.{is_pad, pad_added, part_shown};
 
 use crate::desks::Desk;
 use cur_drawing::{Refusal, Window, cursor_in_part};
-use cur_screens::{Marks, Origin, ScreenCopy, Virtual, blank_grid, whole_area};
+use cur_screens::{AreaCopy, Marks, Origin, ScreenCopy, Virtual, blank_grid, whole_area};
 use grids::{Area, Place};
 use std::alloc::AllocError;
 
@@ -42,71 +41,29 @@ impl Desk {
         Ok(())
     }
 
-    /// Makes window `n` as a part of window `id`, whose cells it shares: `rows` rows and `cols`
-    /// columns of it, from row `y` and column `x` on. The number `n` must be free, there must be a
-    /// window `id`, and the part must be within it.
-    pub fn add_subpad(&mut self, n: usize, id: usize, y: u16, x: u16, rows: u16, cols: u16)
+    /// Makes window `n` as a part of window `id`, whose cells it shares: the rectangle `area` of it,
+    /// counted from its corner. The number `n` must be free, there must be a window `id`, and the
+    /// part must be within it.
+    pub fn add_subpad(&mut self, n: usize, id: usize, area: Area)
         requires number { n < 64 }
         requires free { spec.window_at self.old n ≡ None }
         requires there { IsOk (spec.slot_of self.old id) }
         requires inside { IfOk (spec.slot_of self.old id)
-            (λ s. IsAreaWithin s.window.area.rows s.window.area.cols (area y x rows cols)) }
-        ensures { IfOk (spec.slot_of self.old id)
-            (λ s. self.new ≡ make.subwindow_added self.old n id s (area y x rows cols)) }
+            (λ s. IsAreaWithin s.window.area.rows s.window.area.cols area) }
+        ensures { IfOk (spec.slot_of self.old id) (λ s. self.new ≡ make.subwindow_added self.old n id s area) }
     {
         let Ok(slot) = self.find(id) else {
             return;
         };
-        let area = Area {
-            top: y,
-            left: x,
-            rows,
-            cols,
-        };
         self.add_subwindow(n, id, &slot, area);
     }
 
-    /// Copies a part of window `id`, `rows` rows and `cols` columns from row `y` and column `x` on,
-    /// to the virtual screen, from row `to_y` and column `to_x` on. The screen's cursor becomes the
-    /// window's if that is in the part and the window doesn't leave it anywhere, else none; the
-    /// screen takes over the window's `clearok`. There must be such a window, the part must be
-    /// within it and its copy within the screen, and the screen must have the desk's size.
-    pub fn show_part(
-        &mut self,
-        id: usize,
-        y: u16,
-        x: u16,
-        rows: u16,
-        cols: u16,
-        to_y: u16,
-        to_x: u16,
-        screen: &mut Virtual,
-    )
-        requires there { IsOk (spec.slot_of self.old id) }
-        requires inside { IfOk (spec.slot_of self.old id)
-            (λ s. (y + rows ≤ s.window.area.rows) × (x + cols ≤ s.window.area.cols)) }
-        requires bottom { to_y + rows ≤ (self.old).rows }
-        requires right { to_x + cols ≤ (self.old).cols }
-        requires screen_rows { (screen.old).rows ≡ (self.old).rows }
-        requires screen_cols { (screen.old).cols ≡ (self.old).cols }
-        ensures { IfOk (spec.slot_of self.old id)
-            (λ s. (self.new, screen.new) ≡ part_shown self.old screen.old id s (area y x rows cols) (place to_y to_x)) }
-    {
-        let part = Area {
-            top: y,
-            left: x,
-            rows,
-            cols,
-        };
-        let to = Place {
-            row: to_y,
-            col: to_x,
-        };
-        self.show_area(id, part, to, screen);
-    }
-
-    // Copies the rectangle `part` of window `id` to the place `to` of the virtual screen.
-    fn show_area(&mut self, id: usize, part: Area, to: Place, screen: &mut Virtual)
+    /// Copies the rectangle `part` of window `id`, counted from its corner, to the virtual screen, from
+    /// the place `to` on. The screen's cursor becomes the window's if that is in the part and the
+    /// window doesn't leave it anywhere, else none; the screen takes over the window's `clearok`. There
+    /// must be such a window, the part must be within it and its copy within the screen, and the screen
+    /// must have the desk's size.
+    pub fn show_part(&mut self, id: usize, part: Area, to: Place, screen: &mut Virtual)
         requires there { IsOk (spec.slot_of self.old id) }
         requires inside { IfOk (spec.slot_of self.old id)
             (λ s. (part.top + part.rows ≤ s.window.area.rows) × (part.left + part.cols ≤ s.window.area.cols)) }
@@ -133,15 +90,15 @@ impl Desk {
         let _ = &self.rows;
         let cursor = cursor_in_part(&slot.window, part, to);
         let copy = ScreenCopy {
-            area,
-            from,
+            part: AreaCopy { area, from },
             cursor,
             clears: slot.window.clears,
             root: slot.root,
+            scrolled: None,
         };
         let unknown = Marks::unknown(self.alloc);
         let mut marks = Marks::unknown(self.alloc);
-        screen.show(copy, self.grid_of(&slot), None, &unknown, &mut marks);
+        screen.show(copy, self.grid_of(&slot), &unknown, &mut marks);
         slot.window.clears = false;
         self.windows[id] = Some(slot);
     }

@@ -15,8 +15,17 @@ ghost use Rattle.cur_windows.specs.Refreshes.{refresh};
 
 use crate::desks::Desk;
 use cur_drawing::{Cell, Refusal};
-use cur_screens::{Marks, Origin, ScreenCopy, Slot, Touched, Virtual, spread, unmark};
+use cur_screens::{
+    AreaCopy, Extent, Marks, Origin, ScreenCopy, Slot, Touched, Virtual, spread, unmark,
+};
 use grids::{Area, Grid, Place};
+
+/// A window, and the rectangle of its grid that some of its lines are.
+#[derive(Clone, Copy)]
+pub(crate) struct SlotLines {
+    pub slot: Slot,
+    pub area: Area,
+}
 
 impl Desk {
     /// Copies the whole window `id` to the virtual screen. The screen's cursor becomes the window's, or none if the
@@ -97,61 +106,73 @@ impl Desk {
         ensures marked { Keeps marks.old (screen.old).grid marks.new (screen.new).grid }
         ensures only { MarksOnly marks.old (screen.old).grid marks.new (screen.new).grid }
     {
-        self.show_lines(slot, slot.window.area, screen, touched, marks);
+        let copied = *slot;
+        let whole = SlotLines {
+            slot: copied,
+            area: copied.window.area,
+        };
+        self.show_lines(whole, screen, touched, marks);
         let root = slot.root as usize;
-        spread(touched, root, marks, self.rows, self.cols);
+        let size = Extent {
+            rows: self.rows,
+            cols: self.cols,
+        };
+        spread(touched, root, marks, size);
         unmark(touched, root, self.has_all(slot));
     }
 
-    // Copies the marked places in the lines `part` of the window, with its cursor, its `clearok` and the desk's hint.
+    // Copies the marked places in these lines of the window, with its cursor, its `clearok` and the desk's hint.
     pub(crate) fn show_lines(
         &self,
-        slot: &Slot,
-        part: Area,
+        lines: SlotLines,
         screen: &mut Virtual,
         touched: &Touched,
         marks: &mut Marks,
     )
-        requires canvas { IsCanvas (spec.grid_at self.now (slot.now).root) (slot.now).window }
-        requires root { (slot.now).root < 64 }
-        requires window { (spec.origin_at self.now (slot.now).root).pad ≡ false }
-        requires lines { AreLinesOf (slot.now).window.area part }
+        requires canvas { IsCanvas (spec.grid_at self.now lines.slot.root) lines.slot.window }
+        requires root { lines.slot.root < 64 }
+        requires window { (spec.origin_at self.now lines.slot.root).pad ≡ false }
+        requires lines { AreLinesOf lines.slot.window.area lines.area }
         requires rows { (screen.old).rows ≡ (self.now).rows }
         requires cols { (screen.old).cols ≡ (self.now).cols }
-        requires touched { IsShownBut (grid_marks touched.now (slot.now).root)
-            (spec.origin_at self.now (slot.now).root) (spec.grid_at self.now (slot.now).root) (screen.old).grid }
-        ensures value { screen.new ≡ shown (part_on_screen self.now slot.now part)
-            (spec.grid_at self.now (slot.now).root) (place part.top part.left) (cursor_on_screen self.now slot.now)
-            (slot.now).window.clears screen.old }
+        requires touched { IsShownBut (grid_marks touched.now lines.slot.root)
+            (spec.origin_at self.now lines.slot.root) (spec.grid_at self.now lines.slot.root) (screen.old).grid }
+        ensures value { screen.new ≡ shown (part_on_screen self.now lines.slot lines.area)
+            (spec.grid_at self.now lines.slot.root) (place lines.area.top lines.area.left)
+            (cursor_on_screen self.now lines.slot) lines.slot.window.clears screen.old }
         ensures marked { Keeps marks.old (screen.old).grid marks.new (screen.new).grid }
         ensures only { MarksOnly marks.old (screen.old).grid marks.new (screen.new).grid }
-        ensures rows { (part_on_screen self.now slot.now part).top + part.rows ≤ (self.now).rows }
-        ensures cols { (part_on_screen self.now slot.now part).left + part.cols ≤ (self.now).cols }
+        ensures rows { (part_on_screen self.now lines.slot lines.area).top + lines.area.rows ≤ (self.now).rows }
+        ensures cols { (part_on_screen self.now lines.slot lines.area).left + lines.area.cols ≤ (self.now).cols }
         ensures legal { IsScreen screen.old }
     {
-        let (scrolled, root) = (self.scrolled, slot.root as usize);
-        let whole = self.place_on_screen(slot);
+        let SlotLines { slot, area } = lines;
+        let scrolled = self.scrolled;
+        let whole = self.place_on_screen(&slot);
         let copy = ScreenCopy {
-            area: Area {
-                top: whole.top + (part.top - slot.window.area.top),
-                left: whole.left,
-                rows: part.rows,
-                cols: part.cols,
+            part: AreaCopy {
+                area: Area {
+                    top: whole.top + (area.top - slot.window.area.top),
+                    left: whole.left,
+                    rows: area.rows,
+                    cols: area.cols,
+                },
+                from: Place {
+                    row: area.top,
+                    col: area.left,
+                },
             },
-            from: Place {
-                row: part.top,
-                col: part.left,
-            },
-            cursor: cursor_in(slot, whole),
+            cursor: cursor_in(&slot, whole),
             clears: slot.window.clears,
             root: slot.root,
+            scrolled,
         };
-        let grid = self.grid_of(slot);
-        match touched.of_grid(root) {
-            Some(touched) => screen.show(copy, grid, scrolled, touched, marks),
+        let grid = self.grid_of(&slot);
+        match touched.of_grid(slot.root as usize) {
+            Some(touched) => screen.show(copy, grid, touched, marks),
             None => {
                 let unknown = Marks::unknown(self.alloc);
-                screen.show(copy, grid, scrolled, &unknown, marks);
+                screen.show(copy, grid, &unknown, marks);
             }
         }
     }

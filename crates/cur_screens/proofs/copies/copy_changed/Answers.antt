@@ -5,11 +5,11 @@ use Rattle.cur_screens.proofs.copies.copy_changed.Goals as goal
 
 pub copy_changed_lines-requires-clause-touched : goal.copy_changed_lines-requires-clause-touched
 copy_changed_lines-requires-clause-touched c =
-    copied_but_lines c.args.area c.args.from c.rows_from-rows.result c.args.source.now c.args.grid.now c.args.touched.now c.rows_from-rows.ensures.within c.requires.touched
+    copied_but_lines c.args.copy.area c.args.copy.from c.rows_from-rows.result c.args.source.now c.args.grid.now c.args.touched.now c.rows_from-rows.ensures.within c.requires.touched
 
 pub returns-clause-value : goal.returns-clause-value
 returns-clause-value c =
     let s = c.rows_from-rows.result in
     c.copy_changed_lines.ensures.value
-    ∙ rows_copied c.args.area c.args.from s c.args.source.now c.args.grid.now c.requires.target c.requires.source c.rows_from-rows.ensures.within
-    (unmarked_lines c.args.area c.args.from s c.args.source.now c.args.grid.now c.args.touched.now c.requires.touched c.rows_from-rows.ensures.others)
+    ∙ rows_copied c.args.copy.area c.args.copy.from s c.args.source.now c.args.grid.now c.requires.target c.requires.source c.rows_from-rows.ensures.within
+    (unmarked_lines c.args.copy.area c.args.copy.from s c.args.source.now c.args.grid.now c.args.touched.now c.requires.touched c.rows_from-rows.ensures.others)

@@ -7,18 +7,18 @@ use Rattle.cur_screens.proofs.copies.copy_changed_line.Goals as goal
 
 pub returns-in_default-clause-value : goal.returns-in_default-clause-value
 returns-in_default-clause-value c =
-    let a = c.args.area in
-    line_equal a c.args.from c.args.source.now c.args.grid.now c.requires.one c.requires.target c.requires.source
-    (equal_beside a c.args.from 0 (record { at = 0; size = 0 }) c.args.source.now c.args.grid.now c.part_of-old.result.now c.part_of-new.result.now c.line.result.now c.line-2.result.now (first_line c.line.result.now c.args.grid.now a.top c.line.ensures) (first_line c.line-2.result.now c.args.source.now c.args.from.row c.line-2.ensures)
+    let a = c.args.copy.area in
+    line_equal a c.args.copy.from c.args.source.now c.args.grid.now c.requires.one c.requires.target c.requires.source
+    (equal_beside a c.args.copy.from 0 (record { at = 0; size = 0 }) c.args.source.now c.args.grid.now c.part_of-old.result.now c.part_of-new.result.now c.line.result.now c.line-2.result.now (first_line c.line.result.now c.args.grid.now a.top c.line.ensures) (first_line c.line-2.result.now c.args.source.now c.args.copy.from.row c.line-2.ensures)
     c.part_of-old.ensures.cells c.part_of-new.ensures.cells c.part_of-old.ensures.len (λ k from lt. absurd (omega (arith, lt))) (λ k from lt. c.in_default.ensures k (omega arith) lt))
 
 pub returns-clause-value : goal.returns-clause-value
 returns-clause-value c =
-    let a = c.args.area in let s = c.in-Some.span in
+    let a = c.args.copy.area in let s = c.in-Some.span in
     let changes = c.in-Some.ensures in
     c.copy_cells.ensures.value
-    ∙ line_copied a c.args.from s c.args.source.now c.args.grid.now c.requires.one c.requires.target c.requires.source (omega (arith, changes.within, c.part_of-old.ensures.len))
-    (equal_beside a c.args.from 0 s c.args.source.now c.args.grid.now c.part_of-old.result.now c.part_of-new.result.now c.line.result.now c.line-2.result.now (first_line c.line.result.now c.args.grid.now a.top c.line.ensures) (first_line c.line-2.result.now c.args.source.now c.args.from.row c.line-2.ensures)
+    ∙ line_copied a c.args.copy.from s c.args.source.now c.args.grid.now c.requires.one c.requires.target c.requires.source (omega (arith, changes.within, c.part_of-old.ensures.len))
+    (equal_beside a c.args.copy.from 0 s c.args.source.now c.args.grid.now c.part_of-old.result.now c.part_of-new.result.now c.line.result.now c.line-2.result.now (first_line c.line.result.now c.args.grid.now a.top c.line.ensures) (first_line c.line-2.result.now c.args.source.now c.args.copy.from.row c.line-2.ensures)
     c.part_of-old.ensures.cells c.part_of-new.ensures.cells c.part_of-old.ensures.len changes.before changes.after)
 
 pub returns-clause-marked : goal.returns-clause-marked
@@ -27,7 +27,7 @@ returns-clause-marked c =
 
 pub returns-clause-only : goal.returns-clause-only
 returns-clause-only c =
-    let a = c.args.area in
+    let a = c.args.copy.area in
     let s = c.in-Some.span in
     let g : Grid = c.args.grid.now in
     let h : Grid = c.copy_cells.new.grid in
@@ -37,7 +37,7 @@ returns-clause-only c =
     let row : a.top + 0 ≡ a.top = omega arith in
     let there : (x : ℕ) → DifferAt c.part_of-old.result.now c.part_of-new.result.now x → cell_at g a.top (a.left + x) ≡ cell_at h a.top (a.left + x) → ⊥ = λ x differ.
     subst (λ (i : ℕ). cell_at g i (a.left + x) ≡ cell_at h i (a.left + x) → ⊥) row
-    (changed_there a c.args.from 0 x c.args.source.now g h c.part_of-old.result.now c.part_of-new.result.now c.line.result.now c.line-2.result.now
-    (omega (arith, c.requires.one)) c.requires.target c.requires.source (returns-clause-value c ∙ sym (line_drawn a (taken a c.args.from c.args.source.now) g c.requires.one)) (first_line c.line.result.now c.args.grid.now a.top c.line.ensures) (first_line c.line-2.result.now c.args.source.now c.args.from.row c.line-2.ensures) c.part_of-old.ensures.cells c.part_of-new.ensures.cells c.part_of-old.ensures.len differ) in
+    (changed_there a c.args.copy.from 0 x c.args.source.now g h c.part_of-old.result.now c.part_of-new.result.now c.line.result.now c.line-2.result.now
+    (omega (arith, c.requires.one)) c.requires.target c.requires.source (returns-clause-value c ∙ sym (line_drawn a (taken a c.args.copy.from c.args.source.now) g c.requires.one)) (first_line c.line.result.now c.args.grid.now a.top c.line.ensures) (first_line c.line-2.result.now c.args.source.now c.args.copy.from.row c.line-2.ensures) c.part_of-old.ensures.cells c.part_of-new.ensures.cells c.part_of-old.ensures.len differ) in
     marks_only c.args.marks.now c.mark.new.self a.top (a.left + s.at) (a.left + s.at + s.size) g h c.mark.ensures (omega (arith, some)) (there s.at changes.first)
     (subst (λ (j : ℕ). cell_at g a.top j ≡ cell_at h a.top j → ⊥) last (there (s.at + s.size - 1) changes.last))

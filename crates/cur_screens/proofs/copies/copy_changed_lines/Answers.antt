@@ -9,7 +9,7 @@ use Rattle.cur_screens.proofs.copies.copy_changed_lines.Goals as goal
 
 pub loop-k-init : goal.loop-k-init
 loop-k-init c = record {
-  value = drawn_in_none (top_rows c.args.area 0) (taken c.args.area c.args.from c.args.source.now) c.args.grid.now (no_rows c.args.area);
+  value = drawn_in_none (top_rows c.args.copy.area 0) (taken c.args.copy.area c.args.copy.from c.args.source.now) c.args.grid.now (no_rows c.args.copy.area);
   shape = refl;
   marked = λ v same. same;
   only = marks_only_none c.args.marks.now c.args.grid.now;
@@ -17,16 +17,16 @@ loop-k-init c = record {
 
 pub copy_changed_line-requires-clause-target : goal.copy_changed_line-requires-clause-target
 copy_changed_line-requires-clause-target c =
-    part_fits c.args.area c.loop-k.k c.columns_from-span.result c.loop-k.grid (omega arith) c.columns_from-span.ensures.within
-    (fits_same c.args.area c.args.grid.now c.loop-k.grid c.loop-k.invariant.shape c.requires.target)
+    part_fits c.args.copy.area c.loop-k.k c.columns_from-span.result c.loop-k.grid (omega arith) c.columns_from-span.ensures.within
+    (fits_same c.args.copy.area c.args.grid.now c.loop-k.grid c.loop-k.invariant.shape c.requires.target)
 
 pub loop-k-preserved : goal.loop-k-preserved
 loop-k-preserved c =
-    let f : ℕ → ℕ → Content → Content = taken c.args.area c.args.from c.args.source.now in
-    let a = c.args.area in let k = c.loop-k.k in
+    let f : ℕ → ℕ → Content → Content = taken c.args.copy.area c.args.copy.from c.args.source.now in
+    let a = c.args.copy.area in let k = c.loop-k.k in
     let row = c.copy_changed_line.ensures.value
-    ∙ row_copied a c.args.from k c.columns_from-span.result c.args.source.now c.loop-k.grid (omega arith) (fits_same a c.args.grid.now c.loop-k.grid c.loop-k.invariant.shape c.requires.target) c.requires.source c.columns_from-span.ensures.within
-    (equal_beside_touched a c.args.from k f c.columns_from-span.result c.args.source.now c.args.grid.now c.loop-k.grid c.args.touched.now (omega arith) c.loop-k.invariant.value c.requires.touched c.columns_from-span.ensures.others) in
+    ∙ row_copied a c.args.copy.from k c.columns_from-span.result c.args.source.now c.loop-k.grid (omega arith) (fits_same a c.args.grid.now c.loop-k.grid c.loop-k.invariant.shape c.requires.target) c.requires.source c.columns_from-span.ensures.within
+    (equal_beside_touched a c.args.copy.from k f c.columns_from-span.result c.args.source.now c.args.grid.now c.loop-k.grid c.args.touched.now (omega arith) c.loop-k.invariant.value c.requires.touched c.columns_from-span.ensures.others) in
     record {
       value = row ∙ ap (drawn_in (row_of a k) f) c.loop-k.invariant.value
           ∙ drawn_join (top_rows a k) (row_of a k) (top_rows a (k + 1)) f f c.args.grid.now (next_row a k) (row_apart a k) (λ i j d h. refl);

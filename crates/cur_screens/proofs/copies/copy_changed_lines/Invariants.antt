@@ -7,7 +7,7 @@ use Rattle.cur_screens.proofs.copies.copy_changed_lines.Given as goal
 
 abbrev pub invariant-loop-k : goal.invariant-loop-k
 invariant-loop-k l = record {
-  value : l.grid ≡ drawn_in (top_rows l.area l.k) (taken l.area l.from l.source) l.fn.grid;
+  value : l.grid ≡ drawn_in (top_rows l.copy.area l.k) (taken l.copy.area l.copy.from l.source) l.fn.grid;
   shape : shape_of l.grid ≡ shape_of l.fn.grid;
   marked : Keeps l.fn.marks l.fn.grid l.marks l.grid;
   only : MarksOnly l.fn.marks l.fn.grid l.marks l.grid;

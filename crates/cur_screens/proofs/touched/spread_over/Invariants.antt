@@ -7,6 +7,6 @@ use Rattle.cur_screens.proofs.touched.spread_over.Given as goal
 abbrev pub invariant-loop-k : goal.invariant-loop-k
 invariant-loop-k l = record {
   size : length l.grids.items ≡ length l.fn.grids.items;
-  before : (k : ℕ) → k < l.k → k ≢ l.but → JoinsMarks (grid_marks l.fn.grids.items k) l.marks l.rows l.cols (grid_marks l.grids.items k);
+  before : (k : ℕ) → k < l.k → k ≢ l.but → JoinsMarks (grid_marks l.fn.grids.items k) l.marks l.size.rows l.size.cols (grid_marks l.grids.items k);
   rest : (k : ℕ) → (l.k ≤ k) ⊎ (k ≡ l.but) → grid_marks l.grids.items k ≡ grid_marks l.fn.grids.items k;
 }

@@ -14,5 +14,5 @@ invariant_of-self g c =
     (added_sizes (g.C.Certificate.table p.checked) (scene_of (stage_of d v p)) c.args.window c.args.put) in (
       stage_kept g.C.Certificate.table p p d x.new.self v v i.0 sizes refl,
       i.1,
-      record { window = x.ensures.touched v.grid i.2.window; screen = i.2.screen },
+      record { window = x.ensures.marks.touched v.grid i.2.window; screen = i.2.screen },
     )

@@ -8,8 +8,8 @@ use Rattle.cur_windows.proofs.desks.Desk.copy_lines.Goals as goal
 
 pub returns-clause-touched : goal.returns-clause-touched
 returns-clause-touched c =
-    let d : State = c.args.self.now in let s = c.args.slot.now in
-    let part : Slot = record s { parent = Some 0; window = record s.window { area = c.args.part } } in
+    let d : State = c.args.self.now in let s = c.args.lines.slot in
+    let part : Slot = record s { parent = Some 0; window = record s.window { area = c.args.lines.area } } in
     let desk : IsDesk d = subst IsDesk c.self.view_is c.self.invariant in
     let spread : Spreads c.args.touched.now c.spread.new.touched s.root c.show_lines.new.marks d.rows d.cols =
     subst (λ (x : State). Spreads c.args.touched.now c.spread.new.touched s.root c.show_lines.new.marks x.rows x.cols) c.self.view_is c.spread.ensures in

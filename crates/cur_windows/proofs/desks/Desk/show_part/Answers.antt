@@ -1,6 +1,6 @@
 use Rattle.std.proofs.Common.{refl}
 use Rattle.cur_windows.proofs.Closures.{closes_window, legal_same}
-use Rattle.cur_windows.proofs.desks.Desk.show_area.Goals as goal
+use Rattle.cur_windows.proofs.desks.Desk.show_part.Goals as goal
 
 pub invariant_of-self : goal.invariant_of-self
 invariant_of-self c = closes_window _ _ c.args.id _ _ c.self.view_is c.self.invariant c.in-Ok.ensures.there refl
