@@ -1,6 +1,4 @@
 //! The calls that make windows.
-ghost use Rattle.std.specs.Prelude.{◌≡◌};
-ghost use Rattle.cur_windows.specs.Desks as desks;
 ghost use Rattle.cur_play.specs.Groups.{Makes, making};
 ghost use Rattle.cur_play.specs.Windows as spec;
 
@@ -33,28 +31,12 @@ pub(crate) fn make(desk: &mut Desk, call: &Call<'_>) -> Option<Result<(), Refusa
             cols,
             y,
             x,
-        } => Some(part(desk, *call, *window, *parent, *lines, *cols, *y, *x)),
+        } => Some(match call {
+            PartCall::Subwin => desk.subwin(*window, *parent, *lines, *cols, *y, *x),
+            PartCall::Derwin => desk.derwin(*window, *parent, *lines, *cols, *y, *x),
+            PartCall::Subpad => subpad(desk, *window, *parent, *lines, *cols, *y, *x),
+        }),
         Call::Dupwin { window, source } => Some(desk.dupwin(*window, *source)),
         _ => None,
-    }
-}
-
-/// Makes `window`, which is a part of the window `parent`, as `call` says.
-fn part(
-    desk: &mut Desk,
-    call: PartCall,
-    window: usize,
-    parent: usize,
-    lines: i32,
-    cols: i32,
-    y: i32,
-    x: i32,
-) -> Result<(), Refusal>
-    ensures { desks.step desk.new result ≡ spec.part_step call desk.old window parent lines cols y x }
-{
-    match call {
-        PartCall::Subwin => desk.subwin(window, parent, lines, cols, y, x),
-        PartCall::Derwin => desk.derwin(window, parent, lines, cols, y, x),
-        PartCall::Subpad => subpad(desk, window, parent, lines, cols, y, x),
     }
 }

@@ -35,7 +35,7 @@ pub(crate) fn change(
             window,
             first,
             second,
-        } => Some(numbers_call(desk, touched, *call, *window, *first, *second)),
+        } => Some(numbers_call(desk, touched, *call, *window, (*first, *second))),
         Call::Flag { call, window, on } => Some(flag(desk, *call, *window, *on)),
         Call::Attributes {
             call,
@@ -185,12 +185,12 @@ fn numbers_call(
     touched: &mut Touched,
     call: NumbersCall,
     window: usize,
-    first: i32,
-    second: i32,
+    numbers: (i32, i32),
 ) -> Result<(), Refusal>
-    ensures step { desks.step desk.new result ≡ spec.numbers_step call desk.old window first second }
+    ensures step { desks.step desk.new result ≡ spec.numbers_step call desk.old window numbers.0 numbers.1 }
     ensures touched { KeepsShown touched.old desk.old touched.new desk.new }
 {
+    let (first, second) = numbers;
     match call {
         NumbersCall::Mvwin => {
             touched.mark_all();
