@@ -3,6 +3,7 @@ pub mod Refusals
 pub mod Verifications
 pub mod Checks
 pub mod Spots
+pub mod Excerpts
 pub mod Locations
 pub mod Starts
 pub mod Remedies

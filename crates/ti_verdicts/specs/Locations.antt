@@ -1,16 +1,20 @@
 -- The place of a capability's value in a source text, in the form that editors read.
-use Rattle.std.specs.Prelude.{◌≡◌, ◌==◌, ℕ, List, [], ◌∷◌, ◌++◌, Option, Some, None, codes, if◌then◌else◌}
+use Rattle.std.specs.Prelude.{◌≡◌, ◌==◌, ℕ, Bool, true, false, List, [], ◌∷◌, ◌++◌, Option, Some, None, codes}
+use Rattle.std.specs.Prelude.{if◌then◌else◌}
 use Rattle.std.specs.Fmt.{decimal}
 use Rattle.std.specs.List.{before_first}
 use Rattle.ti_caps.specs.Table.{name_at}
 use Rattle.ti_commands.specs.declared.sources.SourceText.{SourceText}
 use Rattle.ti_checker.specs.declared.causes.No.{No}
+use Rattle.ti_entries.specs.declared.columns.Columns.{Columns}
 use Rattle.ti_resolve.specs.Origins.{IsOrigin, IsOriginAt}
 use Rattle.ti_resolve.specs.Uses.{names_at}
 use Rattle.ti_resolve.specs.declared.origins.Origin.{Origin}
 use Rattle.ti_source.specs.declared.types.RawEntry.{RawEntry}
+use Rattle.ti_verdicts.specs.Excerpts.{excerpt}
 use Rattle.ti_verdicts.specs.Refusals.{no_text}
-use Rattle.ti_verdicts.specs.Spots.{Line, PutFiles, files_of, line_among, put_files}
+use Rattle.ti_verdicts.specs.Spots.{Line, PutFiles, columns_among, files_of, line_among, piece_among, put_files}
+use Rattle.ti_verdicts.specs.declared.locations.PlacedFault.{PlacedFault}
 use Rattle.ti_verdicts.specs.declared.source_places.NamedSource.{NamedSource}
 use Rattle.ti_verdicts.specs.declared.source_places.SourcePlace.{SourcePlace}
 use Rattle.ti_words.specs.Shown.{shown}
@@ -23,30 +27,57 @@ first_name names = before_first (λ b. b == 124) names
 abbrev pub number_text : ℕ → List ℕ
 number_text number = if number == 0 then [] else codes ":" ++ decimal number
 
--- `FILE:LINE: CAP of NAME` by the file's path, the line's number and the names of an entry
-unfoldable pub numbered_text : Line → ℕ → List ℕ → List ℕ
-numbered_text line cap names =
-    line.path ++ (number_text line.number ++ (codes ": " ++ (name_at cap ++ (codes " of " ++ first_name names))))
+-- columns, if those of the lines are those of the files, as they aren't where lines were joined
+abbrev pub columns_if : Bool → Option Columns → Option Columns
+columns_if true columns = columns
+columns_if false columns = None
+
+-- a colon and the column of a field's first byte; nothing without columns
+abbrev pub column_text : Option Columns → List ℕ
+column_text None = []
+column_text (Some columns) = codes ":" ++ decimal columns.start
+
+-- `FILE:LINE:COLUMN: CAP of NAME` by the file's path, the line's number, a field's columns and the names of an entry
+unfoldable pub numbered_text : Line → Option Columns → ℕ → List ℕ → List ℕ
+numbered_text line columns cap names = line.path ++ (number_text line.number
+    ++ (column_text columns ++ (codes ": " ++ (name_at cap ++ (codes " of " ++ first_name names)))))
 
 -- by the files of the entries that were put together, with the first name of the entry that has the field
-unfoldable pub place_text : PutFiles → List RawEntry → ℕ → Origin → List ℕ
-place_text files raws cap origin = numbered_text (line_among files origin) cap (names_at raws origin.entry)
+unfoldable pub place_text : Bool → PutFiles → List RawEntry → ℕ → Origin → List ℕ
+place_text has_columns files raws cap origin =
+    numbered_text (line_among files origin) (columns_if has_columns (columns_among files cap origin)) cap
+    (names_at raws origin.entry)
 
--- the line with these words, as far as they can be shown; none for a capability without a value
-abbrev pub origin_text : SourceText → ℕ → Option Origin → List ℕ
-origin_text source cap None = []
-origin_text source cap (Some origin) = shown (place_text (files_of source) source.raws.items cap origin) ++ 10 ∷ []
+-- the field between these columns, and below it the marks under its value; nothing without columns
+abbrev pub piece_text : PutFiles → ℕ → Origin → Option Columns → List ℕ
+piece_text files cap origin None = []
+piece_text files cap origin (Some columns) = excerpt cap (piece_among files columns origin)
+
+-- the field about a capability at an origin, in the file that has it, and the marks below it
+unfoldable pub excerpt_text : PutFiles → ℕ → Origin → List ℕ
+excerpt_text files cap origin = piece_text files cap origin (columns_among files cap origin)
+
+-- the line with the place, as far as it can be shown, and the field below it
+abbrev pub field_text : Bool → PutFiles → List RawEntry → ℕ → Origin → List ℕ
+field_text has_columns files raws cap origin =
+    shown (place_text has_columns files raws cap origin) ++ 10 ∷ excerpt_text files cap origin
+
+-- of a source; none for a capability without a value
+abbrev pub origin_text : Bool → SourceText → ℕ → Option Origin → List ℕ
+origin_text has_columns source cap None = []
+origin_text has_columns source cap (Some origin) =
+    field_text has_columns (files_of source) source.raws.items cap origin
 
 -- the field that gives the entry its value is the first one about it, among the entry's own and those that it uses
-pub record IsLocatedIn (source : SourceText) (cap : ℕ) (line : List ℕ) : Type 0 where
+pub record IsLocatedIn (has_columns : Bool) (source : SourceText) (cap : ℕ) (lines : List ℕ) : Type 0 where
   pub origin : Option Origin
   pub first : IsOrigin source.raws.items source.name.now cap origin
-  pub says : line ≡ origin_text source cap origin
+  pub says : lines ≡ origin_text has_columns source cap origin
 
--- the line that says where the value is; none for a compiled file
-abbrev pub IsLocation : Option SourceText → ℕ → List ℕ → Type 0
-IsLocation None cap line = line ≡ []
-IsLocation (Some source) cap line = IsLocatedIn source cap line
+-- the lines that say where the value is; none for a compiled file
+abbrev pub IsLocation : Bool → Option SourceText → ℕ → List ℕ → Type 0
+IsLocation has_columns None cap lines = lines ≡ []
+IsLocation has_columns (Some source) cap lines = IsLocatedIn has_columns source cap lines
 
 -- ---- an entry by its place
 
@@ -57,23 +88,38 @@ pub record PlaceInSource : Type 0 where
   pub raws : List RawEntry
   pub place : ℕ
 
--- The place of the value that a fault is about, and then the fault under the name of its entry, as far as it can be
--- shown; no line for a capability without a value.
-abbrev pub placed_text : PlaceInSource → List ℕ → No → Option Origin → List ℕ
-placed_text stands name refusal None = []
-placed_text stands name refusal (Some origin) =
-    shown (place_text stands.files stands.raws refusal.cap origin ++ (codes ": " ++ (name ++ (codes " " ++ no_text refusal)))) ++ 10 ∷ []
+-- a fault at its place: the words about the place, the name of the entry that has the fault, and the fault, with the
+-- field below it
+pub record PlacedText : Type 0 where
+  pub place : List ℕ
+  pub name : List ℕ
+  pub fault : List ℕ
+
+-- the place of the value that a fault is about, the name and the fault, as far as each can be shown; and the field
+abbrev pub fault_at : Bool → PutFiles → List RawEntry → List ℕ → No → Origin → PlacedText
+fault_at has_columns files raws name refusal origin = record {
+  place = shown (place_text has_columns files raws refusal.cap origin ++ codes ": ");
+  name = shown name;
+  fault = shown (codes " " ++ no_text refusal) ++ 10 ∷ excerpt_text files refusal.cap origin;
+}
+
+-- none for a capability without a value
+abbrev pub faults_at : Bool → PlaceInSource → List ℕ → No → Option Origin → List PlacedText
+faults_at has_columns stands name refusal None = []
+faults_at has_columns stands name refusal (Some origin) =
+    fault_at has_columns stands.files stands.raws name refusal origin ∷ []
 
 -- the value is that of the entry at its place, whatever other entries have its names
-pub record IsPlacedIn (stands : PlaceInSource) (name : List ℕ) (refusal : No) (line : List ℕ) : Type 0 where
+pub record IsPlacedIn (has_columns : Bool) (stands : PlaceInSource) (name : List ℕ) (refusal : No)
+    (placed : List PlacedText) : Type 0 where
   pub origin : Option Origin
   pub first : IsOriginAt stands.raws stands.place refusal.cap origin
-  pub says : line ≡ placed_text stands name refusal origin
+  pub says : placed ≡ faults_at has_columns stands name refusal origin
 
--- the line of a fault; the entry of a compiled file has none
-abbrev pub IsPlaced : Option PlaceInSource → List ℕ → No → List ℕ → Type 0
-IsPlaced None name refusal line = line ≡ []
-IsPlaced (Some stands) name refusal line = IsPlacedIn stands name refusal line
+-- a fault at its place; none in the entry of a compiled file
+abbrev pub IsPlaced : Bool → Option PlaceInSource → List ℕ → No → List PlacedText → Type 0
+IsPlaced has_columns None name refusal placed = placed ≡ []
+IsPlaced has_columns (Some stands) name refusal placed = IsPlacedIn has_columns stands name refusal placed
 
 -- (Serves the code alone.) the place without its memory
 abbrev pub place_in : SourcePlace → PlaceInSource
@@ -90,3 +136,10 @@ place_if (Some stands) = Some (place_in stands)
 abbrev pub source_if : Option NamedSource → Option SourceText
 source_if None = None
 source_if (Some named) = Some named.source.now
+
+abbrev pub placed_in : PlacedFault → PlacedText
+placed_in placed = record { place = placed.place.items; name = placed.name.items; fault = placed.fault.items }
+
+abbrev pub placed_if : Option PlacedFault → List PlacedText
+placed_if None = []
+placed_if (Some placed) = placed_in placed ∷ []

@@ -2,7 +2,7 @@
 use Rattle.std.specs.Prelude.{ℕ, List, [], ◌∷◌, Option, Some, None, map, slice_get}
 use Rattle.std.specs.String.{string_bytes}
 use Rattle.ti_commands.specs.declared.sources.SourceText.{SourceText}
-use Rattle.ti_entries.specs.Columns.{columns_of}
+use Rattle.ti_entries.specs.Columns.{columns_of, piece_of}
 use Rattle.ti_entries.specs.LinedTexts.{line_at}
 use Rattle.ti_entries.specs.declared.columns.Columns.{Columns}
 use Rattle.ti_further.specs.Files.{text_in}
@@ -65,6 +65,20 @@ columns_at_spot texts cap field (Some spot) = columns_in (slice_get texts spot.f
 -- the columns of the field about a capability at an origin among the entries put together, in the file that has it
 unfoldable pub columns_among : PutFiles → ℕ → Origin → Option Columns
 columns_among files cap origin = columns_at_spot files.texts cap origin.field (spot_of files.counts origin.entry)
+
+-- the bytes between columns of the line of an origin, in a file by itself
+abbrev pub piece_in : Option FileText → Columns → Origin → List ℕ
+piece_in None columns origin = []
+piece_in (Some file) columns origin = piece_of file.text (line_of_field file.text origin) columns
+
+abbrev pub piece_at_spot : List FileText → Columns → ℕ → Option Spot → List ℕ
+piece_at_spot texts columns field None = []
+piece_at_spot texts columns field (Some spot) =
+    piece_in (slice_get texts spot.file) columns (origin_of spot.place field)
+
+-- the bytes between columns of the line of an origin among the entries put together, in the file that has it
+unfoldable pub piece_among : PutFiles → Columns → Origin → List ℕ
+piece_among files columns origin = piece_at_spot files.texts columns origin.field (spot_of files.counts origin.entry)
 
 -- ---- the files of a source
 

@@ -26,17 +26,20 @@ use ti_resolve::Index;
 use ti_words::Remarks;
 use vt_term::Size;
 
-/// Replies with the notes on the entry that the `words` give, and with all its faults, each with its place and its
-/// explanation, and with their number; or with `yes` if there is none. The reply fails as the first of the faults does.
+/// Replies with the notes on the entry that the `words` give, and with all its faults, each with its place, the field
+/// there and its explanation, and with their number; or with `yes` if there is none. The reply fails as the first of
+/// the faults does. Places have columns if `has_columns`, that is, if the lines of the files are read as they are.
 /// Further lines go to `remarks`: that the entry seems to be for a terminal of another kind, that a fault may go once
-/// others are mended, advice on an entry without a fault, and advice on strings that aren't checked, with their number.
+/// others are mended, advice on an entry without a fault, and advice on strings that aren't checked, with their
+/// number.
 pub fn check_all<F: Files>(
     alloc: Global,
     words: &FaultsWords<'_>,
+    has_columns: bool,
     files: &mut F,
     remarks: &mut Remarks,
 ) -> Result<Reply, Failure>
-    ensures reply { IfOk result (λ reply. spec.ListsFaults (F.holds files.old) words.now reply) }
+    ensures reply { IfOk result (λ reply. spec.ListsFaults has_columns (F.holds files.old) words.now reply) }
     ensures failure { IfErr result (λ e. FailsForEntry (F.holds files.old) words.now.rows.now words.now.cols.now
         words.now.entry.now e) }
     ensures kept { F.holds files.new ≡ F.holds files.old }
@@ -45,7 +48,12 @@ pub fn check_all<F: Files>(
     let found = sourced_entry(alloc, files, words.entry, remarks)?;
     let notes = notes_on(alloc, &found.entry, size)?;
     let nos = faults(alloc, &found.entry, size)?;
-    let reply = reply_of(alloc, &found, size, notes, nos.as_slice())?;
+    let asked = Asked {
+        found: &found,
+        size,
+        has_columns,
+    };
+    let reply = reply_of(alloc, &asked, notes, nos.as_slice())?;
     note_another_kind(nos.as_slice(), remarks);
     note_left_out(nos.as_slice(), remarks);
     if nos.is_empty() {
@@ -55,17 +63,24 @@ pub fn check_all<F: Files>(
     Ok(reply)
 }
 
-/// The reply with `notes` that says of the entry `found` that `nos` are its faults.
+/// The entry whose faults are listed, for a size, and whether their places have columns.
+#[derive(Drop)]
+struct Asked<'x> {
+    found: &'x Sourced<'x>,
+    size: Size,
+    has_columns: bool,
+}
+
+/// The reply with `notes` that says of the entry that is `asked` about that `nos` are its faults.
 fn reply_of(
     alloc: Global,
-    found: &Sourced<'_>,
-    size: Size,
+    asked: &Asked<'_>,
     notes: Vec<u8>,
     nos: &[No],
 ) -> Result<Reply, AllocError>
     ensures noted { IfOk result (λ reply. reply.notes ≡ notes) }
-    ensures told { IfOk result (λ reply. spec.TellsFaults found.now.entry found.now.source size.rows size.cols nos.now
-        reply) }
+    ensures told { IfOk result (λ reply. spec.TellsFaults asked.now.has_columns asked.now.found.now.entry
+        asked.now.found.now.source asked.now.size.rows asked.now.size.cols nos.now reply) }
 {
     match nos {
         [] => Ok(Reply {
@@ -74,53 +89,56 @@ fn reply_of(
             failure: None,
         }),
         [first, ..] => {
-            let mended = Mended::new(alloc, &found.entry, size, nos)?;
+            let mended = Mended::new(alloc, &asked.found.entry, asked.size, nos)?;
             Ok(Reply {
                 notes,
-                text: faults_text(alloc, found, size, &mended, nos)?,
+                text: faults_text(alloc, asked, &mended, nos)?,
                 failure: Some(no_failure(alloc, first)),
             })
         }
     }
 }
 
-/// The lines of the faults `nos` of the entry `found`, which is `mended`, and then their counts.
+/// The lines of the faults `nos` of the entry that is `asked` about, which is `mended`, and then their counts.
 fn faults_text(
     alloc: Global,
-    found: &Sourced<'_>,
-    size: Size,
+    asked: &Asked<'_>,
     mended: &Mended,
     nos: &[No],
 ) -> Result<Vec<u8>, AllocError>
-    ensures { IfOk result (λ text. spec.IsFaultsText found.now.entry found.now.source mended.now nos.now text.items) }
+    ensures { IfOk result (λ text. spec.IsFaultsText asked.now.has_columns asked.now.found.now.entry
+        asked.now.found.now.source mended.now nos.now text.items) }
 {
-    match &found.source {
+    match &asked.found.source {
         None => {
             let located = Located {
-                entry: &found.entry,
+                entry: &asked.found.entry,
                 source: None,
+                size: asked.size,
+                has_columns: asked.has_columns,
             };
-            located_text(alloc, &located, size, mended, nos)
+            located_text(alloc, &located, mended, nos)
         }
-        Some(source) => source_text(alloc, &found.entry, source, size, mended, nos),
+        Some(source) => source_text(alloc, asked, source, mended, nos),
     }
 }
 
-/// The lines of the faults `nos` of `entry`, which is that of `source` and is `mended`, and then their counts.
+/// The lines of the faults `nos` of the entry that is `asked` about, which is that of `source` and is `mended`, and
+/// then their counts.
 fn source_text<'x>(
     alloc: Global,
-    entry: &'x Entry,
+    asked: &Asked<'x>,
     source: &'x SourceText<'x>,
-    size: Size,
     mended: &Mended,
     nos: &[No],
 ) -> Result<Vec<u8>, AllocError>
-    ensures { IfOk result (λ text. spec.IsFaultsText entry.now (Some source.now) mended.now nos.now text.items) }
+    ensures { IfOk result (λ text. spec.IsFaultsText asked.now.has_columns asked.now.found.now.entry (Some source.now)
+        mended.now nos.now text.items) }
 {
     let index = Index::new(alloc, source.raws.as_slice())?;
     let files = source_files(alloc, source)?;
     let located = Located {
-        entry,
+        entry: &asked.found.entry,
         source: Some(NamedSource {
             source,
             files: LinedFiles {
@@ -129,29 +147,32 @@ fn source_text<'x>(
             },
             index: &index,
         }),
+        size: asked.size,
+        has_columns: asked.has_columns,
     };
-    located_text(alloc, &located, size, mended, nos)
+    located_text(alloc, &located, mended, nos)
 }
 
-/// An entry with its source, if it is in one.
+/// An entry with its source, if it is in one; the size that it is for, and whether places have columns.
 #[derive(Drop)]
 struct Located<'a, 'b> {
     entry: &'b Entry,
     source: Option<NamedSource<'a, 'b>>,
+    size: Size,
+    has_columns: bool,
 }
 
 /// The lines of the faults `nos` of the entry `found`, which is `mended`, and then their counts.
 fn located_text(
     alloc: Global,
     found: &Located<'_, '_>,
-    size: Size,
     mended: &Mended,
     nos: &[No],
 ) -> Result<Vec<u8>, AllocError>
-    ensures { IfOk result (λ text. spec.IsFaultsText found.now.entry.now (source_if found.now.source) mended.now
-        nos.now text.items) }
+    ensures { IfOk result (λ text. spec.IsFaultsText found.now.has_columns found.now.entry.now
+        (source_if found.now.source) mended.now nos.now text.items) }
 {
-    let mut text = fault_lines(alloc, found, size, mended, nos)?;
+    let mut text = fault_lines(alloc, found, mended, nos)?;
     let counts = counts_line(alloc, nos)?;
     text.extend_from_slice(counts.as_slice())?;
     Ok(text)
@@ -169,39 +190,37 @@ fn counts_line(alloc: Global, nos: &[No]) -> Result<Vec<u8>, AllocError>
 fn fault_lines(
     alloc: Global,
     found: &Located<'_, '_>,
-    size: Size,
     mended: &Mended,
     nos: &[No],
 ) -> Result<Vec<u8>, AllocError>
-    ensures { IfOk result (λ lines. HasParts
-        (spec.HasFaultLines found.now.entry.now (source_if found.now.source) mended.now nos.now) nos.now lines.items) }
+    ensures { IfOk result (λ lines. HasParts (spec.HasFaultLines found.now.has_columns found.now.entry.now
+        (source_if found.now.source) mended.now nos.now) nos.now lines.items) }
 {
     let mut lines = Vec::new(alloc);
     for no in nos {
-        let own = own_lines(alloc, found, size, mended, no, nos)?;
+        let own = own_lines(alloc, found, mended, no, nos)?;
         lines.extend_from_slice(own.as_slice())?;
     }
     Ok(lines)
 }
 
 /// The line of `no`, one of the faults `nos` of the entry `found`, which is `mended`; then the place of its value in
-/// the source, its explanation, and the strings that would be right.
+/// the source, the field there, its explanation, and the strings that would be right.
 fn own_lines(
     alloc: Global,
     found: &Located<'_, '_>,
-    size: Size,
     mended: &Mended,
     no: &No,
     nos: &[No],
 ) -> Result<Vec<u8>, AllocError>
-    ensures { IfOk result (λ lines. spec.HasFaultLines found.now.entry.now (source_if found.now.source) mended.now nos.now no.now
-        lines.items) }
+    ensures { IfOk result (λ lines. spec.HasFaultLines found.now.has_columns found.now.entry.now
+        (source_if found.now.source) mended.now nos.now no.now lines.items) }
 {
     let mut lines = no_words(alloc, no)?;
     lines.push(b'\n')?;
-    let place = location(alloc, &found.source, no.cap)?;
+    let place = location(alloc, &found.source, found.has_columns, no.cap)?;
     lines.extend_from_slice(place.as_slice())?;
-    let further = explanation(alloc, found.entry, size, no)?;
+    let further = explanation(alloc, found.entry, found.size, no)?;
     lines.extend_from_slice(further.as_slice())?;
     let remedies = suggestion_lines(alloc, found.entry, mended, no.cap, nos)?;
     lines.extend_from_slice(remedies.as_slice())?;

@@ -1,17 +1,22 @@
 //! The place of a capability's value in a source text.
 
-ghost use Rattle.std.specs.Prelude.{◌≡◌, ◌<◌, ◌==◌, IfOk, IfSome, Some, length};
+ghost use Rattle.std.specs.Prelude.{◌≡◌, ◌<◌, ◌==◌, ◌++◌, ◌∷◌, IfOk, IfSome, Some, codes, length};
 ghost use Rattle.std.specs.List as List;
 ghost use Rattle.ti_resolve.specs.Uses.{names_at};
 ghost use Rattle.ti_verdicts.specs.Locations as spec;
-ghost use Rattle.ti_verdicts.specs.Spots.{line_of};
+ghost use Rattle.ti_verdicts.specs.Locations.{excerpt_text};
+ghost use Rattle.ti_verdicts.specs.Refusals.{no_text};
+ghost use Rattle.ti_verdicts.specs.Spots.{line_of, put_files};
+ghost use Rattle.ti_words.specs.Shown.{shown};
 
+use crate::excerpts::{excerpt, shown_bytes};
 use crate::refusals::no_words;
 use crate::source_places::{NamedSource, SourcePlace};
-use crate::spots::FieldPlace;
+use crate::spots::{FieldPlace, LinedFiles};
 use std::alloc::{AllocError, Global};
 use ti_caps::{Cap, name};
 use ti_checker::No;
+use ti_entries::Columns;
 use ti_resolve::Origin;
 use ti_source::RawEntry;
 use ti_words::push_shown;
@@ -33,62 +38,125 @@ pub fn first_name(names: &[u8]) -> &[u8]
     }
 }
 
-/// The line that says where `source` has the value of `cap`, as `FILE:LINE: CAP of NAME`, as far as that can be shown;
-/// empty if there is no source or no value.
+/// The lines that say where `source` has the value of `cap`: `FILE:LINE:COLUMN: CAP of NAME`, as far as that can be
+/// shown, and the field with marks under the value. COLUMN is left out unless `has_columns`. Empty if there is no
+/// source or no value.
 pub fn location(
     alloc: Global,
     source: &Option<NamedSource<'_, '_>>,
+    has_columns: bool,
     cap: Cap,
 ) -> Result<Vec<u8>, AllocError>
-    ensures { IfOk result (λ line. spec.IsLocation (spec.source_if source.now) cap line.items) }
+    ensures { IfOk result (λ lines. spec.IsLocation has_columns (spec.source_if source.now) cap lines.items) }
 {
     match source {
         None => Ok(Vec::new(alloc)),
-        Some(named) => location_in(alloc, named, cap),
+        Some(named) => location_in(alloc, named, has_columns, cap),
     }
 }
 
-/// The line that says where the source `named` has the value of `cap`; empty if there is no value.
-fn location_in(alloc: Global, named: &NamedSource<'_, '_>, cap: Cap) -> Result<Vec<u8>, AllocError>
-    ensures { IfOk result (λ line. spec.IsLocatedIn named.now.source.now cap line.items) }
+/// The lines that say where the source `named` has the value of `cap`; empty if there is no value.
+fn location_in(
+    alloc: Global,
+    named: &NamedSource<'_, '_>,
+    has_columns: bool,
+    cap: Cap,
+) -> Result<Vec<u8>, AllocError>
+    ensures { IfOk result (λ lines. spec.IsLocatedIn has_columns named.now.source.now cap lines.items) }
 {
     match named.origin(alloc, cap)? {
         None => Ok(Vec::new(alloc)),
-        Some(origin) => place_line(alloc, named, cap, origin),
+        Some(origin) => origin_lines(alloc, named, has_columns, cap, origin),
     }
 }
 
-/// The line of the field at `origin`, which is about `cap`.
-#[tactic(auto, unfolding(crate::specs::Locations::place_text))]
-fn place_line(
+/// The lines of the field at `origin` of the source `named`, which is about `cap`.
+fn origin_lines(
     alloc: Global,
     named: &NamedSource<'_, '_>,
+    has_columns: bool,
     cap: Cap,
     origin: Origin,
 ) -> Result<Vec<u8>, AllocError>
-    ensures { IfOk result (λ line. line.items ≡ spec.origin_text named.now.source.now cap (Some origin)) }
+    ensures { IfOk result (λ lines. lines.items
+        ≡ spec.origin_text has_columns named.now.source.now cap (Some origin)) }
 {
-    let source = named.source;
-    let names = names_of(source.raws.as_slice(), origin.entry);
-    let words = place_words(alloc, named.line(origin), cap, names)?;
-    let mut line = Vec::new(alloc);
-    push_shown(&mut line, words.as_slice())?;
-    line.push(b'\n')?;
-    Ok(line)
+    let field = PutField {
+        files: named.files,
+        raws: named.source.raws.as_slice(),
+        cap,
+        origin,
+    };
+    field_lines(alloc, &field, has_columns)
 }
 
-/// `FILE:LINE: CAP of NAME` of a field at `place`, which is about `cap`, of the entry with these `names`.
-#[tactic(auto, unfolding(crate::specs::Locations::numbered_text))]
+/// A field about a capability, in one of the files whose entries were put together.
+#[derive(Drop)]
+struct PutField<'a, 'b> {
+    files: LinedFiles<'a, 'b>,
+    /// The entries of these files.
+    raws: &'b [RawEntry],
+    cap: Cap,
+    /// The place of the field among the entries.
+    origin: Origin,
+}
+
+/// The line with the place of `field`, and the field below it, with marks under its value.
+fn field_lines(
+    alloc: Global,
+    field: &PutField<'_, '_>,
+    has_columns: bool,
+) -> Result<Vec<u8>, AllocError>
+    ensures { IfOk result (λ lines. lines.items ≡ spec.field_text has_columns (put_files field.now.files)
+        field.now.raws.now field.now.cap field.now.origin) }
+{
+    let words = place_words(alloc, field, has_columns)?;
+    let below = excerpt_lines(alloc, field)?;
+    let mut lines = Vec::new(alloc);
+    push_shown(&mut lines, words.as_slice())?;
+    lines.push(b'\n')?;
+    lines.extend_from_slice(below.as_slice())?;
+    Ok(lines)
+}
+
+/// `FILE:LINE:COLUMN: CAP of NAME` of `field`, without COLUMN unless `has_columns`.
+#[tactic(auto, unfolding(crate::specs::Locations::place_text))]
 fn place_words(
     alloc: Global,
+    field: &PutField<'_, '_>,
+    has_columns: bool,
+) -> Result<Vec<u8>, AllocError>
+    ensures { IfOk result (λ words. words.items ≡ spec.place_text has_columns (put_files field.now.files)
+        field.now.raws.now field.now.cap field.now.origin) }
+{
+    let place = field.files.line(field.origin);
+    let columns = columns_if(has_columns, field.files.columns(field.origin, field.cap));
+    let names = names_of(field.raws, field.origin.entry);
+    numbered_words(alloc, place, columns, field.cap, names)
+}
+
+/// The `columns`, if there are to be any.
+fn columns_if(has_columns: bool, columns: Option<Columns>) -> Option<Columns>
+    ensures { result ≡ spec.columns_if has_columns columns }
+{
+    if has_columns { columns } else { None }
+}
+
+/// `FILE:LINE:COLUMN: CAP of NAME` of a field at `place` with these `columns`, which is about `cap`, of the entry
+/// with these `names`.
+#[tactic(auto, unfolding(crate::specs::Locations::numbered_text))]
+fn numbered_words(
+    alloc: Global,
     place: FieldPlace<'_>,
+    columns: Option<Columns>,
     cap: Cap,
     names: &[u8],
 ) -> Result<Vec<u8>, AllocError>
-    ensures { IfOk result (λ words. words.items ≡ spec.numbered_text (line_of place.entry) cap names.now) }
+    ensures { IfOk result (λ words. words.items ≡ spec.numbered_text (line_of place.entry) columns cap names.now) }
 {
     let mut words = Vec::from_slice(alloc, place.path.as_bytes())?;
     words.extend_from_slice(number_words(alloc, place.line)?.as_slice())?;
+    words.extend_from_slice(column_words(alloc, columns)?.as_slice())?;
     words.extend_from_slice(b": ")?;
     words.extend_from_slice(name(cap))?;
     words.extend_from_slice(b" of ")?;
@@ -106,61 +174,122 @@ fn number_words(alloc: Global, number: usize) -> Result<Vec<u8>, AllocError>
     Vec::from_slice(alloc, format!(in alloc; ":{number}")?.as_bytes())
 }
 
-/// The line with the place of the value that `no` is about, and the words of `no` about the entry of this name at the
-/// place `stands`; empty if the entry is in no source, or has no value.
+/// A colon and the first of the `columns`; nothing without columns.
+fn column_words(alloc: Global, columns: Option<Columns>) -> Result<Vec<u8>, AllocError>
+    ensures { IfOk result (λ words. words.items ≡ spec.column_text columns) }
+{
+    match columns {
+        None => Ok(Vec::new(alloc)),
+        Some(Columns { start, end: _ }) => {
+            Vec::from_slice(alloc, format!(in alloc; ":{start}")?.as_bytes())
+        }
+    }
+}
+
+/// The bytes of `field` in its file, with marks under its value; nothing if no line has it.
+#[tactic(auto, unfolding(crate::specs::Locations::excerpt_text))]
+fn excerpt_lines(alloc: Global, field: &PutField<'_, '_>) -> Result<Vec<u8>, AllocError>
+    ensures { IfOk result (λ lines. lines.items ≡ spec.excerpt_text (put_files field.now.files)
+        field.now.cap field.now.origin) }
+{
+    match field.files.columns(field.origin, field.cap) {
+        None => Ok(Vec::new(alloc)),
+        Some(columns) => excerpt(alloc, field.cap, field.files.piece(field.origin, columns)),
+    }
+}
+
+/// A fault at its place in a source.
+#[derive(Drop)]
+pub struct PlacedFault {
+    /// `FILE:LINE:COLUMN: CAP of ENTRY: `, as far as it can be shown, where ENTRY has the value.
+    pub place: Vec<u8>,
+    /// The name of the entry that has the fault.
+    pub name: Vec<u8>,
+    /// A space, the words of the fault, the end of the line, and the field with marks under its value.
+    pub fault: Vec<u8>,
+}
+
+/// The fault `no` of the entry of this `name` at the place of the value that it is about, where the entry is at
+/// `stands`. COLUMN is left out unless `has_columns`. `None` if the entry is in no source, or has no value.
+///
+/// # Errors
+/// Out of memory.
 pub fn placed(
     alloc: Global,
     stands: &Option<SourcePlace<'_, '_>>,
+    has_columns: bool,
     name: &[u8],
     no: &No,
-) -> Result<Vec<u8>, AllocError>
+) -> Result<Option<PlacedFault>, AllocError>
     requires { IfSome stands.now (λ there. there.place < length there.raws.now) }
-    ensures { IfOk result (λ line. spec.IsPlaced (spec.place_if stands.now) name.now no.now line.items) }
+    ensures { IfOk result (λ found. spec.IsPlaced has_columns (spec.place_if stands.now) name.now no.now
+        (spec.placed_if found)) }
 {
     match stands {
-        None => Ok(Vec::new(alloc)),
-        Some(stands) => placed_in(alloc, stands, name, no),
+        None => Ok(None),
+        Some(stands) => placed_in(alloc, stands, has_columns, name, no),
     }
 }
 
-/// The line of `no`, a fault of the entry of this name at `stands`.
+/// The fault `no` of the entry of this name at `stands`.
 fn placed_in(
     alloc: Global,
     stands: &SourcePlace<'_, '_>,
+    has_columns: bool,
     name: &[u8],
     no: &No,
-) -> Result<Vec<u8>, AllocError>
+) -> Result<Option<PlacedFault>, AllocError>
     requires { stands.now.place < length stands.now.raws.now }
-    ensures { IfOk result (λ line. spec.IsPlacedIn (spec.place_in stands.now) name.now no.now line.items) }
+    ensures { IfOk result (λ found. spec.IsPlacedIn has_columns (spec.place_in stands.now) name.now no.now
+        (spec.placed_if found)) }
 {
     match stands.origin(alloc, no.cap)? {
-        None => Ok(Vec::new(alloc)),
-        Some(origin) => placed_line(alloc, stands, name, no, origin),
+        None => Ok(None),
+        Some(origin) => {
+            let field = PutField {
+                files: stands.files,
+                raws: stands.raws,
+                cap: no.cap,
+                origin,
+            };
+            Ok(Some(placed_at(alloc, &field, has_columns, name, no)?))
+        }
     }
 }
 
-/// The line of `no`, a fault of the entry of this name at `stands`, where the field at `origin` gives the value.
-#[tactic(auto, unfolding(crate::specs::Locations::place_text))]
-fn placed_line(
+/// The fault `no` of the entry of this name, in `field`.
+fn placed_at(
     alloc: Global,
-    stands: &SourcePlace<'_, '_>,
+    field: &PutField<'_, '_>,
+    has_columns: bool,
     name: &[u8],
     no: &No,
-    origin: Origin,
-) -> Result<Vec<u8>, AllocError>
-    ensures { IfOk result (λ line. line.items
-        ≡ spec.placed_text (spec.place_in stands.now) name.now no.now (Some origin)) }
+) -> Result<PlacedFault, AllocError>
+    requires { field.now.cap ≡ no.now.cap }
+    ensures { IfOk result (λ placed. spec.placed_in placed ≡ spec.fault_at has_columns (put_files field.now.files)
+        field.now.raws.now name.now no.now field.now.origin) }
 {
-    let names = names_of(stands.raws, origin.entry);
-    let mut words = place_words(alloc, stands.line(origin), no.cap, names)?;
+    let mut words = place_words(alloc, field, has_columns)?;
     words.extend_from_slice(b": ")?;
-    words.extend_from_slice(name)?;
-    words.extend_from_slice(b" ")?;
+    Ok(PlacedFault {
+        place: shown_bytes(alloc, words.as_slice())?,
+        name: shown_bytes(alloc, name)?,
+        fault: fault_lines(alloc, field, no)?,
+    })
+}
+
+/// A space, the words of `no`, the end of the line, and the `field` with marks under its value.
+fn fault_lines(alloc: Global, field: &PutField<'_, '_>, no: &No) -> Result<Vec<u8>, AllocError>
+    requires { field.now.cap ≡ no.now.cap }
+    ensures { IfOk result (λ lines. lines.items ≡ shown (codes " " ++ no_text no.now)
+        ++ 10 ∷ excerpt_text (put_files field.now.files) no.now.cap field.now.origin) }
+{
+    let mut words = Vec::from_slice(alloc, b" ")?;
     words.extend_from_slice(no_words(alloc, no)?.as_slice())?;
-    let mut line = Vec::new(alloc);
-    push_shown(&mut line, words.as_slice())?;
-    line.push(b'\n')?;
-    Ok(line)
+    let mut lines = shown_bytes(alloc, words.as_slice())?;
+    lines.push(b'\n')?;
+    lines.extend_from_slice(excerpt_lines(alloc, field)?.as_slice())?;
+    Ok(lines)
 }
 
 /// The names of the entry at `place`.

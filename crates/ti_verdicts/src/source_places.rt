@@ -30,7 +30,7 @@ impl<'b> SourcePlace<'_, 'b> {
     ghost use Rattle.std.specs.Prelude.{◌≡◌, ◌<◌, [], IfOk, IfSome, length};
     ghost use Rattle.ti_entries.specs.BadUses.{IsBadUse};
     ghost use Rattle.ti_resolve.specs.Origins.{IsOriginAt};
-    ghost use Rattle.ti_verdicts.specs.Spots.{columns_among, files_of, line_among, line_of, put_files};
+    ghost use Rattle.ti_verdicts.specs.Spots.{columns_among, files_of, line_among, line_of, piece_among, put_files};
 
     /// The field that gives the entry its value of `cap`; `None` if it has none.
     ///
@@ -68,6 +68,13 @@ impl<'b> SourcePlace<'_, 'b> {
     {
         self.files.columns(origin, cap)
     }
+
+    /// The bytes between these `columns` of the line that has the field at `origin`.
+    pub fn piece(&self, origin: Origin, columns: Columns) -> &'b [u8]
+        ensures { result.now ≡ piece_among (put_files self.now.files) columns origin }
+    {
+        self.files.piece(origin, columns)
+    }
 }
 
 /// The field that gives `cap` its value in the entry at `place`, which was resolved before.
@@ -103,7 +110,7 @@ pub struct NamedSource<'a, 'b> {
 impl<'b> NamedSource<'_, 'b> {
     ghost use Rattle.std.specs.Prelude.{◌≡◌, IfOk};
     ghost use Rattle.ti_resolve.specs.Origins.{IsOrigin};
-    ghost use Rattle.ti_verdicts.specs.Spots.{columns_among, files_of, line_among, line_of, put_files};
+    ghost use Rattle.ti_verdicts.specs.Spots.{columns_among, files_of, line_among, line_of, piece_among, put_files};
 
     /// The field that gives the entry its value of `cap`; `None` if it has none.
     ///
@@ -127,6 +134,13 @@ impl<'b> NamedSource<'_, 'b> {
         ensures { result ≡ columns_among (files_of self.now.source.now) cap origin }
     {
         self.files.columns(origin, cap)
+    }
+
+    /// The bytes between these `columns` of the line that has the field at `origin`.
+    pub fn piece(&self, origin: Origin, columns: Columns) -> &'b [u8]
+        ensures { result.now ≡ piece_among (files_of self.now.source.now) columns origin }
+    {
+        self.files.piece(origin, columns)
     }
 }
 

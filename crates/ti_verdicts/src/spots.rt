@@ -40,7 +40,7 @@ pub struct FieldPlace<'b> {
 
 impl<'b> LinedFiles<'_, 'b> {
     ghost use Rattle.std.specs.Prelude.{◌≡◌};
-    ghost use Rattle.ti_verdicts.specs.Spots.{columns_among, line_among, line_of, put_files};
+    ghost use Rattle.ti_verdicts.specs.Spots.{columns_among, line_among, line_of, piece_among, put_files};
 
     /// The file and the line that have the field at `origin`, a place among the entries put together.
     #[tactic(auto, unfolding(crate::specs::Spots::line_among))]
@@ -64,6 +64,44 @@ impl<'b> LinedFiles<'_, 'b> {
             None => None,
         }
     }
+
+    /// The bytes between these `columns` of the line that has the field at `origin`, a place among the entries put
+    /// together.
+    #[tactic(auto, unfolding(crate::specs::Spots::piece_among))]
+    pub fn piece(&self, origin: Origin, columns: Columns) -> &'b [u8]
+        ensures { result.now ≡ piece_among (put_files self.now) columns origin }
+    {
+        match spot_of(self.counts, origin.entry) {
+            Some(spot) => piece_at_spot(self.files, spot, origin.field, columns),
+            None => &[],
+        }
+    }
+}
+
+/// The bytes between these `columns` of the line of the file at `spot` that has the field at this place of the entry
+/// there.
+fn piece_at_spot<'b>(
+    files: &[LinedFile<'b>],
+    spot: Spot,
+    field: usize,
+    columns: Columns,
+) -> &'b [u8]
+    ensures { result.now ≡ spec.piece_in (slice_get (map spec.file_text files.now) spot.file) columns
+        (spec.origin_of spot.place field) }
+{
+    match files.get(spot.file) {
+        Some(file) => piece_in(file, spot.place, field, columns),
+        None => &[],
+    }
+}
+
+/// The bytes between these `columns` of the line of `file` that has the field at this place of the entry at `entry`.
+#[tactic(auto, unfolding(crate::specs::Spots::line_of_field))]
+fn piece_in<'b>(file: &LinedFile<'b>, entry: usize, field: usize, columns: Columns) -> &'b [u8]
+    ensures { result.now ≡ spec.piece_in (Some (spec.file_text file.now)) columns (spec.origin_of entry field) }
+{
+    let line = file.lined.line(Origin { entry, field });
+    file.lined.piece(line, columns)
 }
 
 /// The columns of the first field about `cap` on the line of the file at `spot` that has the field at this place of the

@@ -13,5 +13,5 @@ loop-no-init c = c.new-lines.ensures.items
 pub loop-no-preserved : goal.loop-no-preserved
 loop-no-preserved c =
     let here : c.loop-no.no-index < length c.args.nos.now = omega arith in
-    parts_next (HasFaultLines c.args.found.now.entry.now (source_if c.args.found.now.source) c.args.mended.now c.args.nos.now) c.args.nos.now c.loop-no.no-index c.no-item.result c.loop-no.lines.items c.in_ok-own.own.items c.extend_from_slice.new.self.items here c.no-item.is
+    parts_next (HasFaultLines c.args.found.now.has_columns c.args.found.now.entry.now (source_if c.args.found.now.source) c.args.mended.now c.args.nos.now) c.args.nos.now c.loop-no.no-index c.no-item.result c.loop-no.lines.items c.in_ok-own.own.items c.extend_from_slice.new.self.items here c.no-item.is
     (c.in_ok-extend_from_slice.ensures.items ∙ ap (λ (own : List ℕ). c.loop-no.lines.items ++ own) c.as_slice.ensures.value) c.loop-no.invariant c.in_ok-own.ensures

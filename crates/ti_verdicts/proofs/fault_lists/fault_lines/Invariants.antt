@@ -6,4 +6,4 @@ use Rattle.ti_verdicts.proofs.fault_lists.fault_lines.Given as goal
 
 -- the faults before this one have their lines
 abbrev pub invariant-loop-no : goal.invariant-loop-no
-invariant-loop-no l = HasParts (HasFaultLines l.found.entry.now (source_if l.found.source) l.mended l.nos) (take l.no-index l.nos) l.lines.items
+invariant-loop-no l = HasParts (HasFaultLines l.found.has_columns l.found.entry.now (source_if l.found.source) l.mended l.nos) (take l.no-index l.nos) l.lines.items

@@ -4,5 +4,5 @@ use Rattle.ti_verdicts.proofs.fault_lists.reply_of.Goals as goal
 
 pub returns-in_ok-faults_text-in-len1-up-clause-told : goal.returns-in_ok-faults_text-in-len1-up-clause-told
 returns-in_ok-faults_text-in-len1-up-clause-told c =
-    lists_faults c.args.found.now.entry c.args.found.now.source c.args.size.rows c.args.size.cols c.args.nos.now c.first-item.result c.in_ok-mended-in-len1-up.mended _ c.no_failure.result c.in-len1-up.len_at_least c.first-item.is
+    lists_faults c.args.asked.now.has_columns c.args.asked.now.found.now.entry c.args.asked.now.found.now.source c.args.asked.now.size.rows c.args.asked.now.size.cols c.args.nos.now c.first-item.result c.in_ok-mended-in-len1-up.mended _ c.no_failure.result c.in-len1-up.len_at_least c.first-item.is
     c.in_ok-mended-in-len1-up.ensures c.in_ok-faults_text-in-len1-up.ensures refl c.no_failure.ensures
