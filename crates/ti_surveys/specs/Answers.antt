@@ -11,7 +11,7 @@ use Rattle.ti_faults.specs.AllFaults.{AreAllFaults}
 use Rattle.ti_surveys.specs.Kinds.{kind_answers, listed_kind}
 use Rattle.ti_surveys.specs.Lines.{Leaving, Refusing, Saying}
 use Rattle.ti_verdicts.specs.Parts.{HasParts}
-use Rattle.ti_verdicts.specs.Locations.{IsPlaced, PlaceInSource}
+use Rattle.ti_verdicts.specs.Locations.{IsPlaced, PlaceInSource, PlacedText}
 use Rattle.ti_verdicts.specs.Refusals.{no_text}
 use Rattle.ti_surveys.specs.Told.{Told, nothing}
 use Rattle.ti_verdicts.specs.declared.answers.Answer.{Answer}
@@ -62,35 +62,38 @@ abbrev pub part_lines : Bool → List ℕ → List ℕ
 part_lines true name = line_of name (codes " part")
 part_lines false name = []
 
--- The lines of an entry's faults, under its name, and for each of them the place of its value. An entry for terminals of
--- another kind has one line.
-abbrev pub TellsFaults : EntryKind → Bool → Option PlaceInSource → List ℕ → List No → List ℕ → List ℕ → Type 0
-TellsFaults Part names_parts stands name nos lines places = (lines ≡ part_lines names_parts name) × (places ≡ [])
-TellsFaults Other names_parts stands name nos lines places =
+-- The lines of an entry's faults, under its name, and for each of them the place of its value. An entry for terminals
+-- of another kind has one line.
+abbrev pub TellsFaults : EntryKind → Bool → Bool → Option PlaceInSource → List ℕ → List No → List ℕ → List PlacedText
+    → Type 0
+TellsFaults Part names_parts has_columns stands name nos lines places =
+    (lines ≡ part_lines names_parts name) × (places ≡ [])
+TellsFaults Other names_parts has_columns stands name nos lines places =
     (lines ≡ line_of name (codes " no: OtherKind")) × (places ≡ [])
-TellsFaults Usual names_parts stands name nos lines places =
-    (lines ≡ fault_lines name nos) × HasParts (IsPlaced stands name) nos places
+TellsFaults Usual names_parts has_columns stands name nos lines places =
+    (lines ≡ fault_lines name nos) × HasParts (IsPlaced has_columns stands name) nos places
 
--- what is told of all faults of an entry
-pub record HasAllFaults (height width : ℕ) (names_parts : Bool) (stands : Option PlaceInSource) (name : List ℕ)
-    (entry : Content) (told : Told) : Type 0 where
+-- the statement about an entry of which all faults are listed
+pub record HasAllFaults (height width : ℕ) (names_parts has_columns : Bool) (stands : Option PlaceInSource)
+    (name : List ℕ) (entry : Content) (told : Told) : Type 0 where
   pub nos : List No
   pub all : AreAllFaults entry height width nos
-  pub tells : TellsFaults (listed_kind entry nos) names_parts stands name nos told.lines told.places
+  pub tells : TellsFaults (listed_kind entry nos) names_parts has_columns stands name nos told.lines told.places
   pub answers : told.answers ≡ kind_answers (listed_kind entry nos) nos
 
 -- the statement about an entry under its name: all its faults, or a certifier's answer
-abbrev pub SaysBy : Bool → Bool → (Content → ℕ → ℕ → List ℕ → Type 0) → (Content → ℕ → ℕ → No → Type 0) → ℕ → ℕ → Saying
-SaysBy true names_parts certifies refuses height width path stands name entry told =
-    HasAllFaults height width names_parts stands name entry told
-SaysBy false names_parts certifies refuses height width path stands name entry told =
+abbrev pub SaysBy : Bool → Bool → Bool → (Content → ℕ → ℕ → List ℕ → Type 0) → (Content → ℕ → ℕ → No → Type 0) → ℕ → ℕ
+    → Saying
+SaysBy true names_parts has_columns certifies refuses height width path stands name entry told =
+    HasAllFaults height width names_parts has_columns stands name entry told
+SaysBy false names_parts has_columns certifies refuses height width path stands name entry told =
     HasAnswer certifies refuses height width name entry told
 
 -- (Serves the code alone.) the statement about an entry, as the survey is asked for it
 abbrev pub SaysTo : {C : Type 0} → (C → Content → ℕ → ℕ → List ℕ → Type 0) → (C → Content → ℕ → ℕ → No → Type 0)
     → Asked C → Saying
-SaysTo certifies refuses asked = SaysBy asked.lists_all asked.names_parts (certifies asked.certifier.now)
-    (refuses asked.certifier.now) asked.size.rows asked.size.cols
+SaysTo certifies refuses asked = SaysBy asked.lists_all asked.names_parts asked.has_columns
+    (certifies asked.certifier.now) (refuses asked.certifier.now) asked.size.rows asked.size.cols
 
 -- the words of a refusal behind the name
 abbrev pub refusal_text : CommandRefusal → List ℕ

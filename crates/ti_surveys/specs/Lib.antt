@@ -3,6 +3,7 @@ pub mod Answers
 pub mod Heard
 pub mod Kinds
 pub mod Parts
+pub mod Places
 pub mod Strict
 pub mod Surveys
 pub mod Told

@@ -1,5 +1,5 @@
 -- The answer of `survey`, by the contents of its files and the promises of a certifier.
-use Rattle.std.specs.Prelude.{◌≡◌, ℕ, List, [], ◌∷◌, ◌++◌, Option, Some, None, codes, map}
+use Rattle.std.specs.Prelude.{◌≡◌, ℕ, Bool, List, [], ◌∷◌, ◌++◌, Option, Some, None, codes, map}
 use Rattle.std.specs.String.{string_bytes}
 use Rattle.ti_caps.specs.Entry.{Content}
 use Rattle.ti_checker.specs.declared.causes.No.{No}
@@ -14,6 +14,7 @@ use Rattle.ti_further.specs.declared.files.FurtherFile.{FurtherFile}
 use Rattle.ti_surveys.specs.Answers.{IsRefused, SaysBy, SaysNothing}
 use Rattle.ti_verdicts.specs.Counts.{answers_line}
 use Rattle.ti_surveys.specs.Lines.{AreLines, Leaving}
+use Rattle.ti_surveys.specs.Places.{places_text}
 use Rattle.ti_surveys.specs.Strict.{EndsStrictly}
 use Rattle.ti_surveys.specs.Told.{IsToldOrLeft, Told}
 use Rattle.ti_requests.specs.declared.request.SurveyWords.{SurveyWords}
@@ -54,19 +55,21 @@ pub record EndsPaths (Are : List FurtherFile → OfFile) (Leaves : Leaving) (hel
   pub each : IsToldOrLeft (HasLines (Are others) held) Leaves paths told unread
   pub named : AreNamed unread failed remarks
 
--- The lines of each path are heard, and the reply has the number of lines with each answer; its notes are the places of
--- the faults in the lines. It fails if a path can't be read, or, if the words ask for it, if a line doesn't say yes.
-pub record IsSurveyed (certifies : Content → ℕ → ℕ → List ℕ → Type 0) (refuses : Content → ℕ → ℕ → No → Type 0)
-    (held : Held) (words : SurveyWords) (remarks : List (List ℕ)) (AreHeard : List ℕ → Type 0)
-    (reply : Reply) : Type 0 where
+-- The lines of each path are heard, and the reply has the number of lines with each answer; its notes are the faults in
+-- the lines at their places, each once. It fails if a path can't be read, or, if the words ask for it, if a line
+-- doesn't say yes.
+pub record IsSurveyed (has_columns : Bool) (certifies : Content → ℕ → ℕ → List ℕ → Type 0)
+    (refuses : Content → ℕ → ℕ → No → Type 0) (held : Held) (words : SurveyWords) (remarks : List (List ℕ))
+    (AreHeard : List ℕ → Type 0) (reply : Reply) : Type 0 where
   pub height : ℕ
   pub width : ℕ
   pub given : SizeGiven words.rows.now words.cols.now height width
   pub told : Told
   pub failed : Option Failure
-  pub ends : EndsPaths (AreLines (SaysBy words.lists_all words.names_parts certifies refuses height width) IsRefused) SaysNothing
-      held (texts_of words.paths.items) told failed remarks
+  pub ends : EndsPaths
+      (AreLines (SaysBy words.lists_all words.names_parts has_columns certifies refuses height width) IsRefused)
+      SaysNothing held (texts_of words.paths.items) told failed remarks
   pub strictly : EndsStrictly words.is_strict told.answers failed reply.failure
-  pub places : reply.notes.items ≡ told.places
+  pub places : reply.notes.items ≡ places_text told.places
   pub heard : AreHeard told.lines
   pub counts : reply.text.items ≡ answers_line told.answers

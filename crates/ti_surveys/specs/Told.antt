@@ -1,12 +1,13 @@
 -- The statements of a survey about an entry, a file or several.
-use Rattle.std.specs.Prelude.{◌≡◌, ℕ, Bool, true, false, List, [], ◌∷◌, ◌++◌}
+use Rattle.std.specs.Prelude.{◌≡◌, ℕ, Bool, true, false, List, [], ◌∷◌, ◌++◌, map}
 use Rattle.ti_verdicts.specs.declared.answers.Answer.{Answer}
+use Rattle.ti_verdicts.specs.Locations.{PlacedText, placed_in}
 use Rattle.ti_surveys.specs.declared.said.Said.{Said}
 
--- lines, the places of the faults that they name, and the answer of each line
+-- lines, the faults that they name where these have a place in a source, and the answer of each line
 pub record Told : Type 0 where
   pub lines : List ℕ
-  pub places : List ℕ
+  pub places : List PlacedText
   pub answers : List Answer
 
 abbrev pub nothing : Told
@@ -47,4 +48,8 @@ IsToldOrLeft {X} P Leaves (x ∷ xs) told left =
 
 -- (Serves the code alone.) the lines, the places and the answers, without their memory
 abbrev pub told_of : Said → Told
-told_of said = record { lines = said.lines.items; places = said.places.items; answers = said.answers.items }
+told_of said = record {
+  lines = said.lines.items;
+  places = map placed_in said.places.items;
+  answers = said.answers.items;
+}

@@ -2,12 +2,13 @@
 
 use vt_term::Size;
 
-/// Whether the `certifier` writes a certificate for the `size`; or all faults for it, if `lists_all`. Then an entry that is
-/// only there to be used is only named, and that if `names_parts`.
+/// Whether the `certifier` writes a certificate for the `size`; or all faults for it, if `lists_all`. Then an entry
+/// that is only there to be used is only named, and that if `names_parts`; and places have columns if `has_columns`.
 #[derive(Drop)]
 pub struct Asked<'a, C> {
     pub certifier: &'a C,
     pub size: Size,
     pub lists_all: bool,
     pub names_parts: bool,
+    pub has_columns: bool,
 }

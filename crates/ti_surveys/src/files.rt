@@ -279,7 +279,7 @@ fn source_lines<S: Speaker, W: Watcher>(
         watcher.begins(place, source.own, name);
         let own = source_part(alloc, speaker, source, place)?;
         pass_on(watcher, &own);
-        said.add(&own)?;
+        said.add(own)?;
     }
     Ok(said)
 }

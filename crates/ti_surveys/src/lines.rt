@@ -1,10 +1,10 @@
 //! The lines of a survey: one for each entry of a file, or for each of its faults, and the places of these.
 
-ghost use Rattle.std.specs.Prelude.{◌≡◌, ◌≢◌, ◌<◌, ◌++◌, IfOk, IfSome, codes, length, map, option_map};
+ghost use Rattle.std.specs.Prelude.{◌≡◌, ◌≢◌, ◌<◌, ◌++◌, IfOk, IfSome, OnOk, codes, length, map, option_map};
 ghost use Rattle.std.specs.List.{flat_map};
 ghost use Rattle.ti_surveys.specs.Answers as spec;
 ghost use Rattle.ti_verdicts.specs.Parts.{HasParts};
-ghost use Rattle.ti_verdicts.specs.Locations.{IsPlaced, place_if};
+ghost use Rattle.ti_verdicts.specs.Locations.{IsPlaced, place_if, placed_if, placed_in};
 ghost use Rattle.ti_verdicts.specs.Refusals.{no_text};
 ghost use Rattle.ti_surveys.specs.Told.{told_of};
 
@@ -17,7 +17,7 @@ use ti_caps::Entry;
 use ti_checker::{Cause, No};
 use ti_commands::{CommandRefusal, refusal_words};
 use ti_faults::{faults, must_claim};
-use ti_verdicts::{Answer, Certifier, SourcePlace, no_words, placed};
+use ti_verdicts::{Answer, Certifier, PlacedFault, SourcePlace, no_words, placed};
 use ti_words::push_shown;
 
 impl<'a, C: Certifier> Speaker for Asked<'a, C> {
@@ -106,12 +106,12 @@ fn all_faults<C: Certifier>(
 ) -> Result<Said, AllocError>
     requires { IfSome found.now.stands.now (λ there. there.place < length there.raws.now) }
     ensures { IfOk result (λ said. spec.HasAllFaults asked.now.size.rows asked.now.size.cols asked.now.names_parts
-        (place_if found.now.stands.now) found.now.name.now found.now.entry.now (told_of said)) }
+        asked.now.has_columns (place_if found.now.stands.now) found.now.name.now found.now.entry.now (told_of said)) }
 {
     let nos = faults(alloc, found.entry, asked.size)?;
     let kind = kind_of(true, found.entry, nos.as_slice());
     let answers = answers_of(alloc, kind, nos.as_slice())?;
-    let (lines, places) = told(alloc, kind, asked.names_parts, found, nos.as_slice())?;
+    let (lines, places) = told(alloc, asked, kind, found, nos.as_slice())?;
     Ok(Said {
         lines,
         places,
@@ -119,24 +119,28 @@ fn all_faults<C: Certifier>(
     })
 }
 
-/// The lines of the faults `nos` of the entry that was `found` and is of this `kind`, and the lines of their places.
-fn told(
+/// The lines of the faults `nos` of the entry that was `found` and is of this `kind`, as the survey is `asked` for
+/// them, and those of the faults that have a place.
+fn told<C>(
     alloc: Global,
+    asked: &Asked<'_, C>,
     kind: EntryKind,
-    names_parts: bool,
     found: &FileEntry<'_, '_>,
     nos: &[No],
-) -> Result<(Vec<u8>, Vec<u8>), AllocError>
+) -> Result<(Vec<u8>, Vec<PlacedFault>), AllocError>
     requires { IfSome found.now.stands.now (λ there. there.place < length there.raws.now) }
-    ensures { IfOk result (λ told. spec.TellsFaults kind names_parts (place_if found.now.stands.now) found.now.name.now
-        nos.now told.0.items told.1.items) }
+    ensures { IfOk result (λ told. spec.TellsFaults kind asked.now.names_parts asked.now.has_columns
+        (place_if found.now.stands.now) found.now.name.now nos.now told.0.items (map placed_in told.1.items)) }
 {
     match kind {
-        EntryKind::Part => Ok((part_lines(alloc, names_parts, found.name)?, Vec::new(alloc))),
+        EntryKind::Part => {
+            let lines = part_lines(alloc, asked.names_parts, found.name)?;
+            Ok((lines, Vec::new(alloc)))
+        }
         EntryKind::Other => Ok((line(alloc, found.name, b" no: OtherKind")?, Vec::new(alloc))),
         EntryKind::Usual => {
             let lines = listed(alloc, found.name, nos)?;
-            let places = places_of(alloc, found.stands, found.name, nos)?;
+            let places = places_of(alloc, found.stands, asked.has_columns, found.name, nos)?;
             Ok((lines, places))
         }
     }
@@ -153,23 +157,35 @@ fn part_lines(alloc: Global, names_parts: bool, name: &[u8]) -> Result<Vec<u8>, 
     }
 }
 
-/// A line for each of the faults `nos` of the entry `name`, which is at `stands` in its source: where the field at fault
-/// is.
+/// The faults `nos` of the entry `name`, which is at `stands` in its source: each at the place of the field at fault,
+/// with its column if `has_columns`.
 fn places_of(
     alloc: Global,
     stands: &Option<SourcePlace<'_, '_>>,
+    has_columns: bool,
     name: &[u8],
     nos: &[No],
-) -> Result<Vec<u8>, AllocError>
+) -> Result<Vec<PlacedFault>, AllocError>
     requires { IfSome stands.now (λ there. there.place < length there.raws.now) }
-    ensures { IfOk result (λ places. HasParts (IsPlaced (place_if stands.now) name.now) nos.now places.items) }
+    ensures { IfOk result (λ places. HasParts (IsPlaced has_columns (place_if stands.now) name.now) nos.now
+        (map placed_in places.items)) }
 {
     let mut places = Vec::new(alloc);
     for no in nos {
-        let own = placed(alloc, stands, name, no)?;
-        places.extend_from_slice(own.as_slice())?;
+        let own = placed(alloc, stands, has_columns, name, no)?;
+        push_if(&mut places, own)?;
     }
     Ok(places)
+}
+
+/// Adds `own` to `places`, if it is there.
+fn push_if(places: &mut Vec<PlacedFault>, own: Option<PlacedFault>) -> Result<(), AllocError>
+    ensures { OnOk result (map placed_in places.new.items ≡ map placed_in places.old.items ++ placed_if own) }
+{
+    if let Some(own) = own {
+        places.push(own)?;
+    }
+    Ok(())
 }
 
 /// The lines of the faults `nos` of the entry of this `name`, or the line ` yes` if there are none.

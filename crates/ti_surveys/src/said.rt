@@ -4,15 +4,15 @@ ghost use Rattle.std.specs.Prelude.{◌≡◌, [], ◌∷◌, IfOk, OnOk};
 ghost use Rattle.ti_surveys.specs.Told as spec;
 
 use std::alloc::{AllocError, Global};
-use ti_verdicts::Answer;
+use ti_verdicts::{Answer, PlacedFault};
 
 /// The statements about an entry, a file or several.
 #[derive(Drop)]
 pub struct Said {
     /// The lines.
     pub lines: Vec<u8>,
-    /// The lines that say where their faults are.
-    pub places: Vec<u8>,
+    /// The faults in them that have a place in a source.
+    pub places: Vec<PlacedFault>,
     /// The answer of each line.
     pub answers: Vec<Answer>,
 }
@@ -42,12 +42,18 @@ impl Said {
     }
 
     /// Adds the statements of `later`.
-    pub fn add(&mut self, later: &Said) -> Result<(), AllocError>
+    #[tactic(auto, using(crate::proofs::PlaceFacts::placed_append))]
+    pub fn add(&mut self, later: Said) -> Result<(), AllocError>
         ensures { OnOk result (spec.told_of self.new
-            ≡ spec.followed_by (spec.told_of self.old) (spec.told_of later.now)) }
+            ≡ spec.followed_by (spec.told_of self.old) (spec.told_of later)) }
     {
-        self.lines.extend_from_slice(later.lines.as_slice())?;
-        self.places.extend_from_slice(later.places.as_slice())?;
-        self.answers.extend_from_slice(later.answers.as_slice())
+        let Said {
+            lines,
+            mut places,
+            answers,
+        } = later;
+        self.lines.extend_from_slice(lines.as_slice())?;
+        self.places.append(&mut places)?;
+        self.answers.extend_from_slice(answers.as_slice())
     }
 }

@@ -10,6 +10,7 @@ ghost use Rattle.ti_surveys.specs.Told.{IsEither, IsToldOrLeft, followed_by, lef
 
 use crate::asked::Asked;
 use crate::files::{Surveying, file_lines};
+use crate::places::places_lines;
 use crate::said::Said;
 use crate::speakers::Speaker;
 use crate::strict::strict_failure;
@@ -30,55 +31,66 @@ pub struct Surveyed {
     pub failure: Option<Failure>,
 }
 
-/// Surveys the files that the `words` name. The `watcher` passes on the line of each entry once it is known, which says
-/// whether the `certifier` writes a certificate, or why not; or the lines of all faults of the entry, if the `words`
-/// ask for them. Then an entry that is only there to be used is counted apart, and named if the `words` ask for that; and
-/// an entry for a terminal of another kind has one line. An entry that can't be read has its line too. The reply's text is the last line, which counts the
-/// answers. For each listed fault of a source's entry, the reply's notes give the place of its value. If files can't be
-/// read, the reply has the failure of the first such file, the `remarks` name the further ones, and the others are
-/// surveyed all the same; else it is refused if the `words` ask for that and a line doesn't say yes. The `watcher` also
-/// receives reports of how far the survey has come.
+/// A survey that is wanted.
+#[derive(Drop)]
+pub struct Survey<'a, C> {
+    /// The certifier, which answers about an entry unless all faults are listed.
+    pub certifier: &'a C,
+    /// The words of the command.
+    pub words: &'a SurveyWords<'a>,
+    /// Whether places have columns, that is, whether the lines of the files are read as they are.
+    pub has_columns: bool,
+}
+
+/// Surveys the files that the words of `survey` name. The `watcher` passes on the line of each entry once it is
+/// known, which says whether the certifier writes a certificate, or why not; or the lines of all faults of the entry,
+/// if the words ask for them. Then an entry that is only there to be used is counted apart, and named if the words
+/// ask for that; and an entry for a terminal of another kind has one line. An entry that can't be read has its line
+/// too. The reply's text is the last line, which counts the answers. For each listed fault of a source's entry, the
+/// reply's notes give the place of its value, the field there, and the names of all entries that have it. If files
+/// can't be read, the reply has the failure of the first such file, the `remarks` name the further ones, and the
+/// others are surveyed all the same; else it is refused if the words ask for that and a line doesn't say yes. The
+/// `watcher` also receives reports of how far the survey has come.
 ///
 /// # Errors
 /// The reason why the words give no size, or a file of `--with` that can't be read, before any line is known; a file of
-/// `--with` that hides all its entries; out of memory, after the `watcher` has passed on the lines of the entries before.
+/// `--with` that hides all its entries; out of memory, after the `watcher` has passed on the lines of the entries
+/// before.
 pub fn survey_files<C: Certifier, F: Files, W: Watcher>(
     alloc: Global,
-    certifier: &C,
-    words: &SurveyWords<'_>,
+    survey: &Survey<'_, C>,
     files: &mut F,
     watcher: &mut W,
     remarks: &mut Remarks,
 ) -> Result<Reply, Failure>
-    ensures reply { IfOk result (λ reply. spec.IsSurveyed (C.certifies certifier.now) (C.refuses certifier.now)
-        (F.holds files.old) words.now remarks.new (Hears W.heard W.has_failed watcher.old watcher.new) reply) }
-    ensures failure { IfErr result (λ e. FailsToSurvey (F.holds files.old) words.now.rows.now words.now.cols.now e) }
+    ensures reply { IfOk result (λ reply. spec.IsSurveyed survey.now.has_columns (C.certifies survey.now.certifier.now)
+        (C.refuses survey.now.certifier.now) (F.holds files.old) survey.now.words.now remarks.new
+        (Hears W.heard W.has_failed watcher.old watcher.new) reply) }
+    ensures failure { IfErr result (λ e. FailsToSurvey (F.holds files.old) survey.now.words.now.rows.now
+        survey.now.words.now.cols.now e) }
     ensures kept { F.holds files.new ≡ F.holds files.old }
 {
+    let words = survey.words;
     let size = size_words(alloc, words.rows, words.cols, remarks)?;
     let asked = Asked {
-        certifier,
+        certifier: survey.certifier,
         size,
         lists_all: words.lists_all,
         names_parts: words.names_parts,
+        has_columns: survey.has_columns,
     };
-    let surveyed = survey_paths(
-        alloc,
-        &asked,
-        words.paths.as_slice(),
-        files,
-        watcher,
-        remarks,
-    )?;
+    let paths = words.paths.as_slice();
+    let surveyed = survey_paths(alloc, &asked, paths, files, watcher, remarks)?;
     let Said {
         lines: _lines,
         places,
         answers,
     } = surveyed.said;
+    let notes = places_lines(alloc, places.as_slice())?;
     let text = answers_line(alloc, answers.as_slice())?;
     let failure = strict_failure(alloc, words.is_strict, answers.as_slice(), surveyed.failure)?;
     Ok(Reply {
-        notes: places,
+        notes,
         text,
         failure,
     })
@@ -86,8 +98,8 @@ pub fn survey_files<C: Certifier, F: Files, W: Watcher>(
 
 /// The statements of the `speaker` about each entry of each file of `paths`, or about a file that can't be read, one
 /// after another. If files can't be read, the failure is that of the first one, and the last `remarks` name the further
-/// ones. The `watcher` passes on the lines of each entry once they are known, and receives reports of how far the survey
-/// has come.
+/// ones. The `watcher` passes on the lines of each entry once they are known, and receives reports of how far the
+/// survey has come.
 ///
 /// # Errors
 /// A file of `--with` that can't be read or hides all its entries; out of memory. The `watcher` has then passed on the
@@ -129,14 +141,15 @@ struct Parted<'a> {
 
 impl<'a> Parted<'a> {
     /// Adds `path` with its `own` statements.
-    fn add(&mut self, path: &'a str, own: &Own) -> Result<(), AllocError>
+    fn add(&mut self, path: &'a str, own: Own) -> Result<(), AllocError>
         ensures told { OnOk result (told_of self.new.said
-            ≡ followed_by (told_of self.old.said) (told_of own.now.said)) }
+            ≡ followed_by (told_of self.old.said) (told_of own.said)) }
         ensures unread { OnOk result (texts_of self.new.unread.items
-            ≡ texts_of self.old.unread.items ++ left_if own.now.is_left path.now) }
+            ≡ texts_of self.old.unread.items ++ left_if own.is_left path.now) }
     {
-        self.said.add(&own.said)?;
-        if own.is_left {
+        let Own { said, is_left } = own;
+        self.said.add(said)?;
+        if is_left {
             self.unread.push(path)?;
         }
         Ok(())
@@ -176,7 +189,7 @@ fn paths_said<'a, S: Speaker, F: Files, W: Watcher>(
     for (done, path) in paths.iter().enumerate() {
         watcher.begins(done, paths.len(), path.as_bytes());
         let own = path_said(alloc, survey, path, files, watcher, remarks)?;
-        parted.add(*path, &own)?;
+        parted.add(*path, own)?;
     }
     Ok(parted)
 }

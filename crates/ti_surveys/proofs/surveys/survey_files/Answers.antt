@@ -22,10 +22,10 @@ returns-clause-reply g c =
       ends = subst
           (λ (paths : List (Bor (List ℕ))).
           EndsPaths
-          (AreLines (SaysBy c.args.words.now.lists_all c.args.words.now.names_parts (g.C.Certifier.certifies c.args.certifier.now) (g.C.Certifier.refuses c.args.certifier.now) c.in_ok-size.size.rows c.in_ok-size.size.cols) IsRefused) SaysNothing
+          (AreLines (SaysBy c.args.survey.now.words.now.lists_all c.args.survey.now.words.now.names_parts c.args.survey.now.has_columns (g.C.Certifier.certifies c.args.survey.now.certifier.now) (g.C.Certifier.refuses c.args.survey.now.certifier.now) c.in_ok-size.size.rows c.in_ok-size.size.cols) IsRefused) SaysNothing
           (g.F.Files.holds c.args.files.now) (texts_of paths) (told_of said) c.in_ok-surveyed.surveyed.failure c.survey_paths.new.remarks)
           c.as_slice.ensures.value c.in_ok-surveyed.ensures.told;
-      strictly = subst (λ (answered : List Answer). EndsStrictly c.args.words.now.is_strict answered c.in_ok-surveyed.surveyed.failure c.in_ok-failure.failure) c.as_slice-3.ensures.value c.in_ok-failure.ensures;
+      strictly = subst (λ (answered : List Answer). EndsStrictly c.args.survey.now.words.now.is_strict answered c.in_ok-surveyed.surveyed.failure c.in_ok-failure.failure) c.as_slice-3.ensures.value c.in_ok-failure.ensures;
       places = refl;
       heard = c.in_ok-surveyed.ensures.heard;
       counts = c.in_ok-text.ensures ∙ ap answers_line c.as_slice-2.ensures.value;
