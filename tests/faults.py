@@ -80,7 +80,7 @@ def counts(causes):
 
 
 class Source:
-    """A source text, and the line on which each field of its entries stands."""
+    """A source text, and the line on which each field of its entries stands, in column 2."""
 
     def __init__(self):
         self.lines, self.places = [], {}
@@ -131,7 +131,7 @@ def listing(source, faults):
         cap = named(fault[0])
         lines.append(words(fault))
         if fault[2] != "Absent":
-            lines.append(f"planted:{source.places[owner, cap]}: {cap} of {owner}")
+            lines.append(f"planted:{source.places[owner, cap]}:2: {cap} of {owner}")
     return [*lines, counts([fault[2] for fault, _ in faults])]
 
 
@@ -145,16 +145,31 @@ def surveyed(name, faults):
     return [f"{name} {it}" for it in [words(fault) for fault, _ in faults] or ["yes"]], [fault[2] for fault, _ in faults] or ["yes"]
 
 
+def excerpt(field):
+    """The lines that show a field which begins in column 2, with marks under its value."""
+    value = field[field.find("=") + 1 :] if "=" in field else field[field.find("#") + 1 :] if "#" in field else field
+    shown = re.sub(r"[^ -~]", lambda it: f"\\{ord(it[0]):03o}", value)
+    before = field[: len(field) - len(value)]
+    return [f"    {before}{shown}", f"    {' ' * len(before)}^{'~' * (len(shown) - 1)}"]
+
+
 def places(source, wanted):
-    """The output of `survey --all` on standard error: the place of each fault, and its line."""
-    lines = []
+    """The output of `survey --all` on standard error: each fault once at its place, the field there, and the names of the
+    entries that have it, if it is more than one."""
+    found = {}
     for name, faults in wanted.items():
         if set(surveyed(name, faults)[1]) & {"OtherKind", "part"}:
             continue
         for fault, owner in faults:
-            cap = named(fault[0])
             if fault[2] != "Absent":
-                lines.append(f"planted:{source.places[owner, cap]}: {cap} of {owner}: {name} {words(fault)}")
+                found.setdefault((owner, fault), []).append(name)
+    lines = []
+    for (owner, fault), names in found.items():
+        cap = named(fault[0])
+        lines.append(f"planted:{source.places[owner, cap]}:2: {cap} of {owner}: {names[0]} {words(fault)}")
+        lines += excerpt(fault[0])
+        if len(names) > 1:
+            lines.append(f"    in {', '.join(names)}")
     return lines
 
 
@@ -201,18 +216,32 @@ five|five faults,
 """
 # the second and third line of the entry, the third line of the one that it uses
 FIVE_FAULTS = """no xmc: FlagOut
-five.ti:5: xmc of five
+five.ti:5:2: xmc of five
 no bel: Unfinished
-five.ti:5: bel of five
+five.ti:5:19: bel of five
 no cr: Stuck
-five.ti:6: cr of five
+five.ti:6:16: cr of five
 no ed: WrongEffect
-five.ti:6: ed of five
+five.ti:6:2: ed of five
 no el: WrongEffect
-five.ti:3: el of base
+five.ti:3:2: el of base
 no el1: WrongEffect
-five.ti:5: el1 of five
+five.ti:5:9: el1 of five
 total 6, FlagOut 1, Unfinished 1, Stuck 1, WrongEffect 3
+"""
+# the fields that they are, with marks under their values
+FIVE_EXCERPTS = r"""    xmc#1
+        ^
+    bel=\E[
+        ^~~
+    cr=\377
+       ^~~~
+    ed=\E[%p1%dK
+       ^~~~~~~~~
+    el=\E[1K
+       ^~~~~
+    el1=\E[K
+        ^~~~
 """
 # mended line by line
 MENDED = FIVE.replace(rb"xmc#1, el1=\E[K, bel=\E[", rb"el1=\E[1K, bel=^G")
@@ -236,6 +265,9 @@ def judge_by_hand():
     shown = [line for line in listed.out.decode().splitlines() if not line.startswith("  ")]
     if shown != FIVE_FAULTS.splitlines() or listed.status != 1:
         fail(f"the entry with the faults printed {listed.out.decode()}")
+    below = [line for line in listed.out.decode().splitlines() if line.startswith("    ")]
+    if below != FIVE_EXCERPTS.splitlines():
+        fail(f"the fields of the faults are printed as {below}")
     others = [line for line in mended.err.splitlines() if not line.startswith((b"advice ", b"strings: "))]
     if (mended.status, mended.out, others) != (0, b"yes\n", []):
         fail(f"the mended entry: {mended.status} {mended.out} {mended.err}")
@@ -434,8 +466,12 @@ tw@n|the other one,
 	clear=\E[H\E[2J, cup=\E[%i%p1%d;%p2%dH, sgr0=\E[m,
 	ed=\E[K,
 """.replace(b"@", b"\xed")
-TWIN_PLACES = rb"""twins.ti:2: el of tw\355n: tw\355n no el: WrongEffect
-twins.ti:5: ed of tw\355n: tw\355n no ed: WrongEffect
+TWIN_PLACES = rb"""twins.ti:2:53: el of tw\355n: tw\355n no el: WrongEffect
+    el=\E[1K
+       ^~~~~
+twins.ti:5:2: ed of tw\355n: tw\355n no ed: WrongEffect
+    ed=\E[K
+       ^~~~
 """
 TWIN_LINES = rb"""tw\355n no el: WrongEffect
 tw\355n no ed: WrongEffect
@@ -464,6 +500,10 @@ other|for a terminal of another kind,
 wrong|with one fault,
 	el=\E[1K, use=good,
 """
+KIND_PLACE = rb"""kinds.ti:10:2: el of wrong: wrong no el: WrongEffect
+    el=\E[1K
+       ^~~~~
+"""
 KIND_LINES = [
     (["--all"], "good yes\nother no: OtherKind\nwrong no el: WrongEffect\n"),
     (["--all", "--parts"], "good yes\nsome+bell part\nbell part\nother no: OtherKind\nwrong no el: WrongEffect\n"),
@@ -476,7 +516,7 @@ def judge_kinds():
     for words, lines in KIND_LINES:
         [told] = run_cases(PROGRAM, [Case(["survey", *words, *size, "kinds.ti"])], data)
         wanted = lines + "total 5, yes 1, WrongEffect 1, OtherKind 1, part 2\n"
-        if (told.status, told.out.decode()) != (0, wanted) or told.err != b"kinds.ti:10: el of wrong: wrong no el: WrongEffect\n":
+        if (told.status, told.out.decode()) != (0, wanted) or told.err != KIND_PLACE:
             fail(f"survey {words} printed {told.out} {told.err} and was to print {wanted}")
     lines, objects, plain = run_cases(
         PROGRAM,

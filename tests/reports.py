@@ -279,8 +279,10 @@ def judge_lines(one, lines, path):
         if [one[key]] != (plain or [None]):
             fail(f"{key} of {one} is not that of {lines}")
     places = [line for line in lines if path and line.startswith(f"{path}:")]
-    if places != ([f"{path}:{one['line']}: {one['capability']} of {one['source_entry']}"] if one["line"] else []):
+    if places != ([f"{path}:{one['line']}:{one['column']}: {one['capability']} of {one['source_entry']}"] if one["line"] else []):
         fail(f"the place of {one} is not that of {lines}")
+    # the field there, and the marks under its value
+    places += [line for line in lines if line.startswith("  ")]
     suggested = [line for line in lines if line.endswith(" would be right on T")]
     # what switches sets is mended as one: the plain form names the others too
     right = [line for line in suggested if line.startswith(f"{one['capability']}=")]
@@ -366,14 +368,20 @@ def judge_entries(path, held, names, planted=None):
 
 
 def judge_places(path, ones, places):
-    """The objects of `survey --all --json` have the lines of the source that the plain form prints on standard error."""
+    """The objects of `survey --all --json` have the places that the plain form prints on standard error, each fault of a
+    field once, with the names of the entries that have it."""
     placed = [it for it in ones if it["verdict"] == "no" and it["line"] is not None and not it["part"] and not it["another_kind"]]
-    if len(placed) != len(places):
-        fail(f"{len(placed)} objects of {path} have a line, and survey --all printed {places}")
-    for one, place in zip(placed, places):
+    users = {}
+    for one in placed:
         name, holder = (shown(one[key].encode().decode("latin-1")) for key in ("entry", "source_entry"))
-        if place != f"{path}:{one['line']}: {one['capability']} of {holder}: {name} {said(one)}":
-            fail(f"the line of {one} is not that of {place}")
+        users.setdefault((f"{path}:{one['line']}:{one['column']}: {one['capability']} of {holder}", said(one)), []).append(name)
+    wanted = []
+    for (place, fault), names in users.items():
+        wanted.append(f"{place}: {names[0]} {fault}")
+        wanted += [f"    in {', '.join(names)}"] if len(names) > 1 else []
+    told = [line for line in places if not line.startswith("    ") or line.startswith("    in ")]
+    if told != wanted:
+        fail(f"the objects of {path} are about {wanted}, and survey --all printed {told}")
     return len(placed)
 
 

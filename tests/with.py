@@ -60,13 +60,19 @@ def mended(data):
     return {name: "\n".join(each).encode() for name, each in lines.items()}
 
 
+def placed(cap):
+    """The file, the line and the column of what was planted in a field."""
+    name, line, _, wrong, _ = PLANTED[cap]
+    return f"{name}:{line}:{FILES[name].decode().splitlines()[line - 1].index(f'{cap}={wrong},') + 1}"
+
+
 def judge_planted():
     """Seven faults over two files are listed, each in its file, and mended in one round."""
     listed = run(["check", "--all", *WITH, *ENTRY], FILES)
     told = listed.out.decode().splitlines()
-    for cap, (name, line, entry, _, _) in PLANTED.items():
+    for cap, (_, _, entry, _, _) in PLANTED.items():
         at = [i for i, words in enumerate(told) if words.startswith(f"no {cap}") and words.split()[1].rstrip(":") == cap]
-        if len(at) != 1 or told[at[0] + 1] != f"{name}:{line}: {cap} of {entry}":
+        if len(at) != 1 or told[at[0] + 1] != f"{placed(cap)}: {cap} of {entry}":
             fail(f"{cap}: {listed.out.decode()}")
     if listed.status != 1 or not told[-1].startswith(f"total {len(PLANTED)},"):
         fail(f"check --all: {listed.status} {listed.out.decode()}")
@@ -134,8 +140,8 @@ def judge_compiled():
         if source.returncode or (packed.returncode, packed.stdout) != (0, source.stdout):
             fail(f"a compiled file: {packed}, and {source}")
         listed = told("check", "--all", "--with", "base", *ENTRY).stdout.decode().splitlines()
-        for cap, (name, line, entry, _, _) in PLANTED.items():
-            place = f"{name}:{line}: {cap} of {entry}" if name == "own.ti" else f"base: {cap} of base"
+        for cap, (name, _, entry, _, _) in PLANTED.items():
+            place = f"{placed(cap)}: {cap} of {entry}" if name == "own.ti" else f"base: {cap} of base"
             if place not in listed:
                 fail(f"{place} isn't in {listed}")
         for kept in ("base.ti", "own.ti"):
@@ -270,8 +276,8 @@ def judge_survey():
         fail(f"survey --sarif --with: {places}")
     every = run(["survey", "--all", *WITH, *SIZE, "own.ti"], FILES)
     places = every.err.decode().splitlines()
-    for cap, (name, line, entry, _, _) in PLANTED.items():
-        if not any(it.startswith(f"{name}:{line}: {cap} of {entry}: own no {cap}") for it in places):
+    for cap, (_, _, entry, _, _) in PLANTED.items():
+        if not any(it.startswith(f"{placed(cap)}: {cap} of {entry}: own no {cap}") for it in places):
             fail(f"survey --all --with: {cap} of {entry} isn't in {places}")
     print("with: surveys, which list the entries of their own files")
 

@@ -187,18 +187,19 @@ If there is no certificate, standard error has a line `refused: no CAP P..: CAUS
 first in the order of a certificate's lines. The lines below it say what the string sends for these parameters, from
 which state of the terminal it goes wrong, what was wanted there, and what happens instead.
 
-With --all there is no certificate. The output is all that is wrong: a line `no CAP P..: CAUSE` for what the entry as a
-whole has or lacks (FlagOut, Absent, AcsByte), and one for each other capability that goes wrong, with the first of its
-parameters for which it does; then what is wrong with strings together that are right by themselves, and may go once the
-others are mended. Below each of an entry of a source is a line `FILE:LINE: CAP of NAME`, with the line on which its
-value is and the first name of the entry that has it, through `use=`; then come the lines that explain it, after two
-spaces. Where the standard's string would be right in that place, with all others that are named taken too, the last of
-them is `CAP=STRING would be right on T`; below the fault of smacs or rmacs there may be one for each of enacs, smacs and
-rmacs, which are right only together. Where clear and cup are both at fault, standard error says instead that the entry
-seems to be for a terminal of another kind. The last line is the number of faults, and then how many have which CAUSE.
-Standard error has the first of them too, after `refused: `. If nothing is wrong, the output is `yes`. Standard error also
-gets advice on strings that aren't checked but don't do on T what their names say, and a line `strings: ..` that counts
-those that were checked and those that were not looked at.
+With --all there is no certificate. The output is all that is wrong: a line `no CAP P..: CAUSE` for what the entry as
+a whole has or lacks (FlagOut, Absent, AcsByte), and one for each other capability that goes wrong, with the first of
+its parameters for which it does; then what is wrong with strings together that are right by themselves, and may go
+once the others are mended. Below each of an entry of a source is a line `FILE:LINE:COLUMN: CAP of NAME`, with the
+place of its field and the first name of the entry that has it, through `use=`, without COLUMN with --join. Then comes
+the field itself, after four spaces, with `^~~~` below its value; and the lines that explain the fault, after two
+spaces. Where the standard's string would be right in that place, with all others that are named taken too, the last
+of them is `CAP=STRING would be right on T`; below the fault of smacs or rmacs there may be one for each of enacs,
+smacs and rmacs, which are right only together. Where clear and cup are both at fault, standard error says instead
+that the entry seems to be for a terminal of another kind. The last line is the number of faults, and then how many
+have which CAUSE. Standard error has the first of them too, after `refused: `. If nothing is wrong, the output is
+`yes`. Standard error also gets advice on strings that aren't checked but don't do on T what their names say, and a
+line `strings: ..` that counts those that were checked and those that were not looked at.
 
 With --json there is no certificate either. The output is a JSON object on a line of its own: what is wrong first, or with
 --all one for each fault, or one with the verdict `yes`; and behind it one with the verdict `advice` for each advice. An
@@ -445,10 +446,12 @@ without entries has none. A byte outside 32 to 126 of a name is a backslash and 
 number of the lines before it, and then how many got each answer.
 
 With --all an entry that has no certificate has a line `NAME no CAP P..: CAUSE` for each of its faults, those that
-`ticurses check --all` lists. One that is for a terminal of another kind has one line, `NAME no: OtherKind`. One that is
-only there to be used by others, without `clear`, `cup` and `sgr0` or with a `+` in its first name, has no line, or with
---parts the line `NAME part`; the last line counts these apart, and --fail passes them. For each of them whose value is in a source FILE, standard error has the line
-`FILE:LINE: CAP of ENTRY: NAME no CAP P..: CAUSE`; ENTRY is NAME, or an entry that it uses. It also gets the hints of
+`ticurses check --all` lists. One that is for a terminal of another kind has one line, `NAME no: OtherKind`. One that
+is only there to be used by others, without `clear`, `cup` and `sgr0` or with a `+` in its first name, has no line, or
+with --parts the line `NAME part`; the last line counts these apart, and --fail passes them. For each fault whose
+value is in a source FILE, standard error has the line `FILE:LINE:COLUMN: CAP of ENTRY: NAME no CAP P..: CAUSE`, and
+below it the field there, as `ticurses check --all` has it; ENTRY is NAME, or an entry that it uses. A fault that
+several entries have at one place is there once, with a line `in NAME, NAME..` of them all. It also gets the hints of
 `ticurses check`, each with `, in FILE` at its end.
 
 With --json the output is a JSON object on a line of its own for each of these lines but the last, with the members of

@@ -20,6 +20,7 @@ use Rattle.ti_reports.specs.declared.reports.Verdict.TheVariants as verdicts
 use Rattle.ti_requests.specs.declared.request.SurveyWords.{SurveyWords}
 use Rattle.ti_surveys.specs.Kinds.{kind_answers, kind_of}
 use Rattle.ti_surveys.specs.Lines.{AreLines, Leaving, Refusing, Saying}
+use Rattle.ti_surveys.specs.Places.{places_text}
 use Rattle.ti_surveys.specs.Strict.{EndsStrictly}
 use Rattle.ti_surveys.specs.Surveys.{EndsPaths}
 use Rattle.ti_surveys.specs.Told.{Told}
@@ -101,6 +102,6 @@ pub record AreSurveyed (has_columns : Bool) (held : Held) (words : SurveyWords) 
   pub ends : EndsPaths (AreLines (Reports height width words.lists_all has_columns) (ReportsLack height width))
       (ReportsUnread height width) held (texts_of words.paths.items) told failed remarks
   pub strictly : EndsStrictly words.is_strict told.answers failed reply.failure
-  pub places : reply.notes.items ≡ told.places
+  pub places : reply.notes.items ≡ places_text told.places
   pub heard : AreHeard told.lines
   pub no_text : reply.text.items ≡ []

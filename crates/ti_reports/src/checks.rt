@@ -21,27 +21,37 @@ use ti_verdicts::{LinedFiles, NamedSource, explain_no, no_failure, notes_on, sou
 use ti_words::Remarks;
 use vt_term::Size;
 
-/// Replies with the notes on the entry that the `words` give and, in JSON, with its faults: the first one, or all of
-/// them if `lists_all`; or with the report that it has a certificate. Faults have columns if `has_columns`, that is, if
-/// the lines of the files weren't joined. The reply fails as the first fault does. If the `words` give no entry, it
-/// reports that, and fails so. Further lines go to `remarks`.
+/// A check with reports that is wanted.
+#[derive(Drop)]
+pub struct Check<'a> {
+    /// The words of the command.
+    pub words: &'a FaultsWords<'a>,
+    /// Whether all faults are reported, and not only the first one.
+    pub lists_all: bool,
+    /// Whether faults have columns, that is, whether the lines of the files are read as they are.
+    pub has_columns: bool,
+}
+
+/// Replies with the notes on the entry that the words of `check` give and, in JSON, with its faults, the first one or
+/// all of them; or with the report that it has a certificate. The reply fails as the first fault does. If the words
+/// give no entry, it reports that, and fails so. Further lines go to `remarks`.
 pub fn check_reports<F: Files>(
     alloc: Global,
-    lists_all: bool,
-    has_columns: bool,
-    words: &FaultsWords<'_>,
+    check: &Check<'_>,
     files: &mut F,
     remarks: &mut Remarks,
 ) -> Result<Reply, Failure>
-    ensures reply { IfOk result (λ reply. spec.Replies has_columns (F.holds files.old) lists_all words.now reply) }
-    ensures failure { IfErr result (λ e. LacksSize words.now.rows.now words.now.cols.now e) }
+    ensures reply { IfOk result (λ reply. spec.Replies check.now.has_columns (F.holds files.old) check.now.lists_all
+        check.now.words.now reply) }
+    ensures failure { IfErr result (λ e. LacksSize check.now.words.now.rows.now check.now.words.now.cols.now e) }
     ensures kept { F.holds files.new ≡ F.holds files.old }
 {
+    let words = check.words;
     let size = size_words(alloc, words.rows, words.cols, remarks)?;
     let asked = Asked {
         size,
-        lists_all,
-        has_columns,
+        lists_all: check.lists_all,
+        has_columns: check.has_columns,
     };
     match sourced_entry(alloc, files, words.entry, remarks) {
         Ok(found) => Ok(entry_reply(alloc, asked, words.entry, &found, remarks)?),

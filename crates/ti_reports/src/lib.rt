@@ -22,5 +22,5 @@ mod suggestions;
 mod surveys;
 mod texts;
 
-pub use checks::check_reports;
-pub use surveys::survey_reports;
+pub use checks::{Check, check_reports};
+pub use surveys::{SurveyReports, survey_reports};

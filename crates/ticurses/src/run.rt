@@ -18,10 +18,10 @@ use ti_commands::{
 };
 use ti_mends::fix_entry;
 use ti_repairs::{FixWords, fix_survey};
-use ti_reports::{check_reports, survey_reports};
-use ti_requests::{CheckWords, Request, SurveyWords};
+use ti_reports::{Check, SurveyReports, check_reports, survey_reports};
+use ti_requests::{CheckWords, FaultsWords, Request, SurveyWords};
 use ti_source::FaultKind;
-use ti_surveys::survey_files;
+use ti_surveys::{Survey, survey_files};
 use ti_verdicts::{Checker, check_all, check_entry, verify_certificate};
 use ti_words::Remarks;
 use ti_wrapped::{Beside, Wrapped};
@@ -132,17 +132,33 @@ fn check_counted<F: Files, E: IsTerminal>(
     Ok(reply)
 }
 
-/// The reply of `survey` to its `words`. The lines of the entries go to `out` as they come.
-fn survey<F: Files, O: Output, E: Write + IsTerminal>(
+/// The check with reports that these words ask for.
+fn check_of<'a>(words: &'a FaultsWords<'a>, lists_all: bool, has_columns: bool) -> Check<'a> {
+    Check {
+        words,
+        lists_all,
+        has_columns,
+    }
+}
+
+/// The survey that these words ask for, by the checker.
+fn survey_of<'a>(words: &'a SurveyWords<'a>, has_columns: bool) -> Survey<'a, Checker> {
+    Survey {
+        certifier: &Checker,
+        words,
+        has_columns,
+    }
+}
+
+/// The reply of `survey` that is wanted. The lines of the entries go to `lines` as they come.
+fn survey_plainly<F: Files, O: Output, E: Write>(
     alloc: Global,
-    words: &SurveyWords<'_>,
+    survey: &Survey<'_, Checker>,
     files: &mut F,
-    out: &mut O,
-    err: &mut E,
+    lines: &mut SurveyLines<'_, O, E>,
     remarks: &mut Remarks,
 ) -> Result<Reply, Failure> {
-    let mut lines = SurveyLines::new(alloc, out, err);
-    let reply = survey_files(alloc, &Checker, words, files, &mut lines, remarks)?;
+    let reply = survey_files(alloc, survey, files, lines, remarks)?;
     Ok(lines.end(alloc, reply))
 }
 
@@ -157,17 +173,15 @@ fn fix_words<'a>(words: &SurveyWords<'a>, out: Option<&'a str>) -> FixWords<'a> 
     }
 }
 
-/// The reply of `survey --json` to its `words`. The objects go to `lines` as they come, and have columns if the files
-/// `has_columns`.
+/// The reply of `survey --json` that is wanted. The objects go to `lines` as they come.
 fn survey_json<F: Files, O: Output, E: Write>(
     alloc: Global,
-    words: &SurveyWords<'_>,
-    has_columns: bool,
+    survey: &SurveyReports<'_>,
     files: &mut F,
     lines: &mut SurveyLines<'_, O, E>,
     remarks: &mut Remarks,
 ) -> Result<Reply, Failure> {
-    let reply = survey_reports(alloc, words, has_columns, files, lines, remarks)?;
+    let reply = survey_reports(alloc, survey, files, lines, remarks)?;
     Ok(lines.end(alloc, reply))
 }
 
@@ -227,6 +241,7 @@ fn reply_to<F: Files, O: Output, E: Write + IsTerminal>(
     err: &mut E,
     remarks: &mut Remarks,
 ) -> Result<Reply, Failure> {
+    let has_columns = !asked.joins;
     match &asked.request {
         Request::Expand(words) => expand_string(alloc, words, remarks),
         Request::Feed { rows, cols, file } => feed_file(alloc, rows, cols, file, files, remarks),
@@ -234,9 +249,10 @@ fn reply_to<F: Files, O: Output, E: Write + IsTerminal>(
         Request::Tic { entry, out } => compile_entry(alloc, entry, *out, files, remarks),
         Request::Check(words) if asked.fixes => fix_entry(alloc, words, files, remarks),
         Request::Check(words) => check_counted(alloc, words, files, err, remarks),
-        Request::CheckAll(words) => check_all(alloc, words, files, remarks),
+        Request::CheckAll(words) => check_all(alloc, words, has_columns, files, remarks),
         Request::CheckJson { lists_all, words } => {
-            check_reports(alloc, *lists_all, !asked.joins, words, files, remarks)
+            let check = check_of(words, *lists_all, has_columns);
+            check_reports(alloc, &check, files, remarks)
         }
         Request::Verify(words) => verify_certificate(alloc, words, files, remarks),
         Request::Play(words) => {
@@ -247,10 +263,15 @@ fn reply_to<F: Files, O: Output, E: Write + IsTerminal>(
         Request::Survey(words) if asked.fixes => {
             fix_survey(alloc, &fix_words(words, asked.out), files, remarks)
         }
-        Request::Survey(words) => survey(alloc, words, files, out, err, remarks),
+        Request::Survey(words) => {
+            let mut lines = SurveyLines::new(alloc, out, err);
+            let survey = survey_of(words, has_columns);
+            survey_plainly(alloc, &survey, files, &mut lines, remarks)
+        }
         Request::SurveyJson(words) => {
             let mut lines = SurveyLines::new(alloc, out, err);
-            survey_json(alloc, words, !asked.joins, files, &mut lines, remarks)
+            let survey = SurveyReports { words, has_columns };
+            survey_json(alloc, &survey, files, &mut lines, remarks)
         }
         Request::Print { entry } => print_entry(alloc, entry, files, remarks),
         Request::Common { first, second } => {

@@ -20,10 +20,10 @@ returns-clause-reply g c =
       failed = c.in_ok-said.field-0.failure;
       ends = subst
           (λ (paths : List (Bor (List ℕ))).
-          EndsPaths (AreLines (Reports c.in_ok-size.size.rows c.in_ok-size.size.cols c.args.words.now.lists_all c.args.has_columns) (ReportsLack c.in_ok-size.size.rows c.in_ok-size.size.cols)) (ReportsUnread c.in_ok-size.size.rows c.in_ok-size.size.cols)
+          EndsPaths (AreLines (Reports c.in_ok-size.size.rows c.in_ok-size.size.cols c.args.survey.now.words.now.lists_all c.args.survey.now.has_columns) (ReportsLack c.in_ok-size.size.rows c.in_ok-size.size.cols)) (ReportsUnread c.in_ok-size.size.rows c.in_ok-size.size.cols)
           (g.F.Files.holds c.args.files.now) (texts_of paths) (told_of said) c.in_ok-said.field-0.failure c.survey_paths.new.remarks)
           c.as_slice.ensures.value c.in_ok-said.ensures.told;
-      strictly = subst (λ (answered : List Answer). EndsStrictly c.args.words.now.is_strict answered c.in_ok-said.field-0.failure c.in_ok-failure.failure) c.as_slice-2.ensures.value c.in_ok-failure.ensures;
+      strictly = subst (λ (answered : List Answer). EndsStrictly c.args.survey.now.words.now.is_strict answered c.in_ok-said.field-0.failure c.in_ok-failure.failure) c.as_slice-2.ensures.value c.in_ok-failure.ensures;
       places = refl;
       heard = c.in_ok-said.ensures.heard;
       no_text = c.new.ensures.items;
