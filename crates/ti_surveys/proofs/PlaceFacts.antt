@@ -14,7 +14,7 @@ next_lines {X} P xs n x l is =
     ap (λ (rest : List X). lines_behind (map P (take n xs)) (map P rest)) (drop_more xs n x l)
     ∙ (ap (λ (y : X). lines_unless (map P (take n xs)) (P y) (map P (drop (n + 1) xs)) ++ lines_behind (map P (take n xs) ++ P y ∷ []) (map P (drop (n + 1) xs))) (sym is)
     ∙ ap (λ (before : List PlacedText). lines_unless (map P (take n xs)) (P x) (map P (drop (n + 1) xs)) ++ lines_behind before (map P (drop (n + 1) xs)))
-        (sym (map-append P (take n xs) (x ∷ [])) ∙ (ap (λ (y : X). map P (take n xs ++ y ∷ [])) is ∙ ap (map P) (sym (take_more xs n x l)))))
+    (sym (map-append P (take n xs) (x ∷ [])) ∙ (ap (λ (y : X). map P (take n xs ++ y ∷ [])) is ∙ ap (map P) (sym (take_more xs n x l)))))
 
 -- what was printed, with what is left, stays the whole
 pub whole_after : {X : Type 0} (P : X → PlacedText) (xs : List X) (n : ℕ) (x : X) (lines more whole : List ℕ) → n < length xs → x ≡ get_or xs n x → more ≡ lines ++ lines_unless (map P (take n xs)) (P x) (map P (drop (n + 1) xs))

@@ -25,7 +25,6 @@ pub fn places_lines(alloc: Global, faults: &[PlacedFault]) -> Result<Vec<u8>, Al
 
 /// Appends the lines of `fault`, which comes behind those `before`, unless it is one of them. The names are its own and
 /// those of `others` that are the same.
-#[tactic(auto, using(crate::proofs::PlaceFacts::any_placed))]
 fn push_unless(
     before: &[PlacedFault],
     fault: &PlacedFault,
@@ -50,8 +49,15 @@ fn is_same(first: &PlacedFault, other: &PlacedFault) -> bool
         && first.fault.as_slice() == other.fault.as_slice()
 }
 
-/// Whether one of these `faults` is the same as `fault`.
+/// Whether one of these `faults` is the same as `fault`, as contracts see them.
 fn is_among(fault: &PlacedFault, faults: &[PlacedFault]) -> bool
+    ensures { result ≡ list_any (spec.is_same (placed_in fault.now)) (map placed_in faults.now) }
+{
+    has_same(fault, faults)
+}
+
+/// Whether one of these `faults` is the same as `fault`.
+fn has_same(fault: &PlacedFault, faults: &[PlacedFault]) -> bool
     ensures { result ≡ list_any (λ other. spec.is_same (placed_in fault.now) (placed_in other)) faults.now }
 {
     faults.iter().any(|other| is_same(fault, other))
@@ -74,7 +80,7 @@ fn push_lines(
 }
 
 /// Appends the line with the names of all entries that have `fault`, if `others` have it too.
-#[tactic(auto, using(crate::proofs::PlaceFacts::any_placed), unfolding(crate::specs::Places::names_line))]
+#[tactic(auto, unfolding(crate::specs::Places::names_line))]
 fn push_names(
     fault: &PlacedFault,
     others: &[PlacedFault],

@@ -1,12 +1,15 @@
-use Rattle.std.proofs.Common.{◌∙◌, ℕ, List, Bor, ap, refl, subst}
+use Rattle.std.proofs.Common.{◌∙◌, ℕ, List, Bor, ap, map, subst}
 use Rattle.ti_commands.specs.Words.{texts_of}
 use Rattle.ti_surveys.specs.Answers.{IsRefused, SaysBy, SaysNothing}
 use Rattle.ti_verdicts.specs.Counts.{answers_line}
 use Rattle.ti_surveys.specs.Lines.{AreLines}
+use Rattle.ti_surveys.specs.Places.{places_text}
 use Rattle.ti_surveys.specs.Surveys.{EndsPaths}
 use Rattle.ti_surveys.specs.Strict.{EndsStrictly}
 use Rattle.ti_surveys.specs.Told.{told_of}
+use Rattle.ti_verdicts.specs.Locations.{placed_in}
 use Rattle.ti_verdicts.specs.declared.answers.Answer.{Answer}
+use Rattle.ti_verdicts.specs.declared.locations.PlacedFault.{PlacedFault}
 use Rattle.ti_surveys.proofs.surveys.survey_files.Goals as goal
 
 -- the certifier's answers, as the words ask, and then the counts
@@ -24,9 +27,9 @@ returns-clause-reply g c =
           EndsPaths
           (AreLines (SaysBy c.args.survey.now.words.now.lists_all c.args.survey.now.words.now.names_parts c.args.survey.now.has_columns (g.C.Certifier.certifies c.args.survey.now.certifier.now) (g.C.Certifier.refuses c.args.survey.now.certifier.now) c.in_ok-size.size.rows c.in_ok-size.size.cols) IsRefused) SaysNothing
           (g.F.Files.holds c.args.files.now) (texts_of paths) (told_of said) c.in_ok-surveyed.surveyed.failure c.survey_paths.new.remarks)
-          c.as_slice.ensures.value c.in_ok-surveyed.ensures.told;
+          c.as_slice-paths.ensures.value c.in_ok-surveyed.ensures.told;
       strictly = subst (λ (answered : List Answer). EndsStrictly c.args.survey.now.words.now.is_strict answered c.in_ok-surveyed.surveyed.failure c.in_ok-failure.failure) c.as_slice-3.ensures.value c.in_ok-failure.ensures;
-      places = refl;
+      places = c.in_ok-notes.ensures ∙ ap (λ (faults : List PlacedFault). places_text (map placed_in faults)) c.as_slice.ensures.value;
       heard = c.in_ok-surveyed.ensures.heard;
       counts = c.in_ok-text.ensures ∙ ap answers_line c.as_slice-2.ensures.value;
     }
