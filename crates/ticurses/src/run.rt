@@ -19,12 +19,19 @@ use ti_commands::{
 use ti_mends::fix_entry;
 use ti_repairs::{FixWords, fix_survey};
 use ti_reports::{Check, SurveyReports, check_reports, survey_reports};
-use ti_requests::{CheckWords, FaultsWords, Request, SurveyWords};
+use ti_requests::{CheckWords, FaultsWords, Request, ScriptWords, SurveyWords};
 use ti_source::FaultKind;
 use ti_surveys::{Survey, survey_files};
 use ti_verdicts::{Checker, check_all, check_entry, verify_certificate};
 use ti_words::Remarks;
 use ti_wrapped::{Beside, Wrapped};
+
+/// The output of a command, and the standard error.
+#[derive(Drop)]
+struct Streams<'a, O, E> {
+    out: &'a mut O,
+    err: &'a mut E,
+}
 
 /// Carries out the `words` after the program's own name. The answer goes to `out`, notes and the
 /// lines of a failure to `err`. Returns the exit status: 0 done, 1 refused, 2 a usage error, 3 a
@@ -39,14 +46,9 @@ pub fn command<F: Files + Sources, O: Write, E: Write + IsTerminal>(
     ensures { result ≤ 4 }
 {
     let mut remarks = Remarks::new(alloc);
-    match perform(
-        alloc,
-        words,
-        files,
-        &mut Written::new(out),
-        err,
-        &mut remarks,
-    ) {
+    let mut out = Written::new(out);
+    let mut streams = Streams { out: &mut out, err };
+    match perform(alloc, words, files, &mut streams, &mut remarks) {
         Ok(()) => {
             let _ = remarks.write(err);
             0
@@ -60,13 +62,12 @@ fn perform<F: Files + Sources, O: Output, E: Write + IsTerminal>(
     alloc: Global,
     words: &[String],
     files: &mut F,
-    out: &mut O,
-    err: &mut E,
+    streams: &mut Streams<'_, O, E>,
     remarks: &mut Remarks,
 ) -> Result<(), Failure> {
     match parse_line(alloc, words) {
         Ok(ParsedLine::Request(asked)) => {
-            let reply = reply_in_form(alloc, &asked, files, out, err, remarks);
+            let reply = reply_in_form(alloc, &asked, files, streams, remarks);
             if let Some(path) = failed_path(&reply) {
                 hint_path(alloc, &asked.request, path, files, remarks);
             }
@@ -74,10 +75,10 @@ fn perform<F: Files + Sources, O: Output, E: Write + IsTerminal>(
                 hint_join(&asked.request, remarks);
             }
             let reply = reply?;
-            let _ = err.write_all(reply.notes.as_slice());
-            write_reply(out, reply)
+            let _ = streams.err.write_all(reply.notes.as_slice());
+            write_reply(streams.out, reply)
         }
-        Ok(ParsedLine::Text(text)) => write_text(out, text.as_bytes()),
+        Ok(ParsedLine::Text(text)) => write_text(streams.out, text.as_bytes()),
         Err(UsageFault::Usage(text)) => Err(Failure::Usage(text)),
         Err(UsageFault::NoMemory) => Err(Failure::NoMemory),
     }
@@ -132,33 +133,54 @@ fn check_counted<F: Files, E: IsTerminal>(
     Ok(reply)
 }
 
-/// The check with reports that these words ask for.
-fn check_of<'a>(words: &'a FaultsWords<'a>, lists_all: bool, has_columns: bool) -> Check<'a> {
+/// The reply of `play` to its `words`. The bytes that it sends go to `out` as they come.
+fn play<F: Files, O: Output>(
+    alloc: Global,
+    words: &ScriptWords<'_>,
+    files: &mut F,
+    out: &mut O,
+    remarks: &mut Remarks,
+) -> Result<Reply, Failure> {
+    play_script(alloc, words, files, out, remarks)?;
+    Ok(Reply::of_text(alloc, Vec::new(alloc)))
+}
+
+/// The check with reports by these `words`, as it is `asked` for.
+fn check_of<'a>(words: &'a FaultsWords<'a>, lists_all: bool, asked: &Asked<'_>) -> Check<'a> {
     Check {
         words,
         lists_all,
-        has_columns,
+        has_columns: !asked.joins,
     }
 }
 
-/// The survey that these words ask for, by the checker.
-fn survey_of<'a>(words: &'a SurveyWords<'a>, has_columns: bool) -> Survey<'a, Checker> {
+/// The survey by these `words`, as it is `asked` for; the checker certifies.
+fn survey_of<'a>(words: &'a SurveyWords<'a>, asked: &Asked<'_>) -> Survey<'a, Checker> {
     Survey {
         certifier: &Checker,
         words,
-        has_columns,
+        has_columns: !asked.joins,
     }
 }
 
-/// The reply of `survey` that is wanted. The lines of the entries go to `lines` as they come.
-fn survey_plainly<F: Files, O: Output, E: Write>(
+/// The survey with reports by these `words`, as it is `asked` for.
+fn reports_of<'a>(words: &'a SurveyWords<'a>, asked: &Asked<'_>) -> SurveyReports<'a> {
+    SurveyReports {
+        words,
+        has_columns: !asked.joins,
+    }
+}
+
+/// The reply of `survey` that is wanted. The lines of the entries go to the output as they come.
+fn survey_plainly<F: Files, O: Output, E: Write + IsTerminal>(
     alloc: Global,
     survey: &Survey<'_, Checker>,
     files: &mut F,
-    lines: &mut SurveyLines<'_, O, E>,
+    streams: &mut Streams<'_, O, E>,
     remarks: &mut Remarks,
 ) -> Result<Reply, Failure> {
-    let reply = survey_files(alloc, survey, files, lines, remarks)?;
+    let mut lines = SurveyLines::new(alloc, streams.out, streams.err);
+    let reply = survey_files(alloc, survey, files, &mut lines, remarks)?;
     Ok(lines.end(alloc, reply))
 }
 
@@ -173,15 +195,16 @@ fn fix_words<'a>(words: &SurveyWords<'a>, out: Option<&'a str>) -> FixWords<'a> 
     }
 }
 
-/// The reply of `survey --json` that is wanted. The objects go to `lines` as they come.
-fn survey_json<F: Files, O: Output, E: Write>(
+/// The reply of `survey --json` that is wanted. The objects go to the output as they come.
+fn survey_json<F: Files, O: Output, E: Write + IsTerminal>(
     alloc: Global,
     survey: &SurveyReports<'_>,
     files: &mut F,
-    lines: &mut SurveyLines<'_, O, E>,
+    streams: &mut Streams<'_, O, E>,
     remarks: &mut Remarks,
 ) -> Result<Reply, Failure> {
-    let reply = survey_reports(alloc, survey, files, lines, remarks)?;
+    let mut lines = SurveyLines::new(alloc, streams.out, streams.err);
+    let reply = survey_reports(alloc, survey, files, &mut lines, remarks)?;
     Ok(lines.end(alloc, reply))
 }
 
@@ -191,22 +214,19 @@ fn reply_in_form<F: Files + Sources, O: Output, E: Write + IsTerminal>(
     alloc: Global,
     asked: &Asked<'_>,
     files: &mut F,
-    out: &mut O,
-    err: &mut E,
+    streams: &mut Streams<'_, O, E>,
     remarks: &mut Remarks,
 ) -> Result<Reply, Failure> {
     if !is_formed(asked) {
-        return reply_by(alloc, asked, files, out, err, remarks);
+        return reply_by(alloc, asked, files, streams, remarks);
     }
     let mut lines = Vec::new(alloc);
-    let reply = reply_by(
-        alloc,
-        asked,
-        files,
-        &mut Written::new(&mut lines),
-        err,
-        remarks,
-    )?;
+    let mut out = Written::new(&mut lines);
+    let mut kept = Streams {
+        out: &mut out,
+        err: streams.err,
+    };
+    let reply = reply_by(alloc, asked, files, &mut kept, remarks)?;
     formed(alloc, asked, files, lines, reply, remarks)
 }
 
@@ -215,8 +235,7 @@ fn reply_by<F: Files + Sources, O: Output, E: Write + IsTerminal>(
     alloc: Global,
     asked: &Asked<'_>,
     files: &mut F,
-    out: &mut O,
-    err: &mut E,
+    streams: &mut Streams<'_, O, E>,
     remarks: &mut Remarks,
 ) -> Result<Reply, Failure> {
     if asked.fixes {
@@ -225,9 +244,9 @@ fn reply_by<F: Files + Sources, O: Output, E: Write + IsTerminal>(
     let mut beside = Beside::new(files, asked.further.as_slice());
     if asked.joins {
         let mut joined = Wrapped::new(alloc, &mut beside);
-        reply_to(alloc, asked, &mut joined, out, err, remarks)
+        reply_to(alloc, asked, &mut joined, streams, remarks)
     } else {
-        reply_to(alloc, asked, &mut beside, out, err, remarks)
+        reply_to(alloc, asked, &mut beside, streams, remarks)
     }
 }
 
@@ -237,41 +256,31 @@ fn reply_to<F: Files, O: Output, E: Write + IsTerminal>(
     alloc: Global,
     asked: &Asked<'_>,
     files: &mut F,
-    out: &mut O,
-    err: &mut E,
+    streams: &mut Streams<'_, O, E>,
     remarks: &mut Remarks,
 ) -> Result<Reply, Failure> {
-    let has_columns = !asked.joins;
     match &asked.request {
         Request::Expand(words) => expand_string(alloc, words, remarks),
         Request::Feed { rows, cols, file } => feed_file(alloc, rows, cols, file, files, remarks),
         Request::FeedAs(words) => feed_state(alloc, words, files, remarks),
         Request::Tic { entry, out } => compile_entry(alloc, entry, *out, files, remarks),
         Request::Check(words) if asked.fixes => fix_entry(alloc, words, files, remarks),
-        Request::Check(words) => check_counted(alloc, words, files, err, remarks),
-        Request::CheckAll(words) => check_all(alloc, words, has_columns, files, remarks),
+        Request::Check(words) => check_counted(alloc, words, files, streams.err, remarks),
+        Request::CheckAll(words) => check_all(alloc, words, !asked.joins, files, remarks),
         Request::CheckJson { lists_all, words } => {
-            let check = check_of(words, *lists_all, has_columns);
-            check_reports(alloc, &check, files, remarks)
+            check_reports(alloc, &check_of(words, *lists_all, asked), files, remarks)
         }
         Request::Verify(words) => verify_certificate(alloc, words, files, remarks),
-        Request::Play(words) => {
-            play_script(alloc, words, files, out, remarks)?;
-            Ok(Reply::of_text(alloc, Vec::new(alloc)))
-        }
+        Request::Play(words) => play(alloc, words, files, streams.out, remarks),
         Request::Show(words) => show_script(alloc, words, files, remarks),
         Request::Survey(words) if asked.fixes => {
             fix_survey(alloc, &fix_words(words, asked.out), files, remarks)
         }
         Request::Survey(words) => {
-            let mut lines = SurveyLines::new(alloc, out, err);
-            let survey = survey_of(words, has_columns);
-            survey_plainly(alloc, &survey, files, &mut lines, remarks)
+            survey_plainly(alloc, &survey_of(words, asked), files, streams, remarks)
         }
         Request::SurveyJson(words) => {
-            let mut lines = SurveyLines::new(alloc, out, err);
-            let survey = SurveyReports { words, has_columns };
-            survey_json(alloc, &survey, files, &mut lines, remarks)
+            survey_json(alloc, &reports_of(words, asked), files, streams, remarks)
         }
         Request::Print { entry } => print_entry(alloc, entry, files, remarks),
         Request::Common { first, second } => {
