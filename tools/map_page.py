@@ -19,6 +19,7 @@ PARTS = [
             "cur_commands",
             "ti_objects",
             "ti_reports",
+            "ti_members",
             "ti_surveys",
             "ti_repairs",
             "ti_mends",

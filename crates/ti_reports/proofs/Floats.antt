@@ -7,7 +7,7 @@ use Rattle.serde_json.specs.View.{items_of}
 use Rattle.serde_json.specs.Written.{has_float, items_have_float}
 use Rattle.ti_entries.specs.declared.columns.Columns.{Columns}
 use Rattle.ti_reports.specs.Reports.{column_data, end_column_data, end_line_data, hex_data, number_data, report_data, rule_data, text_data, truth_data, written_data}
-use Rattle.ti_reports.specs.declared.forms.Written.{Written}
+use Rattle.ti_members.specs.declared.forms.Written.{Written}
 use Rattle.ti_reports.specs.declared.reports.Report.{Report}
 use Rattle.ti_reports.specs.declared.reports.Verdict.{Verdict}
 use Rattle.ti_reports.specs.declared.reports.Verdict.TheVariants.{Yes, No, Refused, Advice}

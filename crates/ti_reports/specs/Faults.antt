@@ -5,14 +5,14 @@ use Rattle.ti_caps.specs.Entry.{Content, string_at}
 use Rattle.ti_caps.specs.Table.{name_at}
 use Rattle.ti_checker.specs.declared.causes.No.{No}
 use Rattle.ti_faults.specs.declared.mended.Mended.{Mended}
-use Rattle.ti_reports.specs.Explanations.{IsExplained}
-use Rattle.ti_reports.specs.Names.{AreAliases, HasName}
+use Rattle.ti_members.specs.Explanations.{IsExplained}
+use Rattle.ti_members.specs.Names.{AreAliases, HasName}
 use Rattle.ti_reports.specs.Reports.{IsNothing, report_line}
-use Rattle.ti_reports.specs.Sent.{IsSentText}
+use Rattle.ti_members.specs.Sent.{IsSentText}
 use Rattle.ti_reports.specs.Sources.{IsValuePlace, Whereabouts, whereabouts_of}
-use Rattle.ti_reports.specs.Spellings.{IsSpelling}
-use Rattle.ti_reports.specs.Suggestions.{AreFields, IsMendedFor, IsSuggested, is_judged, mended_with, other_kind}
-use Rattle.ti_reports.specs.Texts.{IsShownAs}
+use Rattle.ti_members.specs.Spellings.{IsSpelling}
+use Rattle.ti_members.specs.Suggestions.{AreFields, IsMendedFor, IsSuggested, is_judged, mended_with, other_kind}
+use Rattle.ti_members.specs.Texts.{IsShownAs}
 use Rattle.ti_reports.specs.declared.faults.Subject.{Subject}
 use Rattle.ti_reports.specs.declared.reports.Finding.{Finding}
 use Rattle.ti_reports.specs.declared.reports.Report.{Report}

@@ -1,14 +1,7 @@
 pub mod Checks
-pub mod Explanations
 pub mod Faults
 pub mod Findings
 pub mod Lacks
-pub mod Names
-pub mod Ran
 pub mod Reports
-pub mod Sent
 pub mod Sources
-pub mod Spellings
-pub mod Suggestions
 pub mod Surveys
-pub mod Texts

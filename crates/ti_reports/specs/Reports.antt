@@ -12,7 +12,7 @@ use Rattle.ti_reports.specs.declared.reports.Finding.{Finding}
 use Rattle.ti_reports.specs.declared.reports.Report.{Report}
 use Rattle.ti_reports.specs.declared.reports.Verdict.{Verdict}
 use Rattle.ti_reports.specs.declared.reports.Verdict.TheVariants.{Yes, No, Refused, Advice}
-use Rattle.ti_reports.specs.declared.forms.Written.{Written}
+use Rattle.ti_members.specs.declared.forms.Written.{Written}
 
 abbrev pub word_of : Verdict → List ℕ
 word_of Yes = codes "yes"

@@ -7,8 +7,8 @@ use Rattle.ti_commands.specs.declared.failure.CommandRefusal.TheVariants as refu
 use Rattle.ti_commands.specs.declared.sources.SourceText.{SourceText}
 use Rattle.ti_entries.specs.BadUses.{IsBadUse}
 use Rattle.ti_entries.specs.declared.columns.Columns.{Columns}
-use Rattle.ti_reports.specs.Names.{HasName}
-use Rattle.ti_reports.specs.declared.forms.Written.{Written}
+use Rattle.ti_members.specs.Names.{HasName}
+use Rattle.ti_members.specs.declared.forms.Written.{Written}
 use Rattle.ti_reports.specs.declared.lines.Standing.{Standing}
 use Rattle.ti_reports.specs.declared.lines.Standing.TheVariants.{Unsourced, Named, Placed}
 use Rattle.ti_reports.specs.declared.lines.ValuePlace.{ValuePlace}

@@ -11,7 +11,7 @@ use Rattle.ti_commands.specs.declared.failure.Failure.{Failure}
 use Rattle.ti_commands.specs.declared.failure.Reply.{Reply}
 use Rattle.ti_reports.specs.Faults.{AreFoundLines, HasWords, IsReportLine}
 use Rattle.ti_reports.specs.Findings.{AreFaults}
-use Rattle.ti_reports.specs.Names.{IsNameIf}
+use Rattle.ti_members.specs.Names.{IsNameIf}
 use Rattle.ti_reports.specs.Reports.{IsBare}
 use Rattle.ti_reports.specs.Sources.{IsNowhere, IsRefusalPlace, Whereabouts, by_place, fault_file}
 use Rattle.ti_reports.specs.declared.lines.ValuePlace.{ValuePlace}

@@ -3,15 +3,13 @@
 ghost use Rattle.std.specs.Prelude.{IfOk};
 ghost use Rattle.ti_reports.specs.Faults as spec;
 
-use crate::explanations::Explanation;
 use crate::faults::Subject;
 use crate::lines::ValuePlace;
-use crate::names::{entry_aliases, entry_name};
 use crate::reports::{Finding, Report, Verdict, report_line};
-use crate::texts::text_of;
 use std::alloc::{AllocError, Global};
 use ti_checker::No;
 use ti_hints::{advice_on, unchecked_advice};
+use ti_members::{Explanation, entry_aliases, entry_name, text_of};
 use ti_surveys::is_part;
 
 /// A line for each piece of advice on the `subject`, which has the faults `nos`: on what is never seen, if there are

@@ -4,23 +4,21 @@ ghost use Rattle.std.specs.Prelude.{IfOk, string_bytes};
 ghost use Rattle.ti_caps.specs.Table.{name_at};
 ghost use Rattle.ti_reports.specs.Faults as spec;
 ghost use Rattle.ti_reports.specs.Sources.{IsThere, whereabouts_of};
-ghost use Rattle.ti_reports.specs.Texts.{IsShownAs};
+ghost use Rattle.ti_members.specs.Texts.{IsShownAs};
 ghost use Rattle.ti_verdicts.specs.Parts.{HasParts};
 ghost use Rattle.ti_verdicts.specs.Refusals.{cause_name};
 
 use crate::advice::advice_lines;
-use crate::explanations::explained;
 use crate::lines::{Standing, value_place};
-use crate::names::{entry_aliases, entry_name};
 use crate::reports::{Finding, Report, Verdict, report_line};
-use crate::sent::sent_text;
-use crate::spellings::own_string;
-use crate::suggestions::{is_judged, mended_if, other_kind, suggested, suggested_with};
-use crate::texts::text_of;
 use std::alloc::{AllocError, Global};
 use ti_caps::{Cap, Entry, name};
 use ti_checker::{Cause, No};
 use ti_faults::Mended;
+use ti_members::{
+    entry_aliases, entry_name, explained, is_judged, mended_if, other_kind, own_string, sent_text,
+    suggested, suggested_with, text_of,
+};
 use ti_surveys::is_part;
 use ti_verdicts::{cause_name, explain_no};
 use ti_words::{NO_RESYNC, Remarks};

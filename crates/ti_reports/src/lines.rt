@@ -1,18 +1,17 @@
 //! The place of a value in a source text.
 
 ghost use Rattle.std.specs.Prelude.{◌≡◌, ◌<◌, ◌==◌, IfOk, IfSome, None, Some, if◌then◌else◌, length, option_map};
-ghost use Rattle.ti_reports.specs.Names.{IsNameOf};
+ghost use Rattle.ti_members.specs.Names.{IsNameOf};
 ghost use Rattle.ti_reports.specs.Sources as spec;
 ghost use Rattle.ti_resolve.specs.Uses.{names_at};
 ghost use Rattle.ti_verdicts.specs.Locations.{first_name, place_if, place_in};
 ghost use Rattle.ti_verdicts.specs.Spots.{line_of};
 
-use crate::forms::Written;
-use crate::names::name_of;
 use std::alloc::{AllocError, Global};
 use ti_caps::Cap;
 use ti_commands::CommandRefusal;
 use ti_entries::Columns;
+use ti_members::{Written, name_of};
 use ti_resolve::Origin;
 use ti_source::RawEntry;
 use ti_verdicts::{FieldPlace, NamedSource, SourcePlace, first_name};

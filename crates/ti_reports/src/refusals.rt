@@ -8,11 +8,10 @@ ghost use Rattle.ti_verdicts.specs.Locations.{place_if};
 
 use crate::asked::Asked;
 use crate::lines::{ValuePlace, refusal_place};
-use crate::names::name_if;
 use crate::reports::{Finding, Report, Verdict, report_line};
-use crate::texts::text_of;
 use std::alloc::{AllocError, Global};
 use ti_commands::refusal_words;
+use ti_members::{name_if, text_of};
 use ti_resolve::Origin;
 use ti_surveys::Lacking;
 

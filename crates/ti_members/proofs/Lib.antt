@@ -1,0 +1,5 @@
+pub mod FieldFacts
+pub mod NameFacts
+pub mod Sends
+pub mod ShownFacts
+pub mod SpelledFacts

@@ -1,0 +1,7 @@
+pub mod Explanations
+pub mod Names
+pub mod Ran
+pub mod Sent
+pub mod Spellings
+pub mod Suggestions
+pub mod Texts

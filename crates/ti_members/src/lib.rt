@@ -1,0 +1,20 @@
+//! Members of the objects that a report has: names and strings in two forms, a run in words, a suggestion.
+#![tactic(auto)]
+
+mod explanations;
+mod forms;
+mod looks;
+mod names;
+mod ran;
+mod sent;
+mod spellings;
+mod suggestions;
+mod texts;
+
+pub use explanations::{Explanation, explained};
+pub use forms::Written;
+pub use names::{entry_aliases, entry_name, name_if, name_of};
+pub use sent::sent_text;
+pub use spellings::own_string;
+pub use suggestions::{is_judged, mended_if, other_kind, suggested, suggested_with};
+pub use texts::text_of;
