@@ -21,7 +21,7 @@ ends_name (b ∷ rest) = is_mark b || list_all is_white (b ∷ rest)
 unfoldable pub is_named : List ℕ → List ℕ → Bool
 is_named name field = bytes_eq (take (length name) field) name && ends_name (drop (length name) field)
 
--- the columns of what a comma ends, without the white space before it, where the line has so many bytes before it
+-- the columns of what a comma ends, without the white space before it, where the line has a number of bytes before it
 abbrev pub columns_of_part : ℕ → List ℕ → Columns
 columns_of_part before part = record {
   start = before + (length part - length (skip_white part)) + 1;
@@ -58,3 +58,13 @@ line_in lines (suc place) = or_empty (slice_get lines place)
 -- the first field about a capability on the line of a text with a number
 unfoldable pub columns_of : List ℕ → ℕ → ℕ → Option Columns
 columns_of text number cap = columns_on (line_in (lines_of text) number) cap
+
+-- ---- the bytes of a field
+
+-- the bytes of a line from one column up to another, as far as the line has them
+unfoldable pub piece_on : List ℕ → Columns → List ℕ
+piece_on line columns = take (columns.end - columns.start) (drop (columns.start - 1) line)
+
+-- the bytes between these columns on the line of a text with a number
+unfoldable pub piece_of : List ℕ → ℕ → Columns → List ℕ
+piece_of text number columns = piece_on (line_in (lines_of text) number) columns

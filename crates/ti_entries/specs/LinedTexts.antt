@@ -28,6 +28,6 @@ numbered fields = map (λ field. field.line) (firsts fields)
 abbrev pub numbers_of : List ℕ → List (List ℕ)
 numbers_of text = map numbered (blocks_from 1 (lines_of text)).entries
 
--- the line of a field, if so many lines come before those that were counted
+-- the line of a field, if this number of lines comes before those that were counted
 abbrev pub line_behind : ℕ → FieldLine → ℕ
 line_behind before field = before + field.line

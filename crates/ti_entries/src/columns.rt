@@ -1,6 +1,6 @@
 //! The columns of a field in its line.
 
-ghost use Rattle.std.specs.Prelude.{◌≡◌, ◌≤◌, ◌<◌, ◌+◌, [], length, IfNone, IfSome};
+ghost use Rattle.std.specs.Prelude.{◌≡◌, ◌≤◌, ◌<◌, ◌+◌, [], drop, length, take, IfNone, IfSome};
 ghost use Rattle.std.specs.List.{list_all};
 ghost use Rattle.ti_entries.specs.Columns as spec;
 ghost use Rattle.ti_source.specs.Layout.{cut_of, is_white, put_field, skip_white};
@@ -83,8 +83,8 @@ fn is_named(name: &[u8], field: &[u8]) -> bool
     }
 }
 
-/// The columns of `part`, which a comma ends, without the white space before it, where the line has so many bytes
-/// `before` it.
+/// The columns of `part`, which a comma ends, without the white space before it, where the line has this number of
+/// bytes `before` it.
 #[tactic(auto, using(crate::proofs::FirstColumns::skipped_shorter))]
 fn columns_of_part(before: usize, part: &[u8]) -> Columns
     requires { before + length part.now + 1 ≤ 18446744073709551615 }
@@ -97,7 +97,7 @@ fn columns_of_part(before: usize, part: &[u8]) -> Columns
     }
 }
 
-/// The columns of the first field about `cap` of `rest`, the part of a line behind so many bytes `before` it.
+/// The columns of the first field about `cap` of `rest`, the part of a line behind this number of bytes `before` it.
 #[tactic(auto, using(crate::proofs::FirstColumns::found, crate::proofs::FirstColumns::passed_over, crate::proofs::FirstColumns::none_left))]
 fn columns_behind(before: usize, rest: &[u8], cap: Cap) -> Option<Columns>
     requires { before + length rest.now ≤ 18446744073709551615 }
@@ -136,4 +136,35 @@ pub(crate) fn columns_on(line: &[u8], cap: Cap) -> Option<Columns>
     } else {
         columns_behind(0, line, cap)
     }
+}
+
+/// The `bytes` behind the first `count`.
+fn behind(bytes: &[u8], count: usize) -> &[u8]
+    ensures { result.now ≡ drop count bytes.now }
+{
+    if count < bytes.len() {
+        &bytes[count..]
+    } else {
+        &[]
+    }
+}
+
+/// The first `count` of the `bytes`, or all if there are fewer.
+fn first(bytes: &[u8], count: usize) -> &[u8]
+    ensures { result.now ≡ take count bytes.now }
+{
+    if count < bytes.len() {
+        &bytes[..count]
+    } else {
+        bytes
+    }
+}
+
+/// The bytes of `line` between these `columns`, as far as it has them.
+#[tactic(auto, unfolding(crate::specs::Columns::piece_on))]
+pub(crate) fn piece_on(line: &[u8], columns: Columns) -> &[u8]
+    ensures { result.now ≡ spec.piece_on line.now columns }
+{
+    let rest = behind(line, columns.start.saturating_sub(1));
+    first(rest, columns.end.saturating_sub(columns.start))
 }

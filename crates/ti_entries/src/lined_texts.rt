@@ -4,10 +4,10 @@ ghost use Rattle.std.specs.Prelude.{◌≡◌, ◌≤◌, ◌+◌, IfOk, length,
 ghost use Rattle.std.specs.List.{AllByRecursion};
 ghost use Rattle.ti_source.specs.Layout.{lines_of};
 ghost use Rattle.ti_source.specs.Lines.{field_lines_of};
-ghost use Rattle.ti_entries.specs.Columns.{columns_of, line_in, or_empty};
+ghost use Rattle.ti_entries.specs.Columns.{columns_of, line_in, or_empty, piece_of};
 ghost use Rattle.ti_entries.specs.LinedTexts as spec;
 
-use crate::columns::{Columns, columns_on};
+use crate::columns::{Columns, columns_on, piece_on};
 use std::alloc::{AllocError, Global};
 use std::marker::Model;
 use ti_caps::Cap;
@@ -66,6 +66,14 @@ impl<'a> LinedText<'a> {
         ensures { result ≡ columns_of self.now number cap }
     {
         columns_on(line_at(self.all.as_slice(), number), cap)
+    }
+
+    /// The bytes between these `columns` of the line with this `number`, as far as the text has them.
+    #[tactic(auto, unfolding(crate::specs::Columns::piece_of))]
+    pub fn piece(&self, number: usize, columns: Columns) -> &'a [u8]
+        ensures { result.now ≡ piece_of self.now number columns }
+    {
+        piece_on(line_at(self.all.as_slice(), number), columns)
     }
 }
 
@@ -132,8 +140,8 @@ fn numbers_of(alloc: Global, text: &[u8]) -> Result<Vec<Vec<usize>>, AllocError>
     Ok(all)
 }
 
-/// The lines of the fields of the first entry of `text`, if so many lines come `before` it. Reads the text up to the
-/// end of that entry.
+/// The lines of the fields of the first entry of `text`, if this number of lines comes `before` it. Reads the text up to
+/// the end of that entry.
 fn first_numbers(alloc: Global, before: usize, text: &[u8]) -> Result<Vec<usize>, AllocError>
     requires { before + length text.now ≤ 18446744073709551615 }
     ensures { IfOk result (λ own. own.items ≡ map (spec.line_behind before) (field_lines_of text.now 0)) }
@@ -142,7 +150,7 @@ fn first_numbers(alloc: Global, before: usize, text: &[u8]) -> Result<Vec<usize>
     lines_behind(alloc, before, fields.as_slice())
 }
 
-/// The lines of these `fields`, if so many lines come `before` those that were counted.
+/// The lines of these `fields`, if this number of lines comes `before` those that were counted.
 fn lines_behind(
     alloc: Global,
     before: usize,
