@@ -28,9 +28,9 @@ use ti_wrapped::{Beside, Wrapped};
 
 /// The output of a command, and the standard error.
 #[derive(Drop)]
-struct Streams<'a, O, E> {
+struct Streams<'a, 'b, O, E> {
     out: &'a mut O,
-    err: &'a mut E,
+    err: &'b mut E,
 }
 
 /// Carries out the `words` after the program's own name. The answer goes to `out`, notes and the
@@ -47,7 +47,10 @@ pub fn command<F: Files + Sources, O: Write, E: Write + IsTerminal>(
 {
     let mut remarks = Remarks::new(alloc);
     let mut out = Written::new(out);
-    let mut streams = Streams { out: &mut out, err };
+    let mut streams = Streams {
+        out: &mut out,
+        err: &mut *err,
+    };
     match perform(alloc, words, files, &mut streams, &mut remarks) {
         Ok(()) => {
             let _ = remarks.write(err);
@@ -62,7 +65,7 @@ fn perform<F: Files + Sources, O: Output, E: Write + IsTerminal>(
     alloc: Global,
     words: &[String],
     files: &mut F,
-    streams: &mut Streams<'_, O, E>,
+    streams: &mut Streams<'_, '_, O, E>,
     remarks: &mut Remarks,
 ) -> Result<(), Failure> {
     match parse_line(alloc, words) {
@@ -176,7 +179,7 @@ fn survey_plainly<F: Files, O: Output, E: Write + IsTerminal>(
     alloc: Global,
     survey: &Survey<'_, Checker>,
     files: &mut F,
-    streams: &mut Streams<'_, O, E>,
+    streams: &mut Streams<'_, '_, O, E>,
     remarks: &mut Remarks,
 ) -> Result<Reply, Failure> {
     let mut lines = SurveyLines::new(alloc, streams.out, streams.err);
@@ -200,7 +203,7 @@ fn survey_json<F: Files, O: Output, E: Write + IsTerminal>(
     alloc: Global,
     survey: &SurveyReports<'_>,
     files: &mut F,
-    streams: &mut Streams<'_, O, E>,
+    streams: &mut Streams<'_, '_, O, E>,
     remarks: &mut Remarks,
 ) -> Result<Reply, Failure> {
     let mut lines = SurveyLines::new(alloc, streams.out, streams.err);
@@ -214,7 +217,7 @@ fn reply_in_form<F: Files + Sources, O: Output, E: Write + IsTerminal>(
     alloc: Global,
     asked: &Asked<'_>,
     files: &mut F,
-    streams: &mut Streams<'_, O, E>,
+    streams: &mut Streams<'_, '_, O, E>,
     remarks: &mut Remarks,
 ) -> Result<Reply, Failure> {
     if !is_formed(asked) {
@@ -224,7 +227,7 @@ fn reply_in_form<F: Files + Sources, O: Output, E: Write + IsTerminal>(
     let mut out = Written::new(&mut lines);
     let mut kept = Streams {
         out: &mut out,
-        err: streams.err,
+        err: &mut *streams.err,
     };
     let reply = reply_by(alloc, asked, files, &mut kept, remarks)?;
     formed(alloc, asked, files, lines, reply, remarks)
@@ -235,7 +238,7 @@ fn reply_by<F: Files + Sources, O: Output, E: Write + IsTerminal>(
     alloc: Global,
     asked: &Asked<'_>,
     files: &mut F,
-    streams: &mut Streams<'_, O, E>,
+    streams: &mut Streams<'_, '_, O, E>,
     remarks: &mut Remarks,
 ) -> Result<Reply, Failure> {
     if asked.fixes {
@@ -256,7 +259,7 @@ fn reply_to<F: Files, O: Output, E: Write + IsTerminal>(
     alloc: Global,
     asked: &Asked<'_>,
     files: &mut F,
-    streams: &mut Streams<'_, O, E>,
+    streams: &mut Streams<'_, '_, O, E>,
     remarks: &mut Remarks,
 ) -> Result<Reply, Failure> {
     match &asked.request {
