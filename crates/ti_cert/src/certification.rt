@@ -291,7 +291,8 @@ fn judged_table(alloc: Global, entry: &Entry, size: Size) -> Result<Table, Certi
 /// A program that keeps a certificate has it from `check`, and gives it to [`verify`](crate::verify).
 ///
 /// # Errors
-/// `Refused` if the entry has no certificate, or if its text may have more than 60,000,000 bytes; `check` says why.
+/// `Refused` if the entry has no certificate, if the lines about its capabilities may have more than 60,000,000 bytes,
+/// or if its pairs of alternate characters have more than 1,000,000; `check` says why.
 /// `NoMemory` if memory runs out.
 pub fn certify(alloc: Global, entry: &Entry, size: Size) -> Result<Checked, CertifyFault>
     ensures text { IfOk result (spec.HasText size.rows size.cols) }

@@ -88,7 +88,7 @@ struct Needs<'a> {
     subject: &'a [u8],
     /// Their names.
     names: &'a [&'a [u8]],
-    /// What follows if any of them is missing.
+    /// The words for the outcome if any of them is missing.
     outcome: &'a [u8],
 }
 

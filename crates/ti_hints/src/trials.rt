@@ -138,7 +138,7 @@ enum Outcome {
 #[derive(Clone, Copy)]
 struct Run<'a> {
     outcome: Outcome,
-    /// What the string should have done.
+    /// The words for the effect that the string should have had.
     words: &'a [u8],
 }
 

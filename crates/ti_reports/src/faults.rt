@@ -179,7 +179,7 @@ fn fault_report(
     })
 }
 
-/// What is found of `no`, one of the faults `nos` of the `subject`, which is `mended`.
+/// The finding about `no`, one of the faults `nos` of the `subject`, which is `mended`.
 fn finding_of(
     alloc: Global,
     subject: &Subject<'_, '_>,

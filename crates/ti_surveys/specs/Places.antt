@@ -8,7 +8,7 @@ use Rattle.ti_verdicts.specs.Locations.{PlacedText}
 unfoldable pub is_same : PlacedText → PlacedText → Bool
 is_same first other = bytes_eq first.place other.place && bytes_eq first.fault other.fault
 
--- a comma and the name of an entry, if its fault is the first one at its place
+-- a comma and the name of another entry, if it has the first fault too
 abbrev pub name_if_same : PlacedText → PlacedText → List ℕ
 name_if_same first other = if is_same first other then codes ", " ++ other.name else []
 
