@@ -128,6 +128,11 @@ pub record IsStandardLine (row : Row) (text : List ℕ) : Type 0 where
   pub has : HasForm row
   pub text_is : text ≡ line_text (standard_line row)
 
+-- the string is the standard's for the row
+pub record IsStandardFor (row : Row) (string : List ℕ) : Type 0 where
+  pub has : HasForm row
+  pub is : string ≡ standard_string row
+
 -- the string is the standard's for the row, and the text is that of the line with the bytes that it sends
 pub record IsStandardText (row : Row) (string text : List ℕ) : Type 0 where
   pub has : HasForm row

@@ -1,7 +1,7 @@
 //! The control sequences with numbers that the standard's strings send.
 
 ghost use Rattle.arrayvec.specs.ArrayVec.{array_vec_len};
-ghost use Rattle.std.specs.Prelude.{◌≡◌, ◌++◌, ◌+◌, ◌<◌, ◌≤◌, IfSome, IsTrue};
+ghost use Rattle.std.specs.Prelude.{◌≡◌, ◌++◌, ◌+◌, ◌<◌, ◌≤◌, IfNone, IfSome, IsTrue, false, true};
 ghost use Rattle.ti_conforms.specs.Sends.{Sends};
 ghost use Rattle.ti_forms.specs.Forms as spec;
 
@@ -71,15 +71,17 @@ fn with_numbers(first: u16, second: u16, last: u8) -> Form
 
 /// Whether a screen can have this number of rows or columns.
 pub(crate) fn is_short(number: u16) -> bool
-    ensures { IsTrue result → number ≤ 500 }
+    ensures short { result ≡ true → number ≤ 500 }
+    ensures long { result ≡ false → 500 < number }
 {
     number <= 500
 }
 
 /// Whether a number of rows or columns is above 0, and a screen can have it.
 pub(crate) fn is_count(number: u16) -> bool
-    ensures some { IsTrue result → 1 ≤ number }
-    ensures short { IsTrue result → number ≤ 500 }
+    ensures some { result ≡ true → 1 ≤ number }
+    ensures short { result ≡ true → number ≤ 500 }
+    ensures other { result ≡ false → 1 ≤ number → 500 < number }
 {
     1 <= number && number <= 500
 }
@@ -91,6 +93,7 @@ pub(crate) fn form_of(row: Row) -> Option<Form>
     ensures bytes { IfSome result (λ form. spec.bytes_of form ≡ spec.standard_bytes row) }
     ensures first { IfSome result (λ form. form.first < 1000) }
     ensures second { IfSome result (λ form. IfSome form.second (λ number. number < 1000)) }
+    ensures none { IfNone result (spec.HasForm row → ⊥) }
 {
     match row {
         Row::Cup(line, column) if is_short(line) && is_short(column) => {
@@ -112,7 +115,8 @@ pub(crate) fn form_of(row: Row) -> Option<Form>
 
 /// Whether `string` is the standard's string of the row's capability.
 pub(crate) fn is_standard(string: &[u8], row: Row) -> bool
-    ensures { IsTrue result → string.now ≡ spec.standard_string row }
+    ensures yes { result ≡ true → string.now ≡ spec.standard_string row }
+    ensures no { result ≡ false → spec.IsStandardFor row string.now → ⊥ }
 {
     match row {
         Row::Cup(_, _) => string == b"\x1b[%i%p1%d;%p2%dH".as_slice(),

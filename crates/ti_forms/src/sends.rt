@@ -1,8 +1,8 @@
 //! The bytes that a string sends for a row.
 
-ghost use Rattle.std.specs.Prelude.{◌≡◌, ◌<◌, IfErr, IfOk, IfSome, IsTrue, OnOk};
+ghost use Rattle.std.specs.Prelude.{◌≡◌, ◌<◌, IfErr, IfOk, IfSome, OnOk, false, true};
 ghost use Rattle.ti_conforms.specs.Sends.{IsUnsent, Sends};
-ghost use Rattle.ti_forms.specs.Forms.{IsStandardSent, bytes_of};
+ghost use Rattle.ti_forms.specs.Forms.{IsStandardFor, IsStandardSent, bytes_of};
 
 use crate::forms::{Form, form_of, form_sent, is_standard};
 use std::alloc::{AllocError, Global};
@@ -43,16 +43,23 @@ pub fn send_into(
     }
 }
 
-/// Whether `string` is the standard's for the row's capability: then the content of `bytes` is replaced by what it sends
-/// for `row`, which has the row's standard effect. If not, `bytes` stays. Fails if memory runs out.
+/// Whether `string` is the standard's for the row's capability, and the row's numbers are ones that a screen can have:
+/// then the content of `bytes` is replaced by what it sends for `row`, which has the row's standard effect. If not,
+/// `bytes` stays.
+///
+/// # Errors
+/// Fails if memory runs out. The content of `bytes` is then unspecified.
 pub fn standard_into(string: &[u8], row: Row, bytes: &mut Vec<u8>) -> Result<bool, AllocError>
-    ensures { IfOk result (λ standard. IsTrue standard → IsStandardSent row string.now bytes.new.items) }
+    ensures sent { IfOk result (λ standard. standard ≡ true → IsStandardSent row string.now bytes.new.items) }
+    ensures other { IfOk result (λ standard. standard ≡ false → IsStandardFor row string.now → ⊥) }
+    ensures kept { IfOk result (λ standard. standard ≡ false → bytes.new ≡ bytes.old) }
 {
-    match form_of(row) {
-        Some(form) if is_standard(string, row) => match form_into(form, bytes) {
-            Ok(()) => Ok(true),
-            Err(fault) => Err(fault),
-        },
-        _ => Ok(false),
+    let Some(form) = form_of(row) else {
+        return Ok(false);
+    };
+    if !is_standard(string, row) {
+        return Ok(false);
     }
+    form_into(form, bytes)?;
+    Ok(true)
 }

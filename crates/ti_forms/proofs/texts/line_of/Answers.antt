@@ -5,16 +5,16 @@ use Rattle.ti_forms.proofs.LineTexts.{standard_text}
 use Rattle.ti_forms.proofs.texts.line_of.Goals as goal
 
 pub returns-in-Cup : goal.returns-in-Cup
-returns-in-Cup c = record { has = ToPlace c.in-Cup.line c.in-Cup.column c.in-Cup.is (c.if-is_short.ensures refl) (c.if-is_short-2.ensures refl); text_is = standard_text c.args.row (Cup c.in-Cup.line c.in-Cup.column) _ c.in-Cup.is c.cup_line.ensures }
+returns-in-Cup c = record { has = ToPlace c.in-Cup.line c.in-Cup.column c.in-Cup.is (c.if-is_short.ensures.short refl) (c.if-is_short-2.ensures.short refl); text_is = standard_text c.args.row (Cup c.in-Cup.line c.in-Cup.column) _ c.in-Cup.is c.cup_line.ensures }
 
 pub returns-in-Csr : goal.returns-in-Csr
-returns-in-Csr c = record { has = Bounding c.in-Csr.top c.in-Csr.bottom c.in-Csr.is (c.if-is_short-5.ensures refl) (c.if-is_short-6.ensures refl); text_is = standard_text c.args.row (Csr c.in-Csr.top c.in-Csr.bottom) _ c.in-Csr.is c.csr_line.ensures }
+returns-in-Csr c = record { has = Bounding c.in-Csr.top c.in-Csr.bottom c.in-Csr.is (c.if-is_short-5.ensures.short refl) (c.if-is_short-6.ensures.short refl); text_is = standard_text c.args.row (Csr c.in-Csr.top c.in-Csr.bottom) _ c.in-Csr.is c.csr_line.ensures }
 
 pub returns-in-Hpa : goal.returns-in-Hpa
-returns-in-Hpa c = record { has = ToColumn c.in-Hpa.column c.in-Hpa.is (c.if-is_short-3.ensures refl); text_is = standard_text c.args.row (Hpa c.in-Hpa.column) _ c.in-Hpa.is c.hpa_line.ensures }
+returns-in-Hpa c = record { has = ToColumn c.in-Hpa.column c.in-Hpa.is (c.if-is_short-3.ensures.short refl); text_is = standard_text c.args.row (Hpa c.in-Hpa.column) _ c.in-Hpa.is c.hpa_line.ensures }
 
 pub returns-in-Vpa : goal.returns-in-Vpa
-returns-in-Vpa c = record { has = ToLine c.in-Vpa.line c.in-Vpa.is (c.if-is_short-4.ensures refl); text_is = standard_text c.args.row (Vpa c.in-Vpa.line) _ c.in-Vpa.is c.vpa_line.ensures }
+returns-in-Vpa c = record { has = ToLine c.in-Vpa.line c.in-Vpa.is (c.if-is_short-4.ensures.short refl); text_is = standard_text c.args.row (Vpa c.in-Vpa.line) _ c.in-Vpa.is c.vpa_line.ensures }
 
 pub returns-in-Cub : goal.returns-in-Cub
 returns-in-Cub c = record { has = Left c.in-Cub.count c.in-Cub.is (c.if-is_count.ensures.some refl) (c.if-is_count.ensures.short refl); text_is = standard_text c.args.row (Cub c.in-Cub.count) _ c.in-Cub.is c.cub_line.ensures }
