@@ -1,5 +1,6 @@
 -- The lines that a draft has are those of a text that is accepted.
-use Rattle.std.proofs.Common.{◌≡◌, ◌<◌, ◌≤◌, ◌+◌, ◌*◌, ℕ, true, List, [], ◌∷◌, ◌++◌, length, reverse, is_some, Option, Some, None, Ok, refl, sym, ap, subst, ◌∙◌, arith, append-nil}
+use Rattle.std.proofs.Common.{◌≡◌, ◌==◌, ◌<◌, ◌≤◌, ◌+◌, ◌*◌, ℕ, true, false, not, List, [], ◌∷◌, ◌++◌, length, reverse, is_some, Option, Some, None, Ok, inl, inr, refl, sym, ap, subst, ◌∙◌, arith, append-nil, below_more}
+use Rattle.std.proofs.lemmas.Bool.{eq-eqb, false≢true, or_left, or_right}
 use Rattle.std.specs.List.{AllByRecursion}
 use Rattle.std.proofs.lemmas.List.{reverse-reverse}
 use Rattle.hex.specs.Hex.{lower_digits}
@@ -7,31 +8,36 @@ use Rattle.hex.proofs.HexLemmas.{length-encode_with}
 use Rattle.vt_effects.specs.declared.effects.Effect.{Effect}
 use Rattle.vt_term.specs.Size.{IsSize}
 use Rattle.ti_caps.specs.Entry.{Content, IsEntry, string_at, value_at}
-use Rattle.ti_conforms.specs.Entries.{acsc}
+use Rattle.ti_conforms.proofs.Matches.{same_checked}
+use Rattle.ti_conforms.specs.Entries.{EntryAgrees, LineAgrees, acsc, is_checked, string_of}
+use Rattle.ti_conforms.specs.Sends.{Sends}
 use Rattle.ti_lines.specs.declared.row_lines.RowLine.{RowLine}
 use Rattle.ti_lines.specs.Heads.{size_text, acsc_text}
 use Rattle.ti_lines.specs.Hex.{hex_text}
 use Rattle.ti_lines.specs.RowLines.{line_text, IsLine}
 use Rattle.ti_lines.specs.Texts.{acsc_lines, row_lines, ended, IsAcsc}
-use Rattle.ti_forms.specs.Forms.{HasForm, IsOfForm, standard_bytes, standard_effect, standard_line}
+use Rattle.ti_forms.proofs.FormSends.{form_sends}
+use Rattle.ti_forms.specs.Forms.{IsOfForm, IsStandardSent, standard_bytes, standard_effect, standard_line}
 use Rattle.ti_forms.proofs.LineTexts.{line_short}
-use Rattle.ti_rows.specs.Names.{order}
+use Rattle.ti_rows.proofs.NameFacts.{orders_small}
+use Rattle.ti_rows.specs.Lists.{IsInRange}
+use Rattle.ti_rows.specs.Names.{capabilities, order, string_in_order}
 use Rattle.ti_rows.specs.declared.rows.Row.{Row}
 use Rattle.ti_cert.specs.Audits.{TellsNow, Tells, Stands, Steps, AnswersRow, AnswersLast, Starts, IsTableMade}
-use Rattle.ti_cert.specs.Certification.{HasText, text_bytes, Follow, most, ArePairsShort, IsDraft, GoesOn, TakesRoom, IsFinished}
-use Rattle.ti_cert.specs.Certificates.{Said, Nothing, Listing, Ended, JudgesRow, JudgesLast, IsAnswer, limit}
+use Rattle.ti_cert.specs.Certification.{HasText, text_bytes, Follow, most, ArePairsShort, IsSent, AreSent, HasCaps, IsDraft, IsDraftWith, AddsLine, AddsSent, AddsCaps, TakesRoom, IsFinished}
+use Rattle.ti_cert.specs.Certificates.{Said, Nothing, Listing, Ended, JudgesRow, JudgesLast, IsAnswer, limit, speaks_of}
 use Rattle.ti_cert.specs.Clashes.{GoesTogether, OfLines}
 use Rattle.ti_cert.specs.Known.{Known, Holds}
-use Rattle.ti_cert.specs.Order.{IsComplete}
+use Rattle.ti_cert.specs.Order.{GivesBytes, HasLine, IsComplete, IsLacking}
 use Rattle.ti_cert.specs.Places.{place_fault}
-use Rattle.ti_cert.specs.Strings.{Adds, allows, group_at, row_string, total}
+use Rattle.ti_cert.specs.Strings.{Adds, allows, group_at, has_group, row_string, total}
 use Rattle.ti_cert.specs.Table.{CheckedTable}
 use Rattle.ti_cert.specs.Texts.{IsCertificate, StandInOrder, StandsNext}
 use Rattle.ti_cert.specs.declared.audits.Awaited.{Awaited}
 use Rattle.ti_cert.specs.declared.audits.Awaited.TheVariants as lines_awaited
 use Rattle.ti_cert.specs.declared.audits.Progress.{Progress}
 use Rattle.ti_cert.specs.declared.certification.Draft.{Draft}
-use Rattle.ti_cert.proofs.AuditSteps.{row_stands_at, sized, stands_at}
+use Rattle.ti_cert.proofs.AuditSteps.{has_cap, row_stands_at, sized, stands_at}
 use Rattle.ti_cert.proofs.BasicLines.{size_is, size_short}
 use Rattle.ti_cert.proofs.Converse.{accepted_certificate}
 use Rattle.ti_cert.proofs.Spellings.{line_is, pairs_are}
@@ -46,8 +52,8 @@ starts_at p lines_awaited.Acsc t = absurd t
 starts_at p lines_awaited.Rows t = absurd t
 starts_at p (lines_awaited.Ended settled) t = absurd t
 
-pub begins : (rows cols : ℕ) (pairs : Option (List ℕ)) (p : Progress) (d : Draft) → Starts rows cols p → d.progress ≡ record p { acsc = pairs } → d.room ≡ most → IsDraft rows cols pairs d
-begins rows cols pairs p d s same room =
+pub begins : (rows cols : ℕ) (entry : Content) (p : Progress) (d : Draft) → Starts rows cols p → ArePairsShort (string_at entry acsc) → d.progress ≡ record p { acsc = string_at entry acsc } → d.room ≡ most → IsDraft rows cols entry 0 d
+begins rows cols entry p d s short same room =
     let st : Stands p [] = starts_at p p.awaited s.tells in
     record {
       lines = [];
@@ -55,8 +61,11 @@ begins rows cols pairs p d s same room =
       rows_are = ap (λ (x : Progress). x.size.rows) same ∙ s.rows;
       cols_are = ap (λ (x : Progress). x.size.cols) same ∙ s.cols;
       pairs_are = ap (λ (x : Progress). x.acsc) same;
+      short = short;
       follow = tt;
       few = omega (arith, room);
+      sent = λ line a. absurd a;
+      caps = λ row lt c. absurd (omega (arith, lt));
     }
 
 listing_at : (p : Progress) (awaited : Awaited) (pairs : Option (List ℕ)) (lines : List RowLine) → Tells p awaited (Listing pairs lines) → Stands p lines × (p.acsc ≡ pairs)
@@ -65,29 +74,50 @@ listing_at p lines_awaited.First pairs lines t = absurd t
 listing_at p lines_awaited.Acsc pairs lines t = absurd t
 listing_at p (lines_awaited.Ended settled) pairs lines t = absurd t
 
+-- each line before is one that the entry sends, and so is this one
+sent_with : (entry : Content) (line : RowLine) (lines : List RowLine) → IsSent entry line.row line.bytes → AreSent entry lines → AreSent entry (line ∷ lines)
+sent_with entry line lines is sent one (inl same) = subst (λ (l : RowLine). IsSent entry l.row l.bytes) (sym same) is
+sent_with entry line lines is sent one (inr a) = sent one a
+
+-- the capabilities that had lines have them still, and so has that of the new line
+caps_with : (entry : Content) (n : ℕ) (p q : Progress) (line : RowLine) (lines : List RowLine) → Stands p lines → Stands q (line ∷ lines) → HasCaps entry n p → HasCaps entry n q
+caps_with entry n p q line lines before after caps row lt checked =
+    after.lists.groups row ∙ or_right (order row == order line.row) (speaks_of lines row) (sym (before.lists.groups row) ∙ caps row lt checked)
+
+own_cap : (q : Progress) (line : RowLine) (lines : List RowLine) → Stands q (line ∷ lines) → has_group q.known.strings line.row ≡ true
+own_cap q line lines after = after.lists.groups line.row ∙ or_left (order line.row == order line.row) (speaks_of lines line.row) (eq-eqb (order line.row) (order line.row) refl)
+
 -- one more line that stands, whose text fits into the room
 pub pushed : (old mid taken new : Draft) (row : Row) (effect : Effect) (a b : List ℕ) (q : Progress) (room : List ℕ) → mid.progress ≡ record old.progress { room = room } → mid.room ≡ old.room → a ≡ b
-    → TakesRoom (record { row = row; bytes = a; effect = effect }) mid taken → AnswersRow taken.progress (record { row = row; bytes = b; effect = effect }) (Ok q) → new.progress ≡ q → new.room ≡ taken.room → GoesOn old new
-pushed old mid taken new row effect a b q room is_mid room_mid bytes_same takes answers same room_new = λ rows cols pairs d.
+    → TakesRoom (record { row = row; bytes = a; effect = effect }) mid taken → AnswersRow taken.progress (record { row = row; bytes = b; effect = effect }) (Ok q) → new.progress ≡ q → new.room ≡ taken.room → AddsLine row b old new
+pushed old mid taken new row effect a b q room is_mid room_mid bytes_same takes answers same room_new = λ rows cols entry n sent d.
     let line : RowLine = record { row = row; bytes = b; effect = effect } in
     let p : Progress = taken.progress in
     let is : p ≡ record old.progress { room = room } = takes.same ∙ is_mid in
     let taken_of : taken.room + (length (line_text line) + 1) ≤ mid.room = subst (λ (x : List ℕ). taken.room + (length (line_text (record { row = row; bytes = x; effect = effect })) + 1) ≤ mid.room) bytes_same takes.taken in
     let before : Stands p d.lines = subst (λ (x : Progress). Stands x d.lines) (sym is) (record { rows = d.stands.rows; cols = d.stands.cols; holds = d.stands.holds; lists = d.stands.lists; place = d.stands.place }) in
+    let pairs : Option (List ℕ) = string_at entry acsc in
     let s : Steps q p.size.rows p.size.cols (JudgesRow p.size.rows p.size.cols d.lines line (Listing pairs (line ∷ d.lines))) = answers pairs d.lines before (ap (λ (x : Progress). x.acsc) is ∙ d.pairs_are) in
     let r = row_passes p.size.rows p.size.cols d.lines line (Listing pairs (line ∷ d.lines)) s.after s.judges in
     let t = listing_at q q.awaited pairs (line ∷ d.lines) (subst (λ (x : Said). TellsNow q x) r.1 s.tells) in
+    let after : Stands new.progress (line ∷ d.lines) = subst (λ (x : Progress). Stands x (line ∷ d.lines)) (sym same) t.0 in
     let rows_same : p.size.rows ≡ rows = ap (λ (x : Progress). x.size.rows) is ∙ d.rows_are in
     let cols_same : p.size.cols ≡ cols = ap (λ (x : Progress). x.size.cols) is ∙ d.cols_are in
     let f = d.few in
     record {
-      lines = line ∷ d.lines;
-      stands = subst (λ (x : Progress). Stands x (line ∷ d.lines)) (sym same) t.0;
-      rows_are = ap (λ (x : Progress). x.size.rows) same ∙ (s.rows ∙ rows_same);
-      cols_are = ap (λ (x : Progress). x.size.cols) same ∙ (s.cols ∙ cols_same);
-      pairs_are = ap (λ (x : Progress). x.acsc) same ∙ t.1;
-      follow = (sized (λ r c. StandsNext r c d.lines line) p.size.rows p.size.cols rows cols rows_same cols_same r.0, d.follow);
-      few = omega (arith, f, taken_of, room_mid, room_new);
+      draft = record {
+        lines = line ∷ d.lines;
+        stands = after;
+        rows_are = ap (λ (x : Progress). x.size.rows) same ∙ (s.rows ∙ rows_same);
+        cols_are = ap (λ (x : Progress). x.size.cols) same ∙ (s.cols ∙ cols_same);
+        pairs_are = ap (λ (x : Progress). x.acsc) same ∙ t.1;
+        short = d.short;
+        follow = (sized (λ r c. StandsNext r c d.lines line) p.size.rows p.size.cols rows cols rows_same cols_same r.0, d.follow);
+        few = omega (arith, f, taken_of, room_mid, room_new);
+        sent = sent_with entry line d.lines sent d.sent;
+        caps = caps_with entry n old.progress new.progress line d.lines d.stands after d.caps;
+      };
+      has = own_cap new.progress line d.lines after;
     }
 
 -- the line of a standard string stands
@@ -102,14 +132,15 @@ standard_stands p q row bytes new last is form fits place adds looks holds after
     row_stands_at p (standard_line row) p p.known bytes t.tokens (standard_effect row) p.known.looks new refl refl form.bytes_are here t.splits t.has refl t.looks_are adds looks holds last after p.scanner p.room
 
 -- one more line with a standard string
-pub standard_pushed : (old new : Draft) (row : Row) (q : Progress) → HasForm row → AnswersRow old.progress (standard_line row) (Ok q) → new.progress ≡ q → new.room + 65 ≤ old.room → GoesOn old new
-standard_pushed old new row q has answers same taken =
-    let short : length (line_text (standard_line row)) ≤ 64 = line_short row has in
-    pushed old old (record old { room = new.room }) new row (standard_effect row) (standard_bytes row) (standard_bytes row) q old.progress.room refl refl refl (record { same = refl; taken = omega (arith, short, taken) }) answers same refl
+pub standard_pushed : (old new : Draft) (row : Row) (bytes : List ℕ) (q : Progress) → IsOfForm row bytes → AnswersRow old.progress (standard_line row) (Ok q) → new.progress ≡ q → new.room + 65 ≤ old.room → AddsLine row bytes old new
+standard_pushed old new row bytes q form answers same taken =
+    let short : length (line_text (standard_line row)) ≤ 64 = line_short row form.has in
+    subst (λ (b : List ℕ). AddsLine row b old new) (sym form.bytes_are)
+    (pushed old old (record old { room = new.room }) new row (standard_effect row) (standard_bytes row) (standard_bytes row) q old.progress.room refl refl refl (record { same = refl; taken = omega (arith, short, taken) }) answers same refl)
 
 -- the memory in which bytes are made doesn't matter
-pub rebuffered : (old mid new : Draft) → mid.progress ≡ old.progress → mid.room ≡ old.room → GoesOn mid new → GoesOn old new
-rebuffered old mid new same room on = λ rows cols pairs d. on rows cols pairs (
+rebuffered : (old mid : Draft) (rows cols : ℕ) (entry : Content) (n : ℕ) → mid.progress ≡ old.progress → mid.room ≡ old.room → IsDraft rows cols entry n old → IsDraft rows cols entry n mid
+rebuffered old mid rows cols entry n same room d =
     let f = d.few in
     record {
       lines = d.lines;
@@ -117,10 +148,74 @@ rebuffered old mid new same room on = λ rows cols pairs d. on rows cols pairs (
       rows_are = ap (λ (x : Progress). x.size.rows) same ∙ d.rows_are;
       cols_are = ap (λ (x : Progress). x.size.cols) same ∙ d.cols_are;
       pairs_are = ap (λ (x : Progress). x.acsc) same ∙ d.pairs_are;
+      short = d.short;
       follow = d.follow;
       few = omega (arith, f, room);
+      sent = d.sent;
+      caps = subst (λ (x : Progress). HasCaps entry n x) (sym same) d.caps;
     }
-    )
+
+-- the string of a checked row sends these bytes
+sent_by : (entry : Content) (row : Row) (string bytes : List ℕ) → string_of entry row ≡ Some string → is_checked entry row ≡ true → Sends string row bytes → IsSent entry row bytes
+sent_by entry row string bytes there checked sends = record {
+  checked = checked;
+  sends = record { string = string; there = there; sends = record { bytes = bytes; sends = sends; line_has = refl } };
+}
+
+-- a line of this string is a line that it sends
+pub adds_judged : (string bytes : List ℕ) (row : Row) (old new : Draft) → Sends string row bytes → AddsLine row bytes old new → AddsSent string row old new
+adds_judged string bytes row old new sends adds = λ rows cols entry n there checked d. adds rows cols entry n (sent_by entry row string bytes there checked sends) d
+
+-- the line of a standard string
+pub adds_standard : (string bytes : List ℕ) (row : Row) (old mid new : Draft) → mid.progress ≡ old.progress → mid.room ≡ old.room → IsStandardSent row string bytes → AddsLine row bytes mid new → AddsSent string row old new
+adds_standard string bytes row old mid new same room is adds = λ rows cols entry n there checked d.
+    adds rows cols entry n (sent_by entry row string bytes there checked (form_sends string row bytes is.form.has is.string_is is.form.bytes_are)) (rebuffered old mid rows cols entry n same room d)
+
+-- the line of any other string
+pub adds_other : (string : List ℕ) (row : Row) (old mid new : Draft) → mid.progress ≡ old.progress → mid.room ≡ old.room → AddsSent string row mid new → AddsSent string row old new
+adds_other string row old mid new same room adds = λ rows cols entry n there checked d. adds rows cols entry n there checked (rebuffered old mid rows cols entry n same room d)
+
+-- one capability has one string
+same_string : (entry : Content) (row other : Row) → order row ≡ order other → string_of entry row ≡ string_of entry other
+same_string entry row other e = ap (λ (n : ℕ). string_at entry (83 + string_in_order n)) e
+
+-- whether a capability has lines is told by its place in the order
+at_order : (p : Progress) (row other : Row) → order row ≡ order other → has_group p.known.strings other ≡ true → has_group p.known.strings row ≡ true
+at_order p row other same h = subst (λ (k : ℕ). not (length (group_at p.known.strings k) == 0) ≡ true) (sym same) h
+
+-- the string of one row is that of the next
+pub adds_next : (string : List ℕ) (first row : Row) (old mid new : Draft) → order row ≡ order first → ((rows cols : ℕ) (entry : Content) (n : ℕ) → string_of entry first ≡ Some string → is_checked entry first ≡ true → IsDraft rows cols entry n old → IsDraft rows cols entry n mid)
+    → AddsSent string row mid new → AddsSent string first old new
+adds_next string first row old mid new same before adds = λ rows cols entry n there checked d.
+    let a : IsDraftWith rows cols entry n row new = adds rows cols entry n (same_string entry row first same ∙ there) (same_checked entry row first same ∙ checked) (before rows cols entry n there checked d) in
+    record { draft = a.draft; has = at_order new.progress first row (sym same) a.has }
+
+-- the capability at the next place has lines too, if it is checked
+more_caps : (rows cols : ℕ) (entry : Content) (first : Row) (d : Draft) → IsDraft rows cols entry (order first) d → (is_checked entry first ≡ true → has_group d.progress.known.strings first ≡ true) → IsDraft rows cols entry (order first + 1) d
+more_caps rows cols entry first d draft own =
+    let At : ℕ → Type 0 = λ k. (row : Row) → order row ≡ k → is_checked entry row ≡ true → has_group d.progress.known.strings row ≡ true in
+    let here : At (order first) = λ row same checked. at_order d.progress row first same (own (sym (same_checked entry row first same) ∙ checked)) in
+    let below : (k : ℕ) → k < order first → At k = λ k lt row same checked. draft.caps row (omega (arith, lt, same)) checked in
+    record {
+      lines = draft.lines;
+      stands = draft.stands;
+      rows_are = draft.rows_are;
+      cols_are = draft.cols_are;
+      pairs_are = draft.pairs_are;
+      short = draft.short;
+      follow = draft.follow;
+      few = draft.few;
+      sent = draft.sent;
+      caps = λ row lt checked. below_more At (order first) below here (order row) lt row refl checked;
+    }
+
+pub skips_cap : (entry : Content) (first : Row) (d : Draft) → is_checked entry first ≡ false → AddsCaps entry (order first) (order first + 1) d d
+skips_cap entry first d unchecked = λ rows cols draft. more_caps rows cols entry first d draft (λ checked. absurd (false≢true (sym unchecked ∙ checked)))
+
+pub adds_cap : (entry : Content) (first : Row) (string : List ℕ) (old new : Draft) → is_checked entry first ≡ true → string_of entry first ≡ Some string → AddsSent string first old new → AddsCaps entry (order first) (order first + 1) old new
+adds_cap entry first string old new checked there adds = λ rows cols draft.
+    let a : IsDraftWith rows cols entry (order first) first new = adds rows cols entry (order first) there checked draft in
+    more_caps rows cols entry first new a.draft (λ c. a.has)
 
 -- ---- all lines in the order of a text
 
@@ -181,8 +276,9 @@ certificate rows cols pairs lines size acsc short follow complete few = record {
 }
 
 -- the last line
-pub finishes : (rows cols : ℕ) (pairs : Option (List ℕ)) (d : Draft) (q : Progress) → IsSize rows cols → IsAcsc pairs → ArePairsShort pairs → IsDraft rows cols pairs d → AnswersLast d.progress (Ok q) → IsFinished rows cols pairs q
-finishes rows cols pairs d q size acsc short draft answers =
+pub finishes : (rows cols : ℕ) (entry : Content) (d : Draft) (q : Progress) → IsSize rows cols → IsEntry entry → IsDraft rows cols entry capabilities d → AnswersLast d.progress (Ok q) → IsFinished rows cols entry q
+finishes rows cols entry d q size is draft answers =
+    let pairs : Option (List ℕ) = string_at entry acsc in
     let s : Steps q d.progress.size.rows d.progress.size.cols (JudgesLast d.progress.size.rows d.progress.size.cols pairs draft.lines) = answers pairs draft.lines draft.stands draft.pairs_are in
     let l = last_passes d.progress.size.rows d.progress.size.cols pairs draft.lines s.after s.judges in
     let tells : TellsNow q (Ended pairs draft.lines) = subst (λ (x : Said). TellsNow q x) l.2 s.tells in
@@ -197,27 +293,61 @@ finishes rows cols pairs d q size acsc short draft answers =
       rows_are = s.rows ∙ draft.rows_are;
       cols_are = s.cols ∙ draft.cols_are;
       pairs_are = st.1;
+      sent = draft.sent;
+      caps = λ row checked. st.0.lists.groups row ∙ (sym (draft.stands.lists.groups row) ∙ draft.caps row (orders_small row) checked);
+      complete = complete;
       text = text_of rows cols pairs draft.lines;
       says = subst (λ (ls : List RowLine). IsAnswer rows cols (text_of rows cols pairs draft.lines) (Ok (Ended pairs ls))) (reverse-reverse draft.lines)
           (accepted_certificate rows cols (text_of rows cols pairs draft.lines) pairs (reverse draft.lines)
-          (certificate rows cols pairs draft.lines size acsc short draft.follow complete (omega (arith, f)))
+          (certificate rows cols pairs draft.lines size (pairs_are (value_at entry acsc) (is.bytes acsc)) draft.short draft.follow complete (omega (arith, f)))
           (subst (λ (ls : List RowLine). OfLines rows cols ls (λ t. GoesTogether (is_some pairs) t)) (sym (reverse-reverse draft.lines)) together));
     }
 
 -- the last line, behind those that the entry's strings have
-pub finished : (entry : Content) (rows cols : ℕ) (pairs : Option (List ℕ)) (old new : Draft) (q : Progress) → IsSize rows cols → IsEntry entry → pairs ≡ string_at entry acsc → ArePairsShort pairs → IsDraft rows cols pairs old → GoesOn old new
-    → AnswersLast new.progress (Ok q) → IsFinished rows cols pairs q
-finished entry rows cols pairs old new q size is same short draft on answers =
-    finishes rows cols pairs new q size (subst IsAcsc (sym same) (pairs_are (value_at entry acsc) (is.bytes acsc))) short (on rows cols pairs draft) answers
+pub finished : (entry : Content) (rows cols : ℕ) (old new : Draft) (q : Progress) → IsSize rows cols → IsEntry entry → IsDraft rows cols entry 0 old → AddsCaps entry 0 capabilities old new → AnswersLast new.progress (Ok q) → IsFinished rows cols entry q
+finished entry rows cols old new q size is draft adds answers = finishes rows cols entry new q size is (adds rows cols draft) answers
+
+-- ---- the lines are those of the entry
+
+-- the line of a row, if there is one, is sent
+given_sent : (entry : Content) (p : Progress) (lines : List RowLine) (row : Row) (bytes : List ℕ) → Stands p lines → AreSent entry lines → row_string p.known.strings row ≡ Some bytes → IsSent entry row bytes
+given_sent entry p lines row bytes stands sent there =
+    let g : GivesBytes lines row bytes = stands.lists.found row bytes there in
+    subst (λ (r : Row). IsSent entry r bytes) g.of_row (subst (λ (b : List ℕ). IsSent entry g.line.row b) g.bytes_are (sent g.line g.among))
+
+-- no line is about a row for which there are no bytes
+not_given : (p : Progress) (lines : List RowLine) (row : Row) → Stands p lines → row_string p.known.strings row ≡ None → HasLine lines row → ⊥
+not_given p lines row stands none h =
+    let some : row_string p.known.strings row ≡ Some h.line.bytes = subst (λ (r : Row). row_string p.known.strings r ≡ Some h.line.bytes) h.of_row (stands.lists.kept h.line h.among) in
+    let no : None ≡ Some h.line.bytes = sym none ∙ some in
+    absurd cc
+
+-- the lines are those that the entry sends
+pub finished_agrees : (rows cols : ℕ) (entry : Content) (p : Progress) → IsFinished rows cols entry p → EntryAgrees rows cols entry (λ row. row_string p.known.strings row)
+finished_agrees rows cols entry p f = λ row range. agrees_on row range (row_string p.known.strings row) refl
+  where
+    lacking : (row : Row) → IsInRange rows cols row → is_checked entry row ≡ true → row_string p.known.strings row ≡ None → IsLacking rows cols f.whole.lines None row
+    lacking row range checked none = record {
+      range = range;
+      absent = not_given p f.whole.lines row f.stands none;
+      before = tt;
+      due = inr (inl (has_cap f.whole.lines row row refl (sym (f.stands.lists.groups row) ∙ f.caps row checked)));
+    }
+
+    agrees_on : (row : Row) → IsInRange rows cols row → (line : Option (List ℕ)) → row_string p.known.strings row ≡ line → LineAgrees entry line row
+    agrees_on row range (Some bytes) there =
+        let s : IsSent entry row bytes = given_sent entry p f.whole.lines row bytes f.stands f.sent there in
+        record { checked = λ c. s.sends; unchecked = λ u. absurd (false≢true (sym u ∙ s.checked)) }
+    agrees_on row range None none = record { checked = λ c. absurd (f.complete row (lacking row range c none)); unchecked = λ u. refl }
 
 -- ---- the table
 
-pub sizes_in_table : (rows cols : ℕ) (pairs : Option (List ℕ)) (q : Progress) (table : CheckedTable) → IsFinished rows cols pairs q → IsTableMade q table → (table.known.strings.rows ≡ rows) × (table.known.strings.cols ≡ cols)
-sizes_in_table rows cols pairs q table f made =
+pub sizes_in_table : (rows cols : ℕ) (entry : Content) (q : Progress) (table : CheckedTable) → IsFinished rows cols entry q → IsTableMade q table → (table.known.strings.rows ≡ rows) × (table.known.strings.cols ≡ cols)
+sizes_in_table rows cols entry q table f made =
     (ap (λ (k : Known). k.strings.rows) made.known ∙ (f.stands.rows ∙ f.rows_are), ap (λ (k : Known). k.strings.cols) made.known ∙ (f.stands.cols ∙ f.cols_are))
 
-pub has_text : (rows cols : ℕ) (pairs : Option (List ℕ)) (q : Progress) (table : CheckedTable) → IsFinished rows cols pairs q → IsTableMade q table → HasText rows cols table
-has_text rows cols pairs q table f made = record {
+pub has_text : (rows cols : ℕ) (entry : Content) (q : Progress) (table : CheckedTable) → IsFinished rows cols entry q → IsTableMade q table → HasText rows cols table
+has_text rows cols entry q table f made = record {
   text = f.text;
   is = record {
     lines = f.whole.lines;
@@ -227,9 +357,19 @@ has_text rows cols pairs q table f made = record {
   };
 }
 
-pub few_in_table : (rows cols : ℕ) (pairs : Option (List ℕ)) (q : Progress) (table : CheckedTable) → IsFinished rows cols pairs q → IsTableMade q table → total table.known.strings < limit
-few_in_table rows cols pairs q table f made =
-    let few = few_bytes rows cols f.text pairs f.whole.lines f.says in
+pub few_in_table : (rows cols : ℕ) (entry : Content) (q : Progress) (table : CheckedTable) → IsFinished rows cols entry q → IsTableMade q table → total table.known.strings < limit
+few_in_table rows cols entry q table f made =
+    let few = few_bytes rows cols f.text (string_at entry acsc) f.whole.lines f.says in
     let is = f.stands.lists.total_is in
     let same : total table.known.strings ≡ total q.known.strings = ap (λ (k : Known). total k.strings) made.known in
     omega (arith, few, is, same)
+
+pub acsc_in_table : (rows cols : ℕ) (entry : Content) (q : Progress) (table : CheckedTable) → IsFinished rows cols entry q → IsTableMade q table → table.acsc ≡ string_at entry acsc
+acsc_in_table rows cols entry q table f made = made.acsc ∙ f.pairs_are
+
+pub agrees_in_table : (rows cols : ℕ) (entry : Content) (q : Progress) (table : CheckedTable) → IsFinished rows cols entry q → IsTableMade q table
+    → EntryAgrees table.known.strings.rows table.known.strings.cols entry (λ row. row_string table.known.strings row)
+agrees_in_table rows cols entry q table f made =
+    let sizes = sizes_in_table rows cols entry q table f made in
+    subst (λ (k : Known). EntryAgrees table.known.strings.rows table.known.strings.cols entry (λ row. row_string k.strings row)) (sym made.known)
+    (sized (λ r c. EntryAgrees r c entry (λ row. row_string q.known.strings row)) rows cols table.known.strings.rows table.known.strings.cols (sym sizes.0) (sym sizes.1) (finished_agrees rows cols entry q f))

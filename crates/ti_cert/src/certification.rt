@@ -1,29 +1,29 @@
 //! A table of an entry's strings, made without the text of a certificate.
 
-ghost use Rattle.std.specs.Prelude.{◌≡◌, ◌<◌, IfOk, OnOk};
+ghost use Rattle.std.specs.Prelude.{◌≡◌, ◌+◌, ◌<◌, IfOk, OnOk};
 ghost use Rattle.ti_caps.specs.Entry.{string_at};
-ghost use Rattle.ti_conforms.specs.Conforms.{Conforms};
+ghost use Rattle.ti_conforms.specs.Conforms.{Conforms, IsFit};
 ghost use Rattle.ti_conforms.specs.Entries as entries;
 ghost use Rattle.ti_conforms.specs.Judged.{IsJudged};
 ghost use Rattle.ti_conforms.specs.Looks.{LooksStand};
 ghost use Rattle.ti_forms.specs.Forms.{IsOfForm};
 ghost use Rattle.ti_rows.specs.Lists.{IsFirst};
+ghost use Rattle.ti_rows.specs.Names.{capabilities, order};
 ghost use Rattle.ti_cert.specs.Certificates.{limit};
 ghost use Rattle.ti_cert.specs.Certification as spec;
-ghost use Rattle.ti_cert.specs.Strings.{total};
+ghost use Rattle.ti_cert.specs.Strings.{row_string, total};
 ghost use Rattle.ti_cert.specs.Table.{table_of};
 ghost use Rattle.ti_cert.specs.Verified.{Resyncs};
 
-use crate::agreement::agrees;
 use crate::audits::Progress;
-use crate::faults::{AgreeFault, CertFaultKind};
+use crate::faults::CertFaultKind;
 use crate::table::Table;
 use crate::tokens::row_effect;
 use crate::verification::Checked;
 use std::alloc::{AllocError, Global};
 use std::mem;
 use ti_caps::{Bytes, Entry};
-use ti_conforms::{SendFault, acsc, is_checked};
+use ti_conforms::{SendFault, acsc, first_unfit, is_checked};
 use ti_forms::{push_row_line, send_into, standard_into};
 use ti_lines::RowLine;
 use ti_rows::{CAPABILITIES, Row};
@@ -47,30 +47,26 @@ impl From<AllocError> for CertifyFault {
 
 impl From<CertFaultKind> for CertifyFault {
     fn from(kind: CertFaultKind) -> CertifyFault {
-        if matches!(kind, CertFaultKind::NoMemory) {
-            CertifyFault::NoMemory
-        } else {
-            CertifyFault::Refused
+        match kind {
+            CertFaultKind::NoMemory => CertifyFault::NoMemory,
+            CertFaultKind::BadLine
+            | CertFaultKind::Missing(_, _)
+            | CertFaultKind::OutOfOrder
+            | CertFaultKind::NotWhole
+            | CertFaultKind::NotTame
+            | CertFaultKind::NotShown
+            | CertFaultKind::NoResync
+            | CertFaultKind::BadLook
+            | CertFaultKind::ReadFailed => CertifyFault::Refused,
         }
     }
 }
 
 impl From<SendFault> for CertifyFault {
     fn from(fault: SendFault) -> CertifyFault {
-        if matches!(fault, SendFault::NoMemory) {
-            CertifyFault::NoMemory
-        } else {
-            CertifyFault::Refused
-        }
-    }
-}
-
-impl From<AgreeFault> for CertifyFault {
-    fn from(fault: AgreeFault) -> CertifyFault {
-        if matches!(fault, AgreeFault::NoMemory) {
-            CertifyFault::NoMemory
-        } else {
-            CertifyFault::Refused
+        match fault {
+            SendFault::NoMemory => CertifyFault::NoMemory,
+            SendFault::Fault(_) | SendFault::StaticRead => CertifyFault::Refused,
         }
     }
 }
@@ -99,6 +95,16 @@ struct Draft {
     words: Vec<u8>,
 }
 
+/// Refuses an entry that can have no certificate.
+fn check_fit(entry: &Entry) -> Result<(), CertifyFault>
+    ensures { OnOk result (IsFit entry.now) }
+{
+    match first_unfit(entry) {
+        None => Ok(()),
+        Some(_) => Err(CertifyFault::Refused),
+    }
+}
+
 /// The entry's pairs of alternate characters. Refuses more than [`MOST_PAIRS`] bytes.
 fn pairs_of(alloc: Global, entry: &Entry) -> Result<Option<Bytes>, CertifyFault>
     ensures same { IfOk result (λ pairs. pairs ≡ string_at entry.now entries.acsc) }
@@ -125,12 +131,12 @@ fn effect_of(
 }
 
 impl Draft {
-    /// No lines about capabilities yet.
-    fn new(alloc: Global, size: Size, pairs: Option<Bytes>) -> Result<Draft, AllocError>
-        ensures { IfOk result (spec.IsDraft size.rows size.cols pairs) }
+    /// No lines about capabilities yet, for `entry`. Refuses pairs of alternate characters that are too long.
+    fn new(alloc: Global, entry: &Entry, size: Size) -> Result<Draft, CertifyFault>
+        ensures { IfOk result (spec.IsDraft size.rows size.cols entry.now 0) }
     {
         let mut progress = Progress::new(alloc, size)?;
-        progress.acsc = pairs;
+        progress.acsc = pairs_of(alloc, entry)?;
         Ok(Draft {
             progress,
             room: MOST,
@@ -160,7 +166,7 @@ impl Draft {
     /// Adds the line of `row` with the draft's `bytes`, which must be those of its standard string.
     fn push_standard(&mut self, row: Row) -> Result<(), CertifyFault>
         requires { IsOfForm row self.old.bytes.items }
-        ensures { OnOk result (spec.GoesOn self.old self.new) }
+        ensures { OnOk result (spec.AddsLine row self.old.bytes.items self.old self.new) }
     {
         let room = self.room;
         if room < LONGEST {
@@ -173,7 +179,7 @@ impl Draft {
 
     /// Judges the bytes that `string` sends for `row`, and adds their line.
     fn push_judged(&mut self, alloc: Global, string: &[u8], row: Row) -> Result<(), CertifyFault>
-        ensures { OnOk result (spec.GoesOn self.old self.new) }
+        ensures { OnOk result (spec.AddsSent string.now row self.old self.new) }
     {
         let room = mem::replace(&mut self.progress.room, Bytes::from_vec(Vec::new(alloc)));
         let mut bytes = room.into_vec();
@@ -190,7 +196,7 @@ impl Draft {
 
     /// Adds the line of `row`, for which `string` sends the bytes. Nothing of the standard's strings has to be judged.
     fn push_row(&mut self, alloc: Global, string: &[u8], row: Row) -> Result<(), CertifyFault>
-        ensures { OnOk result (spec.GoesOn self.old self.new) }
+        ensures { OnOk result (spec.AddsSent string.now row self.old self.new) }
     {
         let standard = standard_into(string, row, &mut self.bytes)?;
         if standard {
@@ -209,7 +215,7 @@ impl Draft {
         size: Size,
     ) -> Result<(), CertifyFault>
         requires { IsFirst size.rows size.cols first }
-        ensures { OnOk result (spec.GoesOn self.old self.new) }
+        ensures { OnOk result (spec.AddsSent string.now first self.old self.new) }
     {
         let mut row = first;
         loop {
@@ -230,7 +236,7 @@ impl Draft {
         size: Size,
     ) -> Result<(), CertifyFault>
         requires { IsFirst size.rows size.cols first }
-        ensures { OnOk result (spec.GoesOn self.old self.new) }
+        ensures { OnOk result (spec.AddsCaps entry.now (order first) (order first + 1) self.old self.new) }
     {
         if !is_checked(entry, first) {
             return Ok(());
@@ -249,7 +255,8 @@ impl Draft {
         place: usize,
         size: Size,
     ) -> Result<(), CertifyFault>
-        ensures { OnOk result (spec.GoesOn self.old self.new) }
+        requires { place < capabilities }
+        ensures { OnOk result (spec.AddsCaps entry.now place (place + 1) self.old self.new) }
     {
         match Row::first(place) {
             Some(first) => self.push_cap(alloc, entry, first, size),
@@ -259,7 +266,7 @@ impl Draft {
 
     /// Adds the lines of all checked capabilities of the entry.
     fn push_caps(&mut self, alloc: Global, entry: &Entry, size: Size) -> Result<(), CertifyFault>
-        ensures { OnOk result (spec.GoesOn self.old self.new) }
+        ensures { OnOk result (spec.AddsCaps entry.now 0 capabilities self.old self.new) }
     {
         for place in 0..CAPABILITIES {
             self.push_at(alloc, entry, place, size)?;
@@ -276,11 +283,13 @@ fn judged_table(alloc: Global, entry: &Entry, size: Size) -> Result<Table, Certi
     ensures cols { IfOk result (λ table. table.known.strings.cols ≡ size.cols) }
     ensures few { IfOk result (λ table. total table.known.strings < limit) }
     ensures text { IfOk result (spec.HasText size.rows size.cols) }
+    ensures acsc { IfOk result (λ table. table.acsc ≡ string_at entry.now entries.acsc) }
+    ensures lines { IfOk result (λ table. entries.EntryAgrees table.known.strings.rows table.known.strings.cols entry.now
+        (λ row. row_string table.known.strings row)) }
 {
     // only this call's contract says that the entry's strings fit
     let _ = entry.names();
-    let pairs = pairs_of(alloc, entry)?;
-    let mut draft = Draft::new(alloc, size, pairs)?;
+    let mut draft = Draft::new(alloc, entry, size)?;
     draft.push_caps(alloc, entry, size)?;
     draft.progress.judge_end(alloc)?;
     Ok(draft.progress.into_table())
@@ -304,8 +313,8 @@ pub fn certify(alloc: Global, entry: &Entry, size: Size) -> Result<Checked, Cert
     ensures acsc { IfOk result (λ checked. checked.acsc ≡ string_at entry.now entries.acsc) }
     ensures resyncs { IfOk result (λ checked. Resyncs (table_of checked)) }
 {
+    check_fit(entry)?;
     let table = judged_table(alloc, entry, size)?;
-    agrees(alloc, &table, entry)?;
     match Checked::new(alloc, table) {
         Ok(checked) => Ok(checked),
         Err(_) => Err(CertifyFault::NoMemory),

@@ -8,18 +8,18 @@ use Rattle.ti_cert.proofs.Accepted.{verified, is_verified, agrees_at, resyncs}
 use Rattle.ti_cert.proofs.certification.certify.Goals as goal
 
 pub new-requires : goal.new-requires
-new-requires c = is_verified c.args.entry.now c.in_ok-table.table c.args.size.rows c.args.size.cols c.args.size.limits c.in_ok-agrees.ensures.fit c.in_ok-table.ensures.judged c.in_ok-table.ensures.looks c.in_ok-agrees.ensures.lines c.in_ok-table.ensures.rows c.in_ok-table.ensures.cols c.in_ok-table.ensures.few
+new-requires c = is_verified c.args.entry.now c.in_ok-table.table c.args.size.rows c.args.size.cols c.args.size.limits c.in_ok-check_fit.ensures c.in_ok-table.ensures.judged c.in_ok-table.ensures.looks c.in_ok-table.ensures.lines c.in_ok-table.ensures.rows c.in_ok-table.ensures.cols c.in_ok-table.ensures.few
 
 pub returns-in-Ok-clause-text : goal.returns-in-Ok-clause-text
 returns-in-Ok-clause-text c = subst (λ (t : CheckedTable). HasText c.args.size.rows c.args.size.cols t) (sym c.in-Ok.ensures) c.in_ok-table.ensures.text
 
 pub returns-in-Ok-clause-conforms : goal.returns-in-Ok-clause-conforms
-returns-in-Ok-clause-conforms c = verified c.args.entry.now c.in_ok-table.table c.args.size.rows c.args.size.cols c.in_ok-agrees.ensures.fit c.in_ok-table.ensures.judged c.in_ok-agrees.ensures.lines c.in_ok-table.ensures.rows c.in_ok-table.ensures.cols
+returns-in-Ok-clause-conforms c = verified c.args.entry.now c.in_ok-table.table c.args.size.rows c.args.size.cols c.in_ok-check_fit.ensures c.in_ok-table.ensures.judged c.in_ok-table.ensures.lines c.in_ok-table.ensures.rows c.in_ok-table.ensures.cols
 
 pub returns-in-Ok-clause-sends : goal.returns-in-Ok-clause-sends
 returns-in-Ok-clause-sends c = subst (λ (t : CheckedTable). EntryAgrees c.args.size.rows c.args.size.cols c.args.entry.now (λ row. row_string t.known.strings row)) (sym c.in-Ok.ensures)
-    (agrees_at c.args.entry.now c.in_ok-table.table c.args.size.rows c.args.size.cols c.in_ok-agrees.ensures.lines c.in_ok-table.ensures.rows c.in_ok-table.ensures.cols)
+    (agrees_at c.args.entry.now c.in_ok-table.table c.args.size.rows c.args.size.cols c.in_ok-table.ensures.lines c.in_ok-table.ensures.rows c.in_ok-table.ensures.cols)
 
 pub returns-in-Ok-clause-resyncs : goal.returns-in-Ok-clause-resyncs
 returns-in-Ok-clause-resyncs c = subst (λ (t : CheckedTable). Resyncs (table_of t)) (sym c.in-Ok.ensures)
-    (resyncs c.in_ok-table.table (is_verified c.args.entry.now c.in_ok-table.table c.args.size.rows c.args.size.cols c.args.size.limits c.in_ok-agrees.ensures.fit c.in_ok-table.ensures.judged c.in_ok-table.ensures.looks c.in_ok-agrees.ensures.lines c.in_ok-table.ensures.rows c.in_ok-table.ensures.cols c.in_ok-table.ensures.few))
+    (resyncs c.in_ok-table.table (is_verified c.args.entry.now c.in_ok-table.table c.args.size.rows c.args.size.cols c.args.size.limits c.in_ok-check_fit.ensures c.in_ok-table.ensures.judged c.in_ok-table.ensures.looks c.in_ok-table.ensures.lines c.in_ok-table.ensures.rows c.in_ok-table.ensures.cols c.in_ok-table.ensures.few))
