@@ -1,5 +1,5 @@
 -- The entries of the files of `--with`, behind those of a source.
-use Rattle.std.specs.Prelude.{◌≡◌, ◌⊎◌, ◌≤◌, ℕ, List, [], ◌∷◌, ◌++◌, String, length, map, string_bytes}
+use Rattle.std.specs.Prelude.{◌≡◌, ◌⊎◌, ◌≤◌, ℕ, List, [], ◌∷◌, ◌++◌, String, length, map, string_bytes, take}
 use Rattle.std.specs.declared.alloc.Global.{Global}
 use Rattle.ti_further.specs.Files.{AreRawsOf, LacksRaws, together}
 use Rattle.ti_further.specs.declared.files.FurtherFault.{FurtherFault}
@@ -112,3 +112,10 @@ pub record AreReached (held : Held) (own : List RawEntry) (paths : List (List �
   pub each : AreFurther held paths all.files lists
   pub raws_are : all.raws ≡ together (own ∷ lists)
   pub counts_are : all.counts ≡ map length (own ∷ lists)
+
+-- ---- the entries of the first file
+
+-- the entries of the first file among those put together, by how many entries each file has
+abbrev pub own_raws : List ℕ → List RawEntry → List RawEntry
+own_raws [] raws = []
+own_raws (own ∷ counts) raws = take own raws

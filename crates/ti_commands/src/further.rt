@@ -245,3 +245,15 @@ fn files_at<F: Files>(
     }
     Ok(further)
 }
+
+/// The entries of the first file among `raws`, those of several files, of which each has a number of entries among
+/// `counts`.
+pub fn own_raws<'a>(raws: &'a [RawEntry], counts: &[usize]) -> &'a [RawEntry]
+    ensures { result.now ≡ spec.own_raws counts.now raws.now }
+{
+    match counts {
+        [own, ..] if *own < raws.len() => &raws[..*own],
+        [_, ..] => raws,
+        [] => &[],
+    }
+}

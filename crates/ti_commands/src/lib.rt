@@ -25,7 +25,7 @@ pub use expansion::expand_string;
 pub use failure::{CommandRefusal, Failure, Reply, report, usage_error};
 pub use feeds::feed_file;
 pub use files::{FileCause, FileFault, Files, NewFile};
-pub use further::{PutTogether, further_failure, further_files, put_together};
+pub use further::{PutTogether, further_failure, further_files, own_raws, put_together};
 pub use output::{Output, Unwritten, Written};
 pub use refusals::{parm_name, refusal_words};
 pub use replies::{write_reply, write_text};

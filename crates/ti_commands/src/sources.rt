@@ -11,7 +11,7 @@ use crate::descriptions::entry_of;
 use crate::entries::{Found, find_in_source, path_and_name};
 use crate::failure::Failure;
 use crate::files::Files;
-use crate::further::PutTogether;
+use crate::further::{PutTogether, own_raws};
 use std::alloc::Global;
 use ti_caps::Entry;
 use ti_further::FurtherFile;
@@ -97,13 +97,5 @@ pub fn sourced_entry<'a, F: Files>(
             }),
         }),
         Err(refusal) => Err(Failure::Refused(refusal)),
-    }
-}
-
-/// The entries of the first file, by the `counts` of entries of each file.
-fn own_raws<'a>(raws: &'a [RawEntry], counts: &[usize]) -> &'a [RawEntry] {
-    match counts {
-        [own, ..] if *own <= raws.len() => raws.split_at(*own).0,
-        _ => raws,
     }
 }

@@ -83,10 +83,10 @@ fn is_named(name: &[u8], field: &[u8]) -> bool
     }
 }
 
-/// The columns of `part`, which a comma ends, without the white space before it, where the line has this number of
-/// bytes `before` it.
+/// The columns of `part`, which a comma or the line ends, without the white space before it, where the line has this
+/// number of bytes `before` it.
 #[tactic(auto, using(crate::proofs::FirstColumns::skipped_shorter))]
-fn columns_of_part(before: usize, part: &[u8]) -> Columns
+pub fn columns_of_part(before: usize, part: &[u8]) -> Columns
     requires { before + length part.now + 1 ≤ 18446744073709551615 }
     ensures { result ≡ spec.columns_of_part before part.now }
 {

@@ -46,8 +46,15 @@ impl<'a> LinedText<'a> {
         ensures { IfOk result (λ lined. lined ≡ text.now) }
     {
         let lines = numbers_of(alloc, text)?;
-        let all = all_lines(alloc, text)?;
+        let all = text_lines(alloc, text)?;
         Ok(LinedText { text, lines, all })
+    }
+
+    /// The lines of the text, without their ends.
+    pub fn lines(&self) -> &[&'a [u8]]
+        ensures { map (λ line. line.now) result.now ≡ lines_of self.now }
+    {
+        self.all.as_slice()
     }
 
     /// The line of the text that has the field at `origin`; 0 if there is no such field.
@@ -79,7 +86,7 @@ impl<'a> LinedText<'a> {
 
 /// The line with this `number`, counted from 1; empty if there is no such line.
 #[tactic(auto, using(crate::proofs::NumberedLines::line_numbered))]
-fn line_at<'a>(lines: &[&'a [u8]], number: usize) -> &'a [u8]
+pub fn line_at<'a>(lines: &[&'a [u8]], number: usize) -> &'a [u8]
     ensures { result.now ≡ line_in (map (λ line. line.now) lines.now) number }
 {
     if number == 0 {
@@ -98,9 +105,12 @@ fn line_or_empty<'a>(lines: &[&'a [u8]], place: usize) -> &'a [u8]
     }
 }
 
-/// The lines of `text`.
+/// The lines of `text`, without their ends.
+///
+/// # Errors
+/// Out of memory.
 #[tactic(auto, using(crate::proofs::NumberedLines::one_more, crate::proofs::NumberedLines::all_of))]
-fn all_lines<'a>(alloc: Global, text: &'a [u8]) -> Result<Vec<&'a [u8]>, AllocError>
+pub fn text_lines<'a>(alloc: Global, text: &'a [u8]) -> Result<Vec<&'a [u8]>, AllocError>
     ensures { IfOk result (λ all. map (λ line. line.now) all.items ≡ lines_of text.now) }
 {
     let mut all = Vec::new(alloc);

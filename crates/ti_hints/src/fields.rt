@@ -1,5 +1,8 @@
 //! The fields of a line of source text, for messages.
 
+ghost use Rattle.std.specs.Prelude.{◌≡◌, ◌<◌, ◌++◌, ◌∷◌, IfSome, length, slice_index};
+ghost use Rattle.ti_source.specs.Marks.{comma};
+
 use ti_caps::{Kind, by_name, kind};
 use ti_source::FaultKind;
 
@@ -48,6 +51,11 @@ impl FieldText<'_> {
             is_escaped = !is_escaped && *byte == b'\\';
         }
         None
+    }
+
+    /// Whether the field's value has `%^`.
+    pub fn has_caret(&self) -> bool {
+        self.value.windows(2).any(|pair| pair == b"%^".as_slice())
     }
 
     /// Whether the field has the fault `fault`.
@@ -106,6 +114,26 @@ pub fn faulty_field(line: &[u8], fault: FaultKind) -> Option<FieldText<'_>> {
 
 /// The first field of `rest`, the rest of a line, and the part after its comma.
 pub fn next_field(rest: &[u8]) -> (FieldText<'_>, &[u8]) {
+    match cut_comma(rest) {
+        Some((field, behind)) => (split(field), behind),
+        None => (split(rest), &[]),
+    }
+}
+
+/// The part of `rest` before the comma that ends its first field, and the part behind that comma; `None` if there is no
+/// such comma.
+pub(crate) fn cut_comma(rest: &[u8]) -> Option<(&[u8], &[u8])>
+    ensures { IfSome result (λ x. rest.now ≡ x.0.now ++ comma ∷ x.1.now) }
+{
+    let at = field_end(rest)?;
+    Some((&rest[..at], &rest[at + 1..]))
+}
+
+/// The place of the first comma without a backslash.
+fn field_end(rest: &[u8]) -> Option<usize>
+    ensures range { IfSome result (λ at. at < length rest.now) }
+    ensures mark { IfSome result (λ at. slice_index rest.now at ≡ comma) }
+{
     let mut is_escaped = false;
     for (at, byte) in rest.iter().enumerate() {
         if is_escaped {
@@ -113,14 +141,14 @@ pub fn next_field(rest: &[u8]) -> (FieldText<'_>, &[u8]) {
         } else if *byte == b'\\' {
             is_escaped = true;
         } else if *byte == b',' {
-            return (split(&rest[..at]), &rest[at + 1..]);
+            return Some(at);
         }
     }
-    (split(rest), &[])
+    None
 }
 
 /// The parts of `field`.
-fn split(field: &[u8]) -> FieldText<'_> {
+pub(crate) fn split(field: &[u8]) -> FieldText<'_> {
     let text = field.trim_ascii();
     match text
         .iter()

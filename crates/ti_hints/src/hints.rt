@@ -1,243 +1,212 @@
 //! Hints about fields of a source text that do nothing, or not what they seem to.
 
-use crate::fields::{FieldText, next_field};
+ghost use Rattle.std.specs.Prelude.{◌≡◌, ◌<◌, ◌≤◌, ◌+◌, IfOk, IfSome, OnOk, length, map, slice_get};
+ghost use Rattle.std.specs.List.{AllByRecursion};
+ghost use Rattle.ti_hints.specs.Places as spec;
+
+use crate::fields::FieldText;
+use crate::places::{PlacedField, placed_fields};
 use std::alloc::{AllocError, Global};
-use ti_caps::{CAPABILITIES, by_name, name};
-use ti_source::{Field, Hint, RawEntry, percent_carets};
-use ti_words::Remarks;
+use ti_caps::{CAPABILITIES, Cap, by_name, name};
+use ti_entries::{Columns, line_at};
+use ti_source::{RawEntry, percent_carets};
 
-/// Adds a hint, as far as there is memory, for each field of the entry `entry` among `raws`, and of the entries that it
-/// uses, that has a name of no capability, a name that its entry has had before, an escape without a meaning, or `%^`.
-/// `raws` are the entries of the source text `text`.
-pub fn hint_entry(
+/// The kind of a hint.
+#[derive(Clone, Copy, Debug, PartialEq, Eq)]
+pub enum HintKind {
+    /// The field's name is that of no capability.
+    UnknownName,
+    /// The entry had a field of this name before, which counts.
+    Duplicate,
+    /// The string has a backslash before a byte that has no meaning there.
+    OddEscape,
+    /// The string has `%^`, which is read as `%` and a control character.
+    PercentCaret,
+}
+
+/// A hint about a field of a source text.
+#[derive(Debug, Drop)]
+pub struct FieldHint {
+    /// The kind of the hint.
+    pub kind: HintKind,
+    /// The place, among the entries of the text, of the entry that has the field.
+    pub entry: usize,
+    /// The number of the field's line, from 1.
+    pub line: usize,
+    /// The columns of the field in this line; `None` if they aren't known.
+    pub columns: Option<Columns>,
+    /// The capability of this name, if there is one.
+    pub cap: Option<Cap>,
+    /// The words, which begin with the field's name.
+    pub words: Vec<u8>,
+}
+
+/// The hints about the entry at `place` among `raws`, the entries of a source text that has these `lines`: about each
+/// field that has a name of no capability, a name that its entry has had before, an escape without a meaning, or `%^`.
+/// They are in the order of the lines.
+///
+/// # Errors
+/// Out of memory.
+pub fn entry_hints(
     alloc: Global,
-    text: &[u8],
+    lines: &[&[u8]],
     raws: &[RawEntry],
-    entry: &[u8],
-    remarks: &mut Remarks,
-) {
-    if let Ok(places) = used_places(alloc, raws, entry) {
-        let scope = Scope {
-            path: None,
-            places: Some(places.as_slice()),
-        };
-        let _ = add_hints(alloc, text, raws, scope, remarks);
+    place: usize,
+) -> Result<Vec<FieldHint>, AllocError>
+    ensures { IfOk result (λ hints. AllByRecursion
+        (spec.IsHintOf (map (λ line. line.now) lines.now) raws.now place) hints.items) }
+{
+    match raws.get(place) {
+        Some(raw) => hints_from(alloc, lines, raws, place, raw.line as usize),
+        None => Ok(Vec::new(alloc)),
     }
 }
 
-/// Adds the hints of `hint_entry` for all entries `raws` of the source text `text`, each with the path of its file.
-pub fn hint_entries(
+/// The hints about the entry at `place`, whose names stand on the line `first`.
+fn hints_from(
     alloc: Global,
-    path: &str,
-    text: &[u8],
+    lines: &[&[u8]],
     raws: &[RawEntry],
-    remarks: &mut Remarks,
-) {
-    let scope = Scope {
-        path: Some(path),
-        places: None,
-    };
-    let _ = add_hints(alloc, text, raws, scope, remarks);
-}
-
-/// Adds a hint for each `%^` in a string of the source text `text`, as far as there is memory: by the rules of escapes
-/// it is `%` and a control character, but some authors mean exclusive or.
-pub fn hint_carets(alloc: Global, text: &[u8], remarks: &mut Remarks) {
-    if let Ok(hints) = percent_carets(alloc, text) {
-        for hint in hints.as_slice() {
-            let _ = add_caret(alloc, hint, None, remarks);
-        }
-    }
-}
-
-/// The places among `raws` of the entry of this name and of those that it uses.
-fn used_places(alloc: Global, raws: &[RawEntry], entry: &[u8]) -> Result<Vec<usize>, AllocError> {
-    let mut places = Vec::new(alloc);
-    if let Some(place) = place_of(raws, entry) {
-        places.push(place)?;
-    }
-    for step in 0..raws.len() {
-        let Some(raw) = places
-            .as_slice()
-            .get(step)
-            .and_then(|place| raws.get(*place))
-        else {
-            break;
+    place: usize,
+    first: usize,
+) -> Result<Vec<FieldHint>, AllocError>
+    requires { IfSome (slice_get raws.now place) (λ raw. raw.line ≡ first) }
+    ensures { IfOk result (λ hints. AllByRecursion
+        (spec.IsHintOf (map (λ line. line.now) lines.now) raws.now place) hints.items) }
+{
+    let mut hints = Vec::new(alloc);
+    let mut seen = [false; CAPABILITIES];
+    for number in first..end_line(lines, raws, place) {
+        let line = EntryLine {
+            place,
+            number,
+            text: line_at(lines, number),
+            begins: number == first,
         };
-        add_uses(raws, raw, &mut places)?;
+        let mut own = line_hints(alloc, line, &mut seen)?;
+        hints.append(&mut own)?;
     }
-    Ok(places)
+    Ok(hints)
 }
 
-/// Adds to `places` the places of the entries that `raw` itself uses, if they aren't there yet.
-fn add_uses(raws: &[RawEntry], raw: &RawEntry, places: &mut Vec<usize>) -> Result<(), AllocError> {
-    for field in raw.fields.as_slice() {
-        if let Field::Include(used) = field {
-            if let Some(place) = place_of(raws, used.as_slice()) {
-                if !places.as_slice().contains(&place) {
-                    places.push(place)?;
-                }
-            }
-        }
+/// The number of the line behind the last one of the entry at `place`: that of the names of the next entry, or the one
+/// behind all `lines`.
+fn end_line(lines: &[&[u8]], raws: &[RawEntry], place: usize) -> usize
+    ensures { IfSome (slice_get raws.now (place + 1)) (λ next. result ≤ next.line) }
+{
+    match raws.get(place.saturating_add(1)) {
+        Some(next) => next.line as usize,
+        None => lines.len().saturating_add(1),
     }
-    Ok(())
 }
 
-/// The place of the first of `raws` that has this name.
-fn place_of(raws: &[RawEntry], name: &[u8]) -> Option<usize> {
-    raws.iter()
-        .position(|raw| has_name(raw.names.as_slice(), name))
-}
-
-/// Whether `name` is one of `names`.
-fn has_name(names: &[u8], name: &[u8]) -> bool {
-    let mut rest = names;
-    for _ in 0..=names.len() {
-        match rest.iter().position(|byte| *byte == b'|') {
-            Some(end) => {
-                if &rest[..end] == name {
-                    return true;
-                }
-                rest = &rest[end + 1..];
-            }
-            None => return rest == name,
-        }
-    }
-    false
-}
-
-/// The entries that get hints.
+/// A line of an entry.
 #[derive(Clone, Copy)]
-struct Scope<'a> {
-    /// The path that each hint ends with, if there is one.
-    path: Option<&'a str>,
-    /// The places of the entries; `None` if all get hints.
-    places: Option<&'a [usize]>,
-}
-
-/// The entry of the current line, while the lines of a text are read one after another.
-#[derive(Drop)]
-struct Reading<'a> {
-    raws: &'a [RawEntry],
-    scope: Scope<'a>,
-    /// The number of entries that have begun.
-    begun: usize,
-    /// The capabilities that have a field in this entry so far.
-    seen: [bool; CAPABILITIES],
-}
-
-impl Reading<'_> {
-    /// Moves on to the line `number`, and returns whether it begins an entry.
-    fn begins(&mut self, number: usize) -> bool {
-        let begins = self
-            .raws
-            .get(self.begun)
-            .is_some_and(|raw| raw.line as usize == number);
-        if begins {
-            self.begun = self.begun.saturating_add(1);
-            self.seen = [false; CAPABILITIES];
-        }
-        begins
-    }
-
-    /// Whether the entry of the current line gets hints.
-    fn is_hinted(&self) -> bool {
-        match (self.begun.checked_sub(1), self.scope.places) {
-            (None, _) => false,
-            (Some(_), None) => true,
-            (Some(place), Some(places)) => places.contains(&place),
-        }
-    }
-}
-
-/// Adds the hints for those of the entries `raws` that are in the `scope`.
-fn add_hints(
-    alloc: Global,
-    text: &[u8],
-    raws: &[RawEntry],
-    scope: Scope<'_>,
-    remarks: &mut Remarks,
-) -> Result<(), AllocError> {
-    let carets = percent_carets(alloc, text)?;
-    let mut reading = Reading {
-        raws,
-        scope,
-        begun: 0,
-        seen: [false; CAPABILITIES],
-    };
-    let mut number: usize = 0;
-    let mut rest = text;
-    for _ in 0..=text.len() {
-        number = number.saturating_add(1);
-        let end = rest
-            .iter()
-            .position(|byte| *byte == b'\n')
-            .unwrap_or(rest.len());
-        let begins = reading.begins(number);
-        if reading.is_hinted() {
-            let fields = fields_in(&rest[..end], begins);
-            add_line_hints(alloc, number, fields, &mut reading, remarks)?;
-            add_carets(alloc, number, carets.as_slice(), scope.path, remarks)?;
-        }
-        if end >= rest.len() {
-            break;
-        }
-        rest = &rest[end + 1..];
-    }
-    Ok(())
-}
-
-/// The part of `line` that has fields; the first line of an entry has its names before them.
-fn fields_in(line: &[u8], begins: bool) -> &[u8] {
-    match line.first() {
-        None | Some(b'#') => &[],
-        Some(_) if begins => next_field(line).1,
-        Some(_) => line,
-    }
-}
-
-/// Adds the hints for the `fields` of the line `number`.
-fn add_line_hints(
-    alloc: Global,
+struct EntryLine<'a> {
+    /// The place of the entry.
+    place: usize,
+    /// The number of the line, from 1.
     number: usize,
-    fields: &[u8],
-    reading: &mut Reading<'_>,
-    remarks: &mut Remarks,
-) -> Result<(), AllocError> {
-    let spot = Spot {
-        line: number,
-        path: reading.scope.path,
-    };
-    let mut rest = fields;
-    for _ in 0..fields.len() {
-        if rest.is_empty() {
-            break;
-        }
-        let (field, after) = next_field(rest);
-        if let Some(words) = field_words(&field, &mut reading.seen) {
-            add_hint(alloc, spot, field.name, words, remarks)?;
-        }
-        if let Some(letter) = field.odd_escape() {
-            let words = odd_words(alloc, letter)?;
-            add_hint(alloc, spot, field.name, words.as_slice(), remarks)?;
-        }
-        rest = after;
+    /// The line, without its end.
+    text: &'a [u8],
+    /// Whether it has the names of the entry.
+    begins: bool,
+}
+
+/// The hints about the fields of `line`; `seen` are the capabilities that have a field before it in its entry.
+fn line_hints(
+    alloc: Global,
+    line: EntryLine<'_>,
+    seen: &mut [bool; CAPABILITIES],
+) -> Result<Vec<FieldHint>, AllocError>
+    ensures { IfOk result (λ hints. AllByRecursion (spec.IsOn line.entry) hints.items) }
+{
+    let fields = placed_fields(alloc, line.text, line.begins)?;
+    let mut hints = Vec::new(alloc);
+    for it in &fields {
+        add_name(alloc, line, it, seen, &mut hints)?;
+        add_escape(alloc, line, it, &mut hints)?;
     }
-    Ok(())
+    add_carets(alloc, line, fields.as_slice(), &mut hints)?;
+    Ok(hints)
 }
 
-/// The words that a string has a backslash before `letter`, which has no meaning there.
-fn odd_words(alloc: Global, letter: u8) -> Result<Vec<u8>, AllocError> {
-    let mut words = Vec::from_slice(alloc, b" has `\\")?;
-    words.push(letter)?;
-    words.extend_from_slice(b"`, which is no escape and stands for the byte behind the backslash")?;
-    Ok(words)
+/// Adds to `hints` the one about the name of the field `it` of `line`, if the name is odd; `seen` are the capabilities
+/// before it in its entry.
+fn add_name(
+    alloc: Global,
+    line: EntryLine<'_>,
+    it: &PlacedField<'_>,
+    seen: &mut [bool; CAPABILITIES],
+    hints: &mut Vec<FieldHint>,
+) -> Result<(), AllocError>
+    requires stands { spec.IsFieldOn line.text.now it.now.columns }
+    requires before { AllByRecursion (spec.IsOn line) hints.old.items }
+    ensures { OnOk result (AllByRecursion (spec.IsOn line.entry) hints.new.items) }
+{
+    match odd_name(&it.field, seen) {
+        Some((kind, words)) => {
+            let hint = field_hint(alloc, line, it, kind, words)?;
+            hints.push(hint)?;
+            Ok(())
+        }
+        None => Ok(()),
+    }
 }
 
-/// The words for an odd name of `field`, if it is odd; `seen` are the capabilities before it in its entry.
-fn field_words(field: &FieldText<'_>, seen: &mut [bool; CAPABILITIES]) -> Option<&'static [u8]> {
+/// Adds to `hints` the one about an escape without a meaning in the field `it` of `line`, if it has one.
+fn add_escape(
+    alloc: Global,
+    line: EntryLine<'_>,
+    it: &PlacedField<'_>,
+    hints: &mut Vec<FieldHint>,
+) -> Result<(), AllocError>
+    requires stands { spec.IsFieldOn line.text.now it.now.columns }
+    requires before { AllByRecursion (spec.IsOn line) hints.old.items }
+    ensures { OnOk result (AllByRecursion (spec.IsOn line.entry) hints.new.items) }
+{
+    match it.field.odd_escape() {
+        Some(letter) => {
+            let words = escape_words(alloc, letter)?;
+            let hint = field_hint(alloc, line, it, HintKind::OddEscape, words.as_slice())?;
+            hints.push(hint)?;
+            Ok(())
+        }
+        None => Ok(()),
+    }
+}
+
+/// The hint of this `kind` about the field `it` of `line`, with the words `behind` its name.
+fn field_hint(
+    alloc: Global,
+    line: EntryLine<'_>,
+    it: &PlacedField<'_>,
+    kind: HintKind,
+    behind: &[u8],
+) -> Result<FieldHint, AllocError>
+    requires { spec.IsFieldOn line.text.now it.now.columns }
+    ensures { IfOk result (spec.IsOn line.entry) }
+{
+    let mut words = Vec::from_slice(alloc, it.field.name)?;
+    words.extend_from_slice(behind)?;
+    Ok(FieldHint {
+        kind,
+        entry: line.place,
+        line: line.number,
+        columns: Some(it.columns),
+        cap: by_name(it.field.name),
+        words,
+    })
+}
+
+/// The kind of hint about the name of `field`, and the words behind the name, if the name is odd; `seen` are the
+/// capabilities before it in its entry.
+fn odd_name(
+    field: &FieldText<'_>,
+    seen: &mut [bool; CAPABILITIES],
+) -> Option<(HintKind, &'static [u8])> {
     if field.is_unknown() {
-        return Some(b" is no capability");
+        return Some((HintKind::UnknownName, b" is no capability"));
     }
     if field.is_left_out() {
         return None;
@@ -246,72 +215,89 @@ fn field_words(field: &FieldText<'_>, seen: &mut [bool; CAPABILITIES]) -> Option
     let stood_before = seen[place];
     seen[place] = true;
     if stood_before {
-        Some(b" stands in the entry before, where the first one counts")
+        Some((
+            HintKind::Duplicate,
+            b" stands in the entry before, where the first one counts",
+        ))
     } else {
         None
     }
 }
 
-/// Adds those of the hints `carets` that are about the line `number`.
+/// The words that a string has a backslash before `letter`, which has no meaning there.
+fn escape_words(alloc: Global, letter: u8) -> Result<Vec<u8>, AllocError> {
+    let mut words = Vec::from_slice(alloc, b" has `\\")?;
+    words.push(letter)?;
+    words.extend_from_slice(b"`, which is no escape and stands for the byte behind the backslash")?;
+    Ok(words)
+}
+
+/// Adds to `hints` those about `%^` in the `fields` of `line`.
 fn add_carets(
     alloc: Global,
-    number: usize,
-    carets: &[Hint],
-    path: Option<&str>,
-    remarks: &mut Remarks,
-) -> Result<(), AllocError> {
-    for hint in carets {
-        if hint.line == number {
-            add_caret(alloc, hint, path, remarks)?;
-        }
+    line: EntryLine<'_>,
+    fields: &[PlacedField<'_>],
+    hints: &mut Vec<FieldHint>,
+) -> Result<(), AllocError>
+    requires stand { AllByRecursion (λ it. spec.IsFieldOn line.text.now it.columns) fields.now }
+    requires before { AllByRecursion (spec.IsOn line) hints.old.items }
+    ensures { OnOk result (AllByRecursion (spec.IsOn line.entry) hints.new.items) }
+{
+    for caret in &percent_carets(alloc, line.text)? {
+        let hint = caret_hint(alloc, line, fields, caret.cap)?;
+        hints.push(hint)?;
     }
     Ok(())
 }
 
-/// Adds the `hint` that a string has `%^`.
-fn add_caret(
+/// The hint that the string `cap` of `line`, which has these `fields`, has `%^`.
+fn caret_hint(
     alloc: Global,
-    hint: &Hint,
-    path: Option<&str>,
-    remarks: &mut Remarks,
-) -> Result<(), AllocError> {
-    let mut subject = Vec::from_slice(alloc, b"in ")?;
-    subject.extend_from_slice(name(hint.cap))?;
-    let spot = Spot {
-        line: hint.line,
-        path,
-    };
-    add_hint(alloc, spot, subject.as_slice(), CARET, remarks)
+    line: EntryLine<'_>,
+    fields: &[PlacedField<'_>],
+    cap: Cap,
+) -> Result<FieldHint, AllocError>
+    requires { AllByRecursion (λ it. spec.IsFieldOn line.text.now it.columns) fields.now }
+    ensures { IfOk result (spec.IsOn line.entry) }
+{
+    let columns = caret_columns(fields, cap);
+    let words = caret_words(alloc, cap)?;
+    Ok(FieldHint {
+        kind: HintKind::PercentCaret,
+        entry: line.place,
+        line: line.number,
+        columns,
+        cap: Some(cap),
+        words,
+    })
 }
 
-const CARET: &[u8] =
-    b" `%^` is read as `%` and a control character; exclusive or is written `%\\^`";
-
-/// A line of a file.
-#[derive(Clone, Copy)]
-struct Spot<'a> {
-    /// The line's number, from 1.
-    line: usize,
-    /// The file's path, if hints are to name it.
-    path: Option<&'a str>,
-}
-
-/// Adds the hint at the `spot` with `what` about the `subject`.
-fn add_hint(
-    alloc: Global,
-    spot: Spot<'_>,
-    subject: &[u8],
-    what: &[u8],
-    remarks: &mut Remarks,
-) -> Result<(), AllocError> {
-    let line = spot.line;
-    let mut words = format!(in alloc; "hint line {line}: ")?.into_bytes();
-    words.extend_from_slice(subject)?;
-    words.extend_from_slice(what)?;
-    if let Some(path) = spot.path {
-        words.extend_from_slice(b", in ")?;
-        words.extend_from_slice(path.as_bytes())?;
+/// The columns of the first of the `fields` that is about `cap` and has `%^`.
+fn caret_columns(fields: &[PlacedField<'_>], cap: Cap) -> Option<Columns>
+    ensures { IfSome result (spec.AreAmong (map (λ it. it.columns) fields.now)) }
+{
+    match caret_place(fields, cap) {
+        Some(at) => Some(fields[at].columns),
+        None => None,
     }
-    remarks.add_words(words.as_slice());
-    Ok(())
+}
+
+/// The place of the first of the `fields` that is about `cap` and has `%^`.
+fn caret_place(fields: &[PlacedField<'_>], cap: Cap) -> Option<usize>
+    ensures { IfSome result (λ at. at < length fields.now) }
+{
+    fields
+        .iter()
+        .position(|it| it.field.name == name(cap) && it.field.has_caret())
+}
+
+/// The words that the string `cap` has `%^`: by the rules of escapes it is `%` and a control character, but some authors
+/// mean exclusive or.
+pub(crate) fn caret_words(alloc: Global, cap: Cap) -> Result<Vec<u8>, AllocError> {
+    let mut words = Vec::from_slice(alloc, b"in ")?;
+    words.extend_from_slice(name(cap))?;
+    words.extend_from_slice(
+        b" `%^` is read as `%` and a control character; exclusive or is written `%\\^`",
+    )?;
+    Ok(words)
 }

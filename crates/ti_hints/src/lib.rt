@@ -8,11 +8,16 @@ mod fields;
 mod functions;
 mod hints;
 mod names;
+mod places;
+mod remarks;
 mod sources;
 mod trials;
+mod uses;
 
 pub use advice::{advice_on, advise};
 pub use counts::{advise_unchecked, unchecked_advice};
-pub use hints::{hint_carets, hint_entries, hint_entry};
+pub use hints::{FieldHint, HintKind, entry_hints};
 pub use names::unknown_names;
+pub use remarks::{hint_carets, hint_entries, hint_entry};
 pub use sources::{explain_large, explain_packed, explain_resolving, explain_source};
+pub use uses::used_places;

@@ -8,14 +8,19 @@ use Rattle.ti_objects.specs.Lines.{lines_of}
 use Rattle.ti_objects.specs.Members.{items_in, text_in}
 use Rattle.ti_objects.specs.Messages.{kind_of, lines_text, statement_key}
 use Rattle.ti_objects.specs.declared.kinds.Kind.{Kind}
-use Rattle.ti_objects.specs.declared.kinds.Kind.TheVariants.{Fault, Refusal, Advice}
+use Rattle.ti_objects.specs.declared.kinds.Kind.TheVariants.{Fault, Refusal, Advice, Hint}
 
--- what an object says, whatever line of the file it is about: the words of advice belong to it
+-- a statement with its words
+abbrev pub worded_key : Kind → Data → List ℕ
+worded_key kind report = statement_key kind report ++ lines_text (items_in (codes "explanation") report)
+
+-- what an object says, whatever line of the file it is about: the words of advice and of a hint belong to it
 abbrev pub key_by : Option Kind → Data → List ℕ
 key_by None report = text_in (codes "file") report ++ (codes ":" ++ text_in (codes "entry_hex") report)
 key_by (Some Fault) report = statement_key Fault report
 key_by (Some Refusal) report = statement_key Refusal report
-key_by (Some Advice) report = statement_key Advice report ++ lines_text (items_in (codes "explanation") report)
+key_by (Some Advice) report = worded_key Advice report
+key_by (Some Hint) report = worded_key Hint report
 
 abbrev pub key_in : Data → List ℕ
 key_in report = key_by (kind_of report) report
@@ -58,6 +63,7 @@ is_wrong None = false
 is_wrong (Some Fault) = true
 is_wrong (Some Refusal) = true
 is_wrong (Some Advice) = false
+is_wrong (Some Hint) = false
 
 abbrev pub is_wrong_in : Option Data → Bool
 is_wrong_in None = false

@@ -6,14 +6,15 @@ use Rattle.serde_json.specs.Data.{Data, Items, item, no_items}
 use Rattle.serde_json.specs.Find.{as_str}
 use Rattle.ti_objects.specs.Members.{is_true, items_in, text_if, text_in, whole_of}
 use Rattle.ti_objects.specs.declared.kinds.Kind.{Kind}
-use Rattle.ti_objects.specs.declared.kinds.Kind.TheVariants.{Fault, Refusal, Advice}
+use Rattle.ti_objects.specs.declared.kinds.Kind.TheVariants.{Fault, Refusal, Advice, Hint}
 
 -- the kind of finding that a verdict tells of; a yes tells of none
 abbrev pub kind_named : List ℕ → Option Kind
 kind_named verdict =
     if bytes_eq verdict (codes "no") then Some Fault
     else (if bytes_eq verdict (codes "refused") then Some Refusal
-    else (if bytes_eq verdict (codes "advice") then Some Advice else None))
+    else (if bytes_eq verdict (codes "advice") then Some Advice
+    else (if bytes_eq verdict (codes "hint") then Some Hint else None)))
 
 abbrev pub kind_of : Data → Option Kind
 kind_of report = kind_named (text_in (codes "verdict") report)
@@ -25,6 +26,7 @@ level_of Fault report =
     else (if is_true (codes "judged") report then codes "error" else codes "warning")
 level_of Refusal report = codes "error"
 level_of Advice report = codes "note"
+level_of Hint report = codes "note"
 
 -- a number with a space before it
 abbrev pub number_text : Option ℕ → List ℕ
@@ -47,11 +49,12 @@ lines_text (item d ds) = line_text d ++ lines_text ds
 abbrev pub subject_text : Data → List ℕ
 subject_text report = text_in (codes "capability") report ++ numbers_text (items_in (codes "parameters") report)
 
--- `no CAP P..: CAUSE`, as the plain form has it, `refused: ..`, or `advice CAP`
+-- `no CAP P..: CAUSE`, as the plain form has it, `refused: ..`, `advice CAP`, or `hint RULE`
 abbrev pub statement_text : Kind → Data → List ℕ
 statement_text Fault report = codes "no " ++ (subject_text report ++ (codes ": " ++ text_in (codes "cause") report))
 statement_text Refusal report = codes "refused: " ++ text_in (codes "cause") report
 statement_text Advice report = codes "advice " ++ subject_text report
+statement_text Hint report = codes "hint " ++ text_in (codes "rule") report
 
 -- the string that would be right, if one is known
 abbrev pub suggestion_text : List ℕ → Option (List ℕ) → List ℕ

@@ -45,11 +45,11 @@ fn plain_key(alloc: Global, report: &Value) -> Result<String, AllocError>
     format!(in alloc; "{file}:{entry}")
 }
 
-/// The statement of a piece of advice.
-fn advice_key(alloc: Global, report: &Value) -> Result<String, AllocError>
-    ensures { IfOk result (λ key. string_bytes key ≡ spec.key_by (Some Kind.Advice) (view report.now)) }
+/// The statement of `report`, of this `kind`, with its words.
+fn worded_key(alloc: Global, kind: Kind, report: &Value) -> Result<String, AllocError>
+    ensures { IfOk result (λ key. string_bytes key ≡ spec.worded_key kind (view report.now)) }
 {
-    let statement = statement_key(alloc, Kind::Advice, report)?;
+    let statement = statement_key(alloc, kind, report)?;
     let words = lines_text(alloc, items_in(report, "explanation"))?;
     format!(in alloc; "{statement}{words}")
 }
@@ -62,7 +62,8 @@ fn key_in(alloc: Global, report: &Value) -> Result<String, AllocError>
         None => plain_key(alloc, report),
         Some(Kind::Fault) => statement_key(alloc, Kind::Fault, report),
         Some(Kind::Refusal) => statement_key(alloc, Kind::Refusal, report),
-        Some(Kind::Advice) => advice_key(alloc, report),
+        Some(Kind::Advice) => worded_key(alloc, Kind::Advice, report),
+        Some(Kind::Hint) => worded_key(alloc, Kind::Hint, report),
     }
 }
 
@@ -166,7 +167,7 @@ fn is_wrong(kind: Option<Kind>) -> bool
 {
     match kind {
         Some(Kind::Fault) | Some(Kind::Refusal) => true,
-        Some(Kind::Advice) | None => false,
+        Some(Kind::Advice) | Some(Kind::Hint) | None => false,
     }
 }
 

@@ -16,6 +16,8 @@ pub(crate) enum Kind {
     Refusal,
     /// Advice on an entry.
     Advice,
+    /// A hint about a field.
+    Hint,
 }
 
 /// The kind that the word of a verdict names; a yes tells of nothing.
@@ -28,6 +30,8 @@ fn kind_named(verdict: &str) -> Option<Kind>
         Some(Kind::Refusal)
     } else if verdict == "advice" {
         Some(Kind::Advice)
+    } else if verdict == "hint" {
+        Some(Kind::Hint)
     } else {
         None
     }
@@ -61,5 +65,6 @@ pub(crate) fn level_of(kind: Kind, report: &Value) -> &'static str
         Kind::Fault => fault_level(report),
         Kind::Refusal => "error",
         Kind::Advice => "note",
+        Kind::Hint => "note",
     }
 }

@@ -69,10 +69,12 @@ fn statement_text(alloc: Global, kind: Kind, report: &Value) -> Result<String, A
 {
     let subject = subject_text(alloc, report)?;
     let cause = text_in(report, "cause");
+    let rule = text_in(report, "rule");
     match kind {
         Kind::Fault => format!(in alloc; "no {subject}: {cause}"),
         Kind::Refusal => format!(in alloc; "refused: {cause}"),
         Kind::Advice => format!(in alloc; "advice {subject}"),
+        Kind::Hint => format!(in alloc; "hint {rule}"),
     }
 }
 

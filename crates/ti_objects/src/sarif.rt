@@ -19,17 +19,21 @@ const HEAD: &str =
     {\"id\":\"BadCode\",\"shortDescription\":{\"text\":\"A parameter string has a % that no code follows\"}},\n\
     {\"id\":\"BadLook\",\"shortDescription\":{\"text\":\"An attribute's string turns on a rendition that is not its own\"}},\n\
     {\"id\":\"BadNest\",\"shortDescription\":{\"text\":\"A parameter string has a conditional that is not %? %t %e %;\"}},\n\
+    {\"id\":\"Duplicate\",\"shortDescription\":{\"text\":\"A field has a name that its entry has had before\"}},\n\
     {\"id\":\"FlagOut\",\"shortDescription\":{\"text\":\"With a flag of the entry programs can't rely on what is on the screen\"}},\n\
     {\"id\":\"NoResync\",\"shortDescription\":{\"text\":\"What leads out of any state doesn't begin with ESC\"}},\n\
     {\"id\":\"NotShown\",\"shortDescription\":{\"text\":\"The effect is not the wanted one, but no state was found that shows it\"}},\n\
     {\"id\":\"NotTame\",\"shortDescription\":{\"text\":\"No single effect describes what is sent from all states\"}},\n\
+    {\"id\":\"OddEscape\",\"shortDescription\":{\"text\":\"A string has a backslash before a byte that has no meaning there\"}},\n\
     {\"id\":\"Overflow\",\"shortDescription\":{\"text\":\"A parameter string computes what does not fit into 32 bits\"}},\n\
+    {\"id\":\"PercentCaret\",\"shortDescription\":{\"text\":\"A string has %^, which is % and a control character\"}},\n\
     {\"id\":\"Refused\",\"shortDescription\":{\"text\":\"The entry or the file can't be read\"}},\n\
     {\"id\":\"StaticRead\",\"shortDescription\":{\"text\":\"A parameter string reads a static variable before it sets it\"}},\n\
     {\"id\":\"Stuck\",\"shortDescription\":{\"text\":\"What is sent has a byte that is neither text nor part of a sequence\"}},\n\
     {\"id\":\"TooLong\",\"shortDescription\":{\"text\":\"With this line the certificate would be too long\"}},\n\
     {\"id\":\"Underflow\",\"shortDescription\":{\"text\":\"A parameter string takes a value from the empty stack\"}},\n\
     {\"id\":\"Unfinished\",\"shortDescription\":{\"text\":\"What is sent ends within a control sequence\"}},\n\
+    {\"id\":\"UnknownName\",\"shortDescription\":{\"text\":\"A field has a name that no capability has\"}},\n\
     {\"id\":\"WrongEffect\",\"shortDescription\":{\"text\":\"The string doesn't do what it is for\"}},\n\
     {\"id\":\"WrongKind\",\"shortDescription\":{\"text\":\"A parameter string gets a text for a number, or a number for a text\"}}\n\
     ]}},\"results\":[\n\
@@ -108,7 +112,7 @@ fn end(text: &mut Vec<u8>) -> Result<(), AllocError>
 }
 
 /// The file of SARIF with a result for each line of `reports` that is an object of a report and tells of a fault, of
-/// what can't be read, or of advice.
+/// what can't be read, of advice, or of a hint.
 ///
 /// # Errors
 /// Out of memory.

@@ -1,26 +1,32 @@
 -- The report on an entry: that it has a certificate, or each of its faults.
-use Rattle.std.specs.Prelude.{◌≡◌, ℕ, Bool, List, [], ◌∷◌, ◌++◌, Option, Some, None, String, map, string_bytes}
+use Rattle.std.specs.Prelude.{◌≡◌, ℕ, Bool, true, false, List, [], ◌∷◌, ◌++◌, Option, Some, None, String, map, string_bytes}
 use Rattle.std.specs.declared.alloc.Global.{Global}
 use Rattle.ti_caps.specs.Entry.{Content, string_at}
 use Rattle.ti_caps.specs.Table.{name_at}
 use Rattle.ti_checker.specs.declared.causes.No.{No}
 use Rattle.ti_faults.specs.declared.mended.Mended.{Mended}
+use Rattle.ti_hints.specs.Places.{IsHintOf}
+use Rattle.ti_hints.specs.declared.hints.FieldHint.{FieldHint}
 use Rattle.ti_members.specs.Explanations.{IsExplained}
 use Rattle.ti_members.specs.Names.{AreAliases, HasName}
+use Rattle.ti_reports.specs.Hints.{HintText, IsHintPlace, hint_text}
 use Rattle.ti_reports.specs.Reports.{IsNothing, report_line}
 use Rattle.ti_members.specs.Sent.{IsSentText}
-use Rattle.ti_reports.specs.Sources.{IsValuePlace, Whereabouts, whereabouts_of}
+use Rattle.ti_reports.specs.Sources.{ByName, ByPlace, IsNowhere, IsValuePlace, Nowhere, Whereabouts, whereabouts_of}
 use Rattle.ti_members.specs.Spellings.{IsSpelling}
 use Rattle.ti_members.specs.Suggestions.{AreFields, IsMendedFor, IsSuggested, is_judged, mended_with, other_kind}
 use Rattle.ti_members.specs.Texts.{IsShownAs}
 use Rattle.ti_reports.specs.declared.faults.Subject.{Subject}
 use Rattle.ti_reports.specs.declared.reports.Finding.{Finding}
 use Rattle.ti_reports.specs.declared.reports.Report.{Report}
+use Rattle.ti_reports.specs.declared.reports.Verdict.{Verdict}
 use Rattle.ti_reports.specs.declared.reports.Verdict.TheVariants as verdicts
+use Rattle.ti_source.specs.Layout.{lines_of}
 use Rattle.ti_surveys.specs.Parts.{is_part}
 use Rattle.ti_verdicts.specs.Parts.{HasParts}
-use Rattle.ti_verdicts.specs.Locations.{first_name}
+use Rattle.ti_verdicts.specs.Locations.{PlaceInSource, first_name}
 use Rattle.ti_verdicts.specs.Refusals.{cause_name}
+use Rattle.ti_verdicts.specs.Spots.{files_of}
 
 -- the text of these bytes is there
 abbrev pub HasWords : List ℕ → Option (String Global) → Type 0
@@ -104,14 +110,10 @@ AreVerdictLines entry height width all file stands [] lines = IsReportLine (Repo
 AreVerdictLines entry height width all file stands (first ∷ others) lines =
     AreFaultLines entry height width all file stands (first ∷ others) lines
 
--- nothing is said but the capability and the words
-pub record IsAdvice (finding : Finding) : Type 0 where
+-- nothing is said but a capability, a place and words
+pub record SaysWords (finding : Finding) : Type 0 where
   pub parameters : finding.parameters.items ≡ []
   pub bytes : finding.bytes ≡ None
-  pub line : finding.place.line ≡ None
-  pub columns : finding.place.columns ≡ None
-  pub source_file : finding.place.file ≡ None
-  pub source_entry : finding.place.entry ≡ None
   pub string_is : finding.string ≡ None
   pub suggestion : finding.suggestion ≡ None
   pub suggested_with : finding.suggested_with.items ≡ []
@@ -121,12 +123,35 @@ pub record IsAdvice (finding : Finding) : Type 0 where
   pub judged : finding.judged ≡ None
   pub another_kind : finding.another_kind ≡ None
 
--- there is advice on the entry, whatever it is
+-- there is advice on the entry, whatever it is, at no place
 pub record ReportsAdvice (entry : Content) (height width : ℕ) (file : List ℕ) (report : Report) : Type 0 where
   pub about : Concerns entry height width file report
   pub verdict : report.verdict ≡ verdicts.Advice
   pub cause : report.cause ≡ None
-  pub advises : IsAdvice report.finding
+  pub nowhere : IsNowhere report.finding.place
+  pub advises : SaysWords report.finding
+
+-- the name of the capability, if there is one
+abbrev pub IsCapIf : Option ℕ → Option (String Global) → Type 0
+IsCapIf None text = text ≡ None
+IsCapIf (Some cap) text = HasWords (name_at cap) text
+
+-- there is a hint about a field of the entry at a place of a source text, of any kind and in any words
+pub record ReportsHint (entry : Content) (height width : ℕ) (file : List ℕ) (text : HintText) (place : ℕ)
+    (report : Report) : Type 0 where
+  pub about : Concerns entry height width file report
+  pub hint : FieldHint
+  pub found : IsHintOf (lines_of text.text) text.raws place hint
+  pub verdict : report.verdict ≡ verdicts.Hint hint.kind
+  pub cause : report.cause ≡ None
+  pub stands : IsHintPlace text hint report.finding.place
+  pub capability : IsCapIf hint.cap report.finding.capability
+  pub hints : SaysWords report.finding
+
+-- about a field of any entry of the text, as of one that the entry uses
+abbrev pub ReportsAnyHint : Content → ℕ → ℕ → List ℕ → HintText → Report → Type 0
+ReportsAnyHint entry height width file text report =
+    (place : ℕ) × ReportsHint entry height width file text place report
 
 -- any number of lines of such reports
 pub data AreLinesOf (P : Report → Type 0) : List ℕ → Type 0 where
@@ -134,16 +159,49 @@ pub data AreLinesOf (P : Report → Type 0) : List ℕ → Type 0 where
   OneMore : (front own lines : List ℕ) → lines ≡ front ++ own → AreLinesOf P front → IsReportLine P own
       → AreLinesOf P lines
 
--- the verdict or the faults, and then advice
+-- lines of reports about a text, if there is one
+abbrev pub AreLinesIf : (HintText → Report → Type 0) → Option HintText → List ℕ → Type 0
+AreLinesIf P None lines = lines ≡ []
+AreLinesIf P (Some text) lines = AreLinesOf (P text) lines
+
+-- hints about an entry at its place, if they are asked for
+abbrev pub ArePlacedHints : Content → ℕ → ℕ → List ℕ → Bool → Bool → PlaceInSource → List ℕ → Type 0
+ArePlacedHints entry height width file false has_columns stands lines = lines ≡ []
+ArePlacedHints entry height width file true has_columns stands lines =
+    AreLinesIf (λ text. ReportsHint entry height width file text stands.place)
+    (hint_text has_columns stands.files stands.raws) lines
+
+-- hints about an entry that was asked for by its name, and about those of its file that it uses; about an entry at a
+-- place alone, with all faults
+abbrev pub AreHintLines : Content → ℕ → ℕ → Bool → List ℕ → Whereabouts → List ℕ → Type 0
+AreHintLines entry height width all file Nowhere lines = lines ≡ []
+AreHintLines entry height width all file (ByName has_columns source) lines =
+    AreLinesIf (ReportsAnyHint entry height width file) (hint_text has_columns (files_of source) source.raws.items) lines
+AreHintLines entry height width all file (ByPlace has_columns stands) lines =
+    ArePlacedHints entry height width file all has_columns stands lines
+
+-- the verdict or the faults, then advice, and then hints
 pub record AreFoundLines (entry : Content) (height width : ℕ) (all : Bool) (file : List ℕ) (stands : Whereabouts)
     (nos : List No) (lines : List ℕ) : Type 0 where
   pub verdicts : List ℕ
   pub advice : List ℕ
-  pub whole : lines ≡ verdicts ++ advice
+  pub hints : List ℕ
+  pub whole : lines ≡ (verdicts ++ advice) ++ hints
   pub judged : AreVerdictLines entry height width all file stands nos verdicts
   pub advises : AreLinesOf (ReportsAdvice entry height width file) advice
+  pub hinted : AreHintLines entry height width all file stands hints
 
--- (Serves the code alone.) the subject without its memory
+-- ---- (Serves the code alone.)
+
+-- a report on the subject with this verdict, cause and finding
+pub record IsReportOn (subject : Subject) (verdict : Verdict) (cause : Option (String Global)) (finding : Finding)
+    (report : Report) : Type 0 where
+  pub about : Concerns subject.entry.now subject.size.rows subject.size.cols subject.file.now report
+  pub verdict_is : report.verdict ≡ verdict
+  pub cause_is : report.cause ≡ cause
+  pub finding_is : report.finding ≡ finding
+
+-- the subject without its memory
 abbrev pub of_subject : Subject → List No → Option Mended → OfFaults
 of_subject subject nos mended =
     of_faults subject.entry.now subject.size.rows subject.size.cols (whereabouts_of subject.stands) nos mended

@@ -11,7 +11,9 @@ use Rattle.ti_reports.specs.declared.lines.ValuePlace.{ValuePlace}
 use Rattle.ti_reports.specs.declared.reports.Finding.{Finding}
 use Rattle.ti_reports.specs.declared.reports.Report.{Report}
 use Rattle.ti_reports.specs.declared.reports.Verdict.{Verdict}
-use Rattle.ti_reports.specs.declared.reports.Verdict.TheVariants.{Yes, No, Refused, Advice}
+use Rattle.ti_reports.specs.declared.reports.Verdict.TheVariants.{Yes, No, Refused, Advice, Hint}
+use Rattle.ti_hints.specs.declared.hints.HintKind.{HintKind}
+use Rattle.ti_hints.specs.declared.hints.HintKind.TheVariants.{UnknownName, Duplicate, OddEscape, PercentCaret}
 use Rattle.ti_members.specs.declared.forms.Written.{Written}
 
 abbrev pub word_of : Verdict → List ℕ
@@ -19,6 +21,14 @@ word_of Yes = codes "yes"
 word_of No = codes "no"
 word_of Refused = codes "refused"
 word_of Advice = codes "advice"
+word_of (Hint kind) = codes "hint"
+
+-- the name of a kind of hint
+abbrev pub hint_rule : HintKind → List ℕ
+hint_rule UnknownName = codes "UnknownName"
+hint_rule Duplicate = codes "Duplicate"
+hint_rule OddEscape = codes "OddEscape"
+hint_rule PercentCaret = codes "PercentCaret"
 
 -- nothing is said of a fault, but perhaps where something is
 pub record IsBare (finding : Finding) : Type 0 where
@@ -95,12 +105,14 @@ names_hex_data names = array (items_of (map (λ name. string (string_bytes name.
 abbrev pub size_data : ℕ → ℕ → Data
 size_data height width = object (member (codes "cols") (number (unsigned width)) (member (codes "rows") (number (unsigned height)) no_members))
 
--- the name of the kind of finding: the cause of a no, one for all that can't be read, and one for advice
+-- the name of the kind of finding: the cause of a no, one for all that can't be read, one for advice, and the kind of a
+-- hint
 abbrev pub rule_data : Verdict → Option (String Global) → Data
 rule_data Yes cause = null
 rule_data No cause = text_data cause
 rule_data Refused cause = string (codes "Refused")
 rule_data Advice cause = string (codes "Advice")
+rule_data (Hint kind) cause = string (hint_rule kind)
 
 -- the version of this form
 abbrev pub version : Data

@@ -2,15 +2,15 @@
 
 ghost use Rattle.std.specs.Prelude.{IfOk};
 ghost use Rattle.ti_reports.specs.Faults as spec;
+ghost use Rattle.ti_reports.specs.Sources.{IsNowhere};
 
-use crate::faults::Subject;
+use crate::faults::{Subject, report_on};
 use crate::lines::ValuePlace;
 use crate::reports::{Finding, Report, Verdict, report_line};
 use std::alloc::{AllocError, Global};
 use ti_checker::No;
 use ti_hints::{advice_on, unchecked_advice};
-use ti_members::{Explanation, entry_aliases, entry_name, text_of};
-use ti_surveys::is_part;
+use ti_members::text_of;
 
 /// A line for each piece of advice on the `subject`, which has the faults `nos`: on what is never seen, if there are
 /// none; and on strings that aren't checked, if `lists_all`.
@@ -70,22 +70,14 @@ fn advice_report(
     ensures { IfOk result (λ report. spec.ReportsAdvice subject.now.entry.now
         subject.now.size.rows subject.now.size.cols subject.now.file.now report) }
 {
-    Ok(Report {
-        entry: Some(entry_name(alloc, subject.entry)?),
-        aliases: entry_aliases(alloc, subject.entry)?,
-        is_part: Some(is_part(subject.entry)),
-        rows: subject.size.rows,
-        cols: subject.size.cols,
-        file: String::from_str(alloc, subject.file)?,
-        verdict: Verdict::Advice,
-        cause: None,
-        finding: advice_finding(alloc, text)?,
-    })
+    let finding = advice_finding(alloc, text)?;
+    report_on(alloc, subject, Verdict::Advice, None, finding)
 }
 
 /// The capability with which the advice `text` begins, and the words behind it.
 fn advice_finding(alloc: Global, text: &[u8]) -> Result<Finding, AllocError>
-    ensures { IfOk result (λ finding. spec.IsAdvice finding) }
+    ensures nowhere { IfOk result (λ finding. IsNowhere finding.place) }
+    ensures says { IfOk result (λ finding. spec.SaysWords finding) }
 {
     let end = text
         .iter()
@@ -93,24 +85,6 @@ fn advice_finding(alloc: Global, text: &[u8]) -> Result<Finding, AllocError>
         .unwrap_or(text.len());
     let words = text.get(end..).unwrap_or(&[]);
     let words = words.strip_prefix(b": ").unwrap_or(words);
-    Ok(Finding {
-        capability: Some(text_of(alloc, text.get(..end).unwrap_or(text))?),
-        parameters: Vec::new(alloc),
-        bytes: None,
-        place: ValuePlace::nowhere(),
-        string: None,
-        suggestion: None,
-        suggested_with: Vec::new(alloc),
-        run: Explanation::none(),
-        judged: None,
-        another_kind: None,
-        explanation: only(alloc, text_of(alloc, words)?)?,
-    })
-}
-
-/// A list of `text` alone.
-fn only(alloc: Global, text: String) -> Result<Vec<String>, AllocError> {
-    let mut texts = Vec::new(alloc);
-    texts.push(text)?;
-    Ok(texts)
+    let capability = text_of(alloc, text.get(..end).unwrap_or(text))?;
+    Finding::of_words(alloc, Some(capability), ValuePlace::nowhere(), words)
 }

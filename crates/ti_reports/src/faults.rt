@@ -9,6 +9,7 @@ ghost use Rattle.ti_verdicts.specs.Parts.{HasParts};
 ghost use Rattle.ti_verdicts.specs.Refusals.{cause_name};
 
 use crate::advice::advice_lines;
+use crate::hints::hint_lines;
 use crate::lines::{Standing, value_place};
 use crate::reports::{Finding, Report, Verdict, report_line};
 use std::alloc::{AllocError, Global};
@@ -38,8 +39,8 @@ pub struct Subject<'a, 'b> {
 }
 
 /// The lines of the faults `nos` of the `subject`, or the line that it has a certificate if there are none; and then
-/// those of the advice on it. If `lists_all`, they must be all faults of the entry, and what is suggested is right with
-/// all of them mended.
+/// those of the advice on it and of the hints about its fields. If `lists_all`, they must be all faults of the entry, and
+/// what is suggested is right with all of them mended.
 pub fn found_lines(
     alloc: Global,
     subject: &Subject<'_, '_>,
@@ -54,6 +55,8 @@ pub fn found_lines(
     let mut lines = verdict_lines(alloc, subject, lists_all, nos)?;
     let advice = advice_lines(alloc, subject, lists_all, nos)?;
     lines.extend_from_slice(advice.as_slice())?;
+    let hints = hint_lines(alloc, subject, lists_all)?;
+    lines.extend_from_slice(hints.as_slice())?;
     Ok(lines)
 }
 
@@ -141,6 +144,19 @@ fn yes_report(alloc: Global, subject: &Subject<'_, '_>) -> Result<Report, AllocE
     ensures { IfOk result (λ report. spec.ReportsYes subject.now.entry.now
         subject.now.size.rows subject.now.size.cols subject.now.file.now report) }
 {
+    report_on(alloc, subject, Verdict::Yes, None, Finding::none(alloc))
+}
+
+/// The report on the `subject` with this `verdict`, `cause` and `finding`.
+pub(crate) fn report_on(
+    alloc: Global,
+    subject: &Subject<'_, '_>,
+    verdict: Verdict,
+    cause: Option<String>,
+    finding: Finding,
+) -> Result<Report, AllocError>
+    ensures { IfOk result (spec.IsReportOn subject.now verdict cause finding) }
+{
     Ok(Report {
         entry: Some(entry_name(alloc, subject.entry)?),
         aliases: entry_aliases(alloc, subject.entry)?,
@@ -148,9 +164,9 @@ fn yes_report(alloc: Global, subject: &Subject<'_, '_>) -> Result<Report, AllocE
         rows: subject.size.rows,
         cols: subject.size.cols,
         file: String::from_str(alloc, subject.file)?,
-        verdict: Verdict::Yes,
-        cause: None,
-        finding: Finding::none(alloc),
+        verdict,
+        cause,
+        finding,
     })
 }
 
@@ -166,17 +182,9 @@ fn fault_report(
     ensures { IfOk result (λ report. spec.ReportsFault (spec.of_subject subject.now nos.now mended.now)
         subject.now.file.now no.now report) }
 {
-    Ok(Report {
-        entry: Some(entry_name(alloc, subject.entry)?),
-        aliases: entry_aliases(alloc, subject.entry)?,
-        is_part: Some(is_part(subject.entry)),
-        rows: subject.size.rows,
-        cols: subject.size.cols,
-        file: String::from_str(alloc, subject.file)?,
-        verdict: Verdict::No,
-        cause: Some(cause_text(alloc, no.cause)?),
-        finding: finding_of(alloc, subject, mended, nos, no)?,
-    })
+    let cause = cause_text(alloc, no.cause)?;
+    let finding = finding_of(alloc, subject, mended, nos, no)?;
+    report_on(alloc, subject, Verdict::No, Some(cause), finding)
 }
 
 /// The finding about `no`, one of the faults `nos` of the `subject`, which is `mended`.
@@ -227,7 +235,7 @@ fn explanation_of(
 }
 
 /// The name of `cap`.
-fn cap_text(alloc: Global, cap: Cap) -> Result<String, AllocError>
+pub(crate) fn cap_text(alloc: Global, cap: Cap) -> Result<String, AllocError>
     ensures { IfOk result (λ text. IsShownAs (name_at cap) (string_bytes text)) }
 {
     text_of(alloc, name(cap))

@@ -7,6 +7,7 @@ mod checks;
 mod entries;
 mod faults;
 mod findings;
+mod hints;
 mod lacks;
 mod lines;
 mod refusals;

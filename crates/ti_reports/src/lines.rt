@@ -218,7 +218,11 @@ fn number_of(line: usize) -> Option<usize>
 }
 
 /// The first name of the entry of `raws` that has the field at `origin`.
-fn holder(alloc: Global, raws: &[RawEntry], origin: Origin) -> Result<Written, AllocError>
+pub(crate) fn holder(
+    alloc: Global,
+    raws: &[RawEntry],
+    origin: Origin,
+) -> Result<Written, AllocError>
     ensures { IfOk result (λ name. IsNameOf (first_name (names_at raws.now origin.entry)) name) }
 {
     name_of(alloc, first_name(names_of(raws, origin.entry)))

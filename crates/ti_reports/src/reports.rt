@@ -8,7 +8,8 @@ use crate::lines::ValuePlace;
 use serde_json::{Map, Value, json, put};
 use std::alloc::{AllocError, Global};
 use ti_entries::Columns;
-use ti_members::{Explanation, Written};
+use ti_hints::HintKind;
+use ti_members::{Explanation, Written, text_of};
 use ti_objects::printable_json;
 
 /// The version of the form of a report.
@@ -25,6 +26,8 @@ pub enum Verdict {
     Refused,
     /// Advice on the entry, beside its verdict.
     Advice,
+    /// A hint of this kind about a field of the entry's source text, beside its verdict.
+    Hint(HintKind),
 }
 
 impl Verdict {
@@ -37,6 +40,7 @@ impl Verdict {
             Verdict::No => "no",
             Verdict::Refused => "refused",
             Verdict::Advice => "advice",
+            Verdict::Hint(_) => "hint",
         }
     }
 }
@@ -60,7 +64,7 @@ pub struct Report {
     pub verdict: Verdict,
     /// The kind of the fault, or the reason why the entry can't be read.
     pub cause: Option<String>,
-    /// The fault, or the advice.
+    /// The fault, the advice, or the hint.
     pub finding: Finding,
 }
 
@@ -87,11 +91,33 @@ pub struct Finding {
     pub judged: Option<bool>,
     /// Whether the entry seems to be for a terminal of another kind.
     pub another_kind: Option<bool>,
-    /// Lines that explain the fault, or the advice, to people.
+    /// Lines that explain the fault, the advice or the hint to people.
     pub explanation: Vec<String>,
 }
 
 impl Finding {
+    ghost use Rattle.std.specs.Prelude.{◌≡◌, IfOk};
+    ghost use Rattle.ti_reports.specs.Faults.{SaysWords};
+    ghost use Rattle.ti_reports.specs.Reports as spec;
+
+    /// What these `words` say about the `capability` at `place`, without a fault.
+    pub fn of_words(
+        alloc: Global,
+        capability: Option<String>,
+        place: ValuePlace,
+        words: &[u8],
+    ) -> Result<Finding, AllocError>
+        ensures capability { IfOk result (λ finding. finding.capability ≡ capability) }
+        ensures place { IfOk result (λ finding. finding.place ≡ place) }
+        ensures says { IfOk result (λ finding. SaysWords finding) }
+    {
+        let mut finding = Finding::none(alloc);
+        finding.capability = capability;
+        finding.place = place;
+        finding.explanation.push(text_of(alloc, words)?)?;
+        Ok(finding)
+    }
+
     /// No fault.
     pub fn none(alloc: Global) -> Finding
         ensures { spec.IsNothing result }
@@ -276,7 +302,7 @@ fn put_run(
 }
 
 /// The JSON text with the name of the kind of finding, or null for a yes: the `cause` of a no, one name for all that
-/// can't be read, and one for advice.
+/// can't be read, one for advice, and the kind of a hint.
 fn rule_value(alloc: Global, verdict: Verdict, cause: &Option<String>) -> Result<Value, AllocError>
     ensures { IfOk result (λ value. view value ≡ spec.rule_data verdict cause.now) }
 {
@@ -285,6 +311,19 @@ fn rule_value(alloc: Global, verdict: Verdict, cause: &Option<String>) -> Result
         Verdict::No => text_value(alloc, cause),
         Verdict::Refused => Value::try_from_str(alloc, "Refused"),
         Verdict::Advice => Value::try_from_str(alloc, "Advice"),
+        Verdict::Hint(kind) => Value::try_from_str(alloc, hint_rule(kind)),
+    }
+}
+
+/// The name of this kind of hint.
+fn hint_rule(kind: HintKind) -> &'static str
+    ensures { result.now ≡ spec.hint_rule kind }
+{
+    match kind {
+        HintKind::UnknownName => "UnknownName",
+        HintKind::Duplicate => "Duplicate",
+        HintKind::OddEscape => "OddEscape",
+        HintKind::PercentCaret => "PercentCaret",
     }
 }
 

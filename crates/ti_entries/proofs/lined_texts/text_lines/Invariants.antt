@@ -1,6 +1,6 @@
 use Rattle.std.proofs.Common.{◌≡◌, ◌++◌, length, map}
 use Rattle.ti_source.specs.Layout.{lines_of}
-use Rattle.ti_entries.proofs.lined_texts.all_lines.Given as goal
+use Rattle.ti_entries.proofs.lined_texts.text_lines.Given as goal
 
 -- the lines so far, and those that are left
 abbrev pub invariant-loop-line : goal.invariant-loop-line

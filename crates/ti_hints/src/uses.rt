@@ -1,0 +1,46 @@
+//! The entries of a source text that an entry of it uses.
+
+use std::alloc::{AllocError, Global};
+use ti_entries::place_named;
+use ti_source::{Field, RawEntry};
+
+/// The places among `raws` of the entry of this name and of those that it uses, in order; none if there is no such entry.
+///
+/// # Errors
+/// Out of memory.
+pub fn used_places(
+    alloc: Global,
+    raws: &[RawEntry],
+    entry: &[u8],
+) -> Result<Vec<usize>, AllocError> {
+    let mut places = Vec::new(alloc);
+    if let Some(place) = place_named(raws, entry) {
+        places.push(place)?;
+    }
+    for step in 0..raws.len() {
+        let Some(raw) = places
+            .as_slice()
+            .get(step)
+            .and_then(|place| raws.get(*place))
+        else {
+            break;
+        };
+        add_uses(raws, raw, &mut places)?;
+    }
+    places.sort()?;
+    Ok(places)
+}
+
+/// Adds to `places` the places of the entries that `raw` itself uses, if they aren't there yet.
+fn add_uses(raws: &[RawEntry], raw: &RawEntry, places: &mut Vec<usize>) -> Result<(), AllocError> {
+    for field in raw.fields.as_slice() {
+        if let Field::Include(used) = field {
+            if let Some(place) = place_named(raws, used.as_slice()) {
+                if !places.as_slice().contains(&place) {
+                    places.push(place)?;
+                }
+            }
+        }
+    }
+    Ok(())
+}

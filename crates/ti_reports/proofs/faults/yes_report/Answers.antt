@@ -1,0 +1,9 @@
+use Rattle.ti_reports.proofs.LineFacts.{as_reported, yes_reported}
+use Rattle.ti_reports.specs.Faults.{ReportsYes}
+use Rattle.ti_reports.proofs.faults.yes_report.Goals as goal
+
+pub returns : goal.returns
+returns c =
+    let subject = c.args.subject.now in
+    as_reported (ReportsYes subject.entry.now subject.size.rows subject.size.cols subject.file.now) c.report_on.result c.report_on.ensures
+    (λ report on. yes_reported subject c.none.result report c.none.ensures on)

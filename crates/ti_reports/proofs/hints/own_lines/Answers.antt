@@ -1,0 +1,19 @@
+use Rattle.std.proofs.Common.{◌++◌, ◌∙◌, ℕ, List, ap, arith}
+use Rattle.ti_hints.proofs.Hinted.{all_at}
+use Rattle.ti_hints.specs.Places.{IsHintOf}
+use Rattle.ti_reports.specs.Faults.{NoLine, OneMore}
+use Rattle.ti_source.specs.Layout.{lines_of}
+use Rattle.ti_reports.proofs.hints.own_lines.Goals as goal
+
+pub loop-hint-init : goal.loop-hint-init
+loop-hint-init c = NoLine c.new-lines.result.items c.new-lines.ensures.items
+
+pub hint_line-requires : goal.hint_line-requires
+hint_line-requires c =
+    all_at (IsHintOf (lines_of c.args.source.now.lined.now) c.args.source.now.raws.now c.args.place) c.in_ok-hints.hints.items c.loop-hint.hint-index c.hint-item.result (omega arith) c.hint-item.is c.in_ok-hints.ensures
+
+-- the line of the next hint follows those so far
+pub loop-hint-preserved : goal.loop-hint-preserved
+loop-hint-preserved c =
+    OneMore c.loop-hint.lines.items c.in_ok-own.own.items c.extend_from_slice.new.self.items
+    (c.in_ok-extend_from_slice.ensures.items ∙ ap (λ (own : List ℕ). c.loop-hint.lines.items ++ own) c.as_slice.ensures.value) c.loop-hint.invariant c.in_ok-own.ensures
