@@ -105,7 +105,7 @@ def judge(name, data):
         fail(f"{name}: status {ran.returncode} {ran.stderr}")
     page, ones = Page(ran.stdout), [json.loads(line) for line in data.splitlines()]
     noes = [it for it in ones if it["verdict"] == "no"]
-    of_entry = {(it["file"], it["entry"]): it["verdict"] for it in ones if it["verdict"] != "advice"}
+    of_entry = {(it["file"], it["entry"]): it["verdict"] for it in ones if it["verdict"] not in ("advice", "hint")}
     verdicts = collections.Counter(of_entry.values())
     if page.tiles != verdicts or collections.Counter(kind for kind, _ in page.rows) != verdicts:
         fail(f"{name}: the page counts {page.tiles}, and the JSON has {verdicts}")

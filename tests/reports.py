@@ -49,6 +49,10 @@ ABSENT = {"verdict": "no", "capability": "cup", "cause": "Absent", "rule": "Abse
 ABSENT["explanation"] = ["cup is missing"]
 # and advice
 ADVICE = {"verdict": "advice", "rule": "Advice", "capability": "sgr", "explanation": ["bold is never shown"]}
+# and a hint
+HINT = {"verdict": "hint", "rule": "Duplicate", "capability": "clear", "explanation": ["clear stands in the entry before"], "line": 5}
+HINT |= {"source_file": "a.ti", "source_entry": "a", "source_entry_hex": "61", "column": 5, "end_line": 5, "end_column": 9}
+NO_COLUMNS = {"column": None, "end_line": None, "end_column": None}
 
 # and an entry that can't be read
 UNREAD = {"verdict": "refused", "part": None, "rule": "Refused", "cause": "line 5: BadEscape", "line": 5, "source_file": "a.ti"}
@@ -106,6 +110,14 @@ REFUSED_BY_SCHEMA = [
     {**LOST, "cause": "line 5: BadEscape"},
     {"source_file": "a.ti"},
     {**ADVICE, "line": 5},
+    {**HINT, "rule": "UnknownName"},
+    {**HINT, "rule": "Hint"},
+    {**HINT, "capability": None},
+    {**HINT, "line": None},
+    {**HINT, "source_entry": None},
+    {**HINT, "end_column": None},
+    {**HINT, "cause": "Duplicate"},
+    {**HINT, "explanation": []},
     {"version": 2},
     {"entry_hex": "6"},
     {"size": {"cols": 80, "rows": 1}},
@@ -137,7 +149,7 @@ def judge_schema():
     """The schema accepts a yes, and refuses objects that no report may be."""
     yes = {**{key: [] if list in kinds else None for key, kinds in MEMBERS.items()}, "entry": "a", "entry_hex": "61", "file": "a.ti"}
     yes |= {"size": {"cols": COLS, "rows": ROWS}, "part": False, "verdict": "yes", "version": 1}
-    for right in (yes, {**yes, **ABSENT}, {**yes, **ADVICE}, {**yes, **UNREAD}, {**yes, **BESIDE}, {**yes, **LOST}, {**yes, **LOST, **NO_PLACE}):
+    for right in (yes, {**yes, **ABSENT}, {**yes, **ADVICE}, {**yes, **HINT}, {**yes, **HINT, **NO_COLUMNS}, {**yes, **UNREAD}, {**yes, **BESIDE}, {**yes, **LOST}, {**yes, **LOST, **NO_PLACE}):
         if not SCHEMA.is_valid(right):
             fail(f"the schema refuses {right}")
     for other in REFUSED_BY_SCHEMA:
@@ -159,7 +171,8 @@ def objects(told, size=(ROWS, COLS)):
             fail(f"not as docs/report.schema.json says: {line}: {error.message}")
         if one["size"] != {"cols": size[1], "rows": size[0]}:
             fail(f"not the size that was given: {line}")
-        said_of = {"advice": ("capability",), "refused": ("line", "source_file", "source_entry", "source_entry_hex")}.get(one["verdict"], ())
+        placed = ("line", "source_file", "source_entry", "source_entry_hex")
+        said_of = {"advice": ("capability",), "refused": placed, "hint": ("capability", *placed, *NO_COLUMNS)}.get(one["verdict"], ())
         if one["verdict"] != "no" and any(one[key] is not None for key in OF_FAULTS if key not in said_of):
             fail(f"a fault of an entry without one: {line}")
         judge_forms(one)
@@ -170,12 +183,22 @@ def objects(told, size=(ROWS, COLS)):
 def parted(ones):
     """The objects about verdicts, and the advice in the others as the plain form prints it."""
     advice = [f"advice {it['capability']}: {it['explanation'][0]}" for it in ones if it["verdict"] == "advice"]
-    return [it for it in ones if it["verdict"] != "advice"], advice
+    return [it for it in ones if it["verdict"] not in ("advice", "hint")], advice
+
+
+def hinted(ones):
+    """The hints of objects, as standard error has them."""
+    return [f"hint line {it['line']}: {it['explanation'][0]}" for it in ones if it["verdict"] == "hint"]
 
 
 def advised(told):
     """The advice of a plain form."""
     return [line for line in told.err.decode().splitlines() if line.startswith("advice ")]
+
+
+def hints_of(told, end=""):
+    """The hints of standard error."""
+    return [line.removesuffix(end) for line in told.err.decode("latin-1").splitlines() if line.startswith("hint line ")]
 
 
 def as_text(held):
@@ -197,7 +220,7 @@ def judge_forms(one):
     for key in ("string", "suggestion"):
         if one[f"{key}_hex"] != (None if one[key] is None else value_bytes(one[key]).hex()):
             fail(f"{key} isn't {key}_hex: {one}")
-    rule = {"yes": None, "no": one["cause"], "refused": "Refused", "advice": "Advice"}[one["verdict"]]
+    rule = {"yes": None, "no": one["cause"], "refused": "Refused", "advice": "Advice", "hint": one["rule"]}[one["verdict"]]
     judged = one["cause"] not in UNJUDGED if one["verdict"] == "no" else None
     if (one["rule"], one["judged"], one["version"]) != (rule, judged, 1):
         fail(f"not the rule and the judgement of the cause: {one}")
@@ -340,6 +363,9 @@ def judge_entries(path, held, names, planted=None):
         every, every_json, first, first_json = told[4 * at : 4 * at + 4]
         found = blocks(every.out.decode())
         (ones, all_advice), (one, advice) = (parted(objects(it)) for it in (every_json, first_json))
+        for it in (every_json, first_json):
+            if one[0]["verdict"] != "refused" and hinted(objects(it)) != hints_of(it):
+                fail(f"check --json of {name} reported {it.out}, and printed {it.err}")
         if [said(it) for it in ones] != ([line for line, _ in found] or ["yes"]):
             fail(f"check --all --json of {name} reported {ones}, and --all printed {found}")
         if len(one) != 1 or first.status != int(said(one[0]) != "yes"):
@@ -417,6 +443,8 @@ def judge_survey(path, held):
             for line in plain.err.splitlines(keepends=True):
                 (hints if line.startswith(b"hint line ") else places).append(line)
             count += judge_places(path, ones, b"".join(places).decode().splitlines())
+            if hinted(objects(reported)) != hints_of(reported, f", in {path}"):
+                fail(f"survey --all --json reported {reported.out}, and printed {reported.err}")
         *lines, counts = plain.out.decode("latin-1").splitlines()
         wanted, count_of_answers = survey_lines(ones, bool(form))
         if [shown(line) for line in lines] != [shown(it.encode().decode("latin-1")) for it in wanted]:
@@ -528,6 +556,46 @@ def judge_twins():
             fail(f"the lines of two entries of one name: {ones}")
 
 
+# fields that do nothing, or not what they seem to
+HINTED = rb"""base|the three,
+	clear=\E[H\E[2J, cup=\E[%i%p1%d;%p2%dH, sgr0=\E[m,
+a|of three kinds, rmasc=^O,
+	  ell@, use=b, use=base, clear=\E[H\E[2J,
+# nothing,
+	,clear=\E[2J, .foo,
+b|used,	el=\E[\K,
+	setf=\E[\,%^%d, setb=%^%d,initc=%^%d,
+"""
+# the entry that has the field, the kind, the capability, the line, the columns, and the words
+HINTS = [
+    ("a", "UnknownName", None, 3, 19, 27, "rmasc is no capability"),
+    ("a", "UnknownName", None, 4, 4, 8, "ell is no capability"),
+    ("a", "Duplicate", "clear", 6, 3, 14, "clear stands in the entry before, where the first one counts"),
+    ("b", "OddEscape", "el", 7, 9, 17, "el has `\\K`, which is no escape and stands for the byte behind the backslash"),
+    *(
+        ("b", "PercentCaret", cap, 8, *columns, f"in {cap} `%^` is read as `%` and a control character; exclusive or is written `%\\^`")
+        for cap, columns in (("setf", (2, 16)), ("setb", (18, 27)), ("initc", (28, 38)))
+    ),
+]  # fmt: skip
+
+
+def judge_hints():
+    """Each hint has an object, with the entry that is checked and the one that has the field; they don't count for --fail."""
+    words = [["check", "--json", "hinted:a", *SIZE], ["check", "--all", "--json", "hinted:a", *SIZE]]
+    words += [["survey", "--all", "--json", "--fail", *SIZE, "hinted"], ["survey", "--json", *SIZE, "hinted"]]
+    words += [["check", "--join", "--json", "hinted:a", *SIZE]]
+    told = run_cases(PROGRAM, [Case(it) for it in words], {"hinted": HINTED})
+    placed = [("a", *it) for it in HINTS]
+    columnless = [(*it[:5], None, None, it[7]) for it in placed]
+    for it, one, wanted in zip(words, told, (placed, placed, [(hint[0], *hint) for hint in HINTS], [], columnless)):
+        keys = ("entry", "source_entry", "rule", "capability", "line", "column", "end_column")
+        found = [(*(o[key] for key in keys), *o["explanation"]) for o in objects(one) if o["verdict"] == "hint"]
+        if found != wanted:
+            fail(f"{it}: the hints {found}, not {wanted}")
+    if told[0].status or told[1].status or told[4].status:
+        fail(f"a hint that changes the status of check: {told}")
+
+
 RIGHT = b"a|the standard's strings,\n\tclear=\\E[H\\E[2J, cup=\\E[%i%p1%d;%p2%dH, sgr0=\\E[m,\n"
 
 
@@ -590,6 +658,7 @@ def main():
     judge_names()
     judge_twins()
     judge_uses()
+    judge_hints()
     judge_failing()
     judge_refused()
     print(f"reports: {count} objects of check --json say what the plain form says, and those of survey --json, {lines} with a line")

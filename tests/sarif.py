@@ -31,7 +31,7 @@ def objects(told):
 def level(one):
     if one["verdict"] == "refused":
         return "error"
-    if one["verdict"] == "advice" or one["another_kind"]:
+    if one["verdict"] in ("advice", "hint") or one["another_kind"]:
         return "note"
     return "warning" if one["cause"] in UNJUDGED else "error"
 
@@ -40,6 +40,8 @@ def statement(one):
     subject = " ".join([one["capability"] or "", *map(str, one["parameters"])])
     if one["verdict"] == "no":
         return f"no {subject}: {one['cause']}"
+    if one["verdict"] == "hint":
+        return f"hint {one['rule']}"
     return f"refused: {one['cause']}" if one["verdict"] == "refused" else f"advice {subject}"
 
 
@@ -103,7 +105,7 @@ def judge_file(told, ones):
         if result["ruleId"] not in rules:
             fail(f"no rule {result['ruleId']}")
         judge_result(result, one)
-    prints = [result["partialFingerprints"]["ticurses/v1"] for result in run["results"] if result["ruleId"] != "Advice"]
+    prints = [result["partialFingerprints"]["ticurses/v1"] for result in run["results"] if result["level"] != "note"]
     if len(prints) != len(set(prints)):
         fail("two faults with one print")
     return len(found)

@@ -266,7 +266,7 @@ def judge_survey():
     if (told.status, told.out) != (0, want):
         fail(f"survey --with: {told.status} {told.out} {told.err}")
     ones = [json.loads(line) for line in run(["survey", "--json", "--with", "b.ti", *SIZE, "a.ti"], data).out.splitlines()]
-    found = {it["entry"]: (it["verdict"], it["file"], it["source_file"], it["line"]) for it in ones if it["verdict"] != "advice"}
+    found = {it["entry"]: (it["verdict"], it["file"], it["source_file"], it["line"]) for it in ones if it["verdict"] not in ("advice", "hint")}
     hidden = {"good": ("yes", "a.ti", None, None), "bad": ("refused", "a.ti", "b.ti", 4), "last": ("refused", "a.ti", "a.ti", 6)}
     if found != hidden:
         fail(f"survey --json --with: {found}")

@@ -2,7 +2,7 @@
 
 import json
 
-VERDICTS = ("yes", "no", "refused", "advice")
+VERDICTS = ("yes", "no", "refused", "advice", "hint")
 TEXTS = ("bytes", "capability", "cause", "entry", "seen", "source_entry", "start", "string", "suggestion", "wanted")
 # what is said of a fault
 OF_FAULT = ("capability", "parameters", "cause", "bytes", "start", "wanted", "seen")
@@ -42,7 +42,7 @@ class Entry:
     def __init__(self, one):
         self.name, self.file, self.verdict = one["entry"], one["file"], one["verdict"]
         self.reason = one["cause"] if self.verdict == "refused" else None
-        self.advice, self.faults = [], []
+        self.advice, self.hints, self.faults = [], [], []
 
     def shown(self):
         return self.file if self.name is None else self.name
@@ -93,7 +93,7 @@ def is_report(one):
     sizes = isinstance(size, dict) and all(type(size.get(name)) is int and size[name] > 0 for name in ("rows", "cols"))
     line = one.get("line", 0) is None or type(one["line"]) is int and one["line"] > 0
     truths = all(one.get(name, 0) is None or isinstance(one.get(name), bool) for name in ("another_kind", "judged"))
-    needed = {"no": ("capability", "cause", "entry"), "advice": ("capability", "entry")}.get(one["verdict"], ())
+    needed = {"no": ("capability", "cause", "entry"), "advice": ("capability", "entry"), "hint": ("entry", "line")}.get(one["verdict"], ())
     named = all(one.get(name) is not None for name in needed)
     return texts and truths and lists and sizes and line and named and is_hexadecimal(one["bytes"])
 
@@ -127,11 +127,16 @@ def objects(data):
         yield number, one
 
 
-def add_advice(found, one, number):
-    """Advice on the entry whose objects came before."""
+def add_words(found, one, number):
+    """Advice on the entry whose objects came before, or a hint about one of its fields."""
     if not (found.entries and found.entries[-1].is_of(one)):
-        raise NoReport(f"line {number} is advice on another entry than the object before it")
-    found.entries[-1].advice.append(f"{one['capability']}: {' '.join(map(str, one['explanation']))}")
+        what = "advice on" if one["verdict"] == "advice" else "a hint about"
+        raise NoReport(f"line {number} is {what} another entry than the object before it")
+    words = " ".join(map(str, one["explanation"]))
+    if one["verdict"] == "advice":
+        found.entries[-1].advice.append(f"{one['capability']}: {words}")
+    else:
+        found.entries[-1].hints.append(f"{place_of(one)}: {words}")
 
 
 def found_in(data):
@@ -141,8 +146,8 @@ def found_in(data):
         if found.size not in (None, one["size"]):
             raise NoReport(f"line {number} is of another size than those before it")
         found.size = one["size"]
-        if one["verdict"] == "advice":
-            add_advice(found, one, number)
+        if one["verdict"] in ("advice", "hint"):
+            add_words(found, one, number)
             continue
         key = key_of(one)
         if not (found.entries and found.entries[-1].goes_on(one, faults.get(key))):

@@ -185,8 +185,8 @@ def verdict(entry, of_fault):
     if entry.verdict == "refused":
         return f"can't be read: {shown(entry.reason or '')}"
     faults = " ".join(f'<a href="#f{of_fault[id(it)]}">{shown(it.capability)}</a>' for it in entry.faults)
-    advice = "; ".join(shown(it) for it in entry.advice)
-    return "; ".join(it for it in (faults, advice) if it)
+    words = "; ".join(shown(it) for it in [*entry.advice, *entry.hints])
+    return "; ".join(it for it in (faults, words) if it)
 
 
 def entries(found, of_fault):
@@ -196,7 +196,7 @@ def entries(found, of_fault):
         f"<td>{len(it.faults) or ''}</td><td>{verdict(it, of_fault)}</td></tr>\n"
         for it in found.entries
     )
-    heads = "".join(f'<th scope="col">{it}</th>' for it in ("entry", "verdict", "faults", "what is wrong, or advice"))
+    heads = "".join(f'<th scope="col">{it}</th>' for it in ("entry", "verdict", "faults", "what is wrong, advice and hints"))
     return f'<section id="entries"><h2>Entries</h2><table><thead><tr>{heads}</tr></thead><tbody>\n{rows}</tbody></table></section>\n'
 
 

@@ -202,15 +202,15 @@ have which CAUSE. Standard error has the first of them too, after `refused: `. I
 line `strings: ..` that counts those that were checked and those that were not looked at.
 
 With --json there is no certificate either. The output is a JSON object on a line of its own: what is wrong first, or with
---all one for each fault, or one with the verdict `yes`; and behind it one with the verdict `advice` for each advice. An
-entry that can't be obtained has one with the verdict `refused`. Each has the members version (1), verdict, rule (a name
-for each kind of answer), entry (the first name), aliases (the others), part (whether the entry is only there to be used
-by others), size (rows and cols), capability, parameters, cause, bytes (what the string sends, in hexadecimal), start,
-wanted and seen (the words of the lines that begin so), explanation (the lines below the fault, or the words of the
-advice), file (its path), line (on which the value stands, or what can't be read), column (of the first byte of the field
-that has the value), end_line and end_column (of the comma behind it; all from 1, and null with --join), source_entry (the
-first name of the entry that has the value), source_file (the file of the line; none for an entry that check can't obtain
-with --with), string and, with --all, suggestion (the string at fault and the one that would be right, as a source has
+--all one for each fault, or one with the verdict `yes`; and behind it one with the verdict `advice` for each advice, and
+one with the verdict `hint` for each hint. An entry that can't be obtained has one with the verdict `refused`. Each has
+the members version (1), verdict, rule (a name for each kind of answer), entry (the first name), aliases (the others),
+part (whether the entry is only there to be used by others), size (rows and cols), capability, parameters, cause, bytes
+(what the string sends, in hexadecimal), start, wanted and seen (the words of the lines that begin so), explanation (the
+lines below the fault, or the words of the advice or the hint), file (its path), line (on which the value stands, or the
+field of a hint, or what can't be read), column (of the first byte of that field), end_line and end_column (of the comma
+behind it; all from 1, and null with --join), source_entry (the first name of the entry that has the field), source_file
+(the file of the line; none for an entry that check can't obtain with --with), string and, with --all, suggestion (the string at fault and the one that would be right, as a source has
 them) and suggested_with (the fields that are to be given with it), judged (whether the string could be judged) and, with
 --all, another_kind (whether the entry seems to be for a terminal of another kind). entry_hex, aliases_hex,
 source_entry_hex, string_hex and suggestion_hex have the bytes in hexadecimal. Where a member doesn't apply, it is null, or
@@ -219,8 +219,8 @@ those of the form without --json.
 
 With --sarif the output is one file of SARIF 2.1.0, which code hosts show at the lines of FILE: a result for each object
 of --json --all but a yes. ruleId is the rule. The level is error for what was shown to be wrong and for what can't be
-read, warning where the string couldn't be judged, and note for advice and where the entry seems to be for a terminal of
-another kind. The message has the line of the fault, its explanation and the suggestion. A result marks the whole field,
+read, warning where the string couldn't be judged, and note for advice, for hints and where the entry seems to be for a
+terminal of another kind. The message has the line of the fault, its explanation and the suggestion. A result marks the whole field,
 and has a fix if a string is suggested that is right without others; with --join it marks the line and has none.
 
 With --fix there is no certificate. The output is the text of the source file in which each string that --all suggests
@@ -455,7 +455,7 @@ several entries have at one place is there once, with a line `in NAME, NAME..` o
 `ticurses check`, each with `, in FILE` at its end.
 
 With --json the output is a JSON object on a line of its own for each of these lines but the last, with the members of
-`ticurses check --json`, and one for each advice. In place of KIND the verdict is `refused`, and cause has the KIND; line
+`ticurses check --json`, and one for each advice, and with --all for each hint. In place of KIND the verdict is `refused`, and cause has the KIND; line
 is that of the fault, and source_file the file that has it, which may be one of --with. Where a use leads to no entry, or
 back, they are those of the use, and source_entry is the entry that has it. entry is null where a FILE has a fault of its
 own, or can't be read, with the cause `file: FILE`.

@@ -53,15 +53,15 @@ pub fn hint_carets(alloc: Global, text: &[u8], remarks: &mut Remarks) {
 
 /// The lines of a source text and its entries.
 #[derive(Clone, Copy)]
-struct Text<'a> {
-    lines: &'a [&'a [u8]],
-    raws: &'a [RawEntry],
+struct Text<'a, 'b, 'c> {
+    lines: &'a [&'b [u8]],
+    raws: &'c [RawEntry],
 }
 
 /// Adds the hints for the entry at `place` among `raws`, each with the `path` of its file if there is one.
 fn add_hints(
     alloc: Global,
-    text: Text<'_>,
+    text: Text<'_, '_, '_>,
     place: usize,
     path: Option<&str>,
     remarks: &mut Remarks,

@@ -10,7 +10,7 @@ use Rattle.ti_reports.specs.Reports.{column_data, end_column_data, end_line_data
 use Rattle.ti_members.specs.declared.forms.Written.{Written}
 use Rattle.ti_reports.specs.declared.reports.Report.{Report}
 use Rattle.ti_reports.specs.declared.reports.Verdict.{Verdict}
-use Rattle.ti_reports.specs.declared.reports.Verdict.TheVariants.{Yes, No, Refused, Advice}
+use Rattle.ti_reports.specs.declared.reports.Verdict.TheVariants.{Yes, No, Refused, Advice, Hint}
 
 text_whole : (text : Option (String Global)) → has_float (text_data text) ≡ false
 text_whole (Some text) = refl
@@ -49,6 +49,7 @@ rule_whole Yes cause = refl
 rule_whole No cause = text_whole cause
 rule_whole Refused cause = refl
 rule_whole Advice cause = refl
+rule_whole (Hint kind) cause = refl
 
 numbers_whole : (ns : List ℕ) → items_have_float (items_of (map (λ n. number (unsigned n)) ns)) ≡ false
 numbers_whole [] = refl
