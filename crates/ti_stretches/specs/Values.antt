@@ -1,0 +1,17 @@
+-- Which part of a value in a source text means a stretch of the string.
+use Rattle.std.specs.Prelude.{◌≡◌, ℕ, List, Result, Ok, drop, take}
+use Rattle.ti_source.specs.Escapes.{unescaped}
+use Rattle.ti_stretches.specs.Stretches.{IsWithin}
+use Rattle.ti_stretches.specs.declared.stretches.Stretch.{Stretch}
+
+-- no escape goes over this place of a value: what stands before it means the first `count` bytes of the string, and
+-- what stands behind it means the others
+pub record IsCut (text bytes : List ℕ) (count place : ℕ) : Type 0 where
+  pub before : unescaped (take place text) ≡ Ok (take count bytes)
+  pub behind : unescaped (drop place text) ≡ Ok (drop count bytes)
+
+-- the part of a value that means a stretch of the string
+pub record IsMeaning (text bytes : List ℕ) (stretch part : Stretch) : Type 0 where
+  pub starts : IsCut text bytes stretch.from part.from
+  pub ends : IsCut text bytes stretch.to part.to
+  pub within : IsWithin text part
