@@ -1,6 +1,6 @@
 //! The stretch of a parameter string that sends given bytes.
 
-ghost use Rattle.std.specs.Prelude.{◌≡◌, ◌≤◌, All, IfOk, IfSome, List, ℕ, Bool, Ok, length, take};
+ghost use Rattle.std.specs.Prelude.{◌≡◌, ◌≤◌, ◌⊎◌, All, Some, IfOk, IfSome, List, ℕ, Bool, Ok, length, take};
 ghost use Rattle.ti_parm.specs.Meaning.{sent};
 ghost use Rattle.ti_parm.specs.Value.{values_of};
 ghost use Rattle.ti_stretches.specs.Prefixes.{closed_front};
@@ -121,22 +121,45 @@ impl Sender<'_> {
     }
 
     /// The stretch of the string that sends `bytes`, between two of its `cuts`: the first one up to which all of them are
-    /// sent, and the last one before it up to which none is.
+    /// sent, and the last one before it up to which none is; or the one before that, where only a parameter is pushed
+    /// between the two, and a code begins behind it.
     fn between(&self, cuts: &[Cut], bytes: Stretch) -> Option<Stretch>
         requires { AreCuts self.now.string.now (values_of self.now.params.now) self.now.bytes.now cuts.now }
         ensures { IfSome result
             (IsSending self.now.string.now (values_of self.now.params.now) self.now.bytes.now bytes) }
     {
+        let mut before: Option<Cut> = None;
         let mut start: Option<Cut> = None;
         for cut in cuts {
             if cut.count <= bytes.from {
+                before = start;
                 start = Some(*cut);
             } else if bytes.to <= cut.count {
-                return stretch_of(start?, *cut, self.string);
+                return stretch_of(first_of(self.string, before, start?), *cut, self.string);
             }
         }
         None
     }
+}
+
+/// The cut `before` the `start` of a stretch, if a code at the start takes the parameter that is pushed between the two;
+/// otherwise the start.
+fn first_of(string: &[u8], before: Option<Cut>, start: Cut) -> Cut
+    ensures { (result ≡ start) ⊎ (before ≡ Some result) }
+{
+    match before {
+        Some(cut) if is_push(string, cut, start) => cut,
+        Some(_) | None => start,
+    }
+}
+
+/// Whether a parameter is pushed between two cuts, and a code other than a byte by itself begins behind it.
+fn is_push(string: &[u8], cut: Cut, start: Cut) -> bool {
+    if start.place < cut.place || string.len() <= start.place {
+        return false;
+    }
+    let (front, rest) = string.split_at(start.place);
+    matches!((&front[cut.place..], rest), ([b'%', b'p', _], [b'%', ..]))
 }
 
 /// The stretch of `string` between two cuts; `None` if it is empty or ends outside.

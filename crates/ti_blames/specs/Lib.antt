@@ -1,0 +1,4 @@
+-- The parts of an effect, and the parts of what is sent that change them.
+pub mod Parts
+pub mod Pairs
+pub mod Stretches

@@ -1,0 +1,69 @@
+//! The parameter of a control sequence that changes a part of the effect.
+
+use crate::parts::Part;
+use crate::units::moved;
+use ti_stretches::Stretch;
+use vt_effects::{Effect, Region};
+
+/// Which parameter of a control sequence with the final byte `last` a part is taken from, counted from 0: of CUP the row
+/// and the column, of DECSTBM the first and the last line.
+fn place_of(part: Part, last: u8, effect: &Effect, asked: &Effect) -> Option<usize> {
+    match (part, last) {
+        (Part::Row, b'H' | b'f') => Some(0),
+        (Part::Column, b'H' | b'f') => Some(1),
+        (Part::Margins, b'r') => match (effect.margins, asked.margins) {
+            (Some(seen), Some(wanted)) => Some(differing_line(seen, wanted)),
+            (Some(_) | None, Some(_) | None) => None,
+        },
+        _ => None,
+    }
+}
+
+/// 0 if the first lines of two regions differ, otherwise 1.
+fn differing_line(seen: Region, wanted: Region) -> usize {
+    if seen.top != wanted.top { 0 } else { 1 }
+}
+
+/// The bytes of the parameter of the control sequence `token` with this number, counted from 0; `None` if it has no such
+/// parameter, or that is left out.
+fn parameter_in(token: &[u8], number: usize) -> Option<Stretch> {
+    let mut from = 2;
+    let mut passed = 0usize;
+    for (at, byte) in token.iter().enumerate() {
+        if at >= 2 && !byte.is_ascii_digit() {
+            if passed == number {
+                return if from < at {
+                    Some(Stretch { from, to: at })
+                } else {
+                    None
+                };
+            }
+            from = at + 1;
+            passed = passed.saturating_add(1);
+        }
+    }
+    None
+}
+
+/// The bytes of `unit`, a part of what is `sent`, or of the one parameter of it that `part` is taken from.
+pub(crate) fn narrowed(
+    sent: &[u8],
+    unit: Stretch,
+    part: Part,
+    effect: &Effect,
+    asked: &Effect,
+) -> Stretch {
+    let Some(token) = sent.get(unit.from..unit.to) else {
+        return unit;
+    };
+    let Some(last) = token.last() else {
+        return unit;
+    };
+    match place_of(part, *last, effect, asked) {
+        Some(number) => match parameter_in(token, number) {
+            Some(parameter) => moved(parameter, unit.from),
+            None => unit,
+        },
+        None => unit,
+    }
+}
