@@ -3,25 +3,36 @@
 use crate::parts::Part;
 use crate::units::moved;
 use ti_stretches::Stretch;
-use vt_effects::{Effect, Region};
+use vt_effects::{Effect, Erasure, Move, Region};
 
-/// Which parameter of a control sequence with the final byte `last` a part is taken from, counted from 0: of CUP the row
-/// and the column, of DECSTBM the first and the last line.
+/// Which parameter of a control sequence with the final byte `last` gives a part what is asked of it in another way, counted
+/// from 0: of CUP, CHA and VPA the row or the column, of DECSTBM the first or the last line, and of ECH the cells.
 fn place_of(part: Part, last: u8, effect: &Effect, asked: &Effect) -> Option<usize> {
     match (part, last) {
-        (Part::Row, b'H' | b'f') => Some(0),
-        (Part::Column, b'H' | b'f') => Some(1),
-        (Part::Margins, b'r') => match (effect.margins, asked.margins) {
-            (Some(seen), Some(wanted)) => Some(differing_line(seen, wanted)),
-            (Some(_) | None, Some(_) | None) => None,
-        },
+        (Part::Row, b'H' | b'f' | b'd') if is_to(asked.row) => Some(0),
+        (Part::Column, b'H' | b'f') if is_to(asked.col) => Some(1),
+        (Part::Column, b'G') if is_to(asked.col) => Some(0),
+        (Part::Erasure, b'X') if is_next(asked.erasure) => Some(0),
+        (Part::Margins, b'r') => differing_line(effect.margins?, asked.margins?),
         _ => None,
     }
 }
 
+fn is_to(way: Move) -> bool {
+    matches!(way, Move::To(_))
+}
+
+fn is_next(erasure: Erasure) -> bool {
+    matches!(erasure, Erasure::Next(_))
+}
+
 /// 0 if the first lines of two regions differ, otherwise 1.
-fn differing_line(seen: Region, wanted: Region) -> usize {
-    if seen.top != wanted.top { 0 } else { 1 }
+fn differing_line(seen: Region, wanted: Region) -> Option<usize> {
+    if seen.top != wanted.top {
+        Some(0)
+    } else {
+        Some(1)
+    }
 }
 
 /// The bytes of the parameter of the control sequence `token` with this number, counted from 0; `None` if it has no such

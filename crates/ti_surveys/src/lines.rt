@@ -17,7 +17,7 @@ use ti_caps::Entry;
 use ti_checker::{Cause, No};
 use ti_commands::{CommandRefusal, refusal_words};
 use ti_faults::{faults, must_claim};
-use ti_verdicts::{Answer, Certifier, PlacedFault, SourcePlace, no_words, placed};
+use ti_verdicts::{Answer, Certifier, Judged, PlacedFault, no_words, placed};
 use ti_words::push_shown;
 
 impl<'a, C: Certifier> Speaker for Asked<'a, C> {
@@ -140,7 +140,7 @@ fn told<C>(
         EntryKind::Other => Ok((line(alloc, found.name, b" no: OtherKind")?, Vec::new(alloc))),
         EntryKind::Usual => {
             let lines = listed(alloc, found.name, nos)?;
-            let places = places_of(alloc, found.stands, asked.has_columns, found.name, nos)?;
+            let places = places_of(alloc, asked, found, nos)?;
             Ok((lines, places))
         }
     }
@@ -157,22 +157,26 @@ fn part_lines(alloc: Global, names_parts: bool, name: &[u8]) -> Result<Vec<u8>, 
     }
 }
 
-/// The faults `nos` of the entry `name`, which is at `stands` in its source: each at the place of the field at fault,
-/// with its column if `has_columns`.
-fn places_of(
+/// The faults `nos` of the entry that was `found`: each at the place of the field at fault, as the survey is `asked` for
+/// them.
+fn places_of<C>(
     alloc: Global,
-    stands: &Option<SourcePlace<'_, '_>>,
-    has_columns: bool,
-    name: &[u8],
+    asked: &Asked<'_, C>,
+    found: &FileEntry<'_, '_>,
     nos: &[No],
 ) -> Result<Vec<PlacedFault>, AllocError>
-    requires { IfSome stands.now (λ there. there.place < length there.raws.now) }
-    ensures { IfOk result (λ places. HasParts (IsPlaced has_columns (place_if stands.now) name.now) nos.now
+    requires { IfSome found.now.stands.now (λ there. there.place < length there.raws.now) }
+    ensures { IfOk result (λ places. HasParts
+        (IsPlaced asked.now.has_columns (place_if found.now.stands.now) found.now.name.now) nos.now
         (map placed_in places.items)) }
 {
     let mut places = Vec::new(alloc);
     for no in nos {
-        let own = placed(alloc, stands, has_columns, name, no)?;
+        let fault = Judged {
+            no,
+            size: asked.size,
+        };
+        let own = placed(alloc, found.stands, asked.has_columns, found.name, &fault)?;
         push_if(&mut places, own)?;
     }
     Ok(places)

@@ -11,7 +11,8 @@ use Rattle.ti_resolve.specs.Origins.{IsOrigin, IsOriginAt}
 use Rattle.ti_resolve.specs.Uses.{names_at}
 use Rattle.ti_resolve.specs.declared.origins.Origin.{Origin}
 use Rattle.ti_source.specs.declared.types.RawEntry.{RawEntry}
-use Rattle.ti_verdicts.specs.Excerpts.{excerpt}
+use Rattle.ti_stretches.specs.declared.stretches.Stretch.{Stretch}
+use Rattle.ti_verdicts.specs.Excerpts.{IsFaulty, excerpt, value_in}
 use Rattle.ti_verdicts.specs.Refusals.{no_text}
 use Rattle.ti_verdicts.specs.Spots.{Line, PutFiles, columns_among, files_of, line_among, piece_among, put_files}
 use Rattle.ti_verdicts.specs.declared.locations.PlacedFault.{PlacedFault}
@@ -48,31 +49,47 @@ place_text has_columns files raws cap origin =
     numbered_text (line_among files origin) (columns_if has_columns (columns_among files cap origin)) cap
     (names_at raws origin.entry)
 
--- the field between these columns, and below it the marks under its value; nothing without columns
-abbrev pub piece_text : PutFiles → ℕ → Origin → Option Columns → List ℕ
-piece_text files cap origin None = []
-piece_text files cap origin (Some columns) = excerpt cap (piece_among files columns origin)
+-- the field between these columns, and below it the marks under the part of its value that is at fault; nothing without
+-- columns
+abbrev pub piece_text : PutFiles → ℕ → Origin → Option Stretch → Option Columns → List ℕ
+piece_text files cap origin part None = []
+piece_text files cap origin part (Some columns) = excerpt cap part (piece_among files columns origin)
+
+-- the value of the field between these columns; nothing without columns
+abbrev pub piece_value : PutFiles → ℕ → Origin → Option Columns → List ℕ
+piece_value files cap origin None = []
+piece_value files cap origin (Some columns) = value_in cap (piece_among files columns origin)
+
+-- the value of the field about a capability at an origin, in the file that has it
+unfoldable pub value_at : PutFiles → ℕ → Origin → List ℕ
+value_at files cap origin = piece_value files cap origin (columns_among files cap origin)
 
 -- the field about a capability at an origin, in the file that has it, and the marks below it
-unfoldable pub excerpt_text : PutFiles → ℕ → Origin → List ℕ
-excerpt_text files cap origin = piece_text files cap origin (columns_among files cap origin)
+unfoldable pub excerpt_text : PutFiles → ℕ → Option Stretch → Origin → List ℕ
+excerpt_text files cap part origin = piece_text files cap origin part (columns_among files cap origin)
 
 -- the line with the place, as far as it can be shown, and the field below it
-abbrev pub field_text : Bool → PutFiles → List RawEntry → ℕ → Origin → List ℕ
-field_text has_columns files raws cap origin =
-    shown (place_text has_columns files raws cap origin) ++ 10 ∷ excerpt_text files cap origin
+abbrev pub field_text : Bool → PutFiles → List RawEntry → ℕ → Option Stretch → Origin → List ℕ
+field_text has_columns files raws cap part origin =
+    shown (place_text has_columns files raws cap origin) ++ 10 ∷ excerpt_text files cap part origin
 
--- of a source; none for a capability without a value
-abbrev pub origin_text : Bool → SourceText → ℕ → Option Origin → List ℕ
-origin_text has_columns source cap None = []
-origin_text has_columns source cap (Some origin) =
-    field_text has_columns (files_of source) source.raws.items cap origin
+-- of a source
+abbrev pub source_text : Bool → SourceText → ℕ → Option Stretch → Origin → List ℕ
+source_text has_columns source cap part origin =
+    field_text has_columns (files_of source) source.raws.items cap part origin
+
+-- the lines are those of the field at an origin, in which a part of the value is at fault, or all of it
+abbrev pub TellsOrigin : Bool → SourceText → ℕ → Option Origin → List ℕ → Type 0
+TellsOrigin has_columns source cap None lines = lines ≡ []
+TellsOrigin has_columns source cap (Some origin) lines =
+    (part : Option Stretch) × IsFaulty (value_at (files_of source) cap origin) part
+    × (lines ≡ source_text has_columns source cap part origin)
 
 -- the field that gives the entry its value is the first one about it, among the entry's own and those that it uses
 pub record IsLocatedIn (has_columns : Bool) (source : SourceText) (cap : ℕ) (lines : List ℕ) : Type 0 where
   pub origin : Option Origin
   pub first : IsOrigin source.raws.items source.name.now cap origin
-  pub says : lines ≡ origin_text has_columns source cap origin
+  pub says : TellsOrigin has_columns source cap origin lines
 
 -- the lines that say where the value is; none for a compiled file
 abbrev pub IsLocation : Bool → Option SourceText → ℕ → List ℕ → Type 0
@@ -96,25 +113,26 @@ pub record PlacedText : Type 0 where
   pub fault : List ℕ
 
 -- the place of the value that a fault is about, the name and the fault, as far as each can be shown; and the field
-abbrev pub fault_at : Bool → PutFiles → List RawEntry → List ℕ → No → Origin → PlacedText
-fault_at has_columns files raws name refusal origin = record {
+abbrev pub fault_at : Bool → PutFiles → List RawEntry → List ℕ → No → Option Stretch → Origin → PlacedText
+fault_at has_columns files raws name refusal part origin = record {
   place = shown (place_text has_columns files raws refusal.cap origin ++ codes ": ");
   name = shown name;
-  fault = shown (codes " " ++ no_text refusal) ++ 10 ∷ excerpt_text files refusal.cap origin;
+  fault = shown (codes " " ++ no_text refusal) ++ 10 ∷ excerpt_text files refusal.cap part origin;
 }
 
--- none for a capability without a value
-abbrev pub faults_at : Bool → PlaceInSource → List ℕ → No → Option Origin → List PlacedText
-faults_at has_columns stands name refusal None = []
-faults_at has_columns stands name refusal (Some origin) =
-    fault_at has_columns stands.files stands.raws name refusal origin ∷ []
+-- the fault at an origin, in which a part of the value is at fault, or all of it; none for a capability without a value
+abbrev pub ArePlacedAt : Bool → PlaceInSource → List ℕ → No → Option Origin → List PlacedText → Type 0
+ArePlacedAt has_columns stands name refusal None placed = placed ≡ []
+ArePlacedAt has_columns stands name refusal (Some origin) placed =
+    (part : Option Stretch) × IsFaulty (value_at stands.files refusal.cap origin) part
+    × (placed ≡ fault_at has_columns stands.files stands.raws name refusal part origin ∷ [])
 
 -- the value is that of the entry at its place, whatever other entries have its names
 pub record IsPlacedIn (has_columns : Bool) (stands : PlaceInSource) (name : List ℕ) (refusal : No)
     (placed : List PlacedText) : Type 0 where
   pub origin : Option Origin
   pub first : IsOriginAt stands.raws stands.place refusal.cap origin
-  pub says : placed ≡ faults_at has_columns stands name refusal origin
+  pub says : ArePlacedAt has_columns stands name refusal origin placed
 
 -- a fault at its place; none in the entry of a compiled file
 abbrev pub IsPlaced : Bool → Option PlaceInSource → List ℕ → No → List PlacedText → Type 0

@@ -1,11 +1,12 @@
-//! A field of a source text, and below it marks under its value.
+//! A field of a source text, and below it marks under its value, or under the part of it that is at fault.
 
-ghost use Rattle.std.specs.Prelude.{◌≡◌, ◌≤◌, ◌++◌, IfOk, OnOk, length, option_map, replicate};
+ghost use Rattle.std.specs.Prelude.{◌≡◌, ◌≤◌, ◌++◌, IfOk, OnOk, length, option_map, replicate, take};
 ghost use Rattle.ti_verdicts.specs.Excerpts as spec;
 ghost use Rattle.ti_words.specs.Shown.{shown};
 
 use std::alloc::{AllocError, Global};
 use ti_caps::{Cap, name};
+use ti_stretches::Stretch;
 use ti_words::push_shown;
 
 /// Whether `byte`, which is behind the name of a capability, begins a value.
@@ -51,29 +52,85 @@ pub(crate) fn shown_bytes(alloc: Global, bytes: &[u8]) -> Result<Vec<u8>, AllocE
     Ok(text)
 }
 
-/// The line of the bytes `before` a value and of the `value`, and the line of the marks under the value.
+/// The value of `field`, which is about `cap`; the whole field if it has none.
+pub(crate) fn value_in(cap: Cap, field: &[u8]) -> &[u8]
+    ensures { result.now ≡ spec.value_in cap field.now }
+{
+    field.split_at(before_value(cap, field)).1
+}
+
+/// What stands before the `part` of `value` that is at fault; nothing if no part is known.
+fn front_of(value: &[u8], part: Option<Stretch>) -> &[u8]
+    requires { spec.IsFaulty value.now part }
+    ensures { result.now ≡ spec.front_of part value.now }
+{
+    match part {
+        None => &[],
+        Some(part) => &value[..part.from],
+    }
+}
+
+/// The `part` of `value` that is at fault; all of it if no part is known.
+fn part_of(value: &[u8], part: Option<Stretch>) -> &[u8]
+    requires { spec.IsFaulty value.now part }
+    ensures { result.now ≡ spec.part_of part value.now }
+{
+    match part {
+        None => value,
+        Some(part) => &value[part.from..part.to],
+    }
+}
+
+/// The `line`, and below it the line of the marks under the bytes `marked`, which come after those `before`.
 #[tactic(auto, unfolding(crate::specs::Excerpts::underlined))]
-fn underlined(alloc: Global, before: &[u8], value: &[u8]) -> Result<Vec<u8>, AllocError>
-    ensures { IfOk result (λ text. text.items ≡ spec.underlined before.now value.now) }
+fn underlined(
+    alloc: Global,
+    line: &[u8],
+    before: &[u8],
+    marked: &[u8],
+) -> Result<Vec<u8>, AllocError>
+    ensures { IfOk result (λ text. text.items ≡ spec.underlined line.now before.now marked.now) }
 {
     let mut text = Vec::from_slice(alloc, b"    ")?;
-    text.extend_from_slice(before)?;
-    text.extend_from_slice(value)?;
+    text.extend_from_slice(line)?;
     text.extend_from_slice(b"\n    ")?;
     push_repeated(&mut text, b' ', before.len())?;
     text.push(b'^')?;
-    push_repeated(&mut text, b'~', value.len().saturating_sub(1))?;
+    push_repeated(&mut text, b'~', marked.len().saturating_sub(1))?;
     text.push(b'\n')?;
     Ok(text)
 }
 
-/// The line of `field`, which is about `cap`, as far as it can be shown, and below it the marks under its value.
-#[tactic(auto, unfolding(crate::specs::Excerpts::excerpt))]
-pub(crate) fn excerpt(alloc: Global, cap: Cap, field: &[u8]) -> Result<Vec<u8>, AllocError>
-    ensures { IfOk result (λ text. text.items ≡ spec.excerpt cap field.now) }
+/// What stands in `field`, which is about `cap`, before the `part` of its value that is at fault, as far as it can be shown.
+fn shown_before(
+    alloc: Global,
+    cap: Cap,
+    field: &[u8],
+    part: Option<Stretch>,
+) -> Result<Vec<u8>, AllocError>
+    requires { spec.IsFaulty (spec.value_in cap field.now) part }
+    ensures { IfOk result (λ text. text.items
+        ≡ shown (take (spec.before_value cap field.now) field.now ++ spec.front_of part (spec.value_in cap field.now))) }
 {
-    let (before, value) = field.split_at(before_value(cap, field));
-    let before = shown_bytes(alloc, before)?;
-    let value = shown_bytes(alloc, value)?;
-    underlined(alloc, before.as_slice(), value.as_slice())
+    let mut before = Vec::from_slice(alloc, field.split_at(before_value(cap, field)).0)?;
+    before.extend_from_slice(front_of(value_in(cap, field), part))?;
+    shown_bytes(alloc, before.as_slice())
+}
+
+/// The line of `field`, which is about `cap`, as far as it can be shown, and below it the marks under the `part` of its value
+/// that is at fault, or under all of it if no part is known.
+#[tactic(auto, unfolding(crate::specs::Excerpts::excerpt))]
+pub(crate) fn excerpt(
+    alloc: Global,
+    cap: Cap,
+    field: &[u8],
+    part: Option<Stretch>,
+) -> Result<Vec<u8>, AllocError>
+    requires { spec.IsFaulty (spec.value_in cap field.now) part }
+    ensures { IfOk result (λ text. text.items ≡ spec.excerpt cap part field.now) }
+{
+    let line = shown_bytes(alloc, field)?;
+    let before = shown_before(alloc, cap, field, part)?;
+    let marked = shown_bytes(alloc, part_of(value_in(cap, field), part))?;
+    underlined(alloc, line.as_slice(), before.as_slice(), marked.as_slice())
 }

@@ -8,6 +8,7 @@ ghost use Rattle.ti_verdicts.specs.Parts.{HasParts};
 
 use crate::answers::{answers_line, fault_answers};
 use crate::checks::notes_on;
+use crate::faulty_parts::Judged;
 use crate::indents::indented;
 use crate::locations::location;
 use crate::reasons::explain_no;
@@ -218,7 +219,11 @@ fn own_lines(
 {
     let mut lines = no_words(alloc, no)?;
     lines.push(b'\n')?;
-    let place = location(alloc, &found.source, found.has_columns, no.cap)?;
+    let fault = Judged {
+        no,
+        size: found.size,
+    };
+    let place = location(alloc, &found.source, found.has_columns, &fault)?;
     lines.extend_from_slice(place.as_slice())?;
     let further = explanation(alloc, found.entry, found.size, no)?;
     lines.extend_from_slice(further.as_slice())?;

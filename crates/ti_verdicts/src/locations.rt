@@ -1,15 +1,18 @@
 //! The place of a capability's value in a source text.
 
-ghost use Rattle.std.specs.Prelude.{◌≡◌, ◌<◌, ◌==◌, ◌++◌, ◌∷◌, IfOk, IfSome, Some, codes, length};
+ghost use Rattle.std.specs.Prelude.{◌≡◌, ◌<◌, ◌==◌, ◌++◌, ◌∷◌, IfOk, IfSome, Option, Some, codes, length};
 ghost use Rattle.std.specs.List as List;
 ghost use Rattle.ti_resolve.specs.Uses.{names_at};
 ghost use Rattle.ti_verdicts.specs.Locations as spec;
-ghost use Rattle.ti_verdicts.specs.Locations.{excerpt_text};
+ghost use Rattle.ti_stretches.specs.declared.stretches.Stretch.{Stretch};
+ghost use Rattle.ti_verdicts.specs.Excerpts.{IsFaulty};
+ghost use Rattle.ti_verdicts.specs.Locations.{excerpt_text, value_at};
 ghost use Rattle.ti_verdicts.specs.Refusals.{no_text};
 ghost use Rattle.ti_verdicts.specs.Spots.{line_of, put_files};
 ghost use Rattle.ti_words.specs.Shown.{shown};
 
-use crate::excerpts::{excerpt, shown_bytes};
+use crate::excerpts::{excerpt, shown_bytes, value_in};
+use crate::faulty_parts::{Judged, faulty_part};
 use crate::refusals::no_words;
 use crate::source_places::{NamedSource, SourcePlace};
 use crate::spots::{FieldPlace, LinedFiles};
@@ -19,6 +22,7 @@ use ti_checker::No;
 use ti_entries::Columns;
 use ti_resolve::Origin;
 use ti_source::RawEntry;
+use ti_stretches::Stretch;
 use ti_words::push_shown;
 
 /// The end of the first of `names`, if another follows.
@@ -38,56 +42,77 @@ pub fn first_name(names: &[u8]) -> &[u8]
     }
 }
 
-/// The lines that say where `source` has the value of `cap`: `FILE:LINE:COLUMN: CAP of NAME`, as far as that can be
-/// shown, and the field with marks under the value. COLUMN is left out unless `has_columns`. Empty if there is no
-/// source or no value.
+/// The lines that say where `source` has the value that `fault` is about: `FILE:LINE:COLUMN: CAP of NAME`, as far as that
+/// can be shown, and the field with marks under the part of the value that is at fault, or under all of it if no part is
+/// known. COLUMN is left out unless `has_columns`. Empty if there is no source or no value.
 pub fn location(
     alloc: Global,
     source: &Option<NamedSource<'_, '_>>,
     has_columns: bool,
-    cap: Cap,
+    fault: &Judged<'_>,
 ) -> Result<Vec<u8>, AllocError>
-    ensures { IfOk result (λ lines. spec.IsLocation has_columns (spec.source_if source.now) cap lines.items) }
+    ensures { IfOk result (λ lines.
+        spec.IsLocation has_columns (spec.source_if source.now) fault.now.no.now.cap lines.items) }
 {
     match source {
         None => Ok(Vec::new(alloc)),
-        Some(named) => location_in(alloc, named, has_columns, cap),
+        Some(named) => location_in(alloc, named, has_columns, fault),
     }
 }
 
-/// The lines that say where the source `named` has the value of `cap`; empty if there is no value.
+/// The lines that say where the source `named` has the value that `fault` is about; empty if there is no value.
 fn location_in(
     alloc: Global,
     named: &NamedSource<'_, '_>,
     has_columns: bool,
-    cap: Cap,
+    fault: &Judged<'_>,
 ) -> Result<Vec<u8>, AllocError>
-    ensures { IfOk result (λ lines. spec.IsLocatedIn has_columns named.now.source.now cap lines.items) }
+    ensures { IfOk result (λ lines.
+        spec.IsLocatedIn has_columns named.now.source.now fault.now.no.now.cap lines.items) }
 {
-    match named.origin(alloc, cap)? {
+    match named.origin(alloc, fault.no.cap)? {
         None => Ok(Vec::new(alloc)),
-        Some(origin) => origin_lines(alloc, named, has_columns, cap, origin),
+        Some(origin) => origin_lines(alloc, named, has_columns, fault, origin),
     }
 }
 
-/// The lines of the field at `origin` of the source `named`, which is about `cap`.
+/// The lines of the field at `origin` of the source `named`, which `fault` is about.
 fn origin_lines(
     alloc: Global,
     named: &NamedSource<'_, '_>,
     has_columns: bool,
-    cap: Cap,
+    fault: &Judged<'_>,
     origin: Origin,
 ) -> Result<Vec<u8>, AllocError>
-    ensures { IfOk result (λ lines. lines.items
-        ≡ spec.origin_text has_columns named.now.source.now cap (Some origin)) }
+    ensures { IfOk result (λ lines. spec.TellsOrigin has_columns named.now.source.now fault.now.no.now.cap
+        (Some origin) lines.items) }
 {
     let field = PutField {
         files: named.files,
         raws: named.source.raws.as_slice(),
-        cap,
+        cap: fault.no.cap,
         origin,
     };
-    field_lines(alloc, &field, has_columns)
+    let part = part_at(alloc, &field, fault)?;
+    field_lines(alloc, &field, has_columns, part)
+}
+
+/// The part of the value of `field` that is at fault; `None` if no part is known.
+#[tactic(auto, unfolding(crate::specs::Locations::value_at))]
+fn part_at(
+    alloc: Global,
+    field: &PutField<'_, '_>,
+    fault: &Judged<'_>,
+) -> Result<Option<Stretch>, AllocError>
+    ensures { IfOk result (IsFaulty (value_at (put_files field.now.files) field.now.cap field.now.origin)) }
+{
+    match field.files.columns(field.origin, field.cap) {
+        None => Ok(None),
+        Some(columns) => {
+            let piece = field.files.piece(field.origin, columns);
+            faulty_part(alloc, value_in(field.cap, piece), fault)
+        }
+    }
 }
 
 /// A field about a capability, in one of the files whose entries were put together.
@@ -101,17 +126,19 @@ struct PutField<'a, 'b> {
     origin: Origin,
 }
 
-/// The line with the place of `field`, and the field below it, with marks under its value.
+/// The line with the place of `field`, and the field below it, with marks under the `part` of its value that is at fault.
 fn field_lines(
     alloc: Global,
     field: &PutField<'_, '_>,
     has_columns: bool,
+    part: Option<Stretch>,
 ) -> Result<Vec<u8>, AllocError>
+    requires { IsFaulty (value_at (put_files field.now.files) field.now.cap field.now.origin) part }
     ensures { IfOk result (λ lines. lines.items ≡ spec.field_text has_columns (put_files field.now.files)
-        field.now.raws.now field.now.cap field.now.origin) }
+        field.now.raws.now field.now.cap part field.now.origin) }
 {
     let words = place_words(alloc, field, has_columns)?;
-    let below = excerpt_lines(alloc, field)?;
+    let below = excerpt_lines(alloc, field, part)?;
     let mut lines = Vec::new(alloc);
     push_shown(&mut lines, words.as_slice())?;
     lines.push(b'\n')?;
@@ -186,15 +213,23 @@ fn column_words(alloc: Global, columns: Option<Columns>) -> Result<Vec<u8>, Allo
     }
 }
 
-/// The bytes of `field` in its file, with marks under its value; nothing if no line has it.
-#[tactic(auto, unfolding(crate::specs::Locations::excerpt_text))]
-fn excerpt_lines(alloc: Global, field: &PutField<'_, '_>) -> Result<Vec<u8>, AllocError>
+/// The bytes of `field` in its file, with marks under the `part` of its value that is at fault; nothing if no line has it.
+#[tactic(auto, unfolding(crate::specs::Locations::excerpt_text, crate::specs::Locations::value_at))]
+fn excerpt_lines(
+    alloc: Global,
+    field: &PutField<'_, '_>,
+    part: Option<Stretch>,
+) -> Result<Vec<u8>, AllocError>
+    requires { IsFaulty (value_at (put_files field.now.files) field.now.cap field.now.origin) part }
     ensures { IfOk result (λ lines. lines.items ≡ spec.excerpt_text (put_files field.now.files)
-        field.now.cap field.now.origin) }
+        field.now.cap part field.now.origin) }
 {
     match field.files.columns(field.origin, field.cap) {
         None => Ok(Vec::new(alloc)),
-        Some(columns) => excerpt(alloc, field.cap, field.files.piece(field.origin, columns)),
+        Some(columns) => {
+            let piece = field.files.piece(field.origin, columns);
+            excerpt(alloc, field.cap, piece, part)
+        }
     }
 }
 
@@ -205,12 +240,12 @@ pub struct PlacedFault {
     pub place: Vec<u8>,
     /// The name of the entry that has the fault.
     pub name: Vec<u8>,
-    /// A space, the words of the fault, the end of the line, and the field with marks under its value.
+    /// A space, the words of the fault, the end of the line, and the field with marks under the part of its value that is at fault.
     pub fault: Vec<u8>,
 }
 
-/// The fault `no` of the entry of this `name` at the place of the value that it is about, where the entry is at
-/// `stands`. COLUMN is left out unless `has_columns`. `None` if the entry is in no source, or has no value.
+/// The fault of the entry of this `name` at the place of the value that it is about, where the entry is at `stands`. COLUMN
+/// is left out unless `has_columns`. `None` if the entry is in no source, or has no value.
 ///
 /// # Errors
 /// Out of memory.
@@ -219,76 +254,85 @@ pub fn placed(
     stands: &Option<SourcePlace<'_, '_>>,
     has_columns: bool,
     name: &[u8],
-    no: &No,
+    fault: &Judged<'_>,
 ) -> Result<Option<PlacedFault>, AllocError>
     requires { IfSome stands.now (λ there. there.place < length there.raws.now) }
-    ensures { IfOk result (λ found. spec.IsPlaced has_columns (spec.place_if stands.now) name.now no.now
+    ensures { IfOk result (λ found. spec.IsPlaced has_columns (spec.place_if stands.now) name.now fault.now.no.now
         (spec.placed_if found)) }
 {
     match stands {
         None => Ok(None),
-        Some(stands) => placed_in(alloc, stands, has_columns, name, no),
+        Some(stands) => placed_in(alloc, stands, has_columns, name, fault),
     }
 }
 
-/// The fault `no` of the entry of this name at `stands`.
+/// The fault of the entry of this name at `stands`.
 fn placed_in(
     alloc: Global,
     stands: &SourcePlace<'_, '_>,
     has_columns: bool,
     name: &[u8],
-    no: &No,
+    fault: &Judged<'_>,
 ) -> Result<Option<PlacedFault>, AllocError>
     requires { stands.now.place < length stands.now.raws.now }
-    ensures { IfOk result (λ found. spec.IsPlacedIn has_columns (spec.place_in stands.now) name.now no.now
+    ensures { IfOk result (λ found. spec.IsPlacedIn has_columns (spec.place_in stands.now) name.now fault.now.no.now
         (spec.placed_if found)) }
 {
-    match stands.origin(alloc, no.cap)? {
+    match stands.origin(alloc, fault.no.cap)? {
         None => Ok(None),
         Some(origin) => {
             let field = PutField {
                 files: stands.files,
                 raws: stands.raws,
-                cap: no.cap,
+                cap: fault.no.cap,
                 origin,
             };
-            Ok(Some(placed_at(alloc, &field, has_columns, name, no)?))
+            Ok(Some(placed_at(alloc, &field, has_columns, name, fault)?))
         }
     }
 }
 
-/// The fault `no` of the entry of this name, in `field`.
+/// The fault of the entry of this name, in `field`.
 fn placed_at(
     alloc: Global,
     field: &PutField<'_, '_>,
     has_columns: bool,
     name: &[u8],
-    no: &No,
+    fault: &Judged<'_>,
 ) -> Result<PlacedFault, AllocError>
-    requires { field.now.cap ≡ no.now.cap }
-    ensures { IfOk result (λ placed. spec.placed_in placed ≡ spec.fault_at has_columns (put_files field.now.files)
-        field.now.raws.now name.now no.now field.now.origin) }
+    requires { field.now.cap ≡ fault.now.no.now.cap }
+    ensures { IfOk result (λ placed. (part : Option Stretch)
+        × IsFaulty (value_at (put_files field.now.files) fault.now.no.now.cap field.now.origin) part
+        × (spec.placed_in placed ≡ spec.fault_at has_columns (put_files field.now.files) field.now.raws.now name.now
+        fault.now.no.now part field.now.origin)) }
 {
+    let part = part_at(alloc, field, fault)?;
     let mut words = place_words(alloc, field, has_columns)?;
     words.extend_from_slice(b": ")?;
     Ok(PlacedFault {
         place: shown_bytes(alloc, words.as_slice())?,
         name: shown_bytes(alloc, name)?,
-        fault: fault_lines(alloc, field, no)?,
+        fault: fault_lines(alloc, field, fault.no, part)?,
     })
 }
 
-/// A space, the words of `no`, the end of the line, and the `field` with marks under its value.
-fn fault_lines(alloc: Global, field: &PutField<'_, '_>, no: &No) -> Result<Vec<u8>, AllocError>
-    requires { field.now.cap ≡ no.now.cap }
+/// A space, the words of `no`, the end of the line, and the `field` with marks under the `part` of its value that is at fault.
+fn fault_lines(
+    alloc: Global,
+    field: &PutField<'_, '_>,
+    no: &No,
+    part: Option<Stretch>,
+) -> Result<Vec<u8>, AllocError>
+    requires cap { field.now.cap ≡ no.now.cap }
+    requires part { IsFaulty (value_at (put_files field.now.files) field.now.cap field.now.origin) part }
     ensures { IfOk result (λ lines. lines.items ≡ shown (codes " " ++ no_text no.now)
-        ++ 10 ∷ excerpt_text (put_files field.now.files) no.now.cap field.now.origin) }
+        ++ 10 ∷ excerpt_text (put_files field.now.files) no.now.cap part field.now.origin) }
 {
     let mut words = Vec::from_slice(alloc, b" ")?;
     words.extend_from_slice(no_words(alloc, no)?.as_slice())?;
     let mut lines = shown_bytes(alloc, words.as_slice())?;
     lines.push(b'\n')?;
-    lines.extend_from_slice(excerpt_lines(alloc, field)?.as_slice())?;
+    lines.extend_from_slice(excerpt_lines(alloc, field, part)?.as_slice())?;
     Ok(lines)
 }
 

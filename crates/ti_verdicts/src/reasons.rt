@@ -44,7 +44,7 @@ fn explain_cause(
 }
 
 /// The row of the table with the capability and the parameters of `no`.
-fn row_of(no: &No) -> Option<Row> {
+pub(crate) fn row_of(no: &No) -> Option<Row> {
     Row::named(name(no.cap))?.with_params(no.params.as_slice())
 }
 

@@ -12,5 +12,5 @@ loop-no-init c = ap (map placed_in) c.new-places.ensures.items
 pub loop-no-preserved : goal.loop-no-preserved
 loop-no-preserved c =
     let here : c.loop-no.no-index < length c.args.nos.now = omega arith in
-    parts_next (IsPlaced c.args.has_columns (place_if c.args.stands.now) c.args.name.now) c.args.nos.now c.loop-no.no-index c.no-item.result (map placed_in c.loop-no.places.items) (placed_if c.in_ok-own.own) (map placed_in c.push_if.new.places.items) here c.no-item.is
+    parts_next (IsPlaced c.args.asked.now.has_columns (place_if c.args.found.now.stands.now) c.args.found.now.name.now) c.args.nos.now c.loop-no.no-index c.no-item.result (map placed_in c.loop-no.places.items) (placed_if c.in_ok-own.own) (map placed_in c.push_if.new.places.items) here c.no-item.is
     c.in_ok-push_if.ensures c.loop-no.invariant c.in_ok-own.ensures

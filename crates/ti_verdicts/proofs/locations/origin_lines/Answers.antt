@@ -1,7 +1,8 @@
-use Rattle.std.proofs.Common.{◌∙◌, List, ap}
+use Rattle.std.proofs.Common.{◌∙◌, List, ap, subst}
 use Rattle.std.proofs.lemmas.Result.{IfOk-weaker}
 use Rattle.ti_source.specs.declared.types.RawEntry.{RawEntry}
-use Rattle.ti_verdicts.specs.Locations.{field_text}
+use Rattle.ti_verdicts.specs.Excerpts.{IsFaulty}
+use Rattle.ti_verdicts.specs.Locations.{field_text, value_at}
 use Rattle.ti_verdicts.specs.Spots.{PutFiles, put_files}
 use Rattle.ti_verdicts.proofs.locations.origin_lines.Goals as goal
 
@@ -9,7 +10,13 @@ use Rattle.ti_verdicts.proofs.locations.origin_lines.Goals as goal
 pub returns : goal.returns
 returns c =
     let named = c.args.named.now in
+    let cap = c.args.fault.now.no.now.cap in
+    let part = c.in_ok-part.part in
     IfOk-weaker c.field_lines.result _ _
-    (λ lines e. e ∙ (ap (λ (raws : List RawEntry). field_text c.args.has_columns (put_files named.files) raws c.args.cap c.args.origin) c.as_slice.ensures.value
-    ∙ ap (λ (files : PutFiles). field_text c.args.has_columns files named.source.now.raws.items c.args.cap c.args.origin) named.same_files))
+    (λ lines e. (
+      part,
+      subst (λ (files : PutFiles). IsFaulty (value_at files cap c.args.origin) part) named.same_files c.in_ok-part.ensures,
+      e ∙ (ap (λ (raws : List RawEntry). field_text c.args.has_columns (put_files named.files) raws cap part c.args.origin) c.as_slice.ensures.value
+      ∙ ap (λ (files : PutFiles). field_text c.args.has_columns files named.source.now.raws.items cap part c.args.origin) named.same_files),
+    ))
     c.field_lines.ensures
