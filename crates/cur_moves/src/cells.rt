@@ -7,64 +7,104 @@ ghost use Rattle.cur_steps.specs.Beliefs.{IsNext, plain_limit, colors_limit, bru
 ghost use Rattle.cur_steps.specs.Beliefs.{ink_limit};
 ghost use Rattle.cur_steps.specs.Steps.{IsGoal, Keeps, KeepsFrom, Makes, MakesFrom};
 
-use crate::reaches::reach;
 use crate::routes::is_alike;
 use crate::targets::Target;
 use cur_steps::{
-    Belief, Brush, Ground, Ink, Picture, Place, attributes_as, attributes_at_once, color_as,
-    colors_off, look_alike, print_at, resetting_line, same_attributes, set_as, stands, strip,
+    Brush, Ground, Ink, Pen, Picture, Place, Sent, look_alike, resetting_line, same_attributes,
+    stands,
 };
-use cur_wires::{Wire, WireFault};
+use cur_wires::Wire;
 use ti_conforms::Certificate;
 use ti_rows::{Attributes, Row};
 use vt_term::Color;
 
+impl<C: Certificate, N: Picture> Target<'_, C, N> {
+    /// Moves the cursor to `at`, and makes the brush `wanted`. The line must already show the target up to `at`.
+    pub(crate) fn reach_in_brush<W: Wire>(&self, pen: &mut Pen<W>, at: Place, wanted: Brush) -> Sent
+        requires goal { IsGoal (C.table self.now.checked.now) at }
+        requires drawable { CanShow (C.table self.now.checked.now) (N.cells self.now.shown.now) }
+        requires colored { IsColored (C.table self.now.checked.now) wanted }
+        ensures brush { OnOk result (pen.new.belief.brush ≡ wanted) }
+        ensures place { OnOk result (pen.new.belief.place ≡ at) }
+        ensures step { KeepsFrom W.went W.failures pen.old pen.new result (C.table self.now.checked.now)
+            (ready_limit (C.table self.now.checked.now)) (N.cells self.now.shown.now) at }
+        ensures mode { OnOk result (pen.new.belief.mode ≡ pen.old.belief.mode) }
+    {
+        self.reach(pen, at)?;
+        brush_as(self.checked, pen, wanted)
+    }
+
+    /// Makes the next character go to `at`. The line must already show the target up to `at`.
+    fn approach<W: Wire>(&self, pen: &mut Pen<W>, at: Place) -> Sent
+        requires goal { IsGoal (C.table self.now.checked.now) at }
+        requires drawable { CanShow (C.table self.now.checked.now) (N.cells self.now.shown.now) }
+        ensures place { OnOk result (IsNext (C.table self.now.checked.now).cols pen.new.belief.place at.row at.col) }
+        ensures step { KeepsFrom W.went W.failures pen.old pen.new result (C.table self.now.checked.now)
+            (C.table self.now.checked.now).longest.cup (N.cells self.now.shown.now) at }
+        ensures mode { OnOk result (pen.new.belief.mode ≡ pen.old.belief.mode) }
+    {
+        if stands(pen.belief.place, at) {
+            return Ok(());
+        }
+        if wraps_to(pen.belief.place, self.checked.cols(), at) {
+            return Ok(());
+        }
+        self.reach(pen, at)
+    }
+
+    /// Prints `ink` at `at`. The line must already show the target up to `at`.
+    pub fn put_cell<W: Wire>(&self, pen: &mut Pen<W>, at: Place, ink: Ink) -> Sent
+        requires drawable { CanShow (C.table self.now.checked.now) (N.cells self.now.shown.now) }
+        requires row { at.row < (C.table self.now.checked.now).rows }
+        requires col { at.col < (C.table self.now.checked.now).cols }
+        requires ink { IsInk (C.table self.now.checked.now) ink }
+        ensures step { MakesFrom W.went W.failures pen.old pen.new result (C.table self.now.checked.now)
+            (cell_limit (C.table self.now.checked.now)) (N.cells self.now.shown.now) at (put_at at.row at.col ink) }
+        ensures mode { OnOk result (pen.new.belief.mode ≡ pen.old.belief.mode) }
+    {
+        // only this call's contract says that the certificate is verified
+        let _ = self.checked.rows();
+        self.approach(pen, at)?;
+        put_here(self.checked, pen, at, ink)
+    }
+}
+
 /// Makes the attributes `wanted`, and the colors the default ones: by the string for the attributes alone if that resets
 /// the colors.
-fn plainly_as<C: Certificate, W: Wire>(
-    checked: &C,
-    belief: &mut Belief,
-    wire: &mut W,
-    wanted: Attributes,
-) -> Result<(), WireFault>
+fn plainly_as<C: Certificate, W: Wire>(checked: &C, pen: &mut Pen<W>, wanted: Attributes) -> Sent
     requires checked { IsChecked (C.table checked.now) }
     ensures brush { OnOk result
-        (belief.new.brush ≡ record { attributes = wanted; foreground = None; background = None }) }
-    ensures place { OnOk result (belief.new.place ≡ belief.old.place) }
-    ensures step { Keeps W.went W.failures wire.old wire.new result (C.table checked.now)
-        (plain_limit (C.table checked.now)) belief.old belief.new }
-    ensures mode { OnOk result (belief.new.mode ≡ belief.old.mode) }
+        (pen.new.belief.brush ≡ record { attributes = wanted; foreground = None; background = None }) }
+    ensures place { OnOk result (pen.new.belief.place ≡ pen.old.belief.place) }
+    ensures step { Keeps W.went W.failures pen.old pen.new result (C.table checked.now)
+        (plain_limit (C.table checked.now)) }
+    ensures mode { OnOk result (pen.new.belief.mode ≡ pen.old.belief.mode) }
 {
-    match resetting_line(checked, belief.brush, wanted) {
-        Some(line) => attributes_at_once(checked, line, belief, wire, wanted),
+    match resetting_line(checked, pen.belief.brush, wanted) {
+        Some(line) => pen.attributes_at_once(checked, line, wanted),
         None => {
-            colors_off(checked, belief, wire)?;
-            attributes_as(checked, belief, wire, wanted)
+            pen.colors_off(checked)?;
+            pen.attributes_as(checked, wanted)
         }
     }
 }
 
 /// Makes the colors those of `wanted`. The attributes must be those of `wanted` already, and no color may become the
 /// default one.
-fn colors_as<C: Certificate, W: Wire>(
-    checked: &C,
-    belief: &mut Belief,
-    wire: &mut W,
-    wanted: Brush,
-) -> Result<(), WireFault>
+fn colors_as<C: Certificate, W: Wire>(checked: &C, pen: &mut Pen<W>, wanted: Brush) -> Sent
     requires checked { IsChecked (C.table checked.now) }
-    requires attributes { belief.old.brush.attributes ≡ wanted.attributes }
-    requires foreground { wanted.foreground ≡ None → belief.old.brush.foreground ≡ None }
-    requires background { wanted.background ≡ None → belief.old.brush.background ≡ None }
+    requires attributes { pen.old.belief.brush.attributes ≡ wanted.attributes }
+    requires foreground { wanted.foreground ≡ None → pen.old.belief.brush.foreground ≡ None }
+    requires background { wanted.background ≡ None → pen.old.belief.brush.background ≡ None }
     requires colored { IsColored (C.table checked.now) wanted }
-    ensures brush { OnOk result (belief.new.brush ≡ wanted) }
-    ensures place { OnOk result (belief.new.place ≡ belief.old.place) }
-    ensures step { Keeps W.went W.failures wire.old wire.new result (C.table checked.now)
-        (colors_limit (C.table checked.now)) belief.old belief.new }
-    ensures mode { OnOk result (belief.new.mode ≡ belief.old.mode) }
+    ensures brush { OnOk result (pen.new.belief.brush ≡ wanted) }
+    ensures place { OnOk result (pen.new.belief.place ≡ pen.old.belief.place) }
+    ensures step { Keeps W.went W.failures pen.old pen.new result (C.table checked.now)
+        (colors_limit (C.table checked.now)) }
+    ensures mode { OnOk result (pen.new.belief.mode ≡ pen.old.belief.mode) }
 {
-    color_as(checked, belief, wire, Ground::Fore, wanted.foreground)?;
-    color_as(checked, belief, wire, Ground::Back, wanted.background)
+    pen.color_as(checked, Ground::Fore, wanted.foreground)?;
+    pen.color_as(checked, Ground::Back, wanted.background)
 }
 
 /// Whether the color `wanted` isn't the default one, or `now` is the default one already.
@@ -93,25 +133,20 @@ fn is_recolored(now: Brush, wanted: Brush) -> bool
 }
 
 /// Makes the brush `wanted`, which must have the default colors if the entry can't set others.
-pub fn brush_as<C: Certificate, W: Wire>(
-    checked: &C,
-    belief: &mut Belief,
-    wire: &mut W,
-    wanted: Brush,
-) -> Result<(), WireFault>
+pub fn brush_as<C: Certificate, W: Wire>(checked: &C, pen: &mut Pen<W>, wanted: Brush) -> Sent
     requires checked { IsChecked (C.table checked.now) }
     requires colored { IsColored (C.table checked.now) wanted }
-    ensures brush { OnOk result (belief.new.brush ≡ wanted) }
-    ensures place { OnOk result (belief.new.place ≡ belief.old.place) }
-    ensures step { Keeps W.went W.failures wire.old wire.new result (C.table checked.now)
-        (brush_limit (C.table checked.now)) belief.old belief.new }
-    ensures mode { OnOk result (belief.new.mode ≡ belief.old.mode) }
+    ensures brush { OnOk result (pen.new.belief.brush ≡ wanted) }
+    ensures place { OnOk result (pen.new.belief.place ≡ pen.old.belief.place) }
+    ensures step { Keeps W.went W.failures pen.old pen.new result (C.table checked.now)
+        (brush_limit (C.table checked.now)) }
+    ensures mode { OnOk result (pen.new.belief.mode ≡ pen.old.belief.mode) }
 {
-    if is_recolored(belief.brush, wanted) {
-        return colors_as(checked, belief, wire, wanted);
+    if is_recolored(pen.belief.brush, wanted) {
+        return colors_as(checked, pen, wanted);
     }
-    plainly_as(checked, belief, wire, wanted.attributes)?;
-    colors_as(checked, belief, wire, wanted)
+    plainly_as(checked, pen, wanted.attributes)?;
+    colors_as(checked, pen, wanted)
 }
 
 /// Whether characters printed in `brush` are known to look as in the plain one. No clause says that this is right.
@@ -136,64 +171,33 @@ fn has_short_plain<C: Certificate>(checked: &C) -> bool
 
 /// Makes the brush the plain one: by nothing if it looks so, else by `sgr0`, unless the other strings for that have
 /// fewer bytes.
-pub fn make_plain<C: Certificate, W: Wire>(
-    checked: &C,
-    belief: &mut Belief,
-    wire: &mut W,
-) -> Result<(), WireFault>
+pub fn make_plain<C: Certificate, W: Wire>(checked: &C, pen: &mut Pen<W>) -> Sent
     requires checked { IsChecked (C.table checked.now) }
-    ensures brush { OnOk result (belief.new.brush ≡ plain_brush) }
-    ensures place { OnOk result (belief.new.place ≡ belief.old.place) }
-    ensures step { Keeps W.went W.failures wire.old wire.new result (C.table checked.now)
-        (plain_limit (C.table checked.now)) belief.old belief.new }
-    ensures mode { OnOk result (belief.new.mode ≡ belief.old.mode) }
+    ensures brush { OnOk result (pen.new.belief.brush ≡ plain_brush) }
+    ensures place { OnOk result (pen.new.belief.place ≡ pen.old.belief.place) }
+    ensures step { Keeps W.went W.failures pen.old pen.new result (C.table checked.now)
+        (plain_limit (C.table checked.now)) }
+    ensures mode { OnOk result (pen.new.belief.mode ≡ pen.old.belief.mode) }
 {
-    if looks_plain(checked, belief.brush) || !has_short_plain(checked) {
-        return plainly_as(checked, belief, wire, Brush::plain().attributes);
+    if looks_plain(checked, pen.belief.brush) || !has_short_plain(checked) {
+        return plainly_as(checked, pen, Brush::plain().attributes);
     }
-    strip(checked, belief, wire)
-}
-
-/// Moves the cursor to `at`, and makes the brush `wanted`. The line must already show the target up to `at`.
-pub(crate) fn reach_in_brush<C: Certificate, N: Picture, W: Wire>(
-    target: &Target<'_, C, N>,
-    belief: &mut Belief,
-    wire: &mut W,
-    at: Place,
-    wanted: Brush,
-) -> Result<(), WireFault>
-    requires goal { IsGoal (C.table target.now.checked.now) at }
-    requires drawable { CanShow (C.table target.now.checked.now) (N.cells target.now.shown.now) }
-    requires colored { IsColored (C.table target.now.checked.now) wanted }
-    ensures brush { OnOk result (belief.new.brush ≡ wanted) }
-    ensures place { OnOk result (belief.new.place ≡ at) }
-    ensures step { KeepsFrom W.went W.failures wire.old wire.new result (C.table target.now.checked.now)
-        (ready_limit (C.table target.now.checked.now)) (N.cells target.now.shown.now) at belief.old belief.new }
-    ensures mode { OnOk result (belief.new.mode ≡ belief.old.mode) }
-{
-    reach(target, belief, wire, at)?;
-    brush_as(target.checked, belief, wire, wanted)
+    pen.strip(checked)
 }
 
 /// Prints `ink` in its set at `at`, where the next character must be known to go. The known brush must be that of
 /// `ink`.
-fn print_in_set<C: Certificate, W: Wire>(
-    checked: &C,
-    belief: &mut Belief,
-    wire: &mut W,
-    at: Place,
-    ink: Ink,
-) -> Result<(), WireFault>
+fn print_in_set<C: Certificate, W: Wire>(checked: &C, pen: &mut Pen<W>, at: Place, ink: Ink) -> Sent
     requires goal { IsGoal (C.table checked.now) at }
     requires ink { IsInk (C.table checked.now) ink }
-    requires place { IsNext (C.table checked.now).cols belief.old.place at.row at.col }
-    requires brush { belief.old.brush ≡ ink.brush }
-    ensures step { Makes W.went W.failures wire.old wire.new result (C.table checked.now)
-        (stamp_limit (C.table checked.now)) (put_at at.row at.col ink) belief.old belief.new }
-    ensures mode { OnOk result (belief.new.mode ≡ belief.old.mode) }
+    requires place { IsNext (C.table checked.now).cols pen.old.belief.place at.row at.col }
+    requires brush { pen.old.belief.brush ≡ ink.brush }
+    ensures step { Makes W.went W.failures pen.old pen.new result (C.table checked.now)
+        (stamp_limit (C.table checked.now)) (put_at at.row at.col ink) }
+    ensures mode { OnOk result (pen.new.belief.mode ≡ pen.old.belief.mode) }
 {
-    set_as(checked, belief, wire, ink.graphic)?;
-    print_at(checked, belief, wire, at, ink)
+    pen.set_as(checked, ink.graphic)?;
+    pen.print_at(checked, at, ink)
 }
 
 /// Whether the cursor is at `place` with a wrap pending that takes the next character to `at`, on a screen of `cols`
@@ -204,70 +208,18 @@ fn wraps_to(place: Place, cols: usize, at: Place) -> bool
     at.col == 0 && at.row > 0 && place.row == at.row - 1 && place.col == cols
 }
 
-/// Makes the next character go to `at`. The line must already show the target up to `at`.
-fn approach<C: Certificate, N: Picture, W: Wire>(
-    target: &Target<'_, C, N>,
-    belief: &mut Belief,
-    wire: &mut W,
-    at: Place,
-) -> Result<(), WireFault>
-    requires goal { IsGoal (C.table target.now.checked.now) at }
-    requires drawable { CanShow (C.table target.now.checked.now) (N.cells target.now.shown.now) }
-    ensures place { OnOk result (IsNext (C.table target.now.checked.now).cols belief.new.place at.row at.col) }
-    ensures step { KeepsFrom W.went W.failures wire.old wire.new result (C.table target.now.checked.now)
-        (C.table target.now.checked.now).longest.cup (N.cells target.now.shown.now) at belief.old belief.new }
-    ensures mode { OnOk result (belief.new.mode ≡ belief.old.mode) }
-{
-    if stands(belief.place, at) {
-        return Ok(());
-    }
-    if wraps_to(belief.place, target.checked.cols(), at) {
-        return Ok(());
-    }
-    reach(target, belief, wire, at)
-}
-
 /// Prints `ink` at `at`, where the next character must be known to go.
-fn put_here<C: Certificate, W: Wire>(
-    checked: &C,
-    belief: &mut Belief,
-    wire: &mut W,
-    at: Place,
-    ink: Ink,
-) -> Result<(), WireFault>
+fn put_here<C: Certificate, W: Wire>(checked: &C, pen: &mut Pen<W>, at: Place, ink: Ink) -> Sent
     requires goal { IsGoal (C.table checked.now) at }
     requires ink { IsInk (C.table checked.now) ink }
-    requires place { IsNext (C.table checked.now).cols belief.old.place at.row at.col }
-    ensures step { Makes W.went W.failures wire.old wire.new result (C.table checked.now)
-        (ink_limit (C.table checked.now)) (put_at at.row at.col ink) belief.old belief.new }
-    ensures mode { OnOk result (belief.new.mode ≡ belief.old.mode) }
+    requires place { IsNext (C.table checked.now).cols pen.old.belief.place at.row at.col }
+    ensures step { Makes W.went W.failures pen.old pen.new result (C.table checked.now)
+        (ink_limit (C.table checked.now)) (put_at at.row at.col ink) }
+    ensures mode { OnOk result (pen.new.belief.mode ≡ pen.old.belief.mode) }
 {
-    if is_alike(belief, ink) {
-        return print_at(checked, belief, wire, at, ink);
+    if is_alike(&pen.belief, ink) {
+        return pen.print_at(checked, at, ink);
     }
-    brush_as(checked, belief, wire, ink.brush)?;
-    print_in_set(checked, belief, wire, at, ink)
-}
-
-/// Prints `ink` at `at`. The line must already show the target up to `at`.
-pub fn put_cell<C: Certificate, N: Picture, W: Wire>(
-    target: &Target<'_, C, N>,
-    belief: &mut Belief,
-    wire: &mut W,
-    at: Place,
-    ink: Ink,
-) -> Result<(), WireFault>
-    requires drawable { CanShow (C.table target.now.checked.now) (N.cells target.now.shown.now) }
-    requires row { at.row < (C.table target.now.checked.now).rows }
-    requires col { at.col < (C.table target.now.checked.now).cols }
-    requires ink { IsInk (C.table target.now.checked.now) ink }
-    ensures step { MakesFrom W.went W.failures wire.old wire.new result (C.table target.now.checked.now)
-        (cell_limit (C.table target.now.checked.now)) (N.cells target.now.shown.now) at (put_at at.row at.col ink)
-        belief.old belief.new }
-    ensures mode { OnOk result (belief.new.mode ≡ belief.old.mode) }
-{
-    // only this call's contract says that the certificate is verified
-    let _ = target.checked.rows();
-    approach(target, belief, wire, at)?;
-    put_here(target.checked, belief, wire, at, ink)
+    brush_as(checked, pen, ink.brush)?;
+    print_in_set(checked, pen, at, ink)
 }

@@ -6,11 +6,11 @@ ghost use Rattle.cur_steps.specs.Beliefs.{ready_limit};
 ghost use Rattle.cur_moves.specs.Erasures.{erasure_row, erased};
 ghost use Rattle.cur_steps.specs.Steps.{IsGoal, Keeps, Makes, MakesFrom};
 
-use crate::cells::{brush_as, reach_in_brush};
+use crate::cells::brush_as;
 use crate::reaches::reach_by_line;
 use crate::targets::Target;
-use cur_steps::{Belief, Brush, Picture, Place, send_line};
-use cur_wires::{Wire, WireFault};
+use cur_steps::{Brush, Pen, Picture, Place, Sent, send_line};
+use cur_wires::Wire;
 use ti_conforms::Certificate;
 use ti_rows::Row;
 
@@ -57,82 +57,71 @@ pub fn erasing_line<C: Certificate>(checked: &C, part: ErasedPart) -> Option<&[u
 /// Erases by `line`, the string for the part of `erasure`, at whose place the cursor must be known to be.
 fn erase_here<C: Certificate, W: Wire>(
     checked: &C,
-    belief: &Belief,
-    wire: &mut W,
+    pen: &mut Pen<W>,
     erasure: Erasure,
     line: &[u8],
-) -> Result<(), WireFault>
+) -> Sent
     requires checked { IsChecked (C.table checked.now) }
     requires col { erasure.at.col < (C.table checked.now).cols }
     requires line { (C.table checked.now).line_of (erasure_row erasure.part) ≡ Some line.now }
-    requires place { belief.now.place ≡ erasure.at }
-    requires brush { belief.now.brush ≡ plain_brush }
-    ensures step { Makes W.went W.failures wire.old wire.new result (C.table checked.now)
-        (C.table checked.now).longest.erasure (erased erasure.part erasure.at.row erasure.at.col)
-        belief.now belief.now }
+    requires place { pen.old.belief.place ≡ erasure.at }
+    requires brush { pen.old.belief.brush ≡ plain_brush }
+    ensures belief { pen.new.belief ≡ pen.old.belief }
+    ensures step { Makes W.went W.failures pen.old pen.new result (C.table checked.now)
+        (C.table checked.now).longest.erasure (erased erasure.part erasure.at.row erasure.at.col) }
 {
-    send_line(checked, row_of_part(erasure.part), line, wire)
+    send_line(checked, row_of_part(erasure.part), line, &mut pen.wire)
+}
+
+impl<C: Certificate, N: Picture> Target<'_, C, N> {
+    /// Does `erasure` by `line`, the string for its part. The line must already show the target up to the erasure's
+    /// place.
+    pub fn erase_from<W: Wire>(&self, pen: &mut Pen<W>, erasure: Erasure, line: &[u8]) -> Sent
+        requires drawable { CanShow (C.table self.now.checked.now) (N.cells self.now.shown.now) }
+        requires row { erasure.at.row < (C.table self.now.checked.now).rows }
+        requires col { erasure.at.col < (C.table self.now.checked.now).cols }
+        requires line { (C.table self.now.checked.now).line_of (erasure_row erasure.part) ≡ Some line.now }
+        ensures step { MakesFrom W.went W.failures pen.old pen.new result (C.table self.now.checked.now)
+            (cell_limit (C.table self.now.checked.now)) (N.cells self.now.shown.now) erasure.at
+            (erased erasure.part erasure.at.row erasure.at.col) }
+        ensures mode { OnOk result (pen.new.belief.mode ≡ pen.old.belief.mode) }
+    {
+        // only this call's contract says that the certificate is verified
+        let _ = self.checked.rows();
+        self.reach_in_brush(pen, erasure.at, Brush::plain())?;
+        erase_here(self.checked, pen, erasure, line)
+    }
 }
 
 /// Moves the cursor to `at`, whatever is shown, and makes the brush plain.
-fn reach_plainly<C: Certificate, W: Wire>(
-    checked: &C,
-    belief: &mut Belief,
-    wire: &mut W,
-    at: Place,
-) -> Result<(), WireFault>
+fn reach_plainly<C: Certificate, W: Wire>(checked: &C, pen: &mut Pen<W>, at: Place) -> Sent
     requires goal { IsGoal (C.table checked.now) at }
-    ensures brush { OnOk result (belief.new.brush ≡ plain_brush) }
-    ensures place { OnOk result (belief.new.place ≡ at) }
-    ensures step { Keeps W.went W.failures wire.old wire.new result (C.table checked.now)
-        (ready_limit (C.table checked.now)) belief.old belief.new }
-    ensures mode { OnOk result (belief.new.mode ≡ belief.old.mode) }
+    ensures brush { OnOk result (pen.new.belief.brush ≡ plain_brush) }
+    ensures place { OnOk result (pen.new.belief.place ≡ at) }
+    ensures step { Keeps W.went W.failures pen.old pen.new result (C.table checked.now)
+        (ready_limit (C.table checked.now)) }
+    ensures mode { OnOk result (pen.new.belief.mode ≡ pen.old.belief.mode) }
 {
-    reach_by_line(checked, belief, wire, at)?;
-    brush_as(checked, belief, wire, Brush::plain())
-}
-
-/// Does `erasure` by `line`, the string for its part. The line must already show the target up to the erasure's place.
-pub fn erase_from<C: Certificate, N: Picture, W: Wire>(
-    target: &Target<'_, C, N>,
-    belief: &mut Belief,
-    wire: &mut W,
-    erasure: Erasure,
-    line: &[u8],
-) -> Result<(), WireFault>
-    requires drawable { CanShow (C.table target.now.checked.now) (N.cells target.now.shown.now) }
-    requires row { erasure.at.row < (C.table target.now.checked.now).rows }
-    requires col { erasure.at.col < (C.table target.now.checked.now).cols }
-    requires line { (C.table target.now.checked.now).line_of (erasure_row erasure.part) ≡ Some line.now }
-    ensures step { MakesFrom W.went W.failures wire.old wire.new result (C.table target.now.checked.now)
-        (cell_limit (C.table target.now.checked.now)) (N.cells target.now.shown.now) erasure.at
-        (erased erasure.part erasure.at.row erasure.at.col) belief.old belief.new }
-    ensures mode { OnOk result (belief.new.mode ≡ belief.old.mode) }
-{
-    // only this call's contract says that the certificate is verified
-    let _ = target.checked.rows();
-    reach_in_brush(target, belief, wire, erasure.at, Brush::plain())?;
-    erase_here(target.checked, belief, wire, erasure, line)
+    reach_by_line(checked, pen, at)?;
+    brush_as(checked, pen, Brush::plain())
 }
 
 /// Does `erasure` by `line`, the string for its part, whatever is shown.
 pub fn erase_at<C: Certificate, W: Wire>(
     checked: &C,
-    belief: &mut Belief,
-    wire: &mut W,
+    pen: &mut Pen<W>,
     erasure: Erasure,
     line: &[u8],
-) -> Result<(), WireFault>
+) -> Sent
     requires row { erasure.at.row < (C.table checked.now).rows }
     requires col { erasure.at.col < (C.table checked.now).cols }
     requires line { (C.table checked.now).line_of (erasure_row erasure.part) ≡ Some line.now }
-    ensures step { Makes W.went W.failures wire.old wire.new result (C.table checked.now)
-        (cell_limit (C.table checked.now)) (erased erasure.part erasure.at.row erasure.at.col)
-        belief.old belief.new }
-    ensures mode { OnOk result (belief.new.mode ≡ belief.old.mode) }
+    ensures step { Makes W.went W.failures pen.old pen.new result (C.table checked.now)
+        (cell_limit (C.table checked.now)) (erased erasure.part erasure.at.row erasure.at.col) }
+    ensures mode { OnOk result (pen.new.belief.mode ≡ pen.old.belief.mode) }
 {
     // only this call's contract says that the certificate is verified
     let _ = checked.rows();
-    reach_plainly(checked, belief, wire, erasure.at)?;
-    erase_here(checked, belief, wire, erasure, line)
+    reach_plainly(checked, pen, erasure.at)?;
+    erase_here(checked, pen, erasure, line)
 }

@@ -7,17 +7,14 @@ ghost use Rattle.cur_steps.specs.declared.beliefs.Belief.{Belief};
 ghost use Rattle.ti_rows.specs.declared.rows.Row.TheVariants.{Csr};
 ghost use Rattle.cur_moves.specs.Frames.{Frame, Moves, Reframes, framed};
 
-use cur_wires::{Wire, WireFault, send_all};
+use cur_steps::Sent;
+use cur_wires::{Wire, send_all};
 use ti_conforms::Certificate;
 use ti_rows::Row;
 
 /// Sends the line of `row`, which leads from each frame in which the row may start to the frame that the row makes of
 /// it, and is a step of a painter if the row paints.
-pub(crate) fn send_row<C: Certificate, W: Wire>(
-    checked: &C,
-    wire: &mut W,
-    row: Row,
-) -> Result<(), WireFault>
+pub(crate) fn send_row<C: Certificate, W: Wire>(checked: &C, wire: &mut W, row: Row) -> Sent
     requires checked { IsChecked (C.table checked.now) }
     requires widens { has (C.table checked.now) (widening (C.table checked.now)) ≡ true }
     requires there { has (C.table checked.now) row ≡ true }
@@ -36,7 +33,7 @@ pub(crate) fn set_frame<C: Certificate, W: Wire>(
     top: u16,
     bottom: u16,
     row: u16,
-) -> Result<(), WireFault>
+) -> Sent
     requires checked { IsChecked (C.table checked.now) }
     requires widens { has (C.table checked.now) (widening (C.table checked.now)) ≡ true }
     requires there { has (C.table checked.now) (Csr top bottom) ≡ true }

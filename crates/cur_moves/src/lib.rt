@@ -13,11 +13,11 @@ mod scrolls;
 mod targets;
 mod texts;
 
-pub use cells::{brush_as, make_plain, put_cell};
-pub use erasures::{ErasedPart, Erasure, erase_at, erase_from, erasing_line};
+pub use cells::{brush_as, make_plain};
+pub use erasures::{ErasedPart, Erasure, erase_at, erasing_line};
 pub use pictures::Shifted;
-pub use reaches::{line_bytes, reach};
+pub use reaches::line_bytes;
 pub use regions::scroll_lines;
 pub use scrolls::{Scroll, can_scroll, line_before};
 pub use targets::Target;
-pub use texts::{goes_on, print_text};
+pub use texts::goes_on;

@@ -10,20 +10,15 @@ ghost use Rattle.cur_moves.specs.Frames.{Frame, Moves, at_edge, whole};
 
 use crate::cells::brush_as;
 use crate::frames::{send_row, set_frame};
-use crate::reaches::reach;
 use crate::scrolls::{Scroll, edge, first_blank, is_whole, scroll_row};
 use crate::targets::Target;
-use cur_steps::{Belief, Blank, Brush, Place};
-use cur_wires::{Wire, WireFault};
+use cur_steps::{Blank, Brush, Pen, Place, Sent};
+use cur_wires::Wire;
 use ti_conforms::Certificate;
 
 /// Moves the region's lines as `scroll` says, one line after the other. The cursor must be at the edge from which the
 /// region scrolls.
-fn scroll_at_edge<C: Certificate, W: Wire>(
-    checked: &C,
-    wire: &mut W,
-    scroll: Scroll,
-) -> Result<(), WireFault>
+fn scroll_at_edge<C: Certificate, W: Wire>(checked: &C, wire: &mut W, scroll: Scroll) -> Sent
     requires checked { IsChecked (C.table checked.now) }
     requires lines { CanScroll (C.table checked.now) scroll }
     ensures step { (g : ℕ → ℕ → Ink) (b : Belief) → Moves W.went W.failures wire.old wire.new result
@@ -43,7 +38,7 @@ fn scroll_region<C: Certificate, W: Wire>(
     wire: &mut W,
     scroll: Scroll,
     row: u16,
-) -> Result<(), WireFault>
+) -> Sent
     requires checked { IsChecked (C.table checked.now) }
     requires lines { CanScroll (C.table checked.now) scroll }
     requires row { row < (C.table checked.now).rows }
@@ -58,21 +53,15 @@ fn scroll_region<C: Certificate, W: Wire>(
 }
 
 /// Moves the lines of the whole screen as `scroll` says, in the plain brush. The margins are whole already.
-fn scroll_screen<C: Certificate, W: Wire>(
-    checked: &C,
-    belief: &mut Belief,
-    wire: &mut W,
-    scroll: Scroll,
-) -> Result<(), WireFault>
+fn scroll_screen<C: Certificate, W: Wire>(checked: &C, pen: &mut Pen<W>, scroll: Scroll) -> Sent
     requires checked { IsChecked (C.table checked.now) }
     requires lines { CanScroll (C.table checked.now) scroll }
     requires top { scroll.top ≡ 0 }
     requires bottom { scroll.bottom ≡ (C.table checked.now).rows - 1 }
-    requires plain { belief.old.brush ≡ plain_brush }
-    ensures step { Makes W.went W.failures wire.old wire.new result (C.table checked.now)
-        ((C.table checked.now).longest.cup + scroll.count * (C.table checked.now).longest.scroll) (shifted scroll)
-        belief.old belief.new }
-    ensures mode { OnOk result (belief.new.mode ≡ belief.old.mode) }
+    requires plain { pen.old.belief.brush ≡ plain_brush }
+    ensures step { Makes W.went W.failures pen.old pen.new result (C.table checked.now)
+        ((C.table checked.now).longest.cup + scroll.count * (C.table checked.now).longest.scroll) (shifted scroll) }
+    ensures mode { OnOk result (pen.new.belief.mode ≡ pen.old.belief.mode) }
 {
     let target = Target {
         checked,
@@ -82,34 +71,29 @@ fn scroll_screen<C: Certificate, W: Wire>(
         row: edge(scroll) as usize,
         col: 0,
     };
-    reach(&target, belief, wire, at)?;
-    scroll_at_edge(checked, wire, scroll)
+    target.reach(pen, at)?;
+    scroll_at_edge(checked, &mut pen.wire, scroll)
 }
 
 /// Moves lines as `scroll` says, by the terminal's own scrolling: in the plain brush, within margins that are the whole
 /// screen again at the end. The lines that come in are blank, and no other line changes. At a failure the terminal is
 /// lost, whatever its margins are.
-pub fn scroll_lines<C: Certificate, W: Wire>(
-    checked: &C,
-    belief: &mut Belief,
-    wire: &mut W,
-    scroll: Scroll,
-) -> Result<(), WireFault>
+pub fn scroll_lines<C: Certificate, W: Wire>(checked: &C, pen: &mut Pen<W>, scroll: Scroll) -> Sent
     requires lines { CanScroll (C.table checked.now) scroll }
-    ensures step { Makes W.went W.failures wire.old wire.new result (C.table checked.now)
-        ((scroll.count + 4) * cell_limit (C.table checked.now)) (shifted scroll) belief.old belief.new }
-    ensures mode { OnOk result (belief.new.mode ≡ belief.old.mode) }
+    ensures step { Makes W.went W.failures pen.old pen.new result (C.table checked.now)
+        ((scroll.count + 4) * cell_limit (C.table checked.now)) (shifted scroll) }
+    ensures mode { OnOk result (pen.new.belief.mode ≡ pen.old.belief.mode) }
 {
     // only this call's contract says that the certificate is verified
     let rows = checked.rows();
-    brush_as(checked, belief, wire, Brush::plain())?;
+    brush_as(checked, pen, Brush::plain())?;
     if is_whole(scroll, rows) {
-        return scroll_screen(checked, belief, wire, scroll);
+        return scroll_screen(checked, pen, scroll);
     }
     let row = first_blank(scroll);
-    belief.place = Place {
+    pen.belief.place = Place {
         row: row as usize,
         col: 0,
     };
-    scroll_region(checked, wire, scroll, row)
+    scroll_region(checked, &mut pen.wire, scroll, row)
 }

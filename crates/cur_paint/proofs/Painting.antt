@@ -30,7 +30,7 @@ pub at_as : (t : Table) (old new : ℕ → ℕ → Ink) (r c d : ℕ) → c ≡ 
 at_as t old new r c d e i j li lj = ap (λ (n : ℕ). mixed old new r n i j) e
 
 pub same_then : {C O N W : Type 0} (a b c : Painter C O N W) → IsSame a b → IsSame b c → IsSame a c
-same_then a b c h k = record { screens = k.screens ∙ h.screens; belief = k.belief ∙ h.belief; wire = k.wire ∙ h.wire }
+same_then a b c h k = record { screens = k.screens ∙ h.screens; pen = k.pen ∙ h.pen }
 
 within_both : (m n k l : ℕ) → m + n ≤ k → m * l + n * l ≤ k * l
 within_both m n k l le = omega (arith, sum_limit m n (m + n) l refl, times_grows (m + n) k l le)
@@ -44,9 +44,9 @@ mends_as {table} {old} {new} {went} {failures} {a} {b} {answer} {m} {n} {f} {g} 
     let s : Scene = scene table old new a.screens.now in
     let t : Table = s.table in
     record {
-      step = steps_wider went failures a.wire.now b.wire.now answer (IsPaint t) (m s * cell_limit t) (n s * cell_limit t) (IsLost t)
-          (Agrees t (f s) a.belief.now) (Agrees t (g s) b.belief.now) (Agrees t (p s) a.belief.now) (Agrees t (q s) b.belief.now)
-          (times_grows (m s) (n s) (cell_limit t) le) (agrees_as t (p s) (f s) a.belief.now e) (agrees_as t (g s) (q s) b.belief.now k) h.step;
+      step = steps_wider went failures a.pen.now.wire b.pen.now.wire answer (IsPaint t) (m s * cell_limit t) (n s * cell_limit t) (IsLost t)
+          (Agrees t (f s) a.pen.now.belief) (Agrees t (g s) b.pen.now.belief) (Agrees t (p s) a.pen.now.belief) (Agrees t (q s) b.pen.now.belief)
+          (times_grows (m s) (n s) (cell_limit t) le) (agrees_as t (p s) (f s) a.pen.now.belief e) (agrees_as t (g s) (q s) b.pen.now.belief k) h.step;
       mode = h.mode;
       same = h.same;
     }
@@ -59,12 +59,12 @@ pub mends_then : {C O N W T E U F : Type 0} {table : C → Table} {old : O → �
 mends_then {table} {old} {new} {went} {failures} {a} {b} {c} {v} {answer} {m} {n} {k} {f} {g} {h} laws first second le =
     let s : Scene = scene table old new a.screens.now in
     let t : Table = s.table in
-    let step : Acts went failures b.wire.now c.wire.now answer t (n s * cell_limit t) (g s) (h s) b.belief.now c.belief.now =
-    subst (λ x. (let z = scene table old new x.now in Acts went failures b.wire.now c.wire.now answer z.table (n z * cell_limit z.table) (g z) (h z) b.belief.now c.belief.now)) first.same.screens second.step in
+    let step : Acts went failures b.pen.now.wire c.pen.now.wire answer t (n s * cell_limit t) (g s) (h s) b.pen.now.belief c.pen.now.belief =
+    subst (λ x. (let z = scene table old new x.now in Acts went failures b.pen.now.wire c.pen.now.wire answer z.table (n z * cell_limit z.table) (g z) (h z) b.pen.now.belief c.pen.now.belief)) first.same.screens second.step in
     record {
-      step = steps_next went failures laws a.wire.now b.wire.now c.wire.now v answer (IsPaint t) (m s * cell_limit t) (n s * cell_limit t) (k s * cell_limit t) (IsLost t)
-          (Agrees t (f s) a.belief.now) (Agrees t (g s) b.belief.now) (Agrees t (h s) c.belief.now) (within_both (m s) (n s) (k s) (cell_limit t) le) first.step step;
-      mode = on_ok_map answer (c.belief.now.mode ≡ b.belief.now.mode) (c.belief.now.mode ≡ a.belief.now.mode) (λ e. e ∙ first.mode) second.mode;
+      step = steps_next went failures laws a.pen.now.wire b.pen.now.wire c.pen.now.wire v answer (IsPaint t) (m s * cell_limit t) (n s * cell_limit t) (k s * cell_limit t) (IsLost t)
+          (Agrees t (f s) a.pen.now.belief) (Agrees t (g s) b.pen.now.belief) (Agrees t (h s) c.pen.now.belief) (within_both (m s) (n s) (k s) (cell_limit t) le) first.step step;
+      mode = on_ok_map answer (c.pen.now.belief.mode ≡ b.pen.now.belief.mode) (c.pen.now.belief.mode ≡ a.pen.now.belief.mode) (λ e. e ∙ first.mode) second.mode;
       same = same_then a b c first.same second.same;
     }
 
@@ -76,8 +76,8 @@ mends_fail {table} {old} {new} {went} {failures} {a} {b} {v} {u} {m} {n} {f} {g}
     let s : Scene = scene table old new a.screens.now in
     let t : Table = s.table in
     record {
-      step = steps_fail went failures a.wire.now b.wire.now v u (IsPaint t) (m s * cell_limit t) (n s * cell_limit t) (IsLost t)
-          (Agrees t (f s) a.belief.now) (Agrees t (g s) b.belief.now) (Agrees t (h s) b.belief.now) (times_grows (m s) (n s) (cell_limit t) le) first.step;
+      step = steps_fail went failures a.pen.now.wire b.pen.now.wire v u (IsPaint t) (m s * cell_limit t) (n s * cell_limit t) (IsLost t)
+          (Agrees t (f s) a.pen.now.belief) (Agrees t (g s) b.pen.now.belief) (Agrees t (h s) b.pen.now.belief) (times_grows (m s) (n s) (cell_limit t) le) first.step;
       mode = tt;
       same = first.same;
     }
@@ -91,23 +91,23 @@ mends_none {table} {old} {new} {went} {failures} {a} {v} {n} {f} {g} laws checke
     let s : Scene = scene table old new a.screens.now in
     let t : Table = s.table in
     record {
-      step = steps_nothing went failures laws a.wire.now v (IsPaint t) (n s * cell_limit t) (IsLost t) (Agrees t (f s) a.belief.now) (Agrees t (g s) a.belief.now)
-          (λ u x. x.ready.rest) (agrees_as t (f s) (g s) a.belief.now e) (agrees_lost t checked (f s) a.belief.now);
+      step = steps_nothing went failures laws a.pen.now.wire v (IsPaint t) (n s * cell_limit t) (IsLost t) (Agrees t (f s) a.pen.now.belief) (Agrees t (g s) a.pen.now.belief)
+          (λ u x. x.ready.rest) (agrees_as t (f s) (g s) a.pen.now.belief e) (agrees_lost t checked (f s) a.pen.now.belief);
       mode = refl;
-      same = record { screens = refl; belief = refl; wire = refl };
+      same = record { screens = refl; pen = refl };
     }
 
 -- a single action of the painter
 pub mends_by : {C O N W T E : Type 0} {table : C → Table} {old : O → ℕ → ℕ → Ink} {new : N → ℕ → ℕ → Ink} {went : W → W → List ℕ → Type 0} {failures : W → ℕ} {a b : Painter C O N W} {answer : Result T E} {n : Scene → ℕ} {f g : Scene → ℕ → ℕ → Ink} (limit : ℕ) (h : ℕ → ℕ → Ink)
-    → Acts went failures a.wire.now b.wire.now answer (table a.screens.now.checked.now) limit (f (scene table old new a.screens.now)) h a.belief.now b.belief.now
+    → Acts went failures a.pen.now.wire b.pen.now.wire answer (table a.screens.now.checked.now) limit (f (scene table old new a.screens.now)) h a.pen.now.belief b.pen.now.belief
     → limit ≤ n (scene table old new a.screens.now) * cell_limit (table a.screens.now.checked.now) → AreEqual (table a.screens.now.checked.now) h (g (scene table old new a.screens.now))
-    → OnOk answer (b.belief.now.mode ≡ a.belief.now.mode) → IsSame a b → Mends table old new went failures a b answer n f g
+    → OnOk answer (b.pen.now.belief.mode ≡ a.pen.now.belief.mode) → IsSame a b → Mends table old new went failures a b answer n f g
 mends_by {table} {old} {new} {went} {failures} {a} {b} {answer} {n} {f} {g} limit h step le e mode same =
     let s : Scene = scene table old new a.screens.now in
     let t : Table = s.table in
     record {
-      step = steps_wider went failures a.wire.now b.wire.now answer (IsPaint t) limit (n s * cell_limit t) (IsLost t)
-          (Agrees t (f s) a.belief.now) (Agrees t h b.belief.now) (Agrees t (f s) a.belief.now) (Agrees t (g s) b.belief.now) le (λ u x. x) (agrees_as t h (g s) b.belief.now e) step;
+      step = steps_wider went failures a.pen.now.wire b.pen.now.wire answer (IsPaint t) limit (n s * cell_limit t) (IsLost t)
+          (Agrees t (f s) a.pen.now.belief) (Agrees t h b.pen.now.belief) (Agrees t (f s) a.pen.now.belief) (Agrees t (g s) b.pen.now.belief) le (λ u x. x) (agrees_as t h (g s) b.pen.now.belief e) step;
       mode = mode;
       same = same;
     }
@@ -162,10 +162,10 @@ cells_skip {table} {old} {new} {a} {b} row from n ink first is e =
 
 -- a single action, whatever the cells are, of at most the bytes of one of them
 pub cells_by : {C O N W T E : Type 0} {table : C → Table} {old : O → ℕ → ℕ → Ink} {new : N → ℕ → ℕ → Ink} {went : W → W → List ℕ → Type 0} {failures : W → ℕ} {a b : Painter C O N W} {answer : Result T E} (row from n : ℕ) (h : (ℕ → ℕ → Ink) → ℕ → ℕ → Ink)
-    → ((g : ℕ → ℕ → Ink) → BeginsAs g (new a.screens.now.new.now) row from → Acts went failures a.wire.now b.wire.now answer (table a.screens.now.checked.now) (cell_limit (table a.screens.now.checked.now)) g (h g) a.belief.now b.belief.now)
+    → ((g : ℕ → ℕ → Ink) → BeginsAs g (new a.screens.now.new.now) row from → Acts went failures a.pen.now.wire b.pen.now.wire answer (table a.screens.now.checked.now) (cell_limit (table a.screens.now.checked.now)) g (h g) a.pen.now.belief b.pen.now.belief)
     → 0 < span (old a.screens.now.old.now) (new a.screens.now.new.now) row from n
     → AreEqual (table a.screens.now.checked.now) (h (mixed (old a.screens.now.old.now) (new a.screens.now.new.now) row from)) (mixed (old a.screens.now.old.now) (new a.screens.now.new.now) row (from + n))
-    → OnOk answer (b.belief.now.mode ≡ a.belief.now.mode) → IsSame a b → MendsCells table old new went failures a b answer (record { row = row; from = from; count = n })
+    → OnOk answer (b.pen.now.belief.mode ≡ a.pen.now.belief.mode) → IsSame a b → MendsCells table old new went failures a b answer (record { row = row; from = from; count = n })
 cells_by {table} {old} {new} {a} row from n h step some e mode same =
     let s : Scene = scene table old new a.screens.now in
     let before = mended s row from in

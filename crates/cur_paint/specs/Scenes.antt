@@ -83,11 +83,10 @@ IsBlankPast s row col = (k : ℕ) → col ≤ k → k < s.table.cols → s.new r
 abbrev pub IsSamePast : Scene → ℕ → ℕ → Type 0
 IsSamePast s row col = (k : ℕ) → col ≤ k → k < s.table.cols → s.old row k ≡ s.new row k
 
--- the painter has the screens, the belief and the wire that it had, whatever these hold now
+-- the painter has the screens and the pen that it had, whatever the pen holds now
 pub record IsSame {C O N W : Type 0} (before after : Painter C O N W) : Type 0 where
   pub screens : after.screens ≡ before.screens
-  pub belief : after.belief.ghost_name ≡ before.belief.ghost_name
-  pub wire : after.wire.ghost_name ≡ before.wire.ghost_name
+  pub pen : after.pen.ghost_name ≡ before.pen.ghost_name
 
 -- A step of a painter from the cells g to the cells h of its scene, by at most n times the bytes of a cell. If nothing
 -- fails, the cursor's mode stays.
@@ -96,9 +95,9 @@ pub record Mends {C O N W T E : Type 0} (table : C → Table) (old : O → ℕ �
     (n : Scene → ℕ) (g h : Scene → ℕ → ℕ → Ink) : Type 0 where
   pub step :
       let s = scene table old new before.screens.now in
-      Acts went failures before.wire.now after.wire.now answer s.table (n s * cell_limit s.table) (g s) (h s)
-      before.belief.now after.belief.now
-  pub mode : OnOk answer (after.belief.now.mode ≡ before.belief.now.mode)
+      Acts went failures before.pen.now.wire after.pen.now.wire answer s.table (n s * cell_limit s.table) (g s) (h s)
+      before.pen.now.belief after.pen.now.belief
+  pub mode : OnOk answer (after.pen.now.belief.mode ≡ before.pen.now.belief.mode)
   pub same : IsSame before after
 
 -- mends cells of a line, given that everything before them is right
@@ -156,9 +155,9 @@ pub record Ends {C O N W T E : Type 0} (table : C → Table) (old : O → ℕ �
     (limit : Scene → ℕ) (g : Scene → ℕ → ℕ → Ink) (w : Wanted) : Type 0 where
   pub step :
       let s = scene table old new before.screens.now in
-      Sets went failures before.wire.now after.wire.now answer s.table (limit s) before.belief.now.mode w.cursor w.mode
-      (Agrees s.table (g s) before.belief.now) (Agrees s.table s.new after.belief.now)
-  pub set : OnOk answer (IsSet w after.belief.now)
+      Sets went failures before.pen.now.wire after.pen.now.wire answer s.table (limit s) before.pen.now.belief.mode w.cursor w.mode
+      (Agrees s.table (g s) before.pen.now.belief) (Agrees s.table s.new after.pen.now.belief)
+  pub set : OnOk answer (IsSet w after.pen.now.belief)
   pub same : IsSame before after
 
 -- ---- what is weighed

@@ -4,21 +4,21 @@ ghost use Rattle.cur_paint.specs.Limits.{IsWithin, renewal_limit, rest_limit};
 ghost use Rattle.cur_paint.specs.Modes.{move_limit};
 ghost use Rattle.cur_paint.specs.Rests.{IsAt, IsRested};
 ghost use Rattle.cur_paint.specs.Scenes.{AreChanges, CanPaint, Ends, IsPaintable, IsSame, scene};
-ghost use Rattle.cur_steps.specs.Steps.{Acts, Keeps};
+ghost use Rattle.cur_steps.specs.Steps.{ActsWith, Keeps};
 ghost use Rattle.ti_conforms.specs.Certified.{IsChecked, cell_limit};
 
 use crate::changes::Changes;
 use crate::painters::Painter;
 use crate::updates::Wanted;
-use cur_moves::{Target, make_plain, reach};
-use cur_steps::{Picture, Place, set_as, show_as};
-use cur_wires::{Wire, WireFault};
+use cur_moves::{Target, make_plain};
+use cur_steps::{Picture, Place, Sent};
+use cur_wires::Wire;
 use ti_conforms::Certificate;
 
 impl<C: Certificate, O: Picture, N: Picture, W: Wire> Painter<'_, C, O, N, W> {
     /// Mends all differences, in the columns that may differ according to `changes`, then makes the rendition the
     /// default one and sets the cursor as `wanted` says.
-    pub(crate) fn paint<D: Changes>(&mut self, changes: &D, wanted: Wanted) -> Result<(), WireFault>
+    pub(crate) fn paint<D: Changes>(&mut self, changes: &D, wanted: Wanted) -> Sent
         requires can { CanPaint (scene C.table O.cells N.cells self.old.screens.now) wanted }
         requires changes { AreChanges D.between changes.now (scene C.table O.cells N.cells self.old.screens.now) }
         ensures ends { Ends C.table O.cells N.cells W.went W.failures self.old self.new result
@@ -30,41 +30,39 @@ impl<C: Certificate, O: Picture, N: Picture, W: Wire> Painter<'_, C, O, N, W> {
 
     /// Ends a refresh that sends anything: makes the rendition the default one and the plain set active, and sets the
     /// cursor as `wanted` says.
-    fn settle(&mut self, wanted: Wanted) -> Result<(), WireFault>
+    fn settle(&mut self, wanted: Wanted) -> Sent
         requires can { CanPaint (scene C.table O.cells N.cells self.old.screens.now) wanted }
         ensures ends { Ends C.table O.cells N.cells W.went W.failures self.old self.new result
             (λ s. cell_limit s.table) (λ s. s.new) wanted }
     {
         self.rest()?;
-        show_as(self.screens.checked, self.belief, self.wire, wanted.mode)?;
+        self.pen.show_as(self.screens.checked, wanted.mode)?;
         self.place_cursor(wanted.cursor)
     }
 
     /// Makes the rendition the default one and the plain set active, if they aren't.
-    fn rest(&mut self) -> Result<(), WireFault>
+    fn rest(&mut self) -> Sent
         requires checked { IsChecked (C.table self.old.screens.now.checked.now) }
-        ensures rested { OnOk result (IsRested self.new.belief.now) }
-        ensures mode { OnOk result (self.new.belief.now.mode ≡ self.old.belief.now.mode) }
-        ensures step { Keeps W.went W.failures self.old.wire.now self.new.wire.now result
-            (C.table self.old.screens.now.checked.now) (rest_limit (C.table self.old.screens.now.checked.now))
-            self.old.belief.now self.new.belief.now }
+        ensures rested { OnOk result (IsRested self.new.pen.now.belief) }
+        ensures mode { OnOk result (self.new.pen.now.belief.mode ≡ self.old.pen.now.belief.mode) }
+        ensures step { Keeps W.went W.failures self.old.pen.now self.new.pen.now result
+            (C.table self.old.screens.now.checked.now) (rest_limit (C.table self.old.screens.now.checked.now)) }
         ensures same { IsSame self.old self.new }
     {
-        make_plain(self.screens.checked, self.belief, self.wire)?;
-        set_as(self.screens.checked, self.belief, self.wire, false)
+        make_plain(self.screens.checked, self.pen)?;
+        self.pen.set_as(self.screens.checked, false)
     }
 
     /// Moves the cursor to the place `cursor`, if there is one, so that no wrap is pending there.
-    fn place_cursor(&mut self, cursor: Option<Place>) -> Result<(), WireFault>
+    fn place_cursor(&mut self, cursor: Option<Place>) -> Sent
         requires scene { IsPaintable (scene C.table O.cells N.cells self.old.screens.now) }
         requires cursor { IsWithin (C.table self.old.screens.now.checked.now) cursor }
-        ensures at { OnOk result (IsAt cursor self.new.belief.now.place) }
+        ensures at { OnOk result (IsAt cursor self.new.pen.now.belief.place) }
         ensures belief { OnOk result
-            (self.new.belief.now ≡ record self.old.belief.now { place = self.new.belief.now.place }) }
-        ensures step { Acts W.went W.failures self.old.wire.now self.new.wire.now result
+            (self.new.pen.now.belief ≡ record self.old.pen.now.belief { place = self.new.pen.now.belief.place }) }
+        ensures step { ActsWith W.went W.failures self.old.pen.now self.new.pen.now result
             (C.table self.old.screens.now.checked.now) (move_limit (C.table self.old.screens.now.checked.now) cursor)
-            (N.cells self.old.screens.now.new.now) (N.cells self.old.screens.now.new.now) self.old.belief.now
-            self.new.belief.now }
+            (N.cells self.old.screens.now.new.now) (N.cells self.old.screens.now.new.now) }
         ensures same { IsSame self.old self.new }
     {
         let Some(at) = cursor else {
@@ -74,6 +72,6 @@ impl<C: Certificate, O: Picture, N: Picture, W: Wire> Painter<'_, C, O, N, W> {
             checked: self.screens.checked,
             shown: self.screens.new,
         };
-        reach(&target, self.belief, self.wire, at)
+        target.reach(self.pen, at)
     }
 }

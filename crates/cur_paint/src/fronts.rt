@@ -16,8 +16,8 @@ use crate::painters::Painter;
 use crate::screens::Screens;
 use crate::updates::{Wanted, start_belief};
 use cur_moves::{Scroll, Shifted, scroll_lines};
-use cur_steps::{Blank, Mode, Picture, Place};
-use cur_wires::{Wire, WireFault, send_all};
+use cur_steps::{Blank, Mode, Picture, Place, Sent};
+use cur_wires::{Wire, send_all};
 use ti_conforms::Certificate;
 use ti_rows::Row;
 
@@ -25,47 +25,46 @@ impl<C: Certificate, O: Picture, N: Picture, W: Wire> Painter<'_, C, O, N, W> {
     /// Paints everything anew after the resynchronization, from any lost state in which the cursor is shown in the mode
     /// `shown_as`, if that is known.
     #[inline(never)]
-    pub(crate) fn repaint(
-        &mut self,
-        shown_as: Option<Mode>,
-        wanted: Wanted,
-    ) -> Result<(), WireFault>
+    pub(crate) fn repaint(&mut self, shown_as: Option<Mode>, wanted: Wanted) -> Sent
         requires can { CanPaint (scene C.table O.cells N.cells self.old.screens.now) wanted }
-        ensures set { OnOk result (IsSet wanted self.new.belief.now) }
-        ensures step { Anew W.went W.failures self.old.wire.now self.new.wire.now result
+        ensures set { OnOk result (IsSet wanted self.new.pen.now.belief) }
+        ensures step { Anew W.went W.failures self.old.pen.now.wire self.new.pen.now.wire result
             (C.table self.old.screens.now.checked.now) (fresh_limit (C.table self.old.screens.now.checked.now))
             (IsLeft (C.table self.old.screens.now.checked.now) shown_as)
             (Agrees (C.table self.old.screens.now.checked.now) (N.cells self.old.screens.now.new.now)
-            self.new.belief.now) (C.table self.old.screens.now.checked.now).resync shown_as wanted }
+            self.new.pen.now.belief) (C.table self.old.screens.now.checked.now).resync shown_as wanted }
         ensures same { IsSame self.old self.new }
     {
-        *self.belief = start_belief(shown_as);
-        send_all(self.wire, self.screens.checked.resync())?;
+        self.pen.belief = start_belief(shown_as);
+        send_all(&mut self.pen.wire, self.screens.checked.resync())?;
         self.paint_all(wanted)
     }
 
     /// Clears everything from a known state, in the default rendition, and paints it anew.
     #[inline(never)]
-    pub(crate) fn clear_first(&mut self, wanted: Wanted) -> Result<(), WireFault>
+    pub(crate) fn clear_first(&mut self, wanted: Wanted) -> Sent
         requires can { CanPaint (scene C.table O.cells N.cells self.old.screens.now) wanted }
-        requires rested { IsRested self.old.belief.now }
-        ensures set { OnOk result (IsSet wanted self.new.belief.now) }
+        requires rested { IsRested self.old.pen.now.belief }
+        ensures set { OnOk result (IsSet wanted self.new.pen.now.belief) }
         ensures step { (line : List ℕ) → (C.table self.old.screens.now.checked.now).line_of Clear ≡ Some line
-            → (shown : ℕ → ℕ → Ink) → Anew W.went W.failures self.old.wire.now self.new.wire.now result
+            → (shown : ℕ → ℕ → Ink) → Anew W.went W.failures self.old.pen.now.wire self.new.pen.now.wire result
             (C.table self.old.screens.now.checked.now) (length line + renewal_limit
             (C.table self.old.screens.now.checked.now) (λ i j. blank_ink) (N.cells self.old.screens.now.new.now))
-            (Agrees (C.table self.old.screens.now.checked.now) shown self.old.belief.now)
+            (Agrees (C.table self.old.screens.now.checked.now) shown self.old.pen.now.belief)
             (Agrees (C.table self.old.screens.now.checked.now) (N.cells self.old.screens.now.new.now)
-            self.new.belief.now) line self.old.belief.now.mode wanted }
+            self.new.pen.now.belief) line self.old.pen.now.belief.mode wanted }
         ensures same { IsSame self.old self.new }
     {
-        self.belief.place = Place { row: 0, col: 0 };
-        send_all(self.wire, self.screens.checked.line(Row::Clear).unwrap())?;
+        self.pen.belief.place = Place { row: 0, col: 0 };
+        send_all(
+            &mut self.pen.wire,
+            self.screens.checked.line(Row::Clear).unwrap(),
+        )?;
         self.paint_all(wanted)
     }
 
     /// Paints everything onto a blank terminal.
-    fn paint_all(&mut self, wanted: Wanted) -> Result<(), WireFault>
+    fn paint_all(&mut self, wanted: Wanted) -> Sent
         requires can { CanPaint (scene C.table O.cells N.cells self.old.screens.now) wanted }
         ensures ends { Ends C.table O.cells N.cells W.went W.failures self.old self.new result
             (λ s. renewal_limit s.table (λ i j. blank_ink) s.new) (λ s i j. blank_ink) wanted }
@@ -74,12 +73,7 @@ impl<C: Certificate, O: Picture, N: Picture, W: Wire> Painter<'_, C, O, N, W> {
     }
 
     /// Paints onto a terminal that shows `old`, which must differ from the new screen as `changes` says.
-    fn paint_over<P: Picture, D: Changes>(
-        &mut self,
-        old: &P,
-        changes: &D,
-        wanted: Wanted,
-    ) -> Result<(), WireFault>
+    fn paint_over<P: Picture, D: Changes>(&mut self, old: &P, changes: &D, wanted: Wanted) -> Sent
         requires can { CanPaint (scene C.table O.cells N.cells self.old.screens.now) wanted }
         requires changes { D.between changes.now (P.cells old.now) (N.cells self.old.screens.now.new.now) }
         ensures ends { Ends C.table O.cells N.cells W.went W.failures self.old self.new result
@@ -92,8 +86,7 @@ impl<C: Certificate, O: Picture, N: Picture, W: Wire> Painter<'_, C, O, N, W> {
         };
         let mut painter = Painter {
             screens: &screens,
-            belief: self.belief,
-            wire: self.wire,
+            pen: self.pen,
         };
         painter.paint(changes, wanted)
     }
@@ -105,15 +98,15 @@ impl<C: Certificate, O: Picture, N: Picture, W: Wire> Painter<'_, C, O, N, W> {
         changes: &D,
         scroll: Scroll,
         wanted: Wanted,
-    ) -> Result<(), WireFault>
+    ) -> Sent
         requires can { CanPaint (scene C.table O.cells N.cells self.old.screens.now) wanted }
         requires changes { AreChanges D.between changes.now (scene C.table O.cells N.cells self.old.screens.now) }
         requires scroll { CanScroll (C.table self.old.screens.now.checked.now) scroll }
         requires saves { ScrollSaves (scene C.table O.cells N.cells self.old.screens.now) scroll }
         ensures ends { Ends C.table O.cells N.cells W.went W.failures self.old self.new result
-            (λ s. paint_limit s.table s.old s.new self.old.belief.now wanted.cursor wanted.mode) (λ s. s.old) wanted }
+            (λ s. paint_limit s.table s.old s.new self.old.pen.now.belief wanted.cursor wanted.mode) (λ s. s.old) wanted }
     {
-        scroll_lines(self.screens.checked, self.belief, self.wire, scroll)?;
+        scroll_lines(self.screens.checked, self.pen, scroll)?;
         let moved = Shifted {
             old: self.screens.old,
             scroll,

@@ -16,16 +16,14 @@ use crate::painters::Painter;
 use crate::pieces::{TEXT, differs_in, is_led_on, piece_of};
 use crate::runs::{FEWEST, erases_runs, is_run, next_part};
 use crate::tails::{lesser, rest_line, short_tail, tail_from};
-use cur_moves::{
-    ErasedPart, Erasure, Target, erase_at, erase_from, erasing_line, print_text, put_cell,
-};
-use cur_steps::{Cells, Ink, Picture, Place};
-use cur_wires::{Wire, WireFault};
+use cur_moves::{ErasedPart, Erasure, Target, erase_at, erasing_line};
+use cur_steps::{Cells, Ink, Picture, Place, Sent};
+use cur_wires::Wire;
 use ti_conforms::Certificate;
 
 impl<C: Certificate, O: Picture, N: Picture, W: Wire> Painter<'_, C, O, N, W> {
     /// Mends all lines, in the columns that may differ according to `changes`.
-    pub(crate) fn mend_screen<D: Changes>(&mut self, changes: &D) -> Result<(), WireFault>
+    pub(crate) fn mend_screen<D: Changes>(&mut self, changes: &D) -> Sent
         requires scene { IsPaintable (scene C.table O.cells N.cells self.old.screens.now) }
         requires changes { AreChanges D.between changes.now (scene C.table O.cells N.cells self.old.screens.now) }
         ensures mends { MendsAll C.table O.cells N.cells W.went W.failures self.old self.new result }
@@ -57,7 +55,7 @@ impl<C: Certificate, O: Picture, N: Picture, W: Wire> Painter<'_, C, O, N, W> {
     /// Mends the line `row` within `columns`, before which it must be right already, and erases everything after them,
     /// lines below too, by the string `line`.
     #[inline(never)]
-    fn mend_bottom(&mut self, row: usize, columns: Columns, line: &[u8]) -> Result<(), WireFault>
+    fn mend_bottom(&mut self, row: usize, columns: Columns, line: &[u8]) -> Sent
         requires scene { IsPaintable (scene C.table O.cells N.cells self.old.screens.now) }
         requires row { row < (C.table self.old.screens.now.checked.now).rows }
         requires start { columns.from ≤ columns.end }
@@ -82,22 +80,15 @@ impl<C: Certificate, O: Picture, N: Picture, W: Wire> Painter<'_, C, O, N, W> {
 
     /// Erases `part` by its string `line`, with the cursor in line `row` and column `col`. The line must be right
     /// already up to there.
-    fn erase(
-        &mut self,
-        row: usize,
-        col: usize,
-        part: ErasedPart,
-        line: &[u8],
-    ) -> Result<(), WireFault>
+    fn erase(&mut self, row: usize, col: usize, part: ErasedPart, line: &[u8]) -> Sent
         requires scene { IsPaintable (scene C.table O.cells N.cells self.old.screens.now) }
         requires row { row < (C.table self.old.screens.now.checked.now).rows }
         requires col { col < (C.table self.old.screens.now.checked.now).cols }
         requires line { (C.table self.old.screens.now.checked.now).line_of (erasure_row part) ≡ Some line.now }
-        ensures step { MakesFrom W.went W.failures self.old.wire.now self.new.wire.now result
+        ensures step { MakesFrom W.went W.failures self.old.pen.now self.new.pen.now result
             (C.table self.old.screens.now.checked.now) (cell_limit (C.table self.old.screens.now.checked.now))
-            (N.cells self.old.screens.now.new.now) (record { row = row; col = col }) (erased part row col)
-            self.old.belief.now self.new.belief.now }
-        ensures mode { OnOk result (self.new.belief.now.mode ≡ self.old.belief.now.mode) }
+            (N.cells self.old.screens.now.new.now) (record { row = row; col = col }) (erased part row col) }
+        ensures mode { OnOk result (self.new.pen.now.belief.mode ≡ self.old.pen.now.belief.mode) }
         ensures same { IsSame self.old self.new }
     {
         let target = Target {
@@ -108,12 +99,12 @@ impl<C: Certificate, O: Picture, N: Picture, W: Wire> Painter<'_, C, O, N, W> {
             at: Place { row, col },
             part,
         };
-        erase_from(&target, self.belief, self.wire, erasure, line)
+        target.erase_from(self.pen, erasure, line)
     }
 
     /// Mends the line `row`, which must differ only within `columns`. If `tail` is one of them, the new line must be
     /// blank from there on.
-    fn mend_line(&mut self, row: usize, columns: Columns, tail: usize) -> Result<(), WireFault>
+    fn mend_line(&mut self, row: usize, columns: Columns, tail: usize) -> Sent
         requires scene { IsPaintable (scene C.table O.cells N.cells self.old.screens.now) }
         requires row { row < (C.table self.old.screens.now.checked.now).rows }
         requires order { columns.from ≤ columns.end }
@@ -146,7 +137,7 @@ impl<C: Certificate, O: Picture, N: Picture, W: Wire> Painter<'_, C, O, N, W> {
     /// Mends the line `row` from the first of `columns` on; past them it must be right already. If there are any
     /// columns, the new line must be blank from the first one on: it is erased by `el` if that is no longer than the
     /// blanks, else mended cell by cell.
-    fn mend_tail(&mut self, row: usize, columns: Columns) -> Result<(), WireFault>
+    fn mend_tail(&mut self, row: usize, columns: Columns) -> Sent
         requires scene { IsPaintable (scene C.table O.cells N.cells self.old.screens.now) }
         requires row { row < (C.table self.old.screens.now.checked.now).rows }
         requires order { columns.from ≤ columns.end }
@@ -174,7 +165,7 @@ impl<C: Certificate, O: Picture, N: Picture, W: Wire> Painter<'_, C, O, N, W> {
     }
 
     /// Mends the `cells`, and erases runs of blanks if that takes fewer bytes.
-    fn mend_parts(&mut self, cells: Cells) -> Result<(), WireFault>
+    fn mend_parts(&mut self, cells: Cells) -> Sent
         requires scene { IsPaintable (scene C.table O.cells N.cells self.old.screens.now) }
         requires cells { IsOn (C.table self.old.screens.now.checked.now) cells }
         ensures mends { MendsCells C.table O.cells N.cells W.went W.failures self.old self.new result cells }
@@ -186,7 +177,7 @@ impl<C: Certificate, O: Picture, N: Picture, W: Wire> Painter<'_, C, O, N, W> {
     }
 
     /// Mends the `cells`, part by part.
-    fn mend_by_parts(&mut self, cells: Cells) -> Result<(), WireFault>
+    fn mend_by_parts(&mut self, cells: Cells) -> Sent
         requires scene { IsPaintable (scene C.table O.cells N.cells self.old.screens.now) }
         requires cells { IsOn (C.table self.old.screens.now.checked.now) cells }
         ensures mends { MendsCells C.table O.cells N.cells W.went W.failures self.old self.new result cells }
@@ -210,7 +201,7 @@ impl<C: Certificate, O: Picture, N: Picture, W: Wire> Painter<'_, C, O, N, W> {
     }
 
     /// Mends the `cells`, by `erasure` if there is one.
-    fn mend_part(&mut self, cells: Cells, erasure: Option<ErasedPart>) -> Result<(), WireFault>
+    fn mend_part(&mut self, cells: Cells, erasure: Option<ErasedPart>) -> Sent
         requires scene { IsPaintable (scene C.table O.cells N.cells self.old.screens.now) }
         requires cells { IsOn (C.table self.old.screens.now.checked.now) cells }
         ensures mends { MendsCells C.table O.cells N.cells W.went W.failures self.old self.new result cells }
@@ -224,7 +215,7 @@ impl<C: Certificate, O: Picture, N: Picture, W: Wire> Painter<'_, C, O, N, W> {
 
     /// Erases the line from its start to the last of `cells` if all of that becomes blank and some of `cells` differ,
     /// else mends them one after another.
-    fn mend_head(&mut self, cells: Cells) -> Result<(), WireFault>
+    fn mend_head(&mut self, cells: Cells) -> Sent
         requires scene { IsPaintable (scene C.table O.cells N.cells self.old.screens.now) }
         requires cells { IsOn (C.table self.old.screens.now.checked.now) cells }
         ensures mends { MendsCells C.table O.cells N.cells W.went W.failures self.old self.new result cells }
@@ -242,14 +233,14 @@ impl<C: Certificate, O: Picture, N: Picture, W: Wire> Painter<'_, C, O, N, W> {
                     at: last,
                     part: ErasedPart::Head,
                 };
-                erase_at(self.screens.checked, self.belief, self.wire, erasure, line)
+                erase_at(self.screens.checked, self.pen, erasure, line)
             }
             None => self.mend_span(cells),
         }
     }
 
     /// Erases the `cells` if they become blank and some differ, else mends them one after another.
-    fn mend_run(&mut self, cells: Cells) -> Result<(), WireFault>
+    fn mend_run(&mut self, cells: Cells) -> Sent
         requires scene { IsPaintable (scene C.table O.cells N.cells self.old.screens.now) }
         requires cells { IsOn (C.table self.old.screens.now.checked.now) cells }
         ensures mends { MendsCells C.table O.cells N.cells W.went W.failures self.old self.new result cells }
@@ -266,7 +257,7 @@ impl<C: Certificate, O: Picture, N: Picture, W: Wire> Painter<'_, C, O, N, W> {
 
     /// Prints those of the `cells` that differ. Cells that are printed alike go out in one piece, with the few
     /// unchanged ones between them.
-    fn mend_span(&mut self, cells: Cells) -> Result<(), WireFault>
+    fn mend_span(&mut self, cells: Cells) -> Sent
         requires scene { IsPaintable (scene C.table O.cells N.cells self.old.screens.now) }
         requires cells { IsOn (C.table self.old.screens.now.checked.now) cells }
         ensures mends { MendsCells C.table O.cells N.cells W.went W.failures self.old self.new result cells }
@@ -278,7 +269,7 @@ impl<C: Certificate, O: Picture, N: Picture, W: Wire> Painter<'_, C, O, N, W> {
     }
 
     /// Prints those of the `cells` that differ, piece by piece.
-    fn print_pieces(&mut self, cells: Cells) -> Result<(), WireFault>
+    fn print_pieces(&mut self, cells: Cells) -> Sent
         requires scene { IsPaintable (scene C.table O.cells N.cells self.old.screens.now) }
         requires cells { IsOn (C.table self.old.screens.now.checked.now) cells }
         ensures mends { MendsCells C.table O.cells N.cells W.went W.failures self.old self.new result cells }
@@ -313,7 +304,7 @@ impl<C: Certificate, O: Picture, N: Picture, W: Wire> Painter<'_, C, O, N, W> {
 
     /// Prints the `cells`, which must have the characters of `text` in the set and the brush of `ink`: in one piece if
     /// the terminal is known to print them so, else one by one those that differ.
-    fn print_alike(&mut self, cells: Cells, ink: Ink, text: &[u8]) -> Result<(), WireFault>
+    fn print_alike(&mut self, cells: Cells, ink: Ink, text: &[u8]) -> Sent
         requires scene { IsPaintable (scene C.table O.cells N.cells self.old.screens.now) }
         requires cells { IsOn (C.table self.old.screens.now.checked.now) cells }
         requires long { cells.count ≤ length text.now }
@@ -321,18 +312,18 @@ impl<C: Certificate, O: Picture, N: Picture, W: Wire> Painter<'_, C, O, N, W> {
         requires bytes { IsShort (scene C.table O.cells N.cells self.old.screens.now) cells }
         ensures mends { MendsCells C.table O.cells N.cells W.went W.failures self.old self.new result cells }
     {
-        if is_led_on(self.belief, cells.row, cells.from, ink, cells.count) {
+        if is_led_on(&self.pen.belief, cells.row, cells.from, ink, cells.count) {
             let target = Target {
                 checked: self.screens.checked,
                 shown: self.screens.new,
             };
-            return print_text(&target, self.belief, self.wire, cells, text);
+            return target.print_text(self.pen, cells, text);
         }
         self.print_each(cells)
     }
 
     /// Prints those of the `cells` that differ, one by one.
-    fn print_each(&mut self, cells: Cells) -> Result<(), WireFault>
+    fn print_each(&mut self, cells: Cells) -> Sent
         requires scene { IsPaintable (scene C.table O.cells N.cells self.old.screens.now) }
         requires cells { IsOn (C.table self.old.screens.now.checked.now) cells }
         ensures mends { MendsCells C.table O.cells N.cells W.went W.failures self.old self.new result cells }
@@ -349,7 +340,7 @@ impl<C: Certificate, O: Picture, N: Picture, W: Wire> Painter<'_, C, O, N, W> {
     }
 
     /// Prints the cell in line `row` and column `col`, which must differ, as `ink`.
-    fn print_cell(&mut self, row: usize, col: usize, ink: Ink) -> Result<(), WireFault>
+    fn print_cell(&mut self, row: usize, col: usize, ink: Ink) -> Sent
         requires scene { IsPaintable (scene C.table O.cells N.cells self.old.screens.now) }
         requires row { row < (C.table self.old.screens.now.checked.now).rows }
         requires col { col < (C.table self.old.screens.now.checked.now).cols }
@@ -363,6 +354,6 @@ impl<C: Certificate, O: Picture, N: Picture, W: Wire> Painter<'_, C, O, N, W> {
             checked: self.screens.checked,
             shown: self.screens.new,
         };
-        put_cell(&target, self.belief, self.wire, Place { row, col }, ink)
+        target.put_cell(self.pen, Place { row, col }, ink)
     }
 }

@@ -21,7 +21,7 @@ use crate::changes::Changes;
 use crate::lasting::Lasting;
 use crate::painters::Painter;
 use crate::screens::Screens;
-use cur_steps::{Belief, Brush, Mode, Picture, Place};
+use cur_steps::{Belief, Brush, Mode, Pen, Picture, Place, Sent};
 use cur_wires::{Wire, WireFault};
 use ti_conforms::Certificate;
 
@@ -69,60 +69,56 @@ fn draw_whole<C: Certificate, O: Picture, N: Picture, D: Changes, W: Wire>(
     wire: &mut W,
     changes: &D,
     task: Task,
-) -> Result<(), WireFault>
+) -> Sent
     requires can { CanPaint (scene C.table O.cells N.cells screens.now) task.wanted }
     requires changes { AreChanges D.between changes.now (scene C.table O.cells N.cells screens.now) }
     requires rested { IsRested belief.old }
     ensures made { Made W.went W.failures wire.old wire.new result (C.table screens.now.checked.now)
         (O.cells screens.now.old.now) (N.cells screens.now.new.now) task.wanted task.status belief.old belief.new }
 {
-    let mut lasting = Lasting {
+    let lasting = Lasting {
         wire,
         failed: false,
     };
-    draw_on(screens, belief, &mut lasting, changes, task)?;
-    if lasting.failed {
+    let mut pen = Pen {
+        belief: *belief,
+        wire: lasting,
+    };
+    draw_on(screens, &mut pen, changes, task)?;
+    *belief = pen.belief;
+    if pen.wire.failed {
         return Err(WireFault);
     }
     Ok(())
 }
 
-/// Draws with a painter for this wire.
+/// Draws with this pen.
 fn draw_on<C: Certificate, O: Picture, N: Picture, D: Changes, W: Wire>(
     screens: &Screens<'_, C, O, N>,
-    belief: &mut Belief,
-    wire: &mut W,
+    pen: &mut Pen<W>,
     changes: &D,
     task: Task,
-) -> Result<(), WireFault>
+) -> Sent
     requires can { CanPaint (scene C.table O.cells N.cells screens.now) task.wanted }
     requires changes { AreChanges D.between changes.now (scene C.table O.cells N.cells screens.now) }
-    requires rested { IsRested belief.old }
-    ensures draws { Draws W.went W.failures wire.old wire.new result (C.table screens.now.checked.now)
-        (O.cells screens.now.old.now) (N.cells screens.now.new.now) task.wanted task.status belief.old belief.new }
+    requires rested { IsRested pen.old.belief }
+    ensures draws { Draws W.went W.failures pen.old.wire pen.new.wire result (C.table screens.now.checked.now)
+        (O.cells screens.now.old.now) (N.cells screens.now.new.now) task.wanted task.status
+        pen.old.belief pen.new.belief }
 {
-    let mut painter = Painter {
-        screens,
-        belief,
-        wire,
-    };
+    let mut painter = Painter { screens, pen };
     painter.draw(task.status, changes, task.wanted)
 }
 
 impl<C: Certificate, O: Picture, N: Picture, W: Wire> Painter<'_, C, O, N, W> {
     /// Sends the differences if the terminal is known by `status` and isn't to be cleared, else everything.
-    fn draw<D: Changes>(
-        &mut self,
-        status: Status,
-        changes: &D,
-        wanted: Wanted,
-    ) -> Result<(), WireFault>
+    fn draw<D: Changes>(&mut self, status: Status, changes: &D, wanted: Wanted) -> Sent
         requires can { CanPaint (scene C.table O.cells N.cells self.old.screens.now) wanted }
         requires changes { AreChanges D.between changes.now (scene C.table O.cells N.cells self.old.screens.now) }
-        requires rested { IsRested self.old.belief.now }
-        ensures draws { Draws W.went W.failures self.old.wire.now self.new.wire.now result
+        requires rested { IsRested self.old.pen.now.belief }
+        ensures draws { Draws W.went W.failures self.old.pen.now.wire self.new.pen.now.wire result
             (C.table self.old.screens.now.checked.now) (O.cells self.old.screens.now.old.now)
-            (N.cells self.old.screens.now.new.now) wanted status self.old.belief.now self.new.belief.now }
+            (N.cells self.old.screens.now.new.now) wanted status self.old.pen.now.belief self.new.pen.now.belief }
         ensures same { IsSame self.old self.new }
     {
         match (status, wanted.clear) {
@@ -136,17 +132,17 @@ impl<C: Certificate, O: Picture, N: Picture, W: Wire> Painter<'_, C, O, N, W> {
     /// Mends the differences from a known state; sends nothing if everything is as wanted. First the terminal scrolls,
     /// if `changes` names a scroll that leaves fewer cells to mend; or else everything is cleared and painted, if that
     /// is likely to take fewer bytes.
-    fn mend<D: Changes>(&mut self, changes: &D, wanted: Wanted) -> Result<(), WireFault>
+    fn mend<D: Changes>(&mut self, changes: &D, wanted: Wanted) -> Sent
         requires can { CanPaint (scene C.table O.cells N.cells self.old.screens.now) wanted }
         requires changes { AreChanges D.between changes.now (scene C.table O.cells N.cells self.old.screens.now) }
-        requires rested { IsRested self.old.belief.now }
-        ensures draws { Draws W.went W.failures self.old.wire.now self.new.wire.now result
+        requires rested { IsRested self.old.pen.now.belief }
+        ensures draws { Draws W.went W.failures self.old.pen.now.wire self.new.pen.now.wire result
             (C.table self.old.screens.now.checked.now) (O.cells self.old.screens.now.old.now)
-            (N.cells self.old.screens.now.new.now) (record wanted { clear = false }) Known self.old.belief.now
-            self.new.belief.now }
+            (N.cells self.old.screens.now.new.now) (record wanted { clear = false }) Known self.old.pen.now.belief
+            self.new.pen.now.belief }
         ensures same { IsSame self.old self.new }
     {
-        if self.screens.is_still(*self.belief, changes, wanted) {
+        if self.screens.is_still(self.pen.belief, changes, wanted) {
             return Ok(());
         }
         if let Some(scroll) = self.screens.useful_scroll(changes) {

@@ -7,6 +7,7 @@ use Rattle.cur_steps.specs.Beliefs.{Agrees, Belief, Place}
 use Rattle.cur_steps.specs.Pieces.{IsPaint}
 use Rattle.cur_steps.specs.Gaps.{BeginsAs}
 use Rattle.cur_steps.specs.declared.inks.Ink.{Ink}
+use Rattle.cur_steps.specs.declared.pens.Pen.{Pen}
 
 -- the end of a step: the certificate is verified, and the place is on its screen
 pub record IsGoal (t : Table) (at : Place) : Type 0 where
@@ -21,33 +22,45 @@ abbrev pub Acts : {W T E : Type 0} → (W → W → List ℕ → Type 0) → (W 
 Acts went failures before after answer t limit g h b c =
     Steps went failures before after answer (IsPaint t) limit (IsLost t) (Agrees t g b) (Agrees t h c)
 
--- all cells stay, whatever they are
-abbrev pub Keeps : {W T E : Type 0} → (W → W → List ℕ → Type 0) → (W → ℕ) → W → W → Result T E → Table → ℕ
-    → Belief → Belief → Type 0
-Keeps went failures before after answer t limit b c =
-    (g : ℕ → ℕ → Ink) → Acts went failures before after answer t limit g g b c
-
--- all cells stay, whatever they are, and exactly this text goes out if nothing fails
-abbrev pub KeepsBy : {W T E : Type 0} → (W → W → List ℕ → Type 0) → (W → ℕ) → W → W → Result T E → Table → ℕ
+-- exactly this text goes out if nothing fails, and all cells stay, whatever they are
+abbrev pub KeepsText : {W T E : Type 0} → (W → W → List ℕ → Type 0) → (W → ℕ) → W → W → Result T E → Table → ℕ
     → List ℕ → Belief → Belief → Type 0
-KeepsBy went failures before after answer t limit text b c =
+KeepsText went failures before after answer t limit text b c =
     (g : ℕ → ℕ → Ink)
     → Spells went failures before after answer text (IsPiece t) limit (IsLost t) (Agrees t g b) (Agrees t g c)
 
+-- A pen's step from cells g to cells h, by its belief and wire before and after.
+abbrev pub ActsWith : {W T E : Type 0} → (W → W → List ℕ → Type 0) → (W → ℕ) → Pen W → Pen W → Result T E → Table → ℕ
+    → (ℕ → ℕ → Ink) → (ℕ → ℕ → Ink) → Type 0
+ActsWith went failures before after answer t limit g h =
+    Acts went failures before.wire after.wire answer t limit g h before.belief after.belief
+
+-- all cells stay, whatever they are
+abbrev pub Keeps : {W T E : Type 0} → (W → W → List ℕ → Type 0) → (W → ℕ) → Pen W → Pen W → Result T E → Table → ℕ
+    → Type 0
+Keeps went failures before after answer t limit =
+    (g : ℕ → ℕ → Ink) → ActsWith went failures before after answer t limit g g
+
+-- all cells stay, whatever they are, and exactly this text goes out if nothing fails
+abbrev pub KeepsBy : {W T E : Type 0} → (W → W → List ℕ → Type 0) → (W → ℕ) → Pen W → Pen W → Result T E → Table → ℕ
+    → List ℕ → Type 0
+KeepsBy went failures before after answer t limit text =
+    KeepsText went failures before.wire after.wire answer t limit text before.belief after.belief
+
 -- the cells change, whatever they are
-abbrev pub Makes : {W T E : Type 0} → (W → W → List ℕ → Type 0) → (W → ℕ) → W → W → Result T E → Table → ℕ
-    → ((ℕ → ℕ → Ink) → ℕ → ℕ → Ink) → Belief → Belief → Type 0
-Makes went failures before after answer t limit change b c =
-    (g : ℕ → ℕ → Ink) → Acts went failures before after answer t limit g (change g) b c
+abbrev pub Makes : {W T E : Type 0} → (W → W → List ℕ → Type 0) → (W → ℕ) → Pen W → Pen W → Result T E → Table → ℕ
+    → ((ℕ → ℕ → Ink) → ℕ → ℕ → Ink) → Type 0
+Makes went failures before after answer t limit change =
+    (g : ℕ → ℕ → Ink) → ActsWith went failures before after answer t limit g (change g)
 
 -- no cell changes, provided the cells left of the place already show the target
-abbrev pub KeepsFrom : {W T E : Type 0} → (W → W → List ℕ → Type 0) → (W → ℕ) → W → W → Result T E → Table → ℕ
-    → (ℕ → ℕ → Ink) → Place → Belief → Belief → Type 0
-KeepsFrom went failures before after answer t limit shown at b c =
-    (g : ℕ → ℕ → Ink) → BeginsAs g shown at.row at.col → Acts went failures before after answer t limit g g b c
+abbrev pub KeepsFrom : {W T E : Type 0} → (W → W → List ℕ → Type 0) → (W → ℕ) → Pen W → Pen W → Result T E → Table
+    → ℕ → (ℕ → ℕ → Ink) → Place → Type 0
+KeepsFrom went failures before after answer t limit shown at =
+    (g : ℕ → ℕ → Ink) → BeginsAs g shown at.row at.col → ActsWith went failures before after answer t limit g g
 
 -- the cells change, provided the cells left of the place already show the target
-abbrev pub MakesFrom : {W T E : Type 0} → (W → W → List ℕ → Type 0) → (W → ℕ) → W → W → Result T E → Table → ℕ
-    → (ℕ → ℕ → Ink) → Place → ((ℕ → ℕ → Ink) → ℕ → ℕ → Ink) → Belief → Belief → Type 0
-MakesFrom went failures before after answer t limit shown at change b c =
-    (g : ℕ → ℕ → Ink) → BeginsAs g shown at.row at.col → Acts went failures before after answer t limit g (change g) b c
+abbrev pub MakesFrom : {W T E : Type 0} → (W → W → List ℕ → Type 0) → (W → ℕ) → Pen W → Pen W → Result T E → Table
+    → ℕ → (ℕ → ℕ → Ink) → Place → ((ℕ → ℕ → Ink) → ℕ → ℕ → Ink) → Type 0
+MakesFrom went failures before after answer t limit shown at change =
+    (g : ℕ → ℕ → Ink) → BeginsAs g shown at.row at.col → ActsWith went failures before after answer t limit g (change g)

@@ -6,6 +6,7 @@ mod inks;
 mod lines;
 mod looks;
 mod modes;
+mod pens;
 mod sets;
 mod singles;
 mod steps;
@@ -18,10 +19,7 @@ pub use inks::{
 };
 pub use lines::{has_line, send_line};
 pub use looks::look_alike;
-pub use modes::{is_mode, show_as};
-pub use singles::strip;
-pub use steps::{
-    attributes_as, attributes_at_once, color_as, colors_off, is_active, print_at, resetting_line,
-    set_as, stands,
-};
+pub use modes::is_mode;
+pub use pens::{Pen, Sent};
+pub use steps::{is_active, resetting_line, stands};
 pub use stretches::blank_shown;

@@ -3,10 +3,11 @@ ghost use Rattle.std.specs.Prelude.{◌≡◌, ◌≤◌, ℕ, length, Some, tru
 ghost use Rattle.ti_conforms.specs.Certified.{IsChecked, has, limit_of, text_of};
 ghost use Rattle.cur_steps.specs.Beliefs.{Belief, LeadsTo, Passes, Turns};
 ghost use Rattle.cur_steps.specs.Pieces.{paints};
-ghost use Rattle.cur_steps.specs.Steps.{Acts, KeepsBy};
+ghost use Rattle.cur_steps.specs.Steps.{Acts, KeepsText};
 ghost use Rattle.cur_steps.specs.declared.inks.Ink.{Ink};
 
-use cur_wires::{Wire, WireFault, send_all};
+use crate::pens::Sent;
+use cur_wires::{Wire, send_all};
 use ti_conforms::Certificate;
 use ti_rows::Row;
 
@@ -19,12 +20,7 @@ pub fn has_line<C: Certificate>(checked: &C, row: Row) -> bool
 
 /// Sends `bytes`, which must be the line of `row`. It leads from any belief in which the row may start to the belief
 /// that the row makes of it, and is a step of a painter if the row paints.
-pub fn send_line<C: Certificate, W: Wire>(
-    checked: &C,
-    row: Row,
-    bytes: &[u8],
-    wire: &mut W,
-) -> Result<(), WireFault>
+pub fn send_line<C: Certificate, W: Wire>(checked: &C, row: Row, bytes: &[u8], wire: &mut W) -> Sent
     requires checked { IsChecked (C.table checked.now) }
     requires line { (C.table checked.now).line_of row ≡ Some bytes.now }
     ensures exact { (n : ℕ) (g h : ℕ → ℕ → Ink) (b c : Belief) → paints row ≡ true
@@ -38,26 +34,22 @@ pub fn send_line<C: Certificate, W: Wire>(
         → limit_of (C.table checked.now) row ≤ n → LeadsTo (C.table checked.now) bytes.now g b h c
         → Acts W.went W.failures wire.old wire.new result (C.table checked.now) n g h b c }
     ensures text { (b c : Belief) → ((g : ℕ → ℕ → Ink) → Turns (C.table checked.now) row g b g c)
-        → KeepsBy W.went W.failures wire.old wire.new result (C.table checked.now) (limit_of (C.table checked.now) row)
-        (text_of (C.table checked.now) row) b c }
+        → KeepsText W.went W.failures wire.old wire.new result (C.table checked.now)
+        (limit_of (C.table checked.now) row) (text_of (C.table checked.now) row) b c }
 {
     send_all(wire, bytes)
 }
 
 /// Sends the line of `row`, if there is one. It leads from one belief to another if the line does so, and if without a
 /// line the second belief is true wherever the first one is. It is a step of a painter if the row paints.
-pub(crate) fn send_line_of<C: Certificate, W: Wire>(
-    checked: &C,
-    row: Row,
-    wire: &mut W,
-) -> Result<(), WireFault>
+pub(crate) fn send_line_of<C: Certificate, W: Wire>(checked: &C, row: Row, wire: &mut W) -> Sent
     requires checked { IsChecked (C.table checked.now) }
     ensures step { (n : ℕ) (g : ℕ → ℕ → Ink) (b c : Belief) → paints row ≡ true
         → limit_of (C.table checked.now) row ≤ n → Passes (C.table checked.now) row g b c
         → Acts W.went W.failures wire.old wire.new result (C.table checked.now) n g g b c }
     ensures text { (b c : Belief) → ((g : ℕ → ℕ → Ink) → Passes (C.table checked.now) row g b c)
-        → KeepsBy W.went W.failures wire.old wire.new result (C.table checked.now) (limit_of (C.table checked.now) row)
-        (text_of (C.table checked.now) row) b c }
+        → KeepsText W.went W.failures wire.old wire.new result (C.table checked.now)
+        (limit_of (C.table checked.now) row) (text_of (C.table checked.now) row) b c }
 {
     match checked.line(row) {
         Some(line) => send_line(checked, row, line, wire),

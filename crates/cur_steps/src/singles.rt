@@ -7,11 +7,11 @@ ghost use Rattle.cur_steps.specs.Singles as spec;
 ghost use Rattle.cur_steps.specs.declared.inks.Brush.{Brush};
 ghost use Rattle.cur_steps.specs.Steps.{Keeps};
 
-use crate::beliefs::Belief;
 use crate::inks::Brush;
 use crate::lines::{send_line, send_line_of};
+use crate::pens::{Pen, Sent};
 use crate::sets::set_behind;
-use cur_wires::{Wire, WireFault};
+use cur_wires::Wire;
 use ti_conforms::Certificate;
 use ti_rows::{Attributes, Row};
 
@@ -101,100 +101,88 @@ fn turned_on(attributes: Attributes, row: Row) -> Attributes
     }
 }
 
-/// Makes attributes and colors plain by `sgr0`.
-pub fn strip<C: Certificate, W: Wire>(
-    checked: &C,
-    belief: &mut Belief,
-    wire: &mut W,
-) -> Result<(), WireFault>
-    requires checked { IsChecked (C.table checked.now) }
-    ensures belief { belief.new ≡ record belief.old { brush = plain_brush; graphic = belief.new.graphic } }
-    ensures step { Keeps W.went W.failures wire.old wire.new result (C.table checked.now)
-        (length (text_of (C.table checked.now) Sgr0)) belief.old belief.new }
-{
-    let line = checked.line(Row::Sgr0).unwrap();
-    belief.brush = Brush::plain();
-    belief.graphic = set_behind(checked, line, belief.graphic);
-    send_line(checked, Row::Sgr0, line, wire)
-}
-
-/// Turns on the attribute of the string of `row`, if it is `wanted`. Without such a string the attribute can't be seen,
-/// and nothing is sent.
-fn add_single<C: Certificate, W: Wire>(
-    checked: &C,
-    belief: &mut Belief,
-    wire: &mut W,
-    wanted: Attributes,
-    row: Row,
-) -> Result<(), WireFault>
-    requires checked { IsChecked (C.table checked.now) }
-    requires sgr { has (C.table checked.now) (Sgr no_attributes) ≡ false }
-    requires set { belief.old.graphic ≡ None }
-    ensures belief { belief.new ≡ record belief.old
-        { brush = record belief.old.brush { attributes = spec.with_single wanted row belief.old.brush.attributes } } }
-    ensures step { Keeps W.went W.failures wire.old wire.new result (C.table checked.now)
-        (length (text_of (C.table checked.now) row)) belief.old belief.new }
-{
-    if !has_single(wanted, row) {
-        return Ok(());
+impl<W: Wire> Pen<W> {
+    /// Makes attributes and colors plain by `sgr0`.
+    pub fn strip<C: Certificate>(&mut self, checked: &C) -> Sent
+        requires checked { IsChecked (C.table checked.now) }
+        ensures belief { self.new.belief
+            ≡ record self.old.belief { brush = plain_brush; graphic = self.new.belief.graphic } }
+        ensures step { Keeps W.went W.failures self.old self.new result (C.table checked.now)
+            (length (text_of (C.table checked.now) Sgr0)) }
+    {
+        let line = checked.line(Row::Sgr0).unwrap();
+        self.belief.brush = Brush::plain();
+        self.belief.graphic = set_behind(checked, line, self.belief.graphic);
+        send_line(checked, Row::Sgr0, line, &mut self.wire)
     }
-    belief.brush.attributes = turned_on(belief.brush.attributes, row);
-    send_line_of(checked, row, wire)
-}
 
-/// Turns on each attribute that is `wanted` and has its string among `rows`.
-fn add_singles<C: Certificate, W: Wire>(
-    checked: &C,
-    belief: &mut Belief,
-    wire: &mut W,
-    wanted: Attributes,
-    rows: &[Row],
-) -> Result<(), WireFault>
-    requires checked { IsChecked (C.table checked.now) }
-    requires sgr { has (C.table checked.now) (Sgr no_attributes) ≡ false }
-    requires set { belief.old.graphic ≡ None }
-    ensures belief { OnOk result
-        (belief.new ≡ record belief.old {
-          brush = record belief.old.brush
-              { attributes = spec.with_singles wanted rows.now belief.old.brush.attributes };
-        }) }
-    ensures step { Keeps W.went W.failures wire.old wire.new result (C.table checked.now)
-        (lengths (C.table checked.now) rows.now) belief.old belief.new }
-{
-    for row in rows {
-        add_single(checked, belief, wire, wanted, *row)?;
+    /// Turns on the attribute of the string of `row`, if it is `wanted`. Without such a string the attribute can't be
+    /// seen, and nothing is sent.
+    fn add_single<C: Certificate>(&mut self, checked: &C, wanted: Attributes, row: Row) -> Sent
+        requires checked { IsChecked (C.table checked.now) }
+        requires sgr { has (C.table checked.now) (Sgr no_attributes) ≡ false }
+        requires set { self.old.belief.graphic ≡ None }
+        ensures belief { self.new.belief ≡ record self.old.belief {
+          brush = record self.old.belief.brush
+              { attributes = spec.with_single wanted row self.old.belief.brush.attributes };
+        } }
+        ensures step { Keeps W.went W.failures self.old self.new result (C.table checked.now)
+            (length (text_of (C.table checked.now) row)) }
+    {
+        if !has_single(wanted, row) {
+            return Ok(());
+        }
+        self.belief.brush.attributes = turned_on(self.belief.brush.attributes, row);
+        send_line_of(checked, row, &mut self.wire)
     }
-    Ok(())
-}
 
-/// Makes the attributes `wanted`, and the colors the default ones: turns all attributes off, then turns the wanted ones
-/// on one by one.
-pub(crate) fn attributes_singly<C: Certificate, W: Wire>(
-    checked: &C,
-    belief: &mut Belief,
-    wire: &mut W,
-    wanted: Attributes,
-) -> Result<(), WireFault>
-    requires checked { IsChecked (C.table checked.now) }
-    requires sgr { (C.table checked.now).line_of (Sgr wanted) ≡ None }
-    ensures brush { OnOk result
-        (belief.new.brush ≡ record { attributes = wanted; foreground = None; background = None }) }
-    ensures place { OnOk result (belief.new.place ≡ belief.old.place) }
-    ensures step { Keeps W.went W.failures wire.old wire.new result (C.table checked.now)
-        (C.table checked.now).longest.sgr belief.old belief.new }
-    ensures mode { OnOk result (belief.new.mode ≡ belief.old.mode) }
-{
-    strip(checked, belief, wire)?;
-    // the strings of single attributes may switch the set
-    belief.graphic = None;
-    let rows = [
-        Row::Smul,
-        Row::Rev,
-        Row::Blink,
-        Row::Dim,
-        Row::Bold,
-        Row::Invis,
-        Row::Smso,
-    ];
-    add_singles(checked, belief, wire, wanted, &rows)
+    /// Turns on each attribute that is `wanted` and has its string among `rows`.
+    fn add_singles<C: Certificate>(&mut self, checked: &C, wanted: Attributes, rows: &[Row]) -> Sent
+        requires checked { IsChecked (C.table checked.now) }
+        requires sgr { has (C.table checked.now) (Sgr no_attributes) ≡ false }
+        requires set { self.old.belief.graphic ≡ None }
+        ensures belief { OnOk result
+            (self.new.belief ≡ record self.old.belief {
+              brush = record self.old.belief.brush
+                  { attributes = spec.with_singles wanted rows.now self.old.belief.brush.attributes };
+            }) }
+        ensures step { Keeps W.went W.failures self.old self.new result (C.table checked.now)
+            (lengths (C.table checked.now) rows.now) }
+    {
+        for row in rows {
+            self.add_single(checked, wanted, *row)?;
+        }
+        Ok(())
+    }
+
+    /// Makes the attributes `wanted`, and the colors the default ones: turns all attributes off, then turns the wanted
+    /// ones on one by one.
+    pub(crate) fn attributes_singly<C: Certificate>(
+        &mut self,
+        checked: &C,
+        wanted: Attributes,
+    ) -> Sent
+        requires checked { IsChecked (C.table checked.now) }
+        requires sgr { (C.table checked.now).line_of (Sgr wanted) ≡ None }
+        ensures brush { OnOk result
+            (self.new.belief.brush ≡ record { attributes = wanted; foreground = None; background = None }) }
+        ensures place { OnOk result (self.new.belief.place ≡ self.old.belief.place) }
+        ensures step { Keeps W.went W.failures self.old self.new result (C.table checked.now)
+            (C.table checked.now).longest.sgr }
+        ensures mode { OnOk result (self.new.belief.mode ≡ self.old.belief.mode) }
+    {
+        self.strip(checked)?;
+        // the strings of single attributes may switch the set
+        self.belief.graphic = None;
+        let rows = [
+            Row::Smul,
+            Row::Rev,
+            Row::Blink,
+            Row::Dim,
+            Row::Bold,
+            Row::Invis,
+            Row::Smso,
+        ];
+        self.add_singles(checked, wanted, &rows)
+    }
 }

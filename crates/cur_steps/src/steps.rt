@@ -12,16 +12,146 @@ ghost use Rattle.cur_steps.specs.Sets.{EndsUncolored, FixesRendition};
 ghost use Rattle.cur_steps.specs.declared.inks.Brush.{Brush};
 ghost use Rattle.cur_steps.specs.Steps.{IsGoal, Keeps, Makes};
 
-use crate::beliefs::{Belief, Place};
+use crate::beliefs::Place;
 use crate::inks::{Brush, Ground, Ink, same_color};
 use crate::lines::{send_line, send_line_of};
 use crate::looks::look_alike;
+use crate::pens::{Pen, Sent};
 use crate::sets::{fixes_rendition, set_behind};
-use crate::singles::attributes_singly;
-use cur_wires::{Wire, WireFault, send_all};
+use cur_wires::{Wire, send_all};
 use ti_conforms::Certificate;
 use ti_rows::{Attributes, Row};
 use vt_term::Color;
+
+impl<W: Wire> Pen<W> {
+    /// Makes the colors the default ones.
+    pub fn colors_off<C: Certificate>(&mut self, checked: &C) -> Sent
+        requires checked { IsChecked (C.table checked.now) }
+        ensures belief { self.new.belief ≡ record self.old.belief
+            { brush = record self.old.belief.brush { foreground = None; background = None } } }
+        ensures step { Keeps W.went W.failures self.old self.new result (C.table checked.now)
+            (C.table checked.now).longest.op }
+    {
+        let plain = is_uncolored(self.belief.brush);
+        self.belief.brush.foreground = None;
+        self.belief.brush.background = None;
+        if plain {
+            return Ok(());
+        }
+        send_line_of(checked, Row::Op, &mut self.wire)
+    }
+
+    /// Makes the attributes `wanted`; sends nothing if the believed attributes look alike. The colors must be the
+    /// default ones, and stay so.
+    pub fn attributes_as<C: Certificate>(&mut self, checked: &C, wanted: Attributes) -> Sent
+        requires checked { IsChecked (C.table checked.now) }
+        requires foreground { self.old.belief.brush.foreground ≡ None }
+        requires background { self.old.belief.brush.background ≡ None }
+        ensures brush { OnOk result
+            (self.new.belief.brush ≡ record { attributes = wanted; foreground = None; background = None }) }
+        ensures place { OnOk result (self.new.belief.place ≡ self.old.belief.place) }
+        ensures step { Keeps W.went W.failures self.old self.new result (C.table checked.now)
+            (C.table checked.now).longest.sgr }
+        ensures mode { OnOk result (self.new.belief.mode ≡ self.old.belief.mode) }
+    {
+        if look_alike(checked, self.belief.brush.attributes, wanted) {
+            self.belief.brush.attributes = wanted;
+            return Ok(());
+        }
+        match checked.line(Row::Sgr(wanted)) {
+            Some(line) => self.attributes_at_once(checked, line, wanted),
+            None => self.attributes_singly(checked, wanted),
+        }
+    }
+
+    /// Makes the attributes `wanted` and the colors the default ones by one string, `line`. The colors must be the
+    /// default ones already, or `line` must lead to one rendition.
+    pub fn attributes_at_once<C: Certificate>(
+        &mut self,
+        checked: &C,
+        line: &[u8],
+        wanted: Attributes,
+    ) -> Sent
+        requires checked { IsChecked (C.table checked.now) }
+        requires line { (C.table checked.now).line_of (Sgr wanted) ≡ Some line.now }
+        requires colors { EndsUncolored (C.table checked.now) line.now self.old.belief.brush }
+        ensures brush { self.new.belief.brush
+            ≡ record { attributes = wanted; foreground = None; background = None } }
+        ensures place { self.new.belief.place ≡ self.old.belief.place }
+        ensures step { Keeps W.went W.failures self.old self.new result (C.table checked.now)
+            (C.table checked.now).longest.sgr }
+        ensures mode { OnOk result (self.new.belief.mode ≡ self.old.belief.mode) }
+    {
+        self.belief.brush = Brush {
+            attributes: wanted,
+            foreground: None,
+            background: None,
+        };
+        self.belief.graphic = set_behind(checked, line, self.belief.graphic);
+        send_line(checked, Row::Sgr(wanted), line, &mut self.wire)
+    }
+
+    /// Makes the color that `ground` names `wanted`. If that is none, the color must be the default one already.
+    pub fn color_as<C: Certificate>(
+        &mut self,
+        checked: &C,
+        ground: Ground,
+        wanted: Option<Color>,
+    ) -> Sent
+        requires checked { IsChecked (C.table checked.now) }
+        requires now { wanted ≡ None → color_of ground self.old.belief.brush ≡ None }
+        requires colors { has (C.table checked.now) Op ≡ false → wanted ≡ None }
+        ensures belief { self.new.belief
+            ≡ record self.old.belief { brush = with_color ground wanted self.old.belief.brush } }
+        ensures step { Keeps W.went W.failures self.old self.new result (C.table checked.now)
+            (color_limit (C.table checked.now) ground) }
+    {
+        let same = same_color(color_of(self.belief.brush, ground), wanted);
+        self.belief.brush = with_color(self.belief.brush, ground, wanted);
+        if same {
+            return Ok(());
+        }
+        let Some(color) = wanted else {
+            return Ok(());
+        };
+        send_line_of(checked, row_of_color(ground, color), &mut self.wire)
+    }
+
+    /// Makes the graphic set active if `graphic`, else the plain one; sends nothing if it is known to be active.
+    pub fn set_as<C: Certificate>(&mut self, checked: &C, graphic: bool) -> Sent
+        requires checked { IsChecked (C.table checked.now) }
+        requires lines { has (C.table checked.now) Smacs ≡ false → graphic ≡ false }
+        ensures belief { self.new.belief ≡ record self.old.belief { graphic = Some graphic } }
+        ensures step { Keeps W.went W.failures self.old self.new result (C.table checked.now)
+            (C.table checked.now).longest.sets }
+    {
+        if is_active(self.belief.graphic, graphic) {
+            return Ok(());
+        }
+        self.belief.graphic = Some(graphic);
+        send_line_of(checked, row_of_set(graphic), &mut self.wire)
+    }
+
+    /// Prints `ink` at `at`, where the next character must be known to go. The known brush and set must be those of
+    /// `ink`.
+    pub fn print_at<C: Certificate>(&mut self, checked: &C, at: Place, ink: Ink) -> Sent
+        requires goal { IsGoal (C.table checked.now) at }
+        requires printed { IsPrinted ink.byte }
+        requires place { IsNext (C.table checked.now).cols self.old.belief.place at.row at.col }
+        requires brush { self.old.belief.brush ≡ ink.brush }
+        requires set { self.old.belief.graphic ≡ Some ink.graphic }
+        ensures belief { self.new.belief
+            ≡ record self.old.belief { place = record { row = at.row; col = at.col + 1 } } }
+        ensures step { Makes W.went W.failures self.old self.new result (C.table checked.now) 1
+            (put_at at.row at.col ink) }
+    {
+        self.belief.place = Place {
+            row: at.row,
+            col: at.col + 1,
+        };
+        send_all(&mut self.wire, &[ink.byte])
+    }
+}
 
 /// Whether `place` is `at`.
 pub fn stands(place: Place, at: Place) -> bool
@@ -32,61 +162,12 @@ pub fn stands(place: Place, at: Place) -> bool
     place.row == at.row && place.col == at.col
 }
 
-/// Makes the colors the default ones.
-pub fn colors_off<C: Certificate, W: Wire>(
-    checked: &C,
-    belief: &mut Belief,
-    wire: &mut W,
-) -> Result<(), WireFault>
-    requires checked { IsChecked (C.table checked.now) }
-    ensures belief { belief.new ≡ record belief.old
-        { brush = record belief.old.brush { foreground = None; background = None } } }
-    ensures step { Keeps W.went W.failures wire.old wire.new result (C.table checked.now)
-        (C.table checked.now).longest.op belief.old belief.new }
-{
-    let plain = is_uncolored(belief.brush);
-    belief.brush.foreground = None;
-    belief.brush.background = None;
-    if plain {
-        return Ok(());
-    }
-    send_line_of(checked, Row::Op, wire)
-}
-
 /// Whether `brush` has the default colors.
 fn is_uncolored(brush: Brush) -> bool
     ensures foreground { result ≡ true → brush.foreground ≡ None }
     ensures background { result ≡ true → brush.background ≡ None }
 {
     matches!((brush.foreground, brush.background), (None, None))
-}
-
-/// Makes the attributes `wanted`; sends nothing if the believed attributes look alike. The colors must be the default
-/// ones, and stay so.
-pub fn attributes_as<C: Certificate, W: Wire>(
-    checked: &C,
-    belief: &mut Belief,
-    wire: &mut W,
-    wanted: Attributes,
-) -> Result<(), WireFault>
-    requires checked { IsChecked (C.table checked.now) }
-    requires foreground { belief.old.brush.foreground ≡ None }
-    requires background { belief.old.brush.background ≡ None }
-    ensures brush { OnOk result
-        (belief.new.brush ≡ record { attributes = wanted; foreground = None; background = None }) }
-    ensures place { OnOk result (belief.new.place ≡ belief.old.place) }
-    ensures step { Keeps W.went W.failures wire.old wire.new result (C.table checked.now)
-        (C.table checked.now).longest.sgr belief.old belief.new }
-    ensures mode { OnOk result (belief.new.mode ≡ belief.old.mode) }
-{
-    if look_alike(checked, belief.brush.attributes, wanted) {
-        belief.brush.attributes = wanted;
-        return Ok(());
-    }
-    match checked.line(Row::Sgr(wanted)) {
-        Some(line) => attributes_at_once(checked, line, belief, wire, wanted),
-        None => attributes_singly(checked, belief, wire, wanted),
-    }
 }
 
 /// The string of `sgr` for the attributes `wanted`, if it is known to make the colors the default ones, whatever they
@@ -107,33 +188,6 @@ pub fn resetting_line<'a, C: Certificate>(
         Some(line) if fixes_rendition(checked, line) => Some(line),
         _ => None,
     }
-}
-
-/// Makes the attributes `wanted` and the colors the default ones by one string, `line`. The colors must be the default
-/// ones already, or `line` must lead to one rendition.
-pub fn attributes_at_once<C: Certificate, W: Wire>(
-    checked: &C,
-    line: &[u8],
-    belief: &mut Belief,
-    wire: &mut W,
-    wanted: Attributes,
-) -> Result<(), WireFault>
-    requires checked { IsChecked (C.table checked.now) }
-    requires line { (C.table checked.now).line_of (Sgr wanted) ≡ Some line.now }
-    requires colors { EndsUncolored (C.table checked.now) line.now belief.old.brush }
-    ensures brush { belief.new.brush ≡ record { attributes = wanted; foreground = None; background = None } }
-    ensures place { belief.new.place ≡ belief.old.place }
-    ensures step { Keeps W.went W.failures wire.old wire.new result (C.table checked.now)
-        (C.table checked.now).longest.sgr belief.old belief.new }
-    ensures mode { OnOk result (belief.new.mode ≡ belief.old.mode) }
-{
-    belief.brush = Brush {
-        attributes: wanted,
-        foreground: None,
-        background: None,
-    };
-    belief.graphic = set_behind(checked, line, belief.graphic);
-    send_line(checked, Row::Sgr(wanted), line, wire)
 }
 
 /// The color of `brush` that `ground` names.
@@ -168,52 +222,6 @@ fn row_of_color(ground: Ground, color: Color) -> Row
     }
 }
 
-/// Makes the color that `ground` names `wanted`. If that is none, the color must be the default one already.
-pub fn color_as<C: Certificate, W: Wire>(
-    checked: &C,
-    belief: &mut Belief,
-    wire: &mut W,
-    ground: Ground,
-    wanted: Option<Color>,
-) -> Result<(), WireFault>
-    requires checked { IsChecked (C.table checked.now) }
-    requires now { wanted ≡ None → color_of ground belief.old.brush ≡ None }
-    requires colors { has (C.table checked.now) Op ≡ false → wanted ≡ None }
-    ensures belief { belief.new ≡ record belief.old { brush = with_color ground wanted belief.old.brush } }
-    ensures step { Keeps W.went W.failures wire.old wire.new result (C.table checked.now)
-        (color_limit (C.table checked.now) ground) belief.old belief.new }
-{
-    let same = same_color(color_of(belief.brush, ground), wanted);
-    belief.brush = with_color(belief.brush, ground, wanted);
-    if same {
-        return Ok(());
-    }
-    let Some(color) = wanted else {
-        return Ok(());
-    };
-    send_line_of(checked, row_of_color(ground, color), wire)
-}
-
-/// Makes the graphic set active if `graphic`, else the plain one; sends nothing if it is known to be active.
-pub fn set_as<C: Certificate, W: Wire>(
-    checked: &C,
-    belief: &mut Belief,
-    wire: &mut W,
-    graphic: bool,
-) -> Result<(), WireFault>
-    requires checked { IsChecked (C.table checked.now) }
-    requires lines { has (C.table checked.now) Smacs ≡ false → graphic ≡ false }
-    ensures belief { belief.new ≡ record belief.old { graphic = Some graphic } }
-    ensures step { Keeps W.went W.failures wire.old wire.new result (C.table checked.now)
-        (C.table checked.now).longest.sets belief.old belief.new }
-{
-    if is_active(belief.graphic, graphic) {
-        return Ok(());
-    }
-    belief.graphic = Some(graphic);
-    send_line_of(checked, row_of_set(graphic), wire)
-}
-
 /// The row whose line makes a set active: the graphic set if `graphic`, else the plain one.
 fn row_of_set(graphic: bool) -> Row
     ensures { result ≡ set_row graphic }
@@ -227,28 +235,4 @@ pub fn is_active(now: Option<bool>, graphic: bool) -> bool
     ensures known { now ≡ Some graphic → result ≡ true }
 {
     matches!(now, Some(active) if active == graphic)
-}
-
-/// Prints `ink` at `at`, where the next character must be known to go. The known brush and set must be those of `ink`.
-pub fn print_at<C: Certificate, W: Wire>(
-    checked: &C,
-    belief: &mut Belief,
-    wire: &mut W,
-    at: Place,
-    ink: Ink,
-) -> Result<(), WireFault>
-    requires goal { IsGoal (C.table checked.now) at }
-    requires printed { IsPrinted ink.byte }
-    requires place { IsNext (C.table checked.now).cols belief.old.place at.row at.col }
-    requires brush { belief.old.brush ≡ ink.brush }
-    requires set { belief.old.graphic ≡ Some ink.graphic }
-    ensures belief { belief.new ≡ record belief.old { place = record { row = at.row; col = at.col + 1 } } }
-    ensures step { Makes W.went W.failures wire.old wire.new result (C.table checked.now) 1 (put_at at.row at.col ink)
-        belief.old belief.new }
-{
-    belief.place = Place {
-        row: at.row,
-        col: at.col + 1,
-    };
-    send_all(wire, &[ink.byte])
 }

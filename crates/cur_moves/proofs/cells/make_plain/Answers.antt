@@ -9,7 +9,7 @@ use Rattle.cur_moves.proofs.cells.make_plain.Goals as goal
 pub returns-clause-step : goal.returns-clause-step
 returns-clause-step g c h =
     let t = g.C.Certificate.table c.args.checked.now in
-    let b = c.args.belief.now in
-    let z = c.strip.new.belief in
-    steps_wider g.W.Wire.went g.W.Wire.failures c.args.wire.now c.strip.new.wire c.strip.result (IsPaint t) (length (text_of t Sgr0)) (plain_limit t) (IsLost t) (Agrees t h b) (Agrees t h z) (Agrees t h b) (Agrees t h z)
+    let b = c.args.pen.now.belief in
+    let z = c.strip.new.self.belief in
+    steps_wider g.W.Wire.went g.W.Wire.failures c.args.pen.now.wire c.strip.new.self.wire c.strip.result (IsPaint t) (length (text_of t Sgr0)) (plain_limit t) (IsLost t) (Agrees t h b) (Agrees t h z) (Agrees t h b) (Agrees t h z)
     (omega (arith, c.has_short_plain.ensures.short c.if-not-has_short_plain.false)) (λ s x. x) (λ s x. x) (c.strip.ensures.step h)

@@ -11,13 +11,13 @@ pub returns-in_err-reach_plainly-clause-step : goal.returns-in_err-reach_plainly
 returns-in_err-reach_plainly-clause-step g c h =
     let e = err_from_is_err_and c.from_residual.result c.from_residual.ensures.1 in
     let t = g.C.Certificate.table c.args.checked.now in
-    let b = c.args.belief.now in
-    rw e.1 (steps_fail g.W.Wire.went g.W.Wire.failures c.args.wire.now c.reach_plainly.new.wire _ _ (IsPaint t) (ready_limit t) (cell_limit t) (IsLost t) (Agrees t h b) (Agrees t h c.reach_plainly.new.belief) (Agrees t (erased c.args.erasure.part c.args.erasure.at.row c.args.erasure.at.col h) c.reach_plainly.new.belief)
+    let b = c.args.pen.now.belief in
+    rw e.1 (steps_fail g.W.Wire.went g.W.Wire.failures c.args.pen.now.wire c.reach_plainly.new.pen.wire _ _ (IsPaint t) (ready_limit t) (cell_limit t) (IsLost t) (Agrees t h b) (Agrees t h c.reach_plainly.new.pen.belief) (Agrees t (erased c.args.erasure.part c.args.erasure.at.row c.args.erasure.at.col h) c.reach_plainly.new.pen.belief)
     (omega arith) (c.in_err-reach_plainly.ensures.step h))
 
 pub returns-clause-step : goal.returns-clause-step
 returns-clause-step g c h =
     let t = g.C.Certificate.table c.args.checked.now in
-    let b = c.args.belief.now in
-    steps_next g.W.Wire.went g.W.Wire.failures g.met.W.Wire.lawful c.args.wire.now c.reach_plainly.new.wire c.erase_here.new.wire _ c.erase_here.result (IsPaint t) (ready_limit t) (t.longest.erasure) (cell_limit t) (IsLost t)
-    (Agrees t h b) (Agrees t h c.reach_plainly.new.belief) (Agrees t (erased c.args.erasure.part c.args.erasure.at.row c.args.erasure.at.col h) c.reach_plainly.new.belief) (omega arith) (c.in_ok-reach_plainly.ensures.step h) (c.erase_here.ensures.step h)
+    let b = c.args.pen.now.belief in
+    steps_next g.W.Wire.went g.W.Wire.failures g.met.W.Wire.lawful c.args.pen.now.wire c.reach_plainly.new.pen.wire c.erase_here.new.pen.wire _ c.erase_here.result (IsPaint t) (ready_limit t) (t.longest.erasure) (cell_limit t) (IsLost t)
+    (Agrees t h b) (Agrees t h c.reach_plainly.new.pen.belief) (Agrees t (erased c.args.erasure.part c.args.erasure.at.row c.args.erasure.at.col h) c.erase_here.new.pen.belief) (omega arith) (c.in_ok-reach_plainly.ensures.step h) (c.erase_here.ensures.step h)

@@ -10,13 +10,13 @@ pub returns-in_err-reach_by_line-clause-step : goal.returns-in_err-reach_by_line
 returns-in_err-reach_by_line-clause-step g c h =
     let e = err_from_is_err_and c.from_residual.result c.from_residual.ensures.1 in
     let t = g.C.Certificate.table c.args.checked.now in
-    let b = c.args.belief.now in
-    rw e.1 (steps_fail g.W.Wire.went g.W.Wire.failures c.args.wire.now c.reach_by_line.new.wire _ _ (IsPaint t) t.longest.cup (ready_limit t) (IsLost t) (Agrees t h b) (Agrees t h c.reach_by_line.new.belief) (Agrees t h c.reach_by_line.new.belief)
+    let b = c.args.pen.now.belief in
+    rw e.1 (steps_fail g.W.Wire.went g.W.Wire.failures c.args.pen.now.wire c.reach_by_line.new.pen.wire _ _ (IsPaint t) t.longest.cup (ready_limit t) (IsLost t) (Agrees t h b) (Agrees t h c.reach_by_line.new.pen.belief) (Agrees t h c.reach_by_line.new.pen.belief)
     (omega arith) (c.in_err-reach_by_line.ensures.step h))
 
 pub returns-clause-step : goal.returns-clause-step
 returns-clause-step g c h =
     let t = g.C.Certificate.table c.args.checked.now in
-    let b = c.args.belief.now in
-    steps_next g.W.Wire.went g.W.Wire.failures g.met.W.Wire.lawful c.args.wire.now c.reach_by_line.new.wire c.brush_as.new.wire _ c.brush_as.result (IsPaint t) t.longest.cup (brush_limit t) (ready_limit t) (IsLost t)
-    (Agrees t h b) (Agrees t h c.reach_by_line.new.belief) (Agrees t h c.brush_as.new.belief) (omega arith) (c.in_ok-reach_by_line.ensures.step h) (c.brush_as.ensures.step h)
+    let b = c.args.pen.now.belief in
+    steps_next g.W.Wire.went g.W.Wire.failures g.met.W.Wire.lawful c.args.pen.now.wire c.reach_by_line.new.pen.wire c.brush_as.new.pen.wire _ c.brush_as.result (IsPaint t) t.longest.cup (brush_limit t) (ready_limit t) (IsLost t)
+    (Agrees t h b) (Agrees t h c.reach_by_line.new.pen.belief) (Agrees t h c.brush_as.new.pen.belief) (omega arith) (c.in_ok-reach_by_line.ensures.step h) (c.brush_as.ensures.step h)

@@ -16,16 +16,16 @@ pub returns-in_err-brush_as-clause-step : goal.returns-in_err-brush_as-clause-st
 returns-in_err-brush_as-clause-step g c h =
     let e = err_from_is_err_and c.from_residual.result c.from_residual.ensures.1 in
     let t = g.C.Certificate.table c.args.checked.now in
-    let b : Belief = c.args.belief.now in
-    let a : Belief = c.brush_as.new.belief in
-    rw e.1 (steps_fail g.W.Wire.went g.W.Wire.failures c.args.wire.now c.brush_as.new.wire _ _ (IsPaint t) (brush_limit t) ((c.args.scroll.count + 4) * cell_limit t) (IsLost t)
+    let b : Belief = c.args.pen.now.belief in
+    let a : Belief = c.brush_as.new.pen.belief in
+    rw e.1 (steps_fail g.W.Wire.went g.W.Wire.failures c.args.pen.now.wire c.brush_as.new.pen.wire _ _ (IsPaint t) (brush_limit t) ((c.args.scroll.count + 4) * cell_limit t) (IsLost t)
     (Agrees t h b) (Agrees t h a) (Agrees t (shifted c.args.scroll h) a) (omega (arith, scroll_enough t c.args.scroll.count)) (c.in_err-brush_as.ensures.step h))
 
 pub returns-clause-step : goal.returns-clause-step
 returns-clause-step g c h =
     let t = g.C.Certificate.table c.args.checked.now in
-    let b : Belief = c.args.belief.now in
-    let a : Belief = c.brush_as.new.belief in
+    let b : Belief = c.args.pen.now.belief in
+    let a : Belief = c.brush_as.new.pen.belief in
     let x = c.args.scroll in
     let row : ℕ = c.first_blank-row.result in
     let p : Place = record { row = row; col = 0 } in
@@ -33,16 +33,16 @@ returns-clause-step g c h =
     let f : Frame = record { top = 0; bottom = t.rows - 1; cells = h; place = None } in
     let plain : a.brush ≡ plain_brush = c.in_ok-brush_as.ensures.brush ∙ c.plain.ensures.value in
     let n : ℕ = (x.count + 2) * t.longest.scroll + 2 * t.longest.cup in
-    steps_next g.W.Wire.went g.W.Wire.failures g.met.W.Wire.lawful c.args.wire.now c.brush_as.new.wire c.scroll_region.new.wire _ c.scroll_region.result (IsPaint t) (brush_limit t) n ((x.count + 4) * cell_limit t) (IsLost t)
+    steps_next g.W.Wire.went g.W.Wire.failures g.met.W.Wire.lawful c.args.pen.now.wire c.brush_as.new.pen.wire c.scroll_region.new.wire _ c.scroll_region.result (IsPaint t) (brush_limit t) n ((x.count + 4) * cell_limit t) (IsLost t)
     (Agrees t h b) (Agrees t h a) (Agrees t (shifted x h) z) (scroll_enough t x.count) (c.in_ok-brush_as.ensures.step h)
-    (steps_wider g.W.Wire.went g.W.Wire.failures c.brush_as.new.wire c.scroll_region.new.wire c.scroll_region.result (IsPaint t) n n (IsLost t) (Framed t f z) (Framed t (whole t (shifted x h) row) z) (Agrees t h a) (Agrees t (shifted x h) z)
+    (steps_wider g.W.Wire.went g.W.Wire.failures c.brush_as.new.pen.wire c.scroll_region.new.wire c.scroll_region.result (IsPaint t) n n (IsLost t) (Framed t f z) (Framed t (whole t (shifted x h) row) z) (Agrees t h a) (Agrees t (shifted x h) z)
     (omega arith) (entered t h a p plain) (left t (shifted x h) a row (omega (arith, c.rows-rows.ensures.checked.size)) plain) (c.scroll_region.ensures.step f z))
 
 pub returns-then-is_whole-clause-step : goal.returns-then-is_whole-clause-step
 returns-then-is_whole-clause-step g c h =
     let t = g.C.Certificate.table c.args.checked.now in
-    let b : Belief = c.args.belief.now in
-    let a : Belief = c.brush_as.new.belief in
+    let b : Belief = c.args.pen.now.belief in
+    let a : Belief = c.brush_as.new.pen.belief in
     let x = c.args.scroll in
-    steps_next g.W.Wire.went g.W.Wire.failures g.met.W.Wire.lawful c.args.wire.now c.brush_as.new.wire c.scroll_screen.new.wire _ c.scroll_screen.result (IsPaint t) (brush_limit t) (t.longest.cup + x.count * t.longest.scroll)
-    ((x.count + 4) * cell_limit t) (IsLost t) (Agrees t h b) (Agrees t h a) (Agrees t (shifted x h) c.scroll_screen.new.belief) (screen_enough t x.count) (c.in_ok-brush_as.ensures.step h) (c.scroll_screen.ensures.step h)
+    steps_next g.W.Wire.went g.W.Wire.failures g.met.W.Wire.lawful c.args.pen.now.wire c.brush_as.new.pen.wire c.scroll_screen.new.pen.wire _ c.scroll_screen.result (IsPaint t) (brush_limit t) (t.longest.cup + x.count * t.longest.scroll)
+    ((x.count + 4) * cell_limit t) (IsLost t) (Agrees t h b) (Agrees t h a) (Agrees t (shifted x h) c.scroll_screen.new.pen.belief) (screen_enough t x.count) (c.in_ok-brush_as.ensures.step h) (c.scroll_screen.ensures.step h)

@@ -32,14 +32,14 @@ returns-then-is_better_cleared-clause-draws g c =
     let t = g.C.Certificate.table c.args.self.now.screens.now.checked.now in
     let old = g.O.Picture.cells c.args.self.now.screens.now.old.now in
     let new = g.N.Picture.cells c.args.self.now.screens.now.new.now in
-    let b = c.args.self.now.belief.now in
+    let b = c.args.self.now.pen.now.belief in
     let w = c.args.wanted in
     let k : IsThere (t.line_of Clear) = there (t.line_of Clear) c.requires.can.scene.checked.clears in
     let blank : ℕ → ℕ → Ink = λ i j. blank_ink in
     let z = c.clear_first.new.self in
     let anew = c.clear_first.ensures.step k.bytes k.is old in
     draws_sets w
-    (sets_wider g.W.Wire.went g.W.Wire.failures c.args.self.now.wire.now z.wire.now c.clear_first.result t (length k.bytes + renewal_limit t blank new) (paint_limit t old new b w.cursor w.mode) b.mode w.cursor w.mode (Agrees t old b) (Agrees t new z.belief.now)
+    (sets_wider g.W.Wire.went g.W.Wire.failures c.args.self.now.pen.now.wire z.pen.now.wire c.clear_first.result t (length k.bytes + renewal_limit t blank new) (paint_limit t old new b w.cursor w.mode) b.mode w.cursor w.mode (Agrees t old b) (Agrees t new z.pen.now.belief)
     (fewer_enough t (length k.bytes) blank old new b w.cursor w.mode (c.is_better_cleared.ensures.saves c.if-is_better_cleared.true k.bytes k.is))
     (record { step = anew.step; quiet = quiet_joined c.clear_first.result t k.bytes b.mode w.cursor w.mode anew.step.bytes (painted_line t k.bytes k.is) anew.quiet })) c.requires.can.cursor c.clear_first.ensures.set
 

@@ -11,4 +11,4 @@ returns-in-Some g c =
     let new = g.N.Picture.cells c.args.self.now.screens.now.new.now in
     let run = c.if-not-is_run.ensures in
     let x = c.args.cells in
-    record { mends = cells_by x.row x.from x.count (erased Head x.row (x.from + x.count - 1)) (λ h k. c.erase_at.ensures.step h) (run.differs refl) (λ i j li lj. mixed_head old new x.row x.from x.count i j (run.some refl) (run.blank refl)) c.erase_at.ensures.mode (record { screens = refl; belief = refl; wire = refl }) }
+    record { mends = cells_by x.row x.from x.count (erased Head x.row (x.from + x.count - 1)) (λ h k. c.erase_at.ensures.step h) (run.differs refl) (λ i j li lj. mixed_head old new x.row x.from x.count i j (run.some refl) (run.blank refl)) c.erase_at.ensures.mode (record { screens = refl; pen = refl }) }

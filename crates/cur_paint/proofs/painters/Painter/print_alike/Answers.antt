@@ -10,7 +10,7 @@ use Rattle.cur_paint.proofs.painters.Painter.print_alike.Goals as goal
 pub print_text-requires-clause-alike : goal.print_text-requires-clause-alike
 print_text-requires-clause-alike g c k lt =
     let new = g.N.Picture.cells c.args.self.now.screens.now.new.now in
-    like_alike c.args.self.now.belief.now (new c.args.cells.row (c.args.cells.from + k)) c.args.ink _ (c.if-is_led_on.ensures.alike refl) (c.requires.alike k lt)
+    like_alike c.args.self.now.pen.now.belief (new c.args.cells.row (c.args.cells.from + k)) c.args.ink _ (c.if-is_led_on.ensures.alike refl) (c.requires.alike k lt)
 
 pub print_text-requires-clause-bytes : goal.print_text-requires-clause-bytes
 print_text-requires-clause-bytes g c k lt = ap (λ (x : Ink). x.byte) (c.requires.alike k lt)
@@ -23,5 +23,5 @@ returns-then-is_led_on g c =
     let row = c.args.cells.row in
     let after = c.args.cells.from + c.args.cells.count in
     record {
-      mends = mends_by c.args.cells.count (mixed old new row after) (c.print_text.ensures.step old) c.requires.bytes (itself t (mixed old new row after)) (so c.print_text.result _ (ap (λ (x : Belief). x.mode) c.print_text.ensures.belief)) (record { screens = refl; belief = refl; wire = refl });
+      mends = mends_by c.args.cells.count (mixed old new row after) (c.print_text.ensures.step old) c.requires.bytes (itself t (mixed old new row after)) (so c.print_text.result _ (ap (λ (x : Belief). x.mode) c.print_text.ensures.belief)) (record { screens = refl; pen = refl });
     }

@@ -17,7 +17,7 @@ returns-in_err-send_all-clause-step g c =
     let new = g.N.Picture.cells c.args.self.now.screens.now.new.now in
     let blank : ℕ → ℕ → Ink = λ i j. blank_ink in
     let sends = rw c.resync.ensures.value at c.in_err-send_all.ensures.sends in
-    rw e.1 (anew_failed g.W.Wire.went g.W.Wire.failures c.args.self.now.wire.now c.send_all.new.wire _ t (fresh_limit t) (IsLeft t c.args.shown_as) (Agrees t blank (at_start c.args.shown_as)) (Agrees t new c.start_belief-self.result) t.resync c.args.shown_as c.args.wanted (agrees_lost t c.requires.can.scene.checked blank (at_start c.args.shown_as)) (omega arith)
+    rw e.1 (anew_failed g.W.Wire.went g.W.Wire.failures c.args.self.now.pen.now.wire c.send_all.new.wire _ t (fresh_limit t) (IsLeft t c.args.shown_as) (Agrees t blank (at_start c.args.shown_as)) (Agrees t new c.start_belief-self.result) t.resync c.args.shown_as c.args.wanted (agrees_lost t c.requires.can.scene.checked blank (at_start c.args.shown_as)) (omega arith)
     (resync_leads t c.requires.can.scene.checked c.args.shown_as) sends)
 
 pub returns-clause-step : goal.returns-clause-step
@@ -29,5 +29,5 @@ returns-clause-step g c =
     let start = at_start c.args.shown_as in
     let sends = rw c.resync.ensures.value at c.in_ok-send_all.ensures.sends in
     let steps = rw c.start_belief-self.ensures.value at c.paint_all.ensures.ends.step in
-    anew_then g.W.Wire.went g.W.Wire.failures g.met.W.Wire.lawful c.args.self.now.wire.now c.send_all.new.wire c.paint_all.new.self.wire.now c.paint_all.result t (fresh_limit t) (IsLeft t c.args.shown_as) (Agrees t blank start) (Agrees t new c.paint_all.new.self.belief.now) t.resync c.args.shown_as w
+    anew_then g.W.Wire.went g.W.Wire.failures g.met.W.Wire.lawful c.args.self.now.pen.now.wire c.send_all.new.wire c.paint_all.new.self.pen.now.wire c.paint_all.result t (fresh_limit t) (IsLeft t c.args.shown_as) (Agrees t blank start) (Agrees t new c.paint_all.new.self.pen.now.belief) t.resync c.args.shown_as w
     (renewal_limit t blank new) (fresh_enough t (length t.resync) blank new (omega arith)) (resync_leads t c.requires.can.scene.checked c.args.shown_as) sends steps

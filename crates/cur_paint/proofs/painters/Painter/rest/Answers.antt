@@ -11,13 +11,13 @@ pub returns-in_err-make_plain-clause-step : goal.returns-in_err-make_plain-claus
 returns-in_err-make_plain-clause-step g c h =
     let e = err_from_is_err_and c.from_residual.result c.from_residual.ensures.1 in
     let t = g.C.Certificate.table c.args.self.now.screens.now.checked.now in
-    let b = c.args.self.now.belief.now in
-    rw e.1 (steps_fail g.W.Wire.went g.W.Wire.failures c.args.self.now.wire.now c.make_plain.new.wire _ _ (IsPaint t) (plain_limit t) (rest_limit t) (IsLost t) (Agrees t h b) (Agrees t h c.make_plain.new.belief) (Agrees t h c.make_plain.new.belief)
+    let b = c.args.self.now.pen.now.belief in
+    rw e.1 (steps_fail g.W.Wire.went g.W.Wire.failures c.args.self.now.pen.now.wire c.make_plain.new.pen.wire _ _ (IsPaint t) (plain_limit t) (rest_limit t) (IsLost t) (Agrees t h b) (Agrees t h c.make_plain.new.pen.belief) (Agrees t h c.make_plain.new.pen.belief)
     (omega arith) (c.in_err-make_plain.ensures.step h))
 
 pub returns-clause-step : goal.returns-clause-step
 returns-clause-step g c h =
     let t = g.C.Certificate.table c.args.self.now.screens.now.checked.now in
-    let b = c.args.self.now.belief.now in
-    steps_next g.W.Wire.went g.W.Wire.failures g.met.W.Wire.lawful c.args.self.now.wire.now c.make_plain.new.wire c.set_as.new.wire _ c.set_as.result (IsPaint t) (plain_limit t) t.longest.sets (rest_limit t) (IsLost t)
-    (Agrees t h b) (Agrees t h c.make_plain.new.belief) (Agrees t h c.set_as.new.belief) (omega arith) (c.in_ok-make_plain.ensures.step h) (c.set_as.ensures.step h)
+    let b = c.args.self.now.pen.now.belief in
+    steps_next g.W.Wire.went g.W.Wire.failures g.met.W.Wire.lawful c.args.self.now.pen.now.wire c.make_plain.new.pen.wire c.set_as.new.self.wire _ c.set_as.result (IsPaint t) (plain_limit t) t.longest.sets (rest_limit t) (IsLost t)
+    (Agrees t h b) (Agrees t h c.make_plain.new.pen.belief) (Agrees t h c.set_as.new.self.belief) (omega arith) (c.in_ok-make_plain.ensures.step h) (c.set_as.ensures.step h)

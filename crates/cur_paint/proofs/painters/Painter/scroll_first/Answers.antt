@@ -19,33 +19,33 @@ returns-in_err-scroll_lines g c =
     let t = g.C.Certificate.table c.args.self.now.screens.now.checked.now in
     let old = g.O.Picture.cells c.args.self.now.screens.now.old.now in
     let new = g.N.Picture.cells c.args.self.now.screens.now.new.now in
-    let b : Belief = c.args.self.now.belief.now in
+    let b : Belief = c.args.self.now.pen.now.belief in
     let w = c.args.wanted in
     let k : ℕ = c.args.scroll.count + 4 in
     let enough : k * cell_limit t + renewal_limit t (shifted c.args.scroll old) new ≤ paint_limit t old new b w.cursor w.mode =
     scrolled_enough t k (shifted c.args.scroll old) old new b w.cursor w.mode (omega arith) c.requires.saves in
-    rw e.1 (record { ends = ends_cut (shifted c.args.scroll old) (c.in_err-scroll_lines.ensures.step old) (record { screens = refl; belief = refl; wire = refl }) (omega (arith, enough)) })
+    rw e.1 (record { ends = ends_cut (shifted c.args.scroll old) (c.in_err-scroll_lines.ensures.step old) (record { screens = refl; pen = refl }) (omega (arith, enough)) })
 
 pub returns : goal.returns
 returns g c =
     let t = g.C.Certificate.table c.args.self.now.screens.now.checked.now in
     let old = g.O.Picture.cells c.args.self.now.screens.now.old.now in
     let new = g.N.Picture.cells c.args.self.now.screens.now.new.now in
-    let b : Belief = c.args.self.now.belief.now in
+    let b : Belief = c.args.self.now.pen.now.belief in
     let w = c.args.wanted in
     let moved : ℕ → ℕ → Ink = shifted c.args.scroll old in
-    let a : Belief = c.scroll_lines.new.belief in
+    let a : Belief = c.scroll_lines.new.pen.belief in
     let z = c.paint_over.new.self in
     let x = c.paint_over.ensures.ends.same in
     let k : ℕ = c.args.scroll.count + 4 in
-    let P : Option Mode → Type 0 = λ o. Sets g.W.Wire.went g.W.Wire.failures c.scroll_lines.new.wire z.wire.now c.paint_over.result t (renewal_limit t moved new) o w.cursor w.mode (Agrees t moved a) (Agrees t new z.belief.now) in
+    let P : Option Mode → Type 0 = λ o. Sets g.W.Wire.went g.W.Wire.failures c.scroll_lines.new.pen.wire z.pen.now.wire c.paint_over.result t (renewal_limit t moved new) o w.cursor w.mode (Agrees t moved a) (Agrees t new z.pen.now.belief) in
     record {
       ends = record {
-        step = sets_after g.W.Wire.went g.W.Wire.failures g.met.W.Wire.lawful c.args.self.now.wire.now c.scroll_lines.new.wire z.wire.now _ c.paint_over.result t
+        step = sets_after g.W.Wire.went g.W.Wire.failures g.met.W.Wire.lawful c.args.self.now.pen.now.wire c.scroll_lines.new.pen.wire z.pen.now.wire _ c.paint_over.result t
             (k * cell_limit t) (renewal_limit t moved new) (paint_limit t old new b w.cursor w.mode) b.mode w.cursor w.mode
-            (Agrees t old b) (Agrees t moved a) (Agrees t new z.belief.now)
+            (Agrees t old b) (Agrees t moved a) (Agrees t new z.pen.now.belief)
             (scrolled_enough t k moved old new b w.cursor w.mode (omega arith) c.requires.saves) (c.in_ok-scroll_lines.ensures.step old) (subst P c.in_ok-scroll_lines.ensures.mode c.paint_over.ensures.ends.step);
         set = c.paint_over.ensures.ends.set;
-        same = record { screens = x.screens; belief = x.belief; wire = x.wire };
+        same = record { screens = x.screens; pen = x.pen };
       };
     }

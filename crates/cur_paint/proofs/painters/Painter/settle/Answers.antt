@@ -21,15 +21,15 @@ returns-in_err-show_as g c =
     let p = c.rest.new.self in
     let t = g.C.Certificate.table p.screens.now.checked.now in
     let h = g.N.Picture.cells p.screens.now.new.now in
-    let b = p.belief.now in
+    let b = p.pen.now.belief in
     let w = c.args.wanted in
     let few = at_most (changes b.mode w.mode) (modes_limit t) (changes_few b.mode w.mode) in
     rw e.1 (record {
       ends = ends_after {k = λ s. cursor_limit s.table} {g = λ s. s.new} g.met.W.Wire.lawful (c.in_ok-rest.ensures.step new) c.in_ok-rest.ensures.mode c.in_ok-rest.ensures.same (record {
-        step = sets_unfinished g.W.Wire.went g.W.Wire.failures p.wire.now c.show_as.new.wire _ _ t (changes b.mode w.mode * modes_limit t) (cursor_limit t) b.mode w.cursor w.mode
-            (Agrees t h b) (Agrees t h c.show_as.new.belief) (Agrees t h c.show_as.new.belief) (omega (arith, few)) (c.in_err-show_as.ensures.step h);
+        step = sets_unfinished g.W.Wire.went g.W.Wire.failures p.pen.now.wire c.show_as.new.self.wire _ _ t (changes b.mode w.mode * modes_limit t) (cursor_limit t) b.mode w.cursor w.mode
+            (Agrees t h b) (Agrees t h c.show_as.new.self.belief) (Agrees t h c.show_as.new.self.belief) (omega (arith, few)) (c.in_err-show_as.ensures.step h);
         set = tt;
-        same = record { screens = refl; belief = refl; wire = refl };
+        same = record { screens = refl; pen = refl };
       }) (omega arith);
     })
 
@@ -39,18 +39,18 @@ returns g c =
     let p = c.rest.new.self in
     let t = g.C.Certificate.table p.screens.now.checked.now in
     let h = g.N.Picture.cells p.screens.now.new.now in
-    let b = p.belief.now in
-    let d = c.show_as.new.belief in
+    let b = p.pen.now.belief in
+    let d = c.show_as.new.self.belief in
     let z = c.place_cursor.new.self in
     let w = c.args.wanted in
     let few = at_most (changes b.mode w.mode) (modes_limit t) (changes_few b.mode w.mode) in
     record {
       ends = ends_after {k = λ s. cursor_limit s.table} {g = λ s. s.new} g.met.W.Wire.lawful (c.in_ok-rest.ensures.step new) c.in_ok-rest.ensures.mode c.in_ok-rest.ensures.same (record {
-        step = sets_last g.W.Wire.went g.W.Wire.failures g.met.W.Wire.lawful p.wire.now c.show_as.new.wire z.wire.now _ c.place_cursor.result t
+        step = sets_last g.W.Wire.went g.W.Wire.failures g.met.W.Wire.lawful p.pen.now.wire c.show_as.new.self.wire z.pen.now.wire _ c.place_cursor.result t
             (changes b.mode w.mode * modes_limit t) (move_limit t w.cursor) (cursor_limit t) b.mode w.cursor w.mode
-            (Agrees t h b) (Agrees t h d) (Agrees t h z.belief.now) (omega (arith, few, move_short t w.cursor))
+            (Agrees t h b) (Agrees t h d) (Agrees t h z.pen.now.belief) (omega (arith, few, move_short t w.cursor))
             (omega arith) (c.in_ok-show_as.ensures.step h) c.place_cursor.ensures.step;
-        set = now_set c.place_cursor.result w b d z.belief.now c.in_ok-rest.ensures.rested c.in_ok-show_as.ensures.belief c.place_cursor.ensures.at c.place_cursor.ensures.belief;
-        same = record { screens = c.place_cursor.ensures.same.screens; belief = c.place_cursor.ensures.same.belief; wire = c.place_cursor.ensures.same.wire };
+        set = now_set c.place_cursor.result w b d z.pen.now.belief c.in_ok-rest.ensures.rested c.in_ok-show_as.ensures.belief c.place_cursor.ensures.at c.place_cursor.ensures.belief;
+        same = record { screens = c.place_cursor.ensures.same.screens; pen = c.place_cursor.ensures.same.pen };
       }) (omega arith);
     }
