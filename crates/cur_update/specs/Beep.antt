@@ -1,8 +1,8 @@
 -- The promise of ringing the bell (X/Open Curses Issue 7, beep).
-use Rattle.std.specs.Prelude.{ℕ, ◌<◌, ◌≡◌, true, false, List, ◌++◌, length, Result, Some, Ok, Err}
+use Rattle.std.specs.Prelude.{ℕ, ◌≡◌, true, false, List, ◌++◌, Result, Some, Ok, Err}
 use Rattle.vt_term.specs.Screen.{State}
 use Rattle.vt_term.specs.Ends.{Ends}
-use Rattle.cur_wires.specs.Wire.{Rose}
+use Rattle.cur_wires.specs.Wire.{StopsIn}
 use Rattle.ti_rows.specs.declared.rows.Row.TheVariants.{Bel}
 use Rattle.ti_conforms.specs.Certified.{Table, has}
 use Rattle.ti_conforms.specs.Certified as certified
@@ -34,18 +34,14 @@ pub record RangShort {W : Type 0} (went : W → W → List ℕ → Type 0) (fail
     (before after : Knowledge) : Type 0 where
   pub line : List ℕ
   pub is : t.line_of Bel ≡ Some line
-  pub front : List ℕ
-  pub back : List ℕ
-  pub parts : line ≡ front ++ back
-  pub sent : went old new front
-  pub failed : Rose (failures old) (failures new)
+  pub stops : StopsIn went failures old new line
+  pub open stops use *
   pub held : before.status ≡ Lost → ⊥
   pub fits : (g : ℕ → ℕ → Ink) (s : State) → Fits t g before.status before.cursor s → Ends s front (certified.IsLost t)
   -- each prefix of this prefix also leads to a state that fits a lost session
   pub cut : (x y : List ℕ) → front ≡ x ++ y → (g : ℕ → ℕ → Ink) (s : State) → Fits t g before.status before.cursor s
       → Ends s x (certified.IsLost t)
   pub lost : after.status ≡ Lost
-  pub some_left : 0 < length back
 
 -- nothing happened
 pub record IsSame {W : Type 0} (old new : W) (before after : Knowledge) : Type 0 where

@@ -40,16 +40,11 @@ returns-in-Err g c =
       rings = record {
         line = line;
         is = is;
-        front = stops.front;
-        back = stops.back;
-        parts = stops.parts;
-        sent = stops.sent;
-        failed = stops.failed;
+        stops = stops;
         held = some;
         fits = rung_short t c.rows.ensures.checked line is before.status some (rested before.cursor) stops.front stops.back stops.parts;
         cut = λ x y e. rung_short t c.rows.ensures.checked line is before.status some (rested before.cursor) x (y ++ stops.back)
             (front_of_front line stops.front stops.back x y stops.parts e);
         lost = refl;
-        some_left = stops.some_left;
       };
     }
