@@ -2,7 +2,10 @@
 -- Motions").
 use Rattle.std.specs.Prelude.{ℕ, ◌+◌, ◌^◌, ◌<◌, ◌≤◌, ◌≡◌, true, length, Option, Some, None}
 use Rattle.ti_rows.specs.declared.rows.Row.{Row}
-use Rattle.ti_rows.specs.declared.rows.Row.TheVariants.{Cup, Home, Cr, Hpa, Vpa, Cub1, Cuf1, Cuu1, Cud1, Cub, Cuf, Cuu, Cud}
+use Rattle.ti_rows.specs.declared.rows.Row.TheVariants.{Clear, Cup, Home, Cr, Hpa, Vpa, Cub1, Cuf1, Cuu1, Cud1, Cub}
+use Rattle.ti_rows.specs.declared.rows.Row.TheVariants.{Cuf, Cuu, Cud, El, El1, Ed, Ech, Sgr, Sgr0, Setaf, Setab, Op}
+use Rattle.ti_rows.specs.declared.rows.Row.TheVariants.{Smul, Rev, Blink, Dim, Bold, Invis, Smso, Smacs, Rmacs, Csr}
+use Rattle.ti_rows.specs.declared.rows.Row.TheVariants.{Ind, Ri, Enacs, Civis, Cnorm, Cvvis, Smcup, Rmcup, Bel}
 use Rattle.ti_conforms.specs.Certified.{Table, has, text_of}
 use Rattle.cur_steps.specs.declared.beliefs.Place.{Place}
 
@@ -23,7 +26,37 @@ MovesFrom cols p row col (Cub n) = (p.row ≡ row) × (p.col ≡ col + n) × (p.
 MovesFrom cols p row col (Cuf n) = (p.row ≡ row) × (p.col + n ≡ col) × IsCount n
 MovesFrom cols p row col (Cuu n) = (p.row ≡ row + n) × (p.col ≡ col) × IsCount n
 MovesFrom cols p row col (Cud n) = (p.row + n ≡ row) × (p.col ≡ col) × IsCount n
-MovesFrom cols p row col _ = ⊥
+MovesFrom cols p row col (Cup r c) = ⊥
+MovesFrom cols p row col Home = ⊥
+MovesFrom cols p row col Clear = ⊥
+MovesFrom cols p row col El = ⊥
+MovesFrom cols p row col El1 = ⊥
+MovesFrom cols p row col Ed = ⊥
+MovesFrom cols p row col (Ech n) = ⊥
+MovesFrom cols p row col (Sgr a) = ⊥
+MovesFrom cols p row col Sgr0 = ⊥
+MovesFrom cols p row col (Setaf c) = ⊥
+MovesFrom cols p row col (Setab c) = ⊥
+MovesFrom cols p row col Op = ⊥
+MovesFrom cols p row col Smul = ⊥
+MovesFrom cols p row col Rev = ⊥
+MovesFrom cols p row col Blink = ⊥
+MovesFrom cols p row col Dim = ⊥
+MovesFrom cols p row col Bold = ⊥
+MovesFrom cols p row col Invis = ⊥
+MovesFrom cols p row col Smso = ⊥
+MovesFrom cols p row col Enacs = ⊥
+MovesFrom cols p row col Smacs = ⊥
+MovesFrom cols p row col Rmacs = ⊥
+MovesFrom cols p row col (Csr top bottom) = ⊥
+MovesFrom cols p row col Ind = ⊥
+MovesFrom cols p row col Ri = ⊥
+MovesFrom cols p row col Civis = ⊥
+MovesFrom cols p row col Cnorm = ⊥
+MovesFrom cols p row col Cvvis = ⊥
+MovesFrom cols p row col Smcup = ⊥
+MovesFrom cols p row col Rmcup = ⊥
+MovesFrom cols p row col Bel = ⊥
 
 -- `cup` and `home` lead to a place from anywhere, the other rows only from a known place
 abbrev pub Moves : ℕ → Option Place → ℕ → ℕ → Row → Type 0

@@ -3,7 +3,10 @@ use Rattle.std.specs.Prelude.{◌≡◌, ◌&&◌, Bool, true, false, List, [], 
 use Rattle.vt_term.specs.Screen.{State}
 use Rattle.ti_rows.specs.declared.rows.Attributes.{Attributes}
 use Rattle.ti_rows.specs.declared.rows.Row.{Row}
-use Rattle.ti_rows.specs.declared.rows.Row.TheVariants.{Smul, Rev, Blink, Dim, Bold, Invis, Smso}
+use Rattle.ti_rows.specs.declared.rows.Row.TheVariants.{Clear, Cup, Home, Cr, Hpa, Vpa, Cub1, Cuf1, Cuu1, Cud1, Cub}
+use Rattle.ti_rows.specs.declared.rows.Row.TheVariants.{Cuf, Cuu, Cud, El, El1, Ed, Ech, Sgr, Sgr0, Setaf, Setab, Op}
+use Rattle.ti_rows.specs.declared.rows.Row.TheVariants.{Smul, Rev, Blink, Dim, Bold, Invis, Smso, Smacs, Rmacs, Csr}
+use Rattle.ti_rows.specs.declared.rows.Row.TheVariants.{Ind, Ri, Enacs, Civis, Cnorm, Cvvis, Smcup, Rmcup, Bel}
 use Rattle.ti_rows.specs.Looks.{shown}
 use Rattle.ti_conforms.specs.Certified.{Table, IsReady, has}
 use Rattle.cur_steps.specs.declared.singles.Single.{Single}
@@ -19,7 +22,41 @@ single_of Blink = Some single.Blink
 single_of Dim = Some single.Dim
 single_of Bold = Some single.Bold
 single_of Invis = Some single.Invisible
-single_of _ = None
+single_of Clear = None
+single_of (Cup row col) = None
+single_of Home = None
+single_of Cr = None
+single_of (Hpa col) = None
+single_of (Vpa row) = None
+single_of Cub1 = None
+single_of Cuf1 = None
+single_of Cuu1 = None
+single_of Cud1 = None
+single_of (Cub n) = None
+single_of (Cuf n) = None
+single_of (Cuu n) = None
+single_of (Cud n) = None
+single_of El = None
+single_of El1 = None
+single_of Ed = None
+single_of (Ech n) = None
+single_of (Sgr a) = None
+single_of Sgr0 = None
+single_of (Setaf c) = None
+single_of (Setab c) = None
+single_of Op = None
+single_of Enacs = None
+single_of Smacs = None
+single_of Rmacs = None
+single_of (Csr top bottom) = None
+single_of Ind = None
+single_of Ri = None
+single_of Civis = None
+single_of Cnorm = None
+single_of Cvvis = None
+single_of Smcup = None
+single_of Rmcup = None
+single_of Bel = None
 
 -- whether an attribute is among these
 abbrev pub is_among : Single → Attributes → Bool
