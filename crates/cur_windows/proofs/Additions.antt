@@ -17,7 +17,7 @@ use Rattle.cur_windows.specs.Desks.{State, grid_at, origin_at, window_at, IsWhol
 use Rattle.cur_screens.specs.Slots.{whole_area}
 use Rattle.cur_windows.specs.Creations.{IsInFrame, root_added, inside, has_child, is_child, is_parent}
 use Rattle.cur_drawing.specs.Spans.{IsAreaWithin}
-use Rattle.cur_windows.proofs.Closures.{placed_same, whole_same, some_kept, some_inj, is_some}
+use Rattle.cur_windows.proofs.Closures.{at_written, placed_same, whole_same, some_kept, some_inj, is_some}
 
 pub no_some : (o : Option Slot) → o ≡ None → IsSome o → (A : Type 0) → A
 no_some None e is A = absurd cc
@@ -70,8 +70,7 @@ root_added_desk d n g o w is lt free canvas whole frame =
       windows = length-set d.windows n (Some new) ∙ is.windows;
       screen = some_kept d.windows n 0 new lt2 is.screen;
       placed = λ m t at. elim (cases_eq m n) [
-        | inl eq ↦ (let read : get_or (set d.windows n (Some new)) m None ≡ Some new = ap (λ (k : ℕ). get_or (set d.windows n (Some new)) k None) eq ∙ get_or-set_same d.windows n (Some new) None lt2 in
-            subst (λ (t : Slot). IsPlaced e m t) (some_inj new t (sym read ∙ at)) (subst (λ (k : ℕ). IsPlaced e k new) (sym eq) here))
+        | inl eq ↦ at_written e d.windows n m new t lt2 eq at here
         | inr other ↦ (let was : IsPlaced d m t = is.placed m t (sym (get_or-set_other d.windows n m (Some new) None other) ∙ at) in
             elim (cases_eq t.root n) [
               | inl eq ↦ no_some (window_at d t.root) (ap (window_at d) eq ∙ free) was.made (IsPlaced e m t)
@@ -113,8 +112,7 @@ subwindow_added_desk d n p r w is lt free small made canvas =
       windows = length-set d.windows n (Some new) ∙ is.windows;
       screen = some_kept d.windows n 0 new lt2 is.screen;
       placed = λ m t at. elim (cases_eq m n) [
-        | inl eq ↦ (let read : get_or (set d.windows n (Some new)) m None ≡ Some new = ap (λ (k : ℕ). get_or (set d.windows n (Some new)) k None) eq ∙ get_or-set_same d.windows n (Some new) None lt2 in
-            subst (λ (t : Slot). IsPlaced e m t) (some_inj new t (sym read ∙ at)) (subst (λ (k : ℕ). IsPlaced e k new) (sym eq) here))
+        | inl eq ↦ at_written e d.windows n m new t lt2 eq at here
         | inr other ↦ placed_same d e m t refl (some_kept d.windows n t.root new lt2) (is.placed m t (sym (get_or-set_other d.windows n m (Some new) None other) ∙ at))
       ];
       framed = λ k window. (let was : IsFramed d k = is.framed k window in record { rows = was.rows; cols = was.cols });

@@ -46,6 +46,12 @@ some_kept ws n k s lt is = elim (cases_eq k n) [
   | inr other ↦ rw (get_or-set_other ws n k (Some s) None other) is
 ]
 
+-- the window that is found at the number that was written is the new one
+pub at_written : (e : State) (ws : List (Option Slot)) (n m : ℕ) (new t : Slot) → n < length ws → m ≡ n → get_or (set ws n (Some new)) m None ≡ Some t → IsPlaced e n new → IsPlaced e m t
+at_written e ws n m new t lt eq at here =
+    let read : get_or (set ws n (Some new)) m None ≡ Some new = ap (λ (k : ℕ). get_or (set ws n (Some new)) k None) eq ∙ get_or-set_same ws n (Some new) None lt in
+    subst (λ (x : Slot). IsPlaced e m x) (some_inj new t (sym read ∙ at)) (subst (λ (k : ℕ). IsPlaced e k new) (sym eq) here)
+
 pub desk_kept : (d : State) (n : ℕ) (s : Slot) (w : Window) (gs : List Grid) → IsDesk d → n < 64 → window_at d n ≡ Some s → length gs ≡ 64 →
     ((k : ℕ) → shape_of (get_or gs k []) ≡ shape_of (grid_at d k)) → w.area ≡ s.window.area → IsWindow w →
     IsDesk (record d { grids = gs; windows = set d.windows n (Some (record s { window = w })) })
@@ -69,8 +75,7 @@ desk_kept d n s w gs is lt there len shape same legal =
       windows = length-set d.windows n (Some new) ∙ is.windows;
       screen = some_kept d.windows n 0 new lt2 is.screen;
       placed = λ m t at. elim (cases_eq m n) [
-        | inl eq ↦ (let read : get_or (set d.windows n (Some new)) m None ≡ Some new = ap (λ (k : ℕ). get_or (set d.windows n (Some new)) k None) eq ∙ get_or-set_same d.windows n (Some new) None lt2 in
-            subst (λ (t : Slot). IsPlaced e m t) (some_inj new t (sym read ∙ at)) (subst (λ (k : ℕ). IsPlaced e k new) (sym eq) here))
+        | inl eq ↦ at_written e d.windows n m new t lt2 eq at here
         | inr other ↦ (let was : IsPlaced d m t = is.placed m t (sym (get_or-set_other d.windows n m (Some new) None other) ∙ at) in record {
           root = was.root;
           canvas = record { window = was.canvas.window; fits = fits_same t.window.area (grid_at d t.root) (grid_at e t.root) (shape t.root) was.canvas.fits };
