@@ -1,5 +1,5 @@
-use Rattle.std.proofs.Common.{◌≡◌, ℕ, true, false, List, ◌++◌, Some, refl, sym, ◌∙◌}
-use Rattle.ti_rows.specs.declared.rows.Row.TheVariants.{Bel}
+use Rattle.std.proofs.Common.{◌≡◌, Bool, true, false, ◌++◌, refl, sym, ◌∙◌}
+use Rattle.cur_paint.specs.declared.updates.Status.{Status}
 use Rattle.cur_paint.specs.declared.updates.Status.TheVariants.{Lost}
 use Rattle.cur_paint.specs.Rests.{rested}
 use Rattle.cur_update.proofs.BellFacts.{rung_fits, rung_short}
@@ -9,22 +9,23 @@ use Rattle.cur_update.proofs.bells.ring.Goals as goal
 not_both : true ≡ false → ⊥
 not_both e = cc
 
+not_lost : (status : Status) (lost : Bool) → (status ≡ Lost → lost ≡ true) → lost ≡ false → status ≡ Lost → ⊥
+not_lost status lost only isnt e = not_both (sym (only e) ∙ isnt)
+
 pub returns-in-Ok : goal.returns-in-Ok
 returns-in-Ok g c =
     let t = g.C.Certificate.table c.args.checked.now in
     let before = c.args.session.now in
-    let line : List ℕ = c.in-Some.line.now in
-    let is : t.line_of Bel ≡ Some line = c.in-Some.ensures.value in
-    let some : before.status ≡ Lost → ⊥ = λ e. not_both (sym (c.is_lost.ensures.only e) ∙ c.if-is_lost.false) in
+    let some = not_lost before.status _ c.is_lost.ensures.only c.if-is_lost.false in
     record {
       rings = record {
-        line = line;
-        is = is;
+        line = c.in-Some.line.now;
+        is = c.in-Some.ensures.value;
         sent = c.in-Ok.ensures.sends;
         same = refl;
         held = some;
-        fits = rung_fits t c.rows.ensures.checked line is before.status some (rested before.cursor);
-        cut = λ x y e. rung_short t c.rows.ensures.checked line is before.status some (rested before.cursor) x y e;
+        fits = rung_fits t c.rows.ensures.checked c.in-Some.line.now c.in-Some.ensures.value before.status some (rested before.cursor);
+        cut = λ x y e. rung_short t c.rows.ensures.checked c.in-Some.line.now c.in-Some.ensures.value before.status some (rested before.cursor) x y e;
       };
     }
 
@@ -32,19 +33,17 @@ pub returns-in-Err : goal.returns-in-Err
 returns-in-Err g c =
     let t = g.C.Certificate.table c.args.checked.now in
     let before = c.args.session.now in
-    let line : List ℕ = c.in-Some.line.now in
-    let is : t.line_of Bel ≡ Some line = c.in-Some.ensures.value in
-    let some : before.status ≡ Lost → ⊥ = λ e. not_both (sym (c.is_lost.ensures.only e) ∙ c.if-is_lost.false) in
+    let some = not_lost before.status _ c.is_lost.ensures.only c.if-is_lost.false in
     let stops = c.in-Err.ensures.sends in
     record {
       rings = record {
-        line = line;
-        is = is;
+        line = c.in-Some.line.now;
+        is = c.in-Some.ensures.value;
         stops = stops;
         held = some;
-        fits = rung_short t c.rows.ensures.checked line is before.status some (rested before.cursor) stops.front stops.back stops.parts;
-        cut = λ x y e. rung_short t c.rows.ensures.checked line is before.status some (rested before.cursor) x (y ++ stops.back)
-            (front_of_front line stops.front stops.back x y stops.parts e);
+        fits = rung_short t c.rows.ensures.checked c.in-Some.line.now c.in-Some.ensures.value before.status some (rested before.cursor) stops.front stops.back stops.parts;
+        cut = λ x y e. rung_short t c.rows.ensures.checked c.in-Some.line.now c.in-Some.ensures.value before.status some (rested before.cursor) x (y ++ stops.back)
+            (front_of_front c.in-Some.line.now stops.front stops.back x y stops.parts e);
         lost = refl;
       };
     }
