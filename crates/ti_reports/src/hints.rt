@@ -1,6 +1,6 @@
 //! Reports of hints about the fields of an entry's source text.
 
-ghost use Rattle.std.specs.Prelude.{◌≡◌, IfOk, option_map};
+ghost use Rattle.std.specs.Prelude.{◌≡◌, IfOk, OnOk, option_map};
 ghost use Rattle.std.specs.List.{AllByRecursion};
 ghost use Rattle.ti_hints.specs.Places.{IsHintOf};
 ghost use Rattle.ti_reports.specs.Faults as spec;
@@ -124,10 +124,27 @@ fn used_lines(
 {
     let mut lines = Vec::new(alloc);
     for place in &used_places(alloc, source.raws, name)? {
-        let own = own_lines(alloc, subject, source, *place)?;
-        lines.extend_from_slice(own.as_slice())?;
+        add_own_lines(alloc, subject, source, *place, &mut lines)?;
     }
     Ok(lines)
+}
+
+/// Adds to `lines` those of the hints about the `subject` in `source` that are about the entry at `place`.
+fn add_own_lines(
+    alloc: Global,
+    subject: &Subject<'_, '_>,
+    source: &HintSource<'_, '_>,
+    place: usize,
+    lines: &mut Vec<u8>,
+) -> Result<(), AllocError>
+    requires { spec.AreLinesOf (spec.ReportsAnyHint subject.now.entry.now subject.now.size.rows subject.now.size.cols
+        subject.now.file.now (text_in source.now)) lines.old.items }
+    ensures { OnOk result (spec.AreLinesOf (spec.ReportsAnyHint subject.now.entry.now subject.now.size.rows
+        subject.now.size.cols subject.now.file.now (text_in source.now)) lines.new.items) }
+{
+    let own = own_lines(alloc, subject, source, place)?;
+    lines.extend_from_slice(own.as_slice())?;
+    Ok(())
 }
 
 /// The lines of the hints about the `subject` in `source` that are about the entry at `place`.

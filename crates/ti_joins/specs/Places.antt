@@ -1,0 +1,41 @@
+-- Which byte of a text a byte of the joined text is.
+use Rattle.std.specs.Prelude.{◌≡◌, ◌≤◌, ◌<◌, ◌+◌, ◌-◌, ℕ, List, [], ◌∷◌, Option, Some, None, drop, if◌then◌else◌, length, nat_lt, slice_get}
+use Rattle.ti_joins.specs.Joins.{joined_lines}
+use Rattle.ti_joins.specs.declared.places.Place.{Place}
+use Rattle.ti_source.specs.Layout.{skip_white}
+
+-- the place of the byte with this many others before it, behind a line: on the first of the further lines, which has a
+-- number and was taken up without its leading white space, or on those behind that
+abbrev pub place_behind : ℕ → ℕ → List (List ℕ) → Place
+place_behind number past [] = record { line = number; column = past + 1 }
+place_behind number past (next ∷ behind) =
+    if nat_lt past (length (skip_white next))
+    then record { line = number; column = (length next - length (skip_white next)) + past + 1 }
+    else place_behind (number + 1) (past - length (skip_white next)) behind
+
+-- the place of the byte with this many others before it on a joined line, whose first bytes are a line with a number
+abbrev pub place_from : ℕ → ℕ → List (List ℕ) → Place
+place_from number at [] = record { line = number; column = at + 1 }
+place_from number at (line ∷ behind) =
+    if nat_lt at (length line) then record { line = number; column = at + 1 }
+    else place_behind (number + 1) (at - length line) behind
+
+-- the place in a text of the byte at a column of one of its joined lines, both counted from 1: a joined line begins with
+-- the line that has its number
+unfoldable pub place_of : List (List ℕ) → Place → Place
+place_of lines place = place_from place.line (place.column - 1) (drop (place.line - 1) lines)
+
+-- ---- the law
+
+abbrev pub or_none : Option (List ℕ) → List ℕ
+or_none None = []
+or_none (Some line) = line
+
+-- the byte at a place, if there is one
+abbrev pub byte_at : List (List ℕ) → Place → Option ℕ
+byte_at lines place = slice_get (or_none (slice_get lines (place.line - 1))) (place.column - 1)
+
+-- each byte of the joined lines is the byte of the text that is at its place there
+abbrev pub BytesAreKept : Type 0
+BytesAreKept = (lines : List (List ℕ)) (place : Place) (byte : ℕ) → 1 ≤ place.line
+    → byte_at (joined_lines lines) place ≡ Some byte → byte_at lines (place_of lines place) ≡ Some byte
