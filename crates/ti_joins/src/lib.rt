@@ -4,7 +4,9 @@
 mod joiner;
 mod laws;
 mod line_ends;
+mod places;
 mod scan;
 
 pub use joiner::joined;
-pub use laws::lines_are_joined;
+pub use laws::{bytes_are_kept, lines_are_joined};
+pub use places::{Place, original_place};
