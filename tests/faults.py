@@ -45,6 +45,15 @@ WRONG = [
     (r"cuu=\E[%p1%sA", " 1", "WrongKind"), (r"cud=\E[%p1%PA%gB%dB", " 1", "StaticRead"),
 ]  # fmt: skip
 
+# of those fields whose value is at fault in one part alone, this part, between `~`: the parameter of a control function
+# that makes the first difference, the function that does, or the code
+MARKED = [
+    r"home=\E[~2~;2H", r"sgr0=\E[~1~m", r"hpa=\E[~%p1%d~G", r"vpa=\E[~%p1%d~d", r"cup=\E[%i~%p2%d~;%p1%dH",
+    r"setaf=\E[~3%p2%d~m", r"bel=^G~\E[~", r"cr=\r~\377~", r"home=~\200~\E[H", r"home=~x~\E[H", r"el=\E[~%d~K",
+    r"el1=\E[1~%;~K", r"ech=\E[%p1~%q~X", r"cub=\E[%p1%{2147483647}~%+~%dD", r"cuf=\E[%p1%{255}%+~%c~C",
+    r"cuu=\E[%p1~%s~A", r"cud=\E[%p1%PA~%gB~%dB",
+]  # fmt: skip
+
 WHOLE = ["xmc", "hc", "gn", "os", "clear", "cup", "sgr0", "acsc"]
 CAUSES = [
     "FlagOut", "Absent", "AcsByte", "Underflow", "BadNest", "BadCode", "Overflow", "BadChar", "WrongKind", "StaticRead",
@@ -146,11 +155,19 @@ def surveyed(name, faults):
 
 
 def excerpt(field):
-    """The lines that show a field which begins in column 2, with marks under its value."""
-    value = field[field.find("=") + 1 :] if "=" in field else field[field.find("#") + 1 :] if "#" in field else field
-    shown = re.sub(r"[^ -~]", lambda it: f"\\{ord(it[0]):03o}", value)
-    before = field[: len(field) - len(value)]
-    return [f"    {before}{shown}", f"    {' ' * len(before)}^{'~' * (len(shown) - 1)}"]
+    """The lines that show a field which begins in column 2, with marks under the part of its value that is at fault."""
+    return underlined({it.replace("~", ""): it for it in MARKED}.get(field, field))
+
+
+def underlined(marked):
+    """The lines that show a field, with marks under the part between `~`, or else under its value."""
+    if "~" in marked:
+        before, part, _ = marked.split("~")
+    else:
+        before, mark, part = re.fullmatch(r"(?:(\w+)([=#]))?(.*)", marked).groups(default="")
+        before += mark
+    shown = re.sub(r"[^ -~]", lambda it: f"\\{ord(it[0]):03o}", marked.replace("~", ""))
+    return [f"    {shown}", f"    {' ' * len(before)}^{'~' * (len(part) - 1)}"]
 
 
 def places(source, wanted):
@@ -459,6 +476,55 @@ def judge_depending():
     print("faults: a further line says that a fault may go once others are mended, where that may be")
 
 
+# fields that are at fault in one part alone, this part between `~`, and the others of their entries. First come parameters
+# of a control function, then of `sgr` the conditional of an attribute that is missing, or the parameter for one that is too
+# much; control functions; and codes
+PARTS = [
+    (r"cup=\E[%i%p1%d;~%p1%d~H", []),
+    (r"cup=\E[%p1%{1}%+%d;~%p2%d~H", []),
+    (r"home=\E[~5~H", []),
+    (r"op=\E[39;49;~4~m", []),
+    (r"setab=\E[4%p1%d;~1~m", [r"setaf=\E[3%p1%dm", r"op=\E[39;49m", "colors#8"]),
+    (r"setaf=\E[3%p1%dm\E[~4~m", [r"setab=\E[4%p1%dm", r"op=\E[39;49m", "colors#8"]),
+    (r"clear=\E[H\E[2J$<5>\E[~1~m", []),
+    (r"sgr=\E[0%?%p2%t;4%;%?%p4%t;5;~1~%;%?%p6%t;1%;m", []),
+    (r"sgr=\E[0%?%p1%t;7%;~%?%p6%p1%!%&%t;1%;~m", []),
+    (r"sgr=\E[0%?%p6%t;1%e~%?%p5%t;2%;~%;m", []),
+    (r"sgr=\E[0;~1~%?%p2%t;4%;m", []),
+    (r"sgr=\E[0%?%p2%t;4%;%?%p3%t;7;~0~%;m", []),
+    (r"ed=~\E[H~\E[J", []),
+    (r"rmacs=\E(B~\E[H~", [r"smacs=\E(0"]),
+    (r"smcup=\E[?1049h~\E[2;4r~", []),
+    (r"civis=\E[?25l~\E[?7l~", []),
+    (r"ri=\EM~\EM~", []),
+    (r"cub1=^H~^H~", []),
+    (r"cr=\r~\012~", []),
+    (r"hpa=\E[%i~%p1%c~G", []),
+    (r"bel=^G~%?~%{1}%t", []),
+    (r"el=%?%{1}%t\E[K~%t~%;", []),
+    (r"acsc=``aab\001~q\001~", [r"smacs=\E(0", r"rmacs=\E(B"]),
+    # the whole function is wrong, or nothing is there that could be
+    (r"hpa=\E[%i%p1%d;1H", []),
+    (r"vpa=\E[%i%p1%dG", []),
+    (r"clear=\E[2J", []),
+]
+
+
+def judge_parts():
+    """Below the place of a fault, marks stand under the part of the value that is at fault."""
+    data = {
+        f"{i}.ti": f"e|e,\n\t{field.replace('~', '')},\n\t{''.join(f'{it}, ' for it in others)}use=base,\n{BASE}\n".encode()
+        for i, (field, others) in enumerate(PARTS)
+    }
+    told = run_cases(PROGRAM, [Case(["check", "--all", f"{name}:e", "24", "80"]) for name in data], data)
+    for i, ((field, _), one) in enumerate(zip(PARTS, told)):
+        lines = one.out.decode().splitlines()
+        at = lines.index(f"{i}.ti:2:2: {named(field)} of e") if f"{i}.ti:2:2: {named(field)} of e" in lines else None
+        if at is None or lines[at + 1 : at + 3] != underlined(field):
+            fail(f"{field} printed {lines} and was to have {underlined(field)}")
+    print(f"faults: marks stand under the part of the value that is at fault, in {len(PARTS)} fields")
+
+
 # two entries of one name, which has a byte that isn't shown
 TWINS = rb"""tw@n|one of two,
 	clear=\E[H\E[2J, cup=\E[%i%p1%d;%p2%dH, sgr0=\E[m, el=\E[1K,
@@ -539,4 +605,5 @@ if __name__ == "__main__":
     judge_suggestions()
     judge_together()
     judge_depending()
+    judge_parts()
     judge_places()

@@ -5,4 +5,4 @@ use Rattle.ti_surveys.proofs.lines.places_of.Given as goal
 
 -- the faults before this one are at their places
 abbrev pub invariant-loop-no : goal.invariant-loop-no
-invariant-loop-no l = HasParts (IsPlaced l.asked.has_columns (place_if l.found.stands.now) l.found.name.now) (take l.no-index l.nos) (map placed_in l.places.items)
+invariant-loop-no g l = HasParts (IsPlaced l.asked.has_columns (place_if l.found.stands.now) l.found.name.now) (take l.no-index l.nos) (map placed_in l.places.items)
