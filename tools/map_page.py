@@ -35,7 +35,7 @@ PARTS = [
         "Descriptions",
         [
             "ti_remedies", "ti_entries", "ti_fixes", "ti_joins", "ti_further", "ti_resolve", "ti_source", "ti_compiled",
-            "ti_caps", "ti_parm", "ti_reach",
+            "ti_caps", "ti_parm", "ti_reach", "ti_stretches", "ti_blames",
         ],
     ),
     ("The terminal", ["vt_effects", "vt_states", "vt_term", "vt_screen", "grids"]),

@@ -192,7 +192,8 @@ a whole has or lacks (FlagOut, Absent, AcsByte), and one for each other capabili
 its parameters for which it does; then what is wrong with strings together that are right by themselves, and may go
 once the others are mended. Below each of an entry of a source is a line `FILE:LINE:COLUMN: CAP of NAME`, with the
 place of its field and the first name of the entry that has it, through `use=`, without COLUMN with --join. Then comes
-the field itself, after four spaces, with `^~~~` below its value; and the lines that explain the fault, after two
+the field itself, after four spaces, with `^~~~` below the code, the control function or its parameter that is at fault,
+or below all of its value where none is alone; and the lines that explain the fault, after two
 spaces. Where the standard's string would be right in that place, with all others that are named taken too, the last
 of them is `CAP=STRING would be right on T`; below the fault of smacs or rmacs there may be one for each of enacs,
 smacs and rmacs, which are right only together. Where clear and cup are both at fault, standard error says instead
