@@ -1,5 +1,5 @@
 -- The place of a capability's value in a source text, in the form that editors read.
-use Rattle.std.specs.Prelude.{◌≡◌, ◌==◌, ℕ, Bool, true, false, List, [], ◌∷◌, ◌++◌, Option, Some, None, codes}
+use Rattle.std.specs.Prelude.{◌≡◌, ◌==◌, ◌+◌, ℕ, Bool, true, false, List, [], ◌∷◌, ◌++◌, Option, Some, None, codes}
 use Rattle.std.specs.Prelude.{if◌then◌else◌}
 use Rattle.std.specs.Fmt.{decimal}
 use Rattle.std.specs.List.{before_first}
@@ -12,7 +12,7 @@ use Rattle.ti_resolve.specs.Uses.{names_at}
 use Rattle.ti_resolve.specs.declared.origins.Origin.{Origin}
 use Rattle.ti_source.specs.declared.types.RawEntry.{RawEntry}
 use Rattle.ti_stretches.specs.declared.stretches.Stretch.{Stretch}
-use Rattle.ti_verdicts.specs.Excerpts.{IsFaulty, excerpt, value_in}
+use Rattle.ti_verdicts.specs.Excerpts.{IsFaulty, IsFaultyPart, before_value, excerpt, value_in}
 use Rattle.ti_verdicts.specs.Refusals.{no_text}
 use Rattle.ti_verdicts.specs.Spots.{Line, PutFiles, columns_among, files_of, line_among, piece_among, put_files}
 use Rattle.ti_verdicts.specs.declared.locations.PlacedFault.{PlacedFault}
@@ -63,6 +63,21 @@ piece_value files cap origin (Some columns) = value_in cap (piece_among files co
 -- the value of the field about a capability at an origin, in the file that has it
 unfoldable pub value_at : PutFiles → ℕ → Origin → List ℕ
 value_at files cap origin = piece_value files cap origin (columns_among files cap origin)
+
+-- the columns of a part of the value of the field between these columns
+abbrev pub part_columns : ℕ → List ℕ → Columns → Stretch → Columns
+part_columns cap field columns part = record {
+  start = columns.start + (before_value cap field + part.from);
+  end = columns.start + (before_value cap field + part.to);
+}
+
+-- the columns of the part of the value that is at fault, in the field about a capability at an origin
+pub record AreFaultyColumns (files : PutFiles) (cap : ℕ) (origin : Origin) (found : Columns) : Type 0 where
+  pub columns : Columns
+  pub stand : columns_among files cap origin ≡ Some columns
+  pub part : Stretch
+  pub faulty : IsFaultyPart (value_in cap (piece_among files columns origin)) part
+  pub says : found ≡ part_columns cap (piece_among files columns origin) columns part
 
 -- the field about a capability at an origin, in the file that has it, and the marks below it
 unfoldable pub excerpt_text : PutFiles → ℕ → Option Stretch → Origin → List ℕ

@@ -21,7 +21,7 @@ fn begins_value(byte: Option<&u8>) -> bool
 
 /// How many bytes of `field`, which is about `cap`, come before its value; 0 if it has none.
 #[tactic(auto, unfolding(crate::specs::Excerpts::before_value))]
-fn before_value(cap: Cap, field: &[u8]) -> usize
+pub(crate) fn before_value(cap: Cap, field: &[u8]) -> usize
     ensures count { result ≡ spec.before_value cap field.now }
     ensures range { result ≤ length field.now }
 {

@@ -8,6 +8,7 @@ mod checks;
 mod excerpts;
 mod fault_lists;
 mod faults;
+mod faulty_columns;
 mod faulty_parts;
 mod indents;
 mod locations;

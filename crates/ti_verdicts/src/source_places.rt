@@ -4,6 +4,8 @@ ghost use Rattle.std.specs.Prelude.{◌≡◌, ◌<◌, IfOk, length};
 ghost use Rattle.ti_resolve.specs.Origins.{IsOrigin, IsOriginAt};
 ghost use Rattle.ti_verdicts.specs.Spots.{files_of, put_files};
 
+use crate::faulty_columns::faulty_columns;
+use crate::faulty_parts::Judged;
 use crate::spots::{FieldPlace, LinedFiles};
 use std::alloc::{AllocError, Global};
 use ti_caps::Cap;
@@ -30,6 +32,7 @@ impl<'b> SourcePlace<'_, 'b> {
     ghost use Rattle.std.specs.Prelude.{◌≡◌, ◌<◌, [], IfOk, IfSome, length};
     ghost use Rattle.ti_entries.specs.BadUses.{IsBadUse};
     ghost use Rattle.ti_resolve.specs.Origins.{IsOriginAt};
+    ghost use Rattle.ti_verdicts.specs.Locations.{AreFaultyColumns};
     ghost use Rattle.ti_verdicts.specs.Spots.{columns_among, files_of, line_among, line_of, piece_among, put_files};
 
     /// The field that gives the entry its value of `cap`; `None` if it has none.
@@ -67,6 +70,23 @@ impl<'b> SourcePlace<'_, 'b> {
         ensures { result ≡ columns_among (put_files self.now.files) cap origin }
     {
         self.files.columns(origin, cap)
+    }
+
+    /// The columns of the part of the value that `fault` is about, in the field at `origin`; `None` if no line has the field,
+    /// or no smaller part is known than the whole value.
+    ///
+    /// # Errors
+    /// Out of memory.
+    pub fn faulty_columns(
+        &self,
+        alloc: Global,
+        origin: Origin,
+        fault: &Judged<'_>,
+    ) -> Result<Option<Columns>, AllocError>
+        ensures { IfOk result (λ found. IfSome found
+            (AreFaultyColumns (put_files self.now.files) fault.now.no.now.cap origin)) }
+    {
+        faulty_columns(alloc, &self.files, origin, fault)
     }
 
     /// The bytes between these `columns` of the line that has the field at `origin`.
@@ -108,8 +128,9 @@ pub struct NamedSource<'a, 'b> {
 }
 
 impl<'b> NamedSource<'_, 'b> {
-    ghost use Rattle.std.specs.Prelude.{◌≡◌, IfOk};
+    ghost use Rattle.std.specs.Prelude.{◌≡◌, IfOk, IfSome};
     ghost use Rattle.ti_resolve.specs.Origins.{IsOrigin};
+    ghost use Rattle.ti_verdicts.specs.Locations.{AreFaultyColumns};
     ghost use Rattle.ti_verdicts.specs.Spots.{columns_among, files_of, line_among, line_of, piece_among, put_files};
 
     /// The field that gives the entry its value of `cap`; `None` if it has none.
@@ -134,6 +155,23 @@ impl<'b> NamedSource<'_, 'b> {
         ensures { result ≡ columns_among (files_of self.now.source.now) cap origin }
     {
         self.files.columns(origin, cap)
+    }
+
+    /// The columns of the part of the value that `fault` is about, in the field at `origin`; `None` if no line has the field,
+    /// or no smaller part is known than the whole value.
+    ///
+    /// # Errors
+    /// Out of memory.
+    pub fn faulty_columns(
+        &self,
+        alloc: Global,
+        origin: Origin,
+        fault: &Judged<'_>,
+    ) -> Result<Option<Columns>, AllocError>
+        ensures { IfOk result (λ found. IfSome found
+            (AreFaultyColumns (files_of self.now.source.now) fault.now.no.now.cap origin)) }
+    {
+        faulty_columns(alloc, &self.files, origin, fault)
     }
 
     /// The bytes between these `columns` of the line that has the field at `origin`.

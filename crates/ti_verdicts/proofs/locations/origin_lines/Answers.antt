@@ -17,6 +17,6 @@ returns c =
       part,
       subst (λ (files : PutFiles). IsFaulty (value_at files cap c.args.origin) part) named.same_files c.in_ok-part.ensures,
       e ∙ (ap (λ (raws : List RawEntry). field_text c.args.has_columns (put_files named.files) raws cap part c.args.origin) c.as_slice.ensures.value
-      ∙ ap (λ (files : PutFiles). field_text c.args.has_columns files named.source.now.raws.items cap part c.args.origin) named.same_files),
+          ∙ ap (λ (files : PutFiles). field_text c.args.has_columns files named.source.now.raws.items cap part c.args.origin) named.same_files),
     ))
     c.field_lines.ensures
