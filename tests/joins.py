@@ -87,7 +87,7 @@ def without_columns(words, out):
     """The output of a run without `--join`, as it is with it: objects and places have no columns then."""
     if "--json" not in words:
         return re.sub(rb"(?m)^(text:\d+):\d+: ", rb"\1: ", out)
-    gone = dict.fromkeys(("column", "end_column", "end_line"))
+    gone = dict.fromkeys(("column", "end_column", "end_line", "fault_column", "fault_end_column"))
     ones = [{**json.loads(line), **gone} for line in out.splitlines()]
     return b"".join(json.dumps(one, ensure_ascii=False, separators=(",", ":")).encode() + b"\n" for one in ones)
 

@@ -18,12 +18,12 @@ from trying import PROGRAM, TOP, Case, run_cases
 TEXT, NUMBER, TRUTH = (str, type(None)), (int, type(None)), (bool, type(None))
 MEMBERS = {
     "aliases": (list,), "aliases_hex": (list,), "another_kind": TRUTH, "bytes": TEXT, "capability": TEXT, "cause": TEXT,
-    "column": NUMBER, "end_column": NUMBER, "end_line": NUMBER, "entry": TEXT, "entry_hex": TEXT, "explanation": (list,), "file": (str,), "judged": TRUTH, "line": NUMBER, "parameters": (list,), "part": TRUTH, "rule": TEXT, "seen": TEXT, "size": (dict,),
+    "column": NUMBER, "end_column": NUMBER, "end_line": NUMBER, "entry": TEXT, "entry_hex": TEXT, "explanation": (list,), "fault_column": NUMBER, "fault_end_column": NUMBER, "file": (str,), "judged": TRUTH, "line": NUMBER, "parameters": (list,), "part": TRUTH, "rule": TEXT, "seen": TEXT, "size": (dict,),
     "source_entry": TEXT, "source_entry_hex": TEXT, "source_file": TEXT, "start": TEXT, "string": TEXT, "string_hex": TEXT, "suggested_with": (list,), "suggestion": TEXT, "suggestion_hex": TEXT, "verdict": (str,),
     "version": (int,), "wanted": TEXT,
 }  # fmt: skip
 OF_FAULTS = [
-    "another_kind", "bytes", "capability", "column", "end_column", "end_line", "judged", "line", "seen", "source_entry", "source_entry_hex", "source_file", "start", "string", "string_hex",
+    "another_kind", "bytes", "capability", "column", "end_column", "end_line", "fault_column", "fault_end_column", "judged", "line", "seen", "source_entry", "source_entry_hex", "source_file", "start", "string", "string_hex",
     "suggestion", "suggestion_hex", "wanted",
 ]  # fmt: skip
 # an entry is refused for a use, which has a line where a survey finds it
@@ -84,6 +84,7 @@ REFUSED_BY_SCHEMA = [
     {"cause": "WrongEffect"},
     {"line": 0},
     {"column": 5, "end_line": 5, "end_column": 9},
+    {"fault_column": 7, "fault_end_column": 8},
     {"other": None},
     {"verdict": "no"},
     {**ABSENT, "cause": "Unheard", "rule": "Unheard"},
@@ -95,6 +96,7 @@ REFUSED_BY_SCHEMA = [
     {**ABSENT, "line": 5},
     {**ABSENT, "line": 5, "source_entry": "a", "source_entry_hex": "61", "column": 5},
     {**ABSENT, "column": 5, "end_line": 5, "end_column": 9},
+    {**ABSENT, "fault_column": 7, "fault_end_column": 8},
     {"verdict": "refused", "part": None, "cause": "NoSuchEntry a", "rule": "Refused", "explanation": ["never"]},
     {"verdict": "advice", "rule": "Advice", "capability": "sgr"},
     {"verdict": "advice", "rule": None, "capability": "sgr", "explanation": ["never"]},
@@ -281,7 +283,7 @@ def judge_part(one):
 def judge_columns(one, lines):
     """The columns of an object are those of the field in its file, which has these lines: the field, and the comma."""
     if one["column"] is None:
-        if one["line"] is not None and one["verdict"] == "no":
+        if one["line"] is not None and one["verdict"] == "no" or one["fault_column"] is not None:
             fail(f"no columns of {one}")
         return
     line = lines[one["line"] - 1]
@@ -293,6 +295,9 @@ def judge_columns(one, lines):
         fail(f"another field is at the columns of {one}: {field}")
     if field[len(name) : len(name) + 1] == b"=" and value_bytes(field[len(name) + 1 :].decode("latin-1")).hex() != one["string_hex"]:
         fail(f"another string is at the columns of {one}: {field}")
+    value = one["column"] + len(name) + 1
+    if one["fault_column"] is not None and not value <= one["fault_column"] < one["fault_end_column"] <= one["end_column"]:
+        fail(f"the part at fault is not within the value of {one}: {field}")
 
 
 def judge_lines(one, lines, path):
@@ -304,6 +309,12 @@ def judge_lines(one, lines, path):
     places = [line for line in lines if path and line.startswith(f"{path}:")]
     if places != ([f"{path}:{one['line']}:{one['column']}: {one['capability']} of {one['source_entry']}"] if one["line"] else []):
         fail(f"the place of {one} is not that of {lines}")
+    # the marks under the part of the value that is at fault, where each byte before it is shown as it is
+    marks = [line for line in lines if re.fullmatch(r"    +\^~*", line)]
+    if path and one["fault_column"] is not None and one["string"].isprintable():
+        behind = one["fault_column"] - one["column"]
+        if marks != [" " * (4 + behind) + "^" + "~" * (one["fault_end_column"] - one["fault_column"] - 1)]:
+            fail(f"the part of {one} is not that of {lines}")
     # the field there, and the marks under its value
     places += [line for line in lines if line.startswith("  ")]
     suggested = [line for line in lines if line.endswith(" would be right on T")]

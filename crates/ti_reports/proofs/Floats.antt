@@ -70,4 +70,4 @@ texts_whole (text ∷ texts) = texts_whole texts
 pub report_whole : (report : Report) → has_float (report_data report) ≡ false
 report_whole report =
     let finding = report.finding in
-    rw (names_whole report.aliases.items, digits_whole report.aliases.items, truth_whole finding.another_kind, text_whole finding.bytes, text_whole finding.capability, text_whole report.cause, column_whole finding.place.columns, end_column_whole finding.place.columns, end_line_whole finding.place.columns finding.place.line, written_whole report.entry, hex_whole report.entry, texts_whole finding.explanation.items, truth_whole finding.judged, number_whole finding.place.line, numbers_whole finding.parameters.items, truth_whole report.is_part, rule_whole report.verdict report.cause, text_whole finding.run.seen, written_whole finding.place.entry, hex_whole finding.place.entry, text_whole finding.place.file, text_whole finding.run.start, written_whole finding.string, hex_whole finding.string, texts_whole finding.suggested_with.items, written_whole finding.suggestion, hex_whole finding.suggestion, text_whole finding.run.wanted) refl
+    rw (names_whole report.aliases.items, digits_whole report.aliases.items, truth_whole finding.another_kind, text_whole finding.bytes, text_whole finding.capability, text_whole report.cause, column_whole finding.place.columns, end_column_whole finding.place.columns, end_line_whole finding.place.columns finding.place.line, written_whole report.entry, hex_whole report.entry, texts_whole finding.explanation.items, column_whole finding.faulty_columns, end_column_whole finding.faulty_columns, truth_whole finding.judged, number_whole finding.place.line, numbers_whole finding.parameters.items, truth_whole report.is_part, rule_whole report.verdict report.cause, text_whole finding.run.seen, written_whole finding.place.entry, hex_whole finding.place.entry, text_whole finding.place.file, text_whole finding.run.start, written_whole finding.string, hex_whole finding.string, texts_whole finding.suggested_with.items, written_whole finding.suggestion, hex_whole finding.suggestion, text_whole finding.run.wanted) refl

@@ -1,5 +1,5 @@
 -- The report on an entry: that it has a certificate, or each of its faults.
-use Rattle.std.specs.Prelude.{◌≡◌, ℕ, Bool, true, false, List, [], ◌∷◌, ◌++◌, Option, Some, None, String, map, string_bytes}
+use Rattle.std.specs.Prelude.{◌≡◌, ℕ, Bool, true, false, List, [], ◌∷◌, ◌++◌, Option, Some, None, IfSome, String, map, string_bytes}
 use Rattle.std.specs.declared.alloc.Global.{Global}
 use Rattle.ti_caps.specs.Entry.{Content, string_at}
 use Rattle.ti_caps.specs.Table.{name_at}
@@ -12,7 +12,7 @@ use Rattle.ti_members.specs.Names.{AreAliases, HasName}
 use Rattle.ti_reports.specs.Hints.{HintText, IsHintPlace, hint_text}
 use Rattle.ti_reports.specs.Reports.{IsNothing, report_line}
 use Rattle.ti_members.specs.Sent.{IsSentText}
-use Rattle.ti_reports.specs.Sources.{ByName, ByPlace, IsNowhere, IsValuePlace, Nowhere, Whereabouts, whereabouts_of}
+use Rattle.ti_reports.specs.Sources.{AreFaultyAt, ByName, ByPlace, IsNowhere, IsValuePlace, Nowhere, Whereabouts, whereabouts_of}
 use Rattle.ti_members.specs.Spellings.{IsSpelling}
 use Rattle.ti_members.specs.Suggestions.{AreFields, IsMendedFor, IsSuggested, is_judged, mended_with, other_kind}
 use Rattle.ti_members.specs.Texts.{IsShownAs}
@@ -75,6 +75,7 @@ pub record Finds (of : OfFaults) (refusal : No) (finding : Finding) : Type 0 whe
   pub parameters : finding.parameters.items ≡ refusal.params.items
   pub bytes : IsSentText of.entry refusal finding.bytes
   pub place : IsValuePlace of.stands refusal.cap finding.place
+  pub faulty_columns : IfSome finding.faulty_columns (AreFaultyAt of.stands refusal.cap)
   pub string_is : IsSpelling (string_at of.entry refusal.cap) finding.string
   pub suggestion : IsSuggested of.entry of.mended of.nos refusal.cap finding.suggestion
   pub suggested_with : AreFields of.entry of.mended of.nos (mended_with refusal.cap)
@@ -114,6 +115,7 @@ AreVerdictLines entry height width all file stands (first ∷ others) lines =
 pub record SaysWords (finding : Finding) : Type 0 where
   pub parameters : finding.parameters.items ≡ []
   pub bytes : finding.bytes ≡ None
+  pub faulty_columns : finding.faulty_columns ≡ None
   pub string_is : finding.string ≡ None
   pub suggestion : finding.suggestion ≡ None
   pub suggested_with : finding.suggested_with.items ≡ []

@@ -1,4 +1,4 @@
--- A report and its JSON: an object that always has the same thirty-two members, null where one doesn't apply.
+-- A report and its JSON: an object that always has the same thirty-four members, null where one doesn't apply.
 use Rattle.std.specs.Prelude.{◌≡◌, ℕ, Bool, List, [], ◌∷◌, ◌++◌, Option, Some, None, String, codes, map, string_bytes}
 use Rattle.std.specs.declared.alloc.Global.{Global}
 use Rattle.serde_json.specs.Data.{Data, Members, no_members, member, array, boolean, null, number, object, put, string}
@@ -35,6 +35,7 @@ pub record IsBare (finding : Finding) : Type 0 where
   pub capability : finding.capability ≡ None
   pub parameters : finding.parameters.items ≡ []
   pub bytes : finding.bytes ≡ None
+  pub faulty_columns : finding.faulty_columns ≡ None
   pub string : finding.string ≡ None
   pub suggestion : finding.suggestion ≡ None
   pub suggested_with : finding.suggested_with.items ≡ []
@@ -63,7 +64,8 @@ abbrev pub number_data : Option ℕ → Data
 number_data (Some n) = number (unsigned n)
 number_data None = null
 
--- the columns of a field and the line on which it ends, which is the one on which it begins
+-- the columns of a field, or of the part of its value that is at fault; and the line on which a field ends, which is the
+-- one on which it begins
 abbrev pub column_data : Option Columns → Data
 column_data (Some columns) = number (unsigned columns.start)
 column_data None = null
@@ -133,6 +135,8 @@ report_data report = object (
     (member (codes "entry") (written_data report.entry)
     (member (codes "entry_hex") (hex_data report.entry)
     (member (codes "explanation") (texts_data report.finding.explanation.items)
+    (member (codes "fault_column") (column_data report.finding.faulty_columns)
+    (member (codes "fault_end_column") (end_column_data report.finding.faulty_columns)
     (member (codes "file") (string (string_bytes report.file))
     (member (codes "judged") (truth_data report.finding.judged)
     (member (codes "line") (number_data report.finding.place.line)
@@ -152,7 +156,7 @@ report_data report = object (
     (member (codes "suggestion_hex") (hex_data report.finding.suggestion)
     (member (codes "verdict") (string (word_of report.verdict))
     (member (codes "version") version
-    (member (codes "wanted") (text_data report.finding.run.wanted) no_members))))))))))))))))))))))))))))))))
+    (member (codes "wanted") (text_data report.finding.run.wanted) no_members))))))))))))))))))))))))))))))))))
 
 -- the object without a space, in characters that can be printed, and the end of the line
 abbrev pub report_line : Report → List ℕ
@@ -182,6 +186,10 @@ with_value finding ms =
     put (codes "bytes") (text_data finding.bytes)
     (put (codes "parameters") (numbers_data finding.parameters.items)
     (put (codes "capability") (text_data finding.capability) ms))
+
+abbrev pub with_faulty : Option Columns → Members → Members
+with_faulty columns ms =
+    put (codes "fault_end_column") (end_column_data columns) (put (codes "fault_column") (column_data columns) ms)
 
 abbrev pub with_columns : ValuePlace → Members → Members
 with_columns place ms =

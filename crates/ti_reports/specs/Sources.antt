@@ -16,7 +16,7 @@ use Rattle.ti_resolve.specs.Origins.{IsOrigin, IsOriginAt}
 use Rattle.ti_resolve.specs.Uses.{names_at}
 use Rattle.ti_resolve.specs.declared.origins.Origin.{Origin}
 use Rattle.ti_source.specs.declared.types.RawEntry.{RawEntry}
-use Rattle.ti_verdicts.specs.Locations.{PlaceInSource, first_name, place_in}
+use Rattle.ti_verdicts.specs.Locations.{AreFaultyColumns, PlaceInSource, first_name, place_in}
 use Rattle.ti_verdicts.specs.Spots.{Line, PutFiles, columns_among, files_of, line_among}
 
 -- The origin of an entry: no source, a source that gives it by its name, or a place of a source; and whether fields have
@@ -68,6 +68,26 @@ pub record IsPlaceOf (has_columns : Bool) (files : PutFiles) (raws : List RawEnt
     (place : ValuePlace) : Type 0 where
   pub field : IsFieldPlace files raws origin place
   pub columns : place.columns ≡ columns_at has_columns files cap origin
+
+-- the columns of the part of the value that is at fault, in a source, in which the entry is found by its name
+pub record AreFaultyIn (source : SourceText) (cap : ℕ) (columns : Columns) : Type 0 where
+  pub origin : Origin
+  pub first : IsOrigin source.raws.items source.name.now cap (Some origin)
+  pub are : AreFaultyColumns (files_of source) cap origin columns
+
+-- of an entry at its place
+pub record AreFaultyOf (stands : PlaceInSource) (cap : ℕ) (columns : Columns) : Type 0 where
+  pub origin : Origin
+  pub first : IsOriginAt stands.raws stands.place cap (Some origin)
+  pub are : AreFaultyColumns stands.files cap origin columns
+
+-- only fields with columns have such a part
+abbrev pub AreFaultyAt : Whereabouts → ℕ → Columns → Type 0
+AreFaultyAt Nowhere cap columns = ⊥
+AreFaultyAt (ByName true source) cap columns = AreFaultyIn source cap columns
+AreFaultyAt (ByName false source) cap columns = ⊥
+AreFaultyAt (ByPlace true stands) cap columns = AreFaultyOf stands cap columns
+AreFaultyAt (ByPlace false stands) cap columns = ⊥
 
 -- for private clauses: a field on this line at these columns, and the entry that has it
 pub record IsHeldAt (line : Line) (columns : Option Columns) (raws : List RawEntry) (origin : Origin) (place : ValuePlace)

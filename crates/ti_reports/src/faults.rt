@@ -10,7 +10,7 @@ ghost use Rattle.ti_verdicts.specs.Refusals.{cause_name};
 
 use crate::advice::advice_lines;
 use crate::hints::hint_lines;
-use crate::lines::{Standing, value_place};
+use crate::lines::{Standing, faulty_columns, value_place};
 use crate::reports::{Finding, Report, Verdict, report_line};
 use std::alloc::{AllocError, Global};
 use ti_caps::{Cap, Entry, name};
@@ -21,7 +21,7 @@ use ti_members::{
     suggested, suggested_with, text_of,
 };
 use ti_surveys::is_part;
-use ti_verdicts::{cause_name, explain_no};
+use ti_verdicts::{Judged, cause_name, explain_no};
 use ti_words::{NO_RESYNC, Remarks};
 use vt_term::Size;
 
@@ -199,11 +199,16 @@ fn finding_of(
     ensures { IfOk result (λ finding. spec.Finds (spec.of_subject subject.now nos.now mended.now) no.now finding) }
 {
     let entry = subject.entry;
+    let fault = Judged {
+        no,
+        size: subject.size,
+    };
     Ok(Finding {
         capability: Some(cap_text(alloc, no.cap)?),
         parameters: Vec::from_slice(alloc, no.params.as_slice())?,
         bytes: sent_text(alloc, entry, no)?,
         place: value_place(alloc, &subject.stands, no.cap)?,
+        faulty_columns: faulty_columns(alloc, &subject.stands, &fault)?,
         string: own_string(alloc, entry, no.cap)?,
         suggestion: suggested(alloc, entry, mended, nos, no.cap)?,
         suggested_with: suggested_with(alloc, entry, mended, nos, no.cap)?,

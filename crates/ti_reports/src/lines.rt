@@ -14,7 +14,7 @@ use ti_entries::Columns;
 use ti_members::{Written, name_of};
 use ti_resolve::Origin;
 use ti_source::RawEntry;
-use ti_verdicts::{FieldPlace, NamedSource, SourcePlace, first_name};
+use ti_verdicts::{FieldPlace, Judged, NamedSource, SourcePlace, first_name};
 
 /// The origin of an entry.
 #[derive(Drop)]
@@ -143,6 +143,55 @@ pub fn value_place(
         Standing::Unsourced => Ok(ValuePlace::nowhere()),
         Standing::Named(named, has_columns) => place_in(alloc, named, *has_columns, cap),
         Standing::Placed(there, has_columns) => place_at(alloc, there, *has_columns, cap),
+    }
+}
+
+/// The columns of the part of the value that `fault` is about, in the source of the entry whose origin is `stands`; `None` if
+/// there is no source or no value, or fields have no columns, or no smaller part is known than the whole value.
+pub fn faulty_columns(
+    alloc: Global,
+    stands: &Standing<'_, '_>,
+    fault: &Judged<'_>,
+) -> Result<Option<Columns>, AllocError>
+    requires { spec.IsThere stands.now }
+    ensures { IfOk result (λ found. IfSome found
+        (spec.AreFaultyAt (spec.whereabouts_of stands.now) fault.now.no.now.cap)) }
+{
+    match stands {
+        Standing::Named(named, true) => faulty_in(alloc, named, fault),
+        Standing::Placed(there, true) => faulty_at(alloc, there, fault),
+        Standing::Unsourced | Standing::Named(_, false) | Standing::Placed(_, false) => Ok(None),
+    }
+}
+
+/// The columns of the part of the value that `fault` is about, in the source `named`.
+fn faulty_in(
+    alloc: Global,
+    named: &NamedSource<'_, '_>,
+    fault: &Judged<'_>,
+) -> Result<Option<Columns>, AllocError>
+    ensures { IfOk result (λ found. IfSome found
+        (spec.AreFaultyIn named.now.source.now fault.now.no.now.cap)) }
+{
+    match named.origin(alloc, fault.no.cap)? {
+        Some(origin) => named.faulty_columns(alloc, origin, fault),
+        None => Ok(None),
+    }
+}
+
+/// The columns of the part of the value that `fault` is about, of the entry at `there`.
+fn faulty_at(
+    alloc: Global,
+    there: &SourcePlace<'_, '_>,
+    fault: &Judged<'_>,
+) -> Result<Option<Columns>, AllocError>
+    requires { there.now.place < length there.now.raws.now }
+    ensures { IfOk result (λ found. IfSome found
+        (spec.AreFaultyOf (place_in there.now) fault.now.no.now.cap)) }
+{
+    match there.origin(alloc, fault.no.cap)? {
+        Some(origin) => there.faulty_columns(alloc, origin, fault),
+        None => Ok(None),
     }
 }
 

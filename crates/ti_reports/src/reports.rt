@@ -79,6 +79,8 @@ pub struct Finding {
     pub bytes: Option<String>,
     /// The place of the capability's value, or of the reason why an entry can't be obtained.
     pub place: ValuePlace,
+    /// The columns of the part of the value that is at fault, if a smaller part is known than the whole.
+    pub faulty_columns: Option<Columns>,
     /// The capability's string.
     pub string: Option<Written>,
     /// The string that would be right.
@@ -127,6 +129,7 @@ impl Finding {
             parameters: Vec::new(alloc),
             bytes: None,
             place: ValuePlace::nowhere(),
+            faulty_columns: None,
             string: None,
             suggestion: None,
             suggested_with: Vec::new(alloc),
@@ -159,6 +162,7 @@ fn value_of(alloc: Global, report: &Report) -> Result<Value, AllocError>
     put_entry(alloc, report, &mut members)?;
     put_verdict(alloc, report, &mut members)?;
     put_value(alloc, &report.finding, &mut members)?;
+    put_faulty(alloc, report.finding.faulty_columns, &mut members)?;
     put_place(alloc, &report.finding.place, &mut members)?;
     put_strings(alloc, &report.finding, &mut members)?;
     put_run(alloc, &report.finding, &mut members)?;
@@ -222,6 +226,19 @@ fn put_value(
     put(members, alloc, "capability", capability)?;
     put(members, alloc, "parameters", parameters)?;
     put(members, alloc, "bytes", bytes)
+}
+
+/// Puts the `columns` of the part of a value that is at fault into `members`.
+fn put_faulty(
+    alloc: Global,
+    columns: Option<Columns>,
+    members: &mut Map<String, Value>,
+) -> Result<(), AllocError>
+    ensures { OnOk result (members_view members.new.entries
+        ≡ spec.with_faulty columns (members_view members.old.entries)) }
+{
+    put(members, alloc, "fault_column", start_value(columns))?;
+    put(members, alloc, "fault_end_column", end_value(columns))
 }
 
 /// Puts `place` into `members`.
@@ -407,7 +424,7 @@ fn number_value(number: Option<usize>) -> Value
     }
 }
 
-/// The JSON number of the column of a field's first byte, or null.
+/// The JSON number of the column of the first byte at these `columns`, or null.
 fn start_value(columns: Option<Columns>) -> Value
     ensures { view result ≡ spec.column_data columns }
 {
@@ -417,7 +434,7 @@ fn start_value(columns: Option<Columns>) -> Value
     }
 }
 
-/// The JSON number of the column behind a field, or null.
+/// The JSON number of the column behind these `columns`, or null.
 fn end_value(columns: Option<Columns>) -> Value
     ensures { view result ≡ spec.end_column_data columns }
 {
