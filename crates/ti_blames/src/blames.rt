@@ -70,7 +70,7 @@ const ALONE: [Attributes; 7] = [
     },
 ];
 
-/// What is at fault.
+/// The part of a string or of its bytes that is at fault.
 #[derive(Clone, Copy)]
 enum Blame {
     /// These of the bytes that are sent.
@@ -124,7 +124,7 @@ fn looks_for(alloc: Global, checked: &Checked<'_>, effect: &Effect) -> Result<Lo
     }
 }
 
-/// What each attribute shows alone by the string, which is `sgr`.
+/// The looks of each attribute alone, by the string, which is `sgr`.
 fn looks_of_sgr(alloc: Global, checked: &Checked<'_>) -> Result<Looks, AllocError> {
     let mut looks = NO_LOOKS;
     for attributes in ALONE {
@@ -152,8 +152,9 @@ fn effect_for(
     }
 }
 
-/// What is at fault with the `bytes` that the string sends: what isn't a whole control function, or the first unit with
-/// which they have no effect record, or what makes the first part of the effect differ from what is asked for.
+/// The blame for the `bytes` that the `checked` string sends: on bytes that are no whole control function, or on the first
+/// unit with which they have no effect record, or on that by which the first part of the effect differs from what is asked
+/// for.
 fn blame_of(
     alloc: Global,
     checked: &Checked<'_>,
@@ -182,7 +183,7 @@ fn blame_of(
 }
 
 impl Seen<'_> {
-    /// What makes the first part of the effect differ from what is asked for by `row`.
+    /// The blame for the first part of the effect that differs from what is asked for by `row`.
     fn blame(&self, row: Row) -> Option<Blame> {
         for part in PARTS {
             if differ(part, &self.effect, &self.asked) {
@@ -195,7 +196,7 @@ impl Seen<'_> {
         None
     }
 
-    /// What makes `part` differ. A mark that `sgr` is asked to turn on and never does is missing.
+    /// The blame for `part`, which differs. A mark that `sgr` is asked to turn on and never does is missing.
     fn blame_for(&self, row: Row, part: Part) -> Option<Blame> {
         match (row, part) {
             (Row::Sgr(attributes), Part::Mark(mark)) if self.is_asked(mark) => {
@@ -223,8 +224,8 @@ impl Seen<'_> {
     }
 }
 
-/// The stretch of the string that is at fault where what it sends isn't whole, has no effect record, or has another effect
-/// than the one asked for. `None` if no such stretch is found, as where nothing has the wanted effect.
+/// The stretch of the `checked` string that is at fault where its bytes aren't whole control functions, have no effect
+/// record, or have another effect than the one asked for. `None` if no such stretch is found, as where nothing has the wanted effect.
 ///
 /// # Errors
 /// Out of memory.
@@ -275,8 +276,8 @@ fn missing_in(
     }
 }
 
-/// The stretch of the string that is at fault where it can't be expanded for its row, or reads a static variable before it
-/// sets it: the first code with which it does; of a conditional without an end, its `%?`.
+/// The stretch of the `checked` string that is at fault where it has this `fault`: the first code with which it has it; of a
+/// conditional without an end, its `%?`.
 ///
 /// # Errors
 /// Out of memory.

@@ -16,7 +16,7 @@ pub(crate) struct Step {
     after: Effect,
 }
 
-/// What is sent, step by step.
+/// The bytes that are sent, step by step.
 #[derive(Drop)]
 pub(crate) struct Steps {
     /// The steps, up to the first unit with which what is sent has no effect record.

@@ -12,7 +12,7 @@ use vt_term::{Function, Size, Token, TokenFaultKind, tokens};
 pub(crate) struct Unit {
     /// Its bytes.
     pub(crate) bytes: Stretch,
-    /// What is sent up to its end, as whole control functions.
+    /// The bytes that are sent up to its end, as whole control functions.
     pub(crate) front: Vec<u8>,
 }
 
@@ -89,7 +89,7 @@ pub(crate) fn moved(stretch: Stretch, before: usize) -> Stretch {
     }
 }
 
-/// What was sent `before`, and SGR with the parameters of `begun`.
+/// The bytes `before`, and SGR with the parameters of `begun`.
 fn cut_short(alloc: Global, before: &[u8], begun: &[u8]) -> Result<Vec<u8>, AllocError> {
     let mut front = Vec::from_slice(alloc, before)?;
     front.extend_from_slice(begun)?;

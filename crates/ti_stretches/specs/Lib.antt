@@ -1,4 +1,4 @@
--- What a stretch of a string sends, what it means, and which code is at fault.
+-- Stretches of a string by the bytes that they send, by what they mean, and by the code that is at fault.
 pub mod Stretches
 pub mod Prefixes
 pub mod Sendings

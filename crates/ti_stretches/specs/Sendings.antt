@@ -12,7 +12,7 @@ pub record HasSent (string : List ℕ) (given : List Value) (whole : List ℕ) (
   pub nest : List Bool
   pub sends : sent (closed_front string place nest) given ≡ Ok (take count whole)
 
--- each of these cuts is at a place of the string, up to which so many bytes are sent
+-- each of these cuts is at a place of the string, up to which its count of bytes is sent
 abbrev pub AreCuts : List ℕ → List Value → List ℕ → List Cut → Type 0
 AreCuts string given whole = All (λ cut. HasSent string given whole cut.place cut.count)
 

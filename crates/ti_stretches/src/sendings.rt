@@ -24,7 +24,7 @@ pub struct Sender<'a> {
     pub bytes: &'a [u8],
 }
 
-/// A place of a string, and how many of its bytes are sent up to there.
+/// A place of a string, and the number of the bytes that are sent up to there.
 #[derive(Clone, Copy)]
 struct Cut {
     place: usize,

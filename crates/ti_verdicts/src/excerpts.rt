@@ -59,7 +59,7 @@ pub(crate) fn value_in(cap: Cap, field: &[u8]) -> &[u8]
     field.split_at(before_value(cap, field)).1
 }
 
-/// What stands before the `part` of `value` that is at fault; nothing if no part is known.
+/// The bytes before the `part` of `value` that is at fault; none if no part is known.
 fn front_of(value: &[u8], part: Option<Stretch>) -> &[u8]
     requires { spec.IsFaulty value.now part }
     ensures { result.now ≡ spec.front_of part value.now }
@@ -101,7 +101,7 @@ fn underlined(
     Ok(text)
 }
 
-/// What stands in `field`, which is about `cap`, before the `part` of its value that is at fault, as far as it can be shown.
+/// The bytes of `field`, which is about `cap`, before the `part` of its value that is at fault, as far as they can be shown.
 fn shown_before(
     alloc: Global,
     cap: Cap,

@@ -14,8 +14,8 @@ use ti_entries::Columns;
 use ti_resolve::Origin;
 use ti_stretches::Stretch;
 
-/// The columns of `part` of the value of `field`, which is about `cap` and stands at these `columns`; `None` if there is no
-/// such number.
+/// The columns of `part` of the value of `field`, which is about `cap` and is at these `columns`; `None` if a number doesn't
+/// fit.
 fn part_columns(cap: Cap, field: &[u8], columns: Columns, part: Stretch) -> Option<Columns>
     ensures { IfSome result (λ found. found ≡ spec.part_columns cap field.now columns part) }
 {
