@@ -3,14 +3,14 @@
 ghost use Rattle.std.specs.Prelude.{◌≡◌, IfOk, OnOk, option_map};
 ghost use Rattle.ti_caps.specs.Fits.{names_in};
 ghost use Rattle.ti_members.specs.Names as spec;
-ghost use Rattle.ti_verdicts.specs.Locations.{first_name};
+ghost use Rattle.ti_places.specs.Locations.{first_name};
 
 use crate::forms::Written;
 use crate::texts::text_of;
 use std::alloc::{AllocError, Global};
 use ti_caps::Entry;
+use ti_places::first_name;
 use ti_resolve::cut_name;
-use ti_verdicts::first_name;
 
 /// The first name of `entry`.
 pub fn entry_name(alloc: Global, entry: &Entry) -> Result<Written, AllocError>

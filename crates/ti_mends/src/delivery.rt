@@ -10,7 +10,7 @@ use crate::mendings::{MendedTexts, Text};
 use std::alloc::{AllocError, Global};
 use ti_checker::No;
 use ti_commands::{Failure, Files, NewFile, Reply, file_fault};
-use ti_verdicts::no_failure;
+use ti_places::no_failure;
 use ti_words::Remarks;
 
 /// How the reply ends if these faults are left.

@@ -9,8 +9,8 @@ use crate::mendings::{Kept, Reason};
 use std::alloc::{AllocError, Global};
 use ti_caps::name;
 use ti_checker::No;
+use ti_places::{first_name, no_words};
 use ti_source::RawEntry;
-use ti_verdicts::{first_name, no_words};
 use ti_words::push_shown;
 
 /// The names of the entry at `place`; none behind all entries.

@@ -6,7 +6,7 @@ ghost use Rattle.ti_commands.specs.Findings.{ResolvesAt};
 ghost use Rattle.ti_commands.specs.Refusals.{refusal_text_of};
 ghost use Rattle.ti_repairs.specs.Notes as spec;
 ghost use Rattle.ti_source.specs.Raw.{IsRaw};
-ghost use Rattle.ti_verdicts.specs.Refusals.{no_text};
+ghost use Rattle.ti_places.specs.Refusals.{no_text};
 
 use crate::notes::own_name;
 use std::alloc::{AllocError, Global};
@@ -14,9 +14,9 @@ use ti_caps::Entry;
 use ti_checker::No;
 use ti_commands::{CommandRefusal, refusal_words};
 use ti_faults::faults;
+use ti_places::no_words;
 use ti_resolve::{Index, ResolveFault, resolve_from};
 use ti_source::RawEntry;
-use ti_verdicts::no_words;
 use ti_words::push_shown;
 use vt_term::Size;
 

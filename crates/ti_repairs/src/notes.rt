@@ -6,9 +6,9 @@ ghost use Rattle.ti_repairs.specs.Notes as spec;
 use std::alloc::{AllocError, Global};
 use ti_caps::name;
 use ti_mends::names_at;
+use ti_places::first_name;
 use ti_remedies::{Reason, Remedy, Treated};
 use ti_source::RawEntry;
-use ti_verdicts::first_name;
 use ti_words::push_shown;
 
 /// The first name of the entry at `place`; empty behind all entries.

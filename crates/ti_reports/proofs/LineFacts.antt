@@ -15,7 +15,7 @@ use Rattle.ti_reports.specs.declared.reports.Finding.{Finding}
 use Rattle.ti_reports.specs.declared.reports.Report.{Report}
 use Rattle.ti_reports.specs.declared.reports.Verdict.TheVariants as verdicts
 use Rattle.ti_source.specs.Layout.{lines_of}
-use Rattle.ti_verdicts.specs.Refusals.{cause_name}
+use Rattle.ti_places.specs.Refusals.{cause_name}
 
 -- a property of the report, stated of its line
 pub as_report_line : {V E : Type 0} (items : V → List ℕ) (P : Report → Type 0) (report : Report) (r : Result V E) → IfOk r (λ line. items line ≡ report_line report) → P report → IfOk r (λ line. IsReportLine P (items line))

@@ -24,9 +24,9 @@ use Rattle.ti_reports.specs.declared.reports.Verdict.TheVariants as verdicts
 use Rattle.ti_source.specs.Layout.{lines_of}
 use Rattle.ti_surveys.specs.Parts.{is_part}
 use Rattle.ti_verdicts.specs.Parts.{HasParts}
-use Rattle.ti_verdicts.specs.Locations.{PlaceInSource, first_name}
-use Rattle.ti_verdicts.specs.Refusals.{cause_name}
-use Rattle.ti_verdicts.specs.Spots.{files_of}
+use Rattle.ti_places.specs.Locations.{PlaceInSource, first_name}
+use Rattle.ti_places.specs.Refusals.{cause_name}
+use Rattle.ti_places.specs.Spots.{files_of}
 
 -- the text of these bytes is there
 abbrev pub HasWords : List ℕ → Option (String Global) → Type 0

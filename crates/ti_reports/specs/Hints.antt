@@ -8,8 +8,8 @@ use Rattle.ti_reports.specs.declared.hints.HintSource.{HintSource}
 use Rattle.ti_reports.specs.declared.lines.ValuePlace.{ValuePlace}
 use Rattle.ti_resolve.specs.Uses.{names_at}
 use Rattle.ti_source.specs.declared.types.RawEntry.{RawEntry}
-use Rattle.ti_verdicts.specs.Locations.{columns_if, first_name}
-use Rattle.ti_verdicts.specs.Spots.{FileText, PutFiles}
+use Rattle.ti_places.specs.Locations.{columns_if, first_name}
+use Rattle.ti_places.specs.Spots.{FileText, PutFiles}
 
 -- a source text about which hints are given: its path, its entries, and whether fields have columns
 pub record HintText : Type 0 where

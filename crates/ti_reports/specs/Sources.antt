@@ -16,8 +16,8 @@ use Rattle.ti_resolve.specs.Origins.{IsOrigin, IsOriginAt}
 use Rattle.ti_resolve.specs.Uses.{names_at}
 use Rattle.ti_resolve.specs.declared.origins.Origin.{Origin}
 use Rattle.ti_source.specs.declared.types.RawEntry.{RawEntry}
-use Rattle.ti_verdicts.specs.Locations.{AreFaultyColumns, PlaceInSource, first_name, place_in}
-use Rattle.ti_verdicts.specs.Spots.{Line, PutFiles, columns_among, files_of, line_among}
+use Rattle.ti_places.specs.Locations.{AreFaultyColumns, PlaceInSource, first_name, place_in}
+use Rattle.ti_places.specs.Spots.{Line, PutFiles, columns_among, files_of, line_among}
 
 -- The origin of an entry: no source, a source that gives it by its name, or a place of a source; and whether fields have
 -- columns, which those of files whose lines were joined have not.

@@ -24,7 +24,7 @@ use Rattle.ti_surveys.specs.Places.{places_text}
 use Rattle.ti_surveys.specs.Strict.{EndsStrictly}
 use Rattle.ti_surveys.specs.Surveys.{EndsPaths}
 use Rattle.ti_surveys.specs.Told.{Told}
-use Rattle.ti_verdicts.specs.Locations.{PlaceInSource}
+use Rattle.ti_places.specs.Locations.{PlaceInSource}
 use Rattle.ti_verdicts.specs.declared.answers.Answer.{Answer}
 use Rattle.ti_verdicts.specs.declared.answers.Answer.TheVariants as answers
 

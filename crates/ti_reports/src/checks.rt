@@ -15,9 +15,10 @@ use std::alloc::{AllocError, Global};
 use ti_caps::Entry;
 use ti_checker::No;
 use ti_commands::{Failure, Files, Reply, SourceText, Sourced, size_words, sourced_entry};
+use ti_places::{LinedFiles, NamedSource, no_failure, source_files};
 use ti_requests::FaultsWords;
 use ti_resolve::Index;
-use ti_verdicts::{LinedFiles, NamedSource, explain_no, no_failure, notes_on, source_files};
+use ti_verdicts::{explain_no, notes_on};
 use ti_words::Remarks;
 use vt_term::Size;
 

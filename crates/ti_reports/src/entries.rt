@@ -3,7 +3,7 @@
 ghost use Rattle.std.specs.Prelude.{◌≡◌, ◌<◌, [], IfOk, IfSome, length};
 ghost use Rattle.ti_reports.specs.Sources.{IsThere, whereabouts_of};
 ghost use Rattle.ti_reports.specs.Surveys as spec;
-ghost use Rattle.ti_verdicts.specs.Locations.{place_if};
+ghost use Rattle.ti_places.specs.Locations.{place_if};
 
 use crate::asked::Asked;
 use crate::faults::{Subject, found_lines};

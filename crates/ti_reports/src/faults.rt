@@ -6,7 +6,7 @@ ghost use Rattle.ti_reports.specs.Faults as spec;
 ghost use Rattle.ti_reports.specs.Sources.{IsThere, whereabouts_of};
 ghost use Rattle.ti_members.specs.Texts.{IsShownAs};
 ghost use Rattle.ti_verdicts.specs.Parts.{HasParts};
-ghost use Rattle.ti_verdicts.specs.Refusals.{cause_name};
+ghost use Rattle.ti_places.specs.Refusals.{cause_name};
 
 use crate::advice::advice_lines;
 use crate::hints::hint_lines;
@@ -20,8 +20,9 @@ use ti_members::{
     entry_aliases, entry_name, explained, is_judged, mended_if, other_kind, own_string, sent_text,
     suggested, suggested_with, text_of,
 };
+use ti_places::{Judged, cause_name};
 use ti_surveys::is_part;
-use ti_verdicts::{Judged, cause_name, explain_no};
+use ti_verdicts::explain_no;
 use ti_words::{NO_RESYNC, Remarks};
 use vt_term::Size;
 

@@ -7,8 +7,8 @@ ghost use Rattle.ti_reports.specs.Faults as spec;
 ghost use Rattle.ti_reports.specs.Hints.{IsHintPlace, hint_text, text_in};
 ghost use Rattle.ti_reports.specs.Sources.{whereabouts_of};
 ghost use Rattle.ti_source.specs.Layout.{lines_of};
-ghost use Rattle.ti_verdicts.specs.Locations.{columns_if, place_in};
-ghost use Rattle.ti_verdicts.specs.Spots.{files_of, put_files};
+ghost use Rattle.ti_places.specs.Locations.{columns_if, place_in};
+ghost use Rattle.ti_places.specs.Spots.{files_of, put_files};
 
 use crate::faults::{Subject, cap_text, report_on};
 use crate::lines::{Standing, ValuePlace, holder};
@@ -18,9 +18,9 @@ use ti_caps::Cap;
 use ti_commands::own_raws;
 use ti_entries::{Columns, LinedText};
 use ti_hints::{FieldHint, entry_hints, used_places};
+use ti_places::{LinedFiles, NamedSource, SourcePlace};
 use ti_resolve::Origin;
 use ti_source::RawEntry;
-use ti_verdicts::{LinedFiles, NamedSource, SourcePlace};
 
 /// A line for each hint about the `subject`: where it was asked for by its name, about its fields and those of the entries
 /// of its file that it uses; where it stands at a place, about its own fields alone, and only if `lists_all`. None if it

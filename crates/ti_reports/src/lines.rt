@@ -4,17 +4,17 @@ ghost use Rattle.std.specs.Prelude.{◌≡◌, ◌<◌, ◌==◌, IfOk, IfSome, 
 ghost use Rattle.ti_members.specs.Names.{IsNameOf};
 ghost use Rattle.ti_reports.specs.Sources as spec;
 ghost use Rattle.ti_resolve.specs.Uses.{names_at};
-ghost use Rattle.ti_verdicts.specs.Locations.{first_name, place_if, place_in};
-ghost use Rattle.ti_verdicts.specs.Spots.{line_of};
+ghost use Rattle.ti_places.specs.Locations.{first_name, place_if, place_in};
+ghost use Rattle.ti_places.specs.Spots.{line_of};
 
 use std::alloc::{AllocError, Global};
 use ti_caps::Cap;
 use ti_commands::CommandRefusal;
 use ti_entries::Columns;
 use ti_members::{Written, name_of};
+use ti_places::{FieldPlace, Judged, NamedSource, SourcePlace, first_name};
 use ti_resolve::Origin;
 use ti_source::RawEntry;
-use ti_verdicts::{FieldPlace, Judged, NamedSource, SourcePlace, first_name};
 
 /// The origin of an entry.
 #[derive(Drop)]

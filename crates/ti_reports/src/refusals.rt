@@ -4,7 +4,7 @@ ghost use Rattle.std.specs.Prelude.{◌≡◌, ◌<◌, IfOk, IfSome, length, op
 ghost use Rattle.ti_reports.specs.Reports.{IsBare};
 ghost use Rattle.ti_reports.specs.Sources.{fault_file};
 ghost use Rattle.ti_reports.specs.Surveys as spec;
-ghost use Rattle.ti_verdicts.specs.Locations.{place_if};
+ghost use Rattle.ti_places.specs.Locations.{place_if};
 
 use crate::asked::Asked;
 use crate::lines::{ValuePlace, refusal_place};

@@ -7,8 +7,8 @@ ghost use Rattle.ti_further.specs.declared.files.FurtherFile.{FurtherFile};
 ghost use Rattle.ti_source.specs.Fitting.{FieldsFit, NamesFit};
 ghost use Rattle.ti_surveys.specs.Heard.{Hears};
 ghost use Rattle.ti_surveys.specs.Lines as spec;
-ghost use Rattle.ti_verdicts.specs.Locations.{place_if};
-ghost use Rattle.ti_verdicts.specs.Spots.{put_files};
+ghost use Rattle.ti_places.specs.Locations.{place_if};
+ghost use Rattle.ti_places.specs.Spots.{put_files};
 ghost use Rattle.ti_surveys.specs.Together.{FailsApartly, all_in};
 ghost use Rattle.ti_surveys.specs.Told.{IsToldOfEach, told_of};
 
@@ -23,9 +23,9 @@ use ti_compiled::{Packed, decode};
 use ti_entries::{ApartFault, resolve_apart};
 use ti_further::FurtherFile;
 use ti_hints::hint_entries;
+use ti_places::{LinedFiles, SourcePlace, first_name, lined_files};
 use ti_resolve::{Index, ResolveFault, entered_from};
 use ti_source::{FaultKind, RawEntry, SourceFault, read_apart};
-use ti_verdicts::{LinedFiles, SourcePlace, first_name, lined_files};
 use ti_words::Remarks;
 
 /// A survey: the speaker that reports, and the files of `--with`.

@@ -4,8 +4,8 @@ ghost use Rattle.std.specs.Prelude.{◌≡◌, ◌≢◌, ◌<◌, ◌++◌, IfO
 ghost use Rattle.std.specs.List.{flat_map};
 ghost use Rattle.ti_surveys.specs.Answers as spec;
 ghost use Rattle.ti_verdicts.specs.Parts.{HasParts};
-ghost use Rattle.ti_verdicts.specs.Locations.{IsPlaced, place_if, placed_if, placed_in};
-ghost use Rattle.ti_verdicts.specs.Refusals.{no_text};
+ghost use Rattle.ti_places.specs.Locations.{IsPlaced, place_if, placed_if, placed_in};
+ghost use Rattle.ti_places.specs.Refusals.{no_text};
 ghost use Rattle.ti_surveys.specs.Told.{told_of};
 
 use crate::asked::Asked;
@@ -17,7 +17,8 @@ use ti_caps::Entry;
 use ti_checker::{Cause, No};
 use ti_commands::{CommandRefusal, refusal_words};
 use ti_faults::{faults, must_claim};
-use ti_verdicts::{Answer, Certifier, Judged, PlacedFault, no_words, placed};
+use ti_places::{Judged, PlacedFault, no_words, placed};
+use ti_verdicts::{Answer, Certifier};
 use ti_words::push_shown;
 
 impl<'a, C: Certifier> Speaker for Asked<'a, C> {

@@ -4,7 +4,8 @@ ghost use Rattle.std.specs.Prelude.{◌≡◌, [], ◌∷◌, IfOk, OnOk};
 ghost use Rattle.ti_surveys.specs.Told as spec;
 
 use std::alloc::{AllocError, Global};
-use ti_verdicts::{Answer, PlacedFault};
+use ti_places::PlacedFault;
+use ti_verdicts::Answer;
 
 /// The statements about an entry, a file or several.
 #[derive(Drop)]

@@ -2,14 +2,14 @@
 
 ghost use Rattle.std.specs.Prelude.{◌<◌, IfOk, IfSome, length, option_map};
 ghost use Rattle.ti_surveys.specs.Lines.{Leaving, Refusing, Saying};
-ghost use Rattle.ti_verdicts.specs.Locations.{place_if};
+ghost use Rattle.ti_places.specs.Locations.{place_if};
 ghost use Rattle.ti_surveys.specs.Told.{told_of};
 
 use crate::said::Said;
 use std::alloc::{AllocError, Global};
 use ti_caps::Entry;
 use ti_commands::CommandRefusal;
-use ti_verdicts::SourcePlace;
+use ti_places::SourcePlace;
 
 /// An entry that a file has.
 #[derive(Drop)]

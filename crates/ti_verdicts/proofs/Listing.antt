@@ -8,7 +8,7 @@ use Rattle.ti_commands.specs.declared.sources.SourceText.{SourceText}
 use Rattle.ti_faults.specs.Mended.{IsBestMended}
 use Rattle.ti_faults.specs.declared.mended.Mended.{Mended}
 use Rattle.ti_verdicts.specs.FaultLists.{EndsAsNo, IsFaultsText, TellsFaults}
-use Rattle.ti_verdicts.specs.Refusals.{TellsNo}
+use Rattle.ti_places.specs.Refusals.{TellsNo}
 
 pub lists_faults : (has_columns : Bool) (entry : Content) (source : Option SourceText) (rows cols : ℕ) (nos : List No) (first : No) (mended : Mended) (reply : Reply) (failure : Failure) → 1 ≤ length nos → first ≡ get_or nos 0 first → IsBestMended entry rows cols nos mended → IsFaultsText has_columns entry source mended nos reply.text.items
     → reply.failure ≡ Some failure → TellsNo first failure → TellsFaults has_columns entry source rows cols nos reply

@@ -14,7 +14,7 @@ use Rattle.ti_commands.specs.Sizes.{LacksSize, SizeGiven}
 use Rattle.ti_commands.specs.declared.failure.Failure.{Failure}
 use Rattle.ti_commands.specs.declared.failure.Failure.TheVariants.{File, NoMemory}
 use Rattle.ti_commands.specs.declared.failure.Reply.{Reply}
-use Rattle.ti_verdicts.specs.Refusals.{TellsNo}
+use Rattle.ti_places.specs.Refusals.{TellsNo}
 use Rattle.ti_verdicts.specs.Verifications.{FailsAtEntry}
 use Rattle.ti_requests.specs.declared.request.CheckWords.{CheckWords}
 use denote.Ref.{Bor}

@@ -17,9 +17,9 @@ use Rattle.ti_verdicts.specs.FaultAnswers.{fault_answer}
 use Rattle.ti_verdicts.specs.Checks.{HasText, TellsNotes}
 use Rattle.ti_verdicts.specs.Counts.{answers_line}
 use Rattle.ti_verdicts.specs.Parts.{HasParts}
-use Rattle.ti_verdicts.specs.Locations.{IsLocation}
+use Rattle.ti_places.specs.Locations.{IsLocation}
 use Rattle.ti_verdicts.specs.Remedies.{HasRemedies}
-use Rattle.ti_verdicts.specs.Refusals.{TellsNo, no_text}
+use Rattle.ti_places.specs.Refusals.{TellsNo, no_text}
 use Rattle.ti_words.specs.Remarks.{IsRemark}
 
 -- ---- a fault

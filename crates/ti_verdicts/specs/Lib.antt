@@ -1,10 +1,6 @@
 -- The definitions of the commands about certificates.
-pub mod Refusals
 pub mod Verifications
 pub mod Checks
-pub mod Spots
-pub mod Excerpts
-pub mod Locations
 pub mod Starts
 pub mod Remedies
 pub mod FaultLists

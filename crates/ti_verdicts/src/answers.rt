@@ -7,9 +7,9 @@ ghost use Rattle.ti_verdicts.specs.Counts as spec;
 ghost use Rattle.ti_verdicts.specs.FaultAnswers.{fault_answer};
 ghost use Rattle.ti_verdicts.specs.AnswerNames.{answer_name};
 
-use crate::refusals::cause_name;
 use std::alloc::{AllocError, Global};
 use ti_checker::{Cause, No};
+use ti_places::cause_name;
 
 /// The answer of a line about an entry.
 #[derive(Clone, Copy, Debug, PartialEq, Eq)]

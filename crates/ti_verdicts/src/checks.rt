@@ -5,12 +5,12 @@ ghost use Rattle.ti_verdicts.specs.Checks.{Delivers, FailsToCheck, IsChecked, St
 
 use crate::certifiers::Certifier;
 use crate::reasons::explain_no;
-use crate::refusals::no_failure;
 use std::alloc::{AllocError, Global};
 use ti_caps::Entry;
 use ti_checker::{Cause, No, note_lines, notes};
 use ti_commands::{Failure, Files, Reply, Sourced, file_fault, size_words, sourced_entry};
 use ti_hints::advise;
+use ti_places::no_failure;
 use ti_requests::CheckWords;
 use ti_words::Remarks;
 use vt_term::Size;

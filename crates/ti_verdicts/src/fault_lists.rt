@@ -3,25 +3,21 @@
 ghost use Rattle.std.specs.Prelude.{◌≡◌, IfErr, IfOk, Some};
 ghost use Rattle.ti_verdicts.specs.Checks.{FailsForEntry};
 ghost use Rattle.ti_verdicts.specs.FaultLists as spec;
-ghost use Rattle.ti_verdicts.specs.Locations.{source_if};
+ghost use Rattle.ti_places.specs.Locations.{source_if};
 ghost use Rattle.ti_verdicts.specs.Parts.{HasParts};
 
 use crate::answers::{answers_line, fault_answers};
 use crate::checks::notes_on;
-use crate::faulty_parts::Judged;
 use crate::indents::indented;
-use crate::locations::location;
 use crate::reasons::explain_no;
-use crate::refusals::{no_failure, no_words};
 use crate::remedies::{note_another_kind, note_left_out, suggestion_lines};
-use crate::source_places::NamedSource;
-use crate::spots::{LinedFiles, source_files};
 use std::alloc::{AllocError, Global};
 use ti_caps::Entry;
 use ti_checker::No;
 use ti_commands::{Failure, Files, Reply, SourceText, Sourced, size_words, sourced_entry};
 use ti_faults::{Mended, faults};
 use ti_hints::{advise, advise_unchecked};
+use ti_places::{Judged, LinedFiles, NamedSource, location, no_failure, no_words, source_files};
 use ti_requests::FaultsWords;
 use ti_resolve::Index;
 use ti_words::Remarks;

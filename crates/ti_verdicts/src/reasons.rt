@@ -4,6 +4,7 @@ use crate::starts::terminal_at;
 use std::alloc::{AllocError, Global};
 use ti_caps::{Entry, name};
 use ti_checker::{Cause, No};
+use ti_places::row_of;
 use ti_rows::Row;
 use ti_words::{
     NO_RESYNC, NOT_TAME, Remarks, STATIC_READ, STAYS_GRAPHIC, TOO_LONG, explain_absent,
@@ -41,11 +42,6 @@ fn explain_cause(
         }
     }
     Ok(())
-}
-
-/// The row of the table with the capability and the parameters of `no`.
-pub(crate) fn row_of(no: &No) -> Option<Row> {
-    Row::named(name(no.cap))?.with_params(no.params.as_slice())
 }
 
 /// Explains the bytes that the string of `entry` sends for `row`, and their fault.

@@ -3,7 +3,7 @@ use Rattle.std.proofs.lemmas.Result.{IfOk-weaker}
 use Rattle.std.specs.Prelude.{option_map}
 use Rattle.ti_reports.specs.Sources.{IsRefusalPlace}
 use Rattle.ti_reports.specs.Surveys.{IsRefusedReport}
-use Rattle.ti_verdicts.specs.Locations.{place_if}
+use Rattle.ti_places.specs.Locations.{place_if}
 use Rattle.ti_reports.proofs.refusals.lacking_line.Goals as goal
 
 -- the reason is the refusal's own, and its place is in the file with the fault

@@ -5,9 +5,9 @@ use Rattle.ti_surveys.specs.Places.{places_text}
 use Rattle.ti_surveys.specs.Strict.{EndsStrictly}
 use Rattle.ti_surveys.specs.Surveys.{EndsPaths}
 use Rattle.ti_surveys.specs.Told.{told_of}
-use Rattle.ti_verdicts.specs.Locations.{placed_in}
+use Rattle.ti_places.specs.Locations.{placed_in}
 use Rattle.ti_verdicts.specs.declared.answers.Answer.{Answer}
-use Rattle.ti_verdicts.specs.declared.locations.PlacedFault.{PlacedFault}
+use Rattle.ti_places.specs.declared.locations.PlacedFault.{PlacedFault}
 use Rattle.ti_reports.specs.Surveys.{Reports, ReportsLack, ReportsUnread}
 use Rattle.ti_reports.proofs.surveys.survey_reports.Goals as goal
 

@@ -1,6 +1,6 @@
 use Rattle.std.proofs.Common.{◌<◌, ◌++◌, ◌∙◌, ℕ, List, length, ap, arith}
 use Rattle.ti_verdicts.specs.FaultLists.{HasFaultLines}
-use Rattle.ti_verdicts.specs.Locations.{source_if}
+use Rattle.ti_places.specs.Locations.{source_if}
 use Rattle.ti_verdicts.specs.Parts.{HasParts}
 use Rattle.ti_verdicts.proofs.Parts.{parts_next}
 use Rattle.ti_verdicts.proofs.fault_lists.fault_lines.Goals as goal

@@ -1,4 +1,4 @@
-use Rattle.ti_verdicts.specs.Refusals.{fault_text}
+use Rattle.ti_places.specs.Refusals.{fault_text}
 use Rattle.ti_verdicts.proofs.Verdicts.{told_by_words}
 use Rattle.ti_verdicts.proofs.verifications.cert_failure.Goals as goal
 

@@ -3,7 +3,7 @@ use Rattle.std.specs.Prelude.{option_map}
 use Rattle.std.proofs.lemmas.Result.{IfOk-weaker}
 use Rattle.ti_reports.specs.Surveys.{ReportsLack}
 use Rattle.ti_surveys.specs.Told.{Told}
-use Rattle.ti_verdicts.specs.Locations.{place_if}
+use Rattle.ti_places.specs.Locations.{place_if}
 use Rattle.ti_reports.proofs.entries.AskedSpeaker.refuse.Goals as goal
 
 -- the line alone

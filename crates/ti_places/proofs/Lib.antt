@@ -1,0 +1,2 @@
+pub mod NoFacts
+pub mod SpotFacts

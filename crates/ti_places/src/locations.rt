@@ -1,0 +1,348 @@
+//! The place of a capability's value in a source text.
+
+ghost use Rattle.std.specs.Prelude.{◌≡◌, ◌<◌, ◌==◌, ◌++◌, ◌∷◌, IfOk, IfSome, Option, Some, codes, length};
+ghost use Rattle.std.specs.List as List;
+ghost use Rattle.ti_resolve.specs.Uses.{names_at};
+ghost use Rattle.ti_places.specs.Locations as spec;
+ghost use Rattle.ti_stretches.specs.declared.stretches.Stretch.{Stretch};
+ghost use Rattle.ti_places.specs.Excerpts.{IsFaulty};
+ghost use Rattle.ti_places.specs.Locations.{excerpt_text, value_at};
+ghost use Rattle.ti_places.specs.Refusals.{no_text};
+ghost use Rattle.ti_places.specs.Spots.{line_of, put_files};
+ghost use Rattle.ti_words.specs.Shown.{shown};
+
+use crate::excerpts::{excerpt, shown_bytes, value_in};
+use crate::faulty_parts::{Judged, faulty_part};
+use crate::refusals::no_words;
+use crate::source_places::{NamedSource, SourcePlace};
+use crate::spots::{FieldPlace, LinedFiles};
+use std::alloc::{AllocError, Global};
+use ti_caps::{Cap, name};
+use ti_checker::No;
+use ti_entries::Columns;
+use ti_resolve::Origin;
+use ti_source::RawEntry;
+use ti_stretches::Stretch;
+use ti_words::push_shown;
+
+/// The end of the first of `names`, if another follows.
+fn name_end(names: &[u8]) -> Option<usize>
+    ensures { result ≡ List.position (λ byte. byte == 124) names.now }
+{
+    names.iter().position(|byte| *byte == b'|')
+}
+
+/// The first of an entry's `names`.
+pub fn first_name(names: &[u8]) -> &[u8]
+    ensures { result.now ≡ spec.first_name names.now }
+{
+    match name_end(names) {
+        None => names,
+        Some(end) => &names[..end],
+    }
+}
+
+/// The lines that say where `source` has the value that `fault` is about: `FILE:LINE:COLUMN: CAP of NAME`, as far as that
+/// can be shown, and the field with marks under the part of the value that is at fault, or under all of it if no part is
+/// known. COLUMN is left out unless `has_columns`. Empty if there is no source or no value.
+pub fn location(
+    alloc: Global,
+    source: &Option<NamedSource<'_, '_>>,
+    has_columns: bool,
+    fault: &Judged<'_>,
+) -> Result<Vec<u8>, AllocError>
+    ensures { IfOk result (λ lines.
+        spec.IsLocation has_columns (spec.source_if source.now) fault.now.no.now.cap lines.items) }
+{
+    match source {
+        None => Ok(Vec::new(alloc)),
+        Some(named) => location_in(alloc, named, has_columns, fault),
+    }
+}
+
+/// The lines that say where the source `named` has the value that `fault` is about; empty if there is no value.
+fn location_in(
+    alloc: Global,
+    named: &NamedSource<'_, '_>,
+    has_columns: bool,
+    fault: &Judged<'_>,
+) -> Result<Vec<u8>, AllocError>
+    ensures { IfOk result (λ lines.
+        spec.IsLocatedIn has_columns named.now.source.now fault.now.no.now.cap lines.items) }
+{
+    match named.origin(alloc, fault.no.cap)? {
+        None => Ok(Vec::new(alloc)),
+        Some(origin) => origin_lines(alloc, named, has_columns, fault, origin),
+    }
+}
+
+/// The lines of the field at `origin` of the source `named`, which `fault` is about.
+fn origin_lines(
+    alloc: Global,
+    named: &NamedSource<'_, '_>,
+    has_columns: bool,
+    fault: &Judged<'_>,
+    origin: Origin,
+) -> Result<Vec<u8>, AllocError>
+    ensures { IfOk result (λ lines. spec.TellsOrigin has_columns named.now.source.now fault.now.no.now.cap
+        (Some origin) lines.items) }
+{
+    let field = PutField {
+        files: named.files,
+        raws: named.source.raws.as_slice(),
+        cap: fault.no.cap,
+        origin,
+    };
+    let part = part_at(alloc, &field, fault)?;
+    field_lines(alloc, &field, has_columns, part)
+}
+
+/// The part of the value of `field` that is at fault; `None` if no part is known.
+#[tactic(auto, unfolding(crate::specs::Locations::value_at))]
+fn part_at(
+    alloc: Global,
+    field: &PutField<'_, '_>,
+    fault: &Judged<'_>,
+) -> Result<Option<Stretch>, AllocError>
+    ensures { IfOk result (IsFaulty (value_at (put_files field.now.files) field.now.cap field.now.origin)) }
+{
+    match field.files.columns(field.origin, field.cap) {
+        None => Ok(None),
+        Some(columns) => {
+            let piece = field.files.piece(field.origin, columns);
+            faulty_part(alloc, value_in(field.cap, piece), fault)
+        }
+    }
+}
+
+/// A field about a capability, in one of the files whose entries were put together.
+#[derive(Drop)]
+struct PutField<'a, 'b> {
+    files: LinedFiles<'a, 'b>,
+    /// The entries of these files.
+    raws: &'b [RawEntry],
+    cap: Cap,
+    /// The place of the field among the entries.
+    origin: Origin,
+}
+
+/// The line with the place of `field`, and the field below it, with marks under the `part` of its value that is at fault.
+fn field_lines(
+    alloc: Global,
+    field: &PutField<'_, '_>,
+    has_columns: bool,
+    part: Option<Stretch>,
+) -> Result<Vec<u8>, AllocError>
+    requires { IsFaulty (value_at (put_files field.now.files) field.now.cap field.now.origin) part }
+    ensures { IfOk result (λ lines. lines.items ≡ spec.field_text has_columns (put_files field.now.files)
+        field.now.raws.now field.now.cap part field.now.origin) }
+{
+    let words = place_words(alloc, field, has_columns)?;
+    let below = excerpt_lines(alloc, field, part)?;
+    let mut lines = Vec::new(alloc);
+    push_shown(&mut lines, words.as_slice())?;
+    lines.push(b'\n')?;
+    lines.extend_from_slice(below.as_slice())?;
+    Ok(lines)
+}
+
+/// `FILE:LINE:COLUMN: CAP of NAME` of `field`, without COLUMN unless `has_columns`.
+#[tactic(auto, unfolding(crate::specs::Locations::place_text))]
+fn place_words(
+    alloc: Global,
+    field: &PutField<'_, '_>,
+    has_columns: bool,
+) -> Result<Vec<u8>, AllocError>
+    ensures { IfOk result (λ words. words.items ≡ spec.place_text has_columns (put_files field.now.files)
+        field.now.raws.now field.now.cap field.now.origin) }
+{
+    let place = field.files.line(field.origin);
+    let columns = columns_if(has_columns, field.files.columns(field.origin, field.cap));
+    let names = names_of(field.raws, field.origin.entry);
+    numbered_words(alloc, place, columns, field.cap, names)
+}
+
+/// The `columns`, if there are to be any.
+fn columns_if(has_columns: bool, columns: Option<Columns>) -> Option<Columns>
+    ensures { result ≡ spec.columns_if has_columns columns }
+{
+    if has_columns { columns } else { None }
+}
+
+/// `FILE:LINE:COLUMN: CAP of NAME` of a field at `place` with these `columns`, which is about `cap`, of the entry
+/// with these `names`.
+#[tactic(auto, unfolding(crate::specs::Locations::numbered_text))]
+fn numbered_words(
+    alloc: Global,
+    place: FieldPlace<'_>,
+    columns: Option<Columns>,
+    cap: Cap,
+    names: &[u8],
+) -> Result<Vec<u8>, AllocError>
+    ensures { IfOk result (λ words. words.items ≡ spec.numbered_text (line_of place.entry) columns cap names.now) }
+{
+    let mut words = Vec::from_slice(alloc, place.path.as_bytes())?;
+    words.extend_from_slice(number_words(alloc, place.line)?.as_slice())?;
+    words.extend_from_slice(column_words(alloc, columns)?.as_slice())?;
+    words.extend_from_slice(b": ")?;
+    words.extend_from_slice(name(cap))?;
+    words.extend_from_slice(b" of ")?;
+    words.extend_from_slice(first_name(names))?;
+    Ok(words)
+}
+
+/// A colon and the number of a line; nothing for 0, in a file without lines.
+fn number_words(alloc: Global, number: usize) -> Result<Vec<u8>, AllocError>
+    ensures { IfOk result (λ words. words.items ≡ spec.number_text number) }
+{
+    if number == 0 {
+        return Ok(Vec::new(alloc));
+    }
+    Vec::from_slice(alloc, format!(in alloc; ":{number}")?.as_bytes())
+}
+
+/// A colon and the first of the `columns`; nothing without columns.
+fn column_words(alloc: Global, columns: Option<Columns>) -> Result<Vec<u8>, AllocError>
+    ensures { IfOk result (λ words. words.items ≡ spec.column_text columns) }
+{
+    match columns {
+        None => Ok(Vec::new(alloc)),
+        Some(Columns { start, end: _ }) => {
+            Vec::from_slice(alloc, format!(in alloc; ":{start}")?.as_bytes())
+        }
+    }
+}
+
+/// The bytes of `field` in its file, with marks under the `part` of its value that is at fault; nothing if no line has it.
+#[tactic(auto, unfolding(crate::specs::Locations::excerpt_text, crate::specs::Locations::value_at))]
+fn excerpt_lines(
+    alloc: Global,
+    field: &PutField<'_, '_>,
+    part: Option<Stretch>,
+) -> Result<Vec<u8>, AllocError>
+    requires { IsFaulty (value_at (put_files field.now.files) field.now.cap field.now.origin) part }
+    ensures { IfOk result (λ lines. lines.items ≡ spec.excerpt_text (put_files field.now.files)
+        field.now.cap part field.now.origin) }
+{
+    match field.files.columns(field.origin, field.cap) {
+        None => Ok(Vec::new(alloc)),
+        Some(columns) => {
+            let piece = field.files.piece(field.origin, columns);
+            excerpt(alloc, field.cap, piece, part)
+        }
+    }
+}
+
+/// A fault at its place in a source.
+#[derive(Drop)]
+pub struct PlacedFault {
+    /// `FILE:LINE:COLUMN: CAP of ENTRY: `, as far as it can be shown, where ENTRY has the value.
+    pub place: Vec<u8>,
+    /// The name of the entry that has the fault.
+    pub name: Vec<u8>,
+    /// A space, the words of the fault, the end of the line, and the field with marks under the part of its value that is at fault.
+    pub fault: Vec<u8>,
+}
+
+/// The fault of the entry of this `name` at the place of the value that it is about, where the entry is at `stands`. COLUMN
+/// is left out unless `has_columns`. `None` if the entry is in no source, or has no value.
+///
+/// # Errors
+/// Out of memory.
+pub fn placed(
+    alloc: Global,
+    stands: &Option<SourcePlace<'_, '_>>,
+    has_columns: bool,
+    name: &[u8],
+    fault: &Judged<'_>,
+) -> Result<Option<PlacedFault>, AllocError>
+    requires { IfSome stands.now (λ there. there.place < length there.raws.now) }
+    ensures { IfOk result (λ found. spec.IsPlaced has_columns (spec.place_if stands.now) name.now fault.now.no.now
+        (spec.placed_if found)) }
+{
+    match stands {
+        None => Ok(None),
+        Some(stands) => placed_in(alloc, stands, has_columns, name, fault),
+    }
+}
+
+/// The fault of the entry of this name at `stands`.
+fn placed_in(
+    alloc: Global,
+    stands: &SourcePlace<'_, '_>,
+    has_columns: bool,
+    name: &[u8],
+    fault: &Judged<'_>,
+) -> Result<Option<PlacedFault>, AllocError>
+    requires { stands.now.place < length stands.now.raws.now }
+    ensures { IfOk result (λ found. spec.IsPlacedIn has_columns (spec.place_in stands.now) name.now fault.now.no.now
+        (spec.placed_if found)) }
+{
+    match stands.origin(alloc, fault.no.cap)? {
+        None => Ok(None),
+        Some(origin) => {
+            let field = PutField {
+                files: stands.files,
+                raws: stands.raws,
+                cap: fault.no.cap,
+                origin,
+            };
+            Ok(Some(placed_at(alloc, &field, has_columns, name, fault)?))
+        }
+    }
+}
+
+/// The fault of the entry of this name, in `field`.
+fn placed_at(
+    alloc: Global,
+    field: &PutField<'_, '_>,
+    has_columns: bool,
+    name: &[u8],
+    fault: &Judged<'_>,
+) -> Result<PlacedFault, AllocError>
+    requires { field.now.cap ≡ fault.now.no.now.cap }
+    ensures { IfOk result (λ placed. (part : Option Stretch)
+        × IsFaulty (value_at (put_files field.now.files) fault.now.no.now.cap field.now.origin) part
+        × (spec.placed_in placed ≡ spec.fault_at has_columns (put_files field.now.files) field.now.raws.now name.now
+        fault.now.no.now part field.now.origin)) }
+{
+    let part = part_at(alloc, field, fault)?;
+    let mut words = place_words(alloc, field, has_columns)?;
+    words.extend_from_slice(b": ")?;
+    Ok(PlacedFault {
+        place: shown_bytes(alloc, words.as_slice())?,
+        name: shown_bytes(alloc, name)?,
+        fault: fault_lines(alloc, field, fault.no, part)?,
+    })
+}
+
+/// A space, the words of `no`, the end of the line, and the `field` with marks under the `part` of its value that is at fault.
+fn fault_lines(
+    alloc: Global,
+    field: &PutField<'_, '_>,
+    no: &No,
+    part: Option<Stretch>,
+) -> Result<Vec<u8>, AllocError>
+    requires cap { field.now.cap ≡ no.now.cap }
+    requires part { IsFaulty (value_at (put_files field.now.files) field.now.cap field.now.origin) part }
+    ensures { IfOk result (λ lines. lines.items ≡ shown (codes " " ++ no_text no.now)
+        ++ 10 ∷ excerpt_text (put_files field.now.files) no.now.cap part field.now.origin) }
+{
+    let mut words = Vec::from_slice(alloc, b" ")?;
+    words.extend_from_slice(no_words(alloc, no)?.as_slice())?;
+    let mut lines = shown_bytes(alloc, words.as_slice())?;
+    lines.push(b'\n')?;
+    lines.extend_from_slice(excerpt_lines(alloc, field, part)?.as_slice())?;
+    Ok(lines)
+}
+
+/// The names of the entry at `place`.
+#[tactic(auto, unfolding(ti_resolve::specs::Uses::names_at))]
+fn names_of(raws: &[RawEntry], place: usize) -> &[u8]
+    ensures { result.now ≡ names_at raws.now place }
+{
+    match raws.get(place) {
+        Some(raw) => raw.names.as_slice(),
+        None => &[],
+    }
+}
