@@ -8,10 +8,11 @@ use crate::parameters::narrowed;
 use crate::parts::{Mark, PARTS, Part, differ, digit_for, switch_of};
 use crate::units::{effect_in, tokens_of, units};
 use std::alloc::{AllocError, Global};
-use ti_parm::{Param, ParmFault, sent};
+use ti_parm::Param;
 use ti_rows::{Attributes, Looks, NO_ATTRIBUTES, NO_MARKS, Row};
 use ti_stretches::{
     CodeFault, Sender, Stretch, conditional_on, faulty_code, open_conditional, sending_stretch,
+    sent_bytes,
 };
 use vt_effects::{Effect, Switch};
 use vt_term::Size;
@@ -100,21 +101,6 @@ fn params_of(alloc: Global, row: Row) -> Result<Vec<Param<'static>>, AllocError>
     Ok(params)
 }
 
-/// The bytes that `string` sends for `params`; `None` if it can't be expanded.
-fn bytes_for(
-    alloc: Global,
-    string: &[u8],
-    params: &[Param<'_>],
-) -> Result<Option<Vec<u8>>, AllocError> {
-    let mut bytes = Vec::new(alloc);
-    match sent(alloc, string, params, &mut bytes) {
-        Ok(()) => Ok(Some(bytes)),
-        Err(ParmFault::NoMemory) => Err(AllocError),
-        Err(ParmFault::BadCode | ParmFault::BadNest | ParmFault::Underflow) => Ok(None),
-        Err(ParmFault::Overflow | ParmFault::BadChar | ParmFault::WrongKind) => Ok(None),
-    }
-}
-
 /// The looks by which the effect of the row's string is judged: of `sgr` what each attribute shows alone, otherwise what
 /// `effect` itself shows.
 fn looks_for(alloc: Global, checked: &Checked<'_>, effect: &Effect) -> Result<Looks, AllocError> {
@@ -143,7 +129,7 @@ fn effect_for(
     row: Row,
 ) -> Result<Option<Effect>, AllocError> {
     let params = params_of(alloc, row)?;
-    match bytes_for(alloc, checked.string, params.as_slice())? {
+    match sent_bytes(alloc, checked.string, params.as_slice())? {
         Some(bytes) => {
             let start = row.start(checked.size);
             effect_in(alloc, bytes.as_slice(), checked.size, &start)
@@ -233,7 +219,7 @@ pub fn sent_stretch(alloc: Global, checked: &Checked<'_>) -> Result<Option<Stret
     ensures { IfOk result (IsWithinIf checked.now.string.now) }
 {
     let params = params_of(alloc, checked.row)?;
-    let Some(bytes) = bytes_for(alloc, checked.string, params.as_slice())? else {
+    let Some(bytes) = sent_bytes(alloc, checked.string, params.as_slice())? else {
         return Ok(None);
     };
     let sender = Sender {

@@ -1,8 +1,7 @@
 -- Which code of a parameter string is at fault.
-use Rattle.std.specs.Prelude.{◌≡◌, ℕ, Bool, List, Result, Ok, Err}
+use Rattle.std.specs.Prelude.{◌≡◌, ℕ, Bool, List, Ok, Err}
 use Rattle.ti_parm.specs.Meaning.{ReadsUnset, State, meaning}
 use Rattle.ti_parm.specs.Value.{Value, zeros}
-use Rattle.ti_parm.specs.declared.fault.ParmFault.{ParmFault}
 use Rattle.ti_stretches.specs.Prefixes.{closed_front}
 use Rattle.ti_stretches.specs.Stretches.{IsWithin}
 use Rattle.ti_stretches.specs.declared.faulty_codes.CodeFault.{CodeFault}

@@ -1,5 +1,5 @@
 -- Which stretch of a parameter string sends given bytes.
-use Rattle.std.specs.Prelude.{◌≡◌, ◌<◌, ◌≤◌, ℕ, Bool, List, Result, Ok, All, take}
+use Rattle.std.specs.Prelude.{◌≡◌, ◌≤◌, ℕ, Bool, List, Ok, All, take}
 use Rattle.ti_parm.specs.Meaning.{sent}
 use Rattle.ti_parm.specs.Value.{Value}
 use Rattle.ti_stretches.specs.Prefixes.{closed_front}

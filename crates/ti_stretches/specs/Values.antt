@@ -1,5 +1,5 @@
 -- Which part of a value in a source text means a stretch of the string.
-use Rattle.std.specs.Prelude.{◌≡◌, ℕ, List, Result, Ok, drop, take}
+use Rattle.std.specs.Prelude.{◌≡◌, ℕ, List, Ok, drop, take}
 use Rattle.ti_source.specs.Escapes.{unescaped}
 use Rattle.ti_stretches.specs.Stretches.{IsWithin}
 use Rattle.ti_stretches.specs.declared.stretches.Stretch.{Stretch}

@@ -31,8 +31,11 @@ struct Cut {
     count: usize,
 }
 
-/// The bytes that `string` sends for `params`; `None` if it can't be expanded.
-fn bytes_of(
+/// The bytes that `string` sends for `params`, with all static variables 0; `None` if it can't be expanded.
+///
+/// # Errors
+/// Out of memory.
+pub fn sent_bytes(
     alloc: Global,
     string: &[u8],
     params: &[Param<'_>],
@@ -73,7 +76,7 @@ impl Sender<'_> {
             HasSent self.now.string.now (values_of self.now.params.now) self.now.bytes.now cut.place cut.count)) }
     {
         let front = nest.closed_front(alloc, self.string, place)?;
-        let Some(bytes) = bytes_of(alloc, front.as_slice(), self.params)? else {
+        let Some(bytes) = sent_bytes(alloc, front.as_slice(), self.params)? else {
             return Ok(None);
         };
         match front_length(self.bytes, bytes.as_slice()) {
