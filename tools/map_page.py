@@ -25,6 +25,7 @@ PARTS = [
             "ti_mends",
             "ti_wrapped",
             "ti_verdicts",
+            "ti_places",
             "ti_commands",
             "ti_hints",
             "ti_words",

@@ -1,5 +1,5 @@
 -- The pairs of `acsc`.
-use Rattle.std.specs.Prelude.{◌≡◌, ◌+◌, ℕ, List, Option, Some, slice_get}
+use Rattle.std.specs.Prelude.{◌≡◌, ◌+◌, ℕ, List, Some, slice_get}
 use Rattle.ti_stretches.specs.Stretches.{IsWithin}
 use Rattle.ti_stretches.specs.declared.stretches.Stretch.{Stretch}
 

@@ -1,5 +1,5 @@
 -- Stretches of a string that a call may find.
-use Rattle.std.specs.Prelude.{◌≡◌, ℕ, List, IfSome, Option}
+use Rattle.std.specs.Prelude.{ℕ, List, IfSome, Option}
 use Rattle.ti_stretches.specs.Stretches.{IsWithin}
 use Rattle.ti_stretches.specs.declared.stretches.Stretch.{Stretch}
 

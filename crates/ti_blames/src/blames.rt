@@ -8,7 +8,7 @@ use crate::parameters::narrowed;
 use crate::parts::{Mark, PARTS, Part, differ, digit_for, switch_of};
 use crate::units::{effect_in, tokens_of, units};
 use std::alloc::{AllocError, Global};
-use ti_parm::Param;
+use ti_parm::{Param, ParmFault};
 use ti_rows::{Attributes, Looks, NO_ATTRIBUTES, NO_MARKS, Row};
 use ti_stretches::{
     CodeFault, Sender, Stretch, conditional_on, faulty_code, open_conditional, sending_stretch,
