@@ -22,9 +22,9 @@ use ti_places::{LinedFiles, NamedSource, SourcePlace};
 use ti_resolve::Origin;
 use ti_source::RawEntry;
 
-/// A line for each hint about the `subject`: where it was asked for by its name, about its fields and those of the entries
-/// of its file that it uses; where it stands at a place, about its own fields alone, and only if `lists_all`. None if it
-/// is in no source.
+/// A line for each hint about the `subject`. Of an entry that was asked for by its name, the fields are its own and those
+/// of the entries of its file that it uses; of one at a place they are its own, and there are hints only if `lists_all`.
+/// None if it is in no source.
 pub fn hint_lines(
     alloc: Global,
     subject: &Subject<'_, '_>,
@@ -60,7 +60,7 @@ fn named_lines(
     }
 }
 
-/// The lines of the hints about the `subject`, which stands at the place `there`, if `lists_all`.
+/// The lines of the hints about the `subject` at the place `there`, if `lists_all`.
 fn placed_lines(
     alloc: Global,
     subject: &Subject<'_, '_>,
@@ -195,7 +195,7 @@ fn hint_line(
     report_line(alloc, &report)
 }
 
-/// What the `hint` about a field of `source` says, and where.
+/// The words and the place of the `hint` about a field of `source`.
 fn hint_finding(
     alloc: Global,
     source: &HintSource<'_, '_>,

@@ -102,7 +102,7 @@ impl Finding {
     ghost use Rattle.ti_reports.specs.Faults.{SaysWords};
     ghost use Rattle.ti_reports.specs.Reports as spec;
 
-    /// What these `words` say about the `capability` at `place`, without a fault.
+    /// A finding without a fault: these `words` about the `capability` at `place`.
     pub fn of_words(
         alloc: Global,
         capability: Option<String>,
