@@ -310,10 +310,10 @@ def judge_lines(one, lines, path):
     if places != ([f"{path}:{one['line']}:{one['column']}: {one['capability']} of {one['source_entry']}"] if one["line"] else []):
         fail(f"the place of {one} is not that of {lines}")
     # the marks under the part of the value that is at fault, where each byte before it is shown as it is
-    marks = [line for line in lines if re.fullmatch(r"    +\^~*", line)]
+    marks = [line for line in lines if re.fullmatch(r"  +\^~*", line)]
     if path and one["fault_column"] is not None and one["string"].isprintable():
         behind = one["fault_column"] - one["column"]
-        if marks != [" " * (4 + behind) + "^" + "~" * (one["fault_end_column"] - one["fault_column"] - 1)]:
+        if marks != [" " * (2 + behind) + "^" + "~" * (one["fault_end_column"] - one["fault_column"] - 1)]:
             fail(f"the part of {one} is not that of {lines}")
     # the field there, and the marks under its value
     places += [line for line in lines if line.startswith("  ")]
