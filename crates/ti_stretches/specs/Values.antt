@@ -1,5 +1,5 @@
 -- Which part of a value in a source text means a stretch of the string.
-use Rattle.std.specs.Prelude.{◌≡◌, ℕ, List, Ok, drop, take}
+use Rattle.std.specs.Prelude.{◌≡◌, ◌≤◌, ◌<◌, ℕ, List, Ok, drop, length, take}
 use Rattle.ti_source.specs.Escapes.{unescaped}
 use Rattle.ti_stretches.specs.Stretches.{IsWithin}
 use Rattle.ti_stretches.specs.declared.stretches.Stretch.{Stretch}
@@ -9,6 +9,13 @@ use Rattle.ti_stretches.specs.declared.stretches.Stretch.{Stretch}
 pub record IsCut (text bytes : List ℕ) (count place : ℕ) : Type 0 where
   pub before : unescaped (take place text) ≡ Ok (take count bytes)
   pub behind : unescaped (drop place text) ≡ Ok (drop count bytes)
+
+-- the first such place from another one on
+pub record IsFirstCut (text bytes : List ℕ) (count first place : ℕ) : Type 0 where
+  pub is : IsCut text bytes count place
+  pub late : first ≤ place
+  pub within : place ≤ length text
+  pub least : (other : ℕ) → first ≤ other → other < place → IsCut text bytes count other → ⊥
 
 -- the part of a value that means a stretch of the string
 pub record IsMeaning (text bytes : List ℕ) (stretch part : Stretch) : Type 0 where

@@ -1,6 +1,6 @@
 //! The stretch of a parameter string that sends given bytes.
 
-ghost use Rattle.std.specs.Prelude.{◌≡◌, ◌≤◌, ◌⊎◌, All, Some, IfOk, IfSome, List, ℕ, Bool, Ok, length, take};
+ghost use Rattle.std.specs.Prelude.{◌≡◌, ◌≤◌, ◌⊎◌, All, Some, IfNone, IfOk, IfSome, List, ℕ, Bool, Ok, length, take};
 ghost use Rattle.ti_parm.specs.Meaning.{sent};
 ghost use Rattle.ti_parm.specs.Value.{values_of};
 ghost use Rattle.ti_stretches.specs.Prefixes.{closed_front};
@@ -40,7 +40,9 @@ pub fn sent_bytes(
     string: &[u8],
     params: &[Param<'_>],
 ) -> Result<Option<Vec<u8>>, AllocError>
-    ensures { IfOk result (λ found. IfSome found (λ bytes. sent string.now (values_of params.now) ≡ Ok bytes.items)) }
+    ensures sent { IfOk result (λ found. IfSome found (λ bytes. sent string.now (values_of params.now) ≡ Ok bytes.items)) }
+    ensures none { IfOk result (λ found. IfNone found
+        ((bytes : List ℕ) → sent string.now (values_of params.now) ≡ Ok bytes → ⊥)) }
 {
     let mut bytes = Vec::new(alloc);
     match sent(alloc, string, params, &mut bytes) {
