@@ -8,12 +8,29 @@ use vt_effects::{Effect, Erasure, Move, Region};
 /// Which parameter of a control sequence with the final byte `last` gives a part what is asked of it in another way, counted
 /// from 0: of CUP, CHA and VPA the row or the column, of DECSTBM the first or the last line, and of ECH the cells.
 fn place_of(part: Part, last: u8, effect: &Effect, asked: &Effect) -> Option<usize> {
-    match (part, last) {
-        (Part::Row, b'H' | b'f' | b'd') if is_to(asked.row) => Some(0),
-        (Part::Column, b'H' | b'f') if is_to(asked.col) => Some(1),
-        (Part::Column, b'G') if is_to(asked.col) => Some(0),
-        (Part::Erasure, b'X') if is_next(asked.erasure) => Some(0),
-        (Part::Margins, b'r') => differing_line(effect.margins?, asked.margins?),
+    match part {
+        Part::Row => row_place(last, asked.row),
+        Part::Column => column_place(last, asked.col),
+        Part::Erasure if last == b'X' && is_next(asked.erasure) => Some(0),
+        Part::Margins if last == b'r' => differing_line(effect.margins?, asked.margins?),
+        Part::Erasure | Part::Margins | Part::Scroll | Part::Mark(_) | Part::Sets => None,
+        Part::Foreground | Part::Background | Part::Visible | Part::Pending => None,
+    }
+}
+
+/// The place of the row in CUP and VPA.
+fn row_place(last: u8, asked: Move) -> Option<usize> {
+    match last {
+        b'H' | b'f' | b'd' if is_to(asked) => Some(0),
+        _ => None,
+    }
+}
+
+/// The place of the column in CUP and CHA.
+fn column_place(last: u8, asked: Move) -> Option<usize> {
+    match last {
+        b'H' | b'f' if is_to(asked) => Some(1),
+        b'G' if is_to(asked) => Some(0),
         _ => None,
     }
 }

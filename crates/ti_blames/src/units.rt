@@ -21,11 +21,10 @@ pub(crate) fn units(alloc: Global, tokens: &[Token]) -> Result<Vec<Unit>, AllocE
     let mut units = Vec::new(alloc);
     let mut front = Vec::new(alloc);
     for token in tokens {
-        match token.function() {
-            Function::SelectRendition(_) => {
-                push_parameters(alloc, front.as_slice(), token.bytes(), &mut units)?;
-            }
-            _ => push_token(alloc, front.as_slice(), token.bytes(), &mut units)?,
+        if let Function::SelectRendition(_) = token.function() {
+            push_parameters(alloc, front.as_slice(), token.bytes(), &mut units)?;
+        } else {
+            push_token(alloc, front.as_slice(), token.bytes(), &mut units)?;
         }
         front.extend_from_slice(token.bytes())?;
     }

@@ -1,5 +1,7 @@
-use Rattle.std.proofs.Common.{◌-◌, length}
+use Rattle.std.specs.Prelude.{◌<◌, ℕ}
 use Rattle.ti_blames.proofs.pairs.pair_of.Given as goal
+use Rattle.ti_blames.specs.Pairs.{HasLetter}
 
-abbrev pub decreases-loop-from : goal.decreases-loop-from
-decreases-loop-from l = length l.pairs - l.from
+-- no pair before this place has the letter
+abbrev pub invariant-loop-place : goal.invariant-loop-place
+invariant-loop-place l = (other : ℕ) → other < l.place → HasLetter l.pairs l.letter other → ⊥
