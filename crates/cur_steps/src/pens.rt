@@ -2,7 +2,7 @@
 use crate::beliefs::Belief;
 use cur_wires::WireFault;
 
-/// What a step answers: `WireFault` if the wire failed.
+/// The answer of a step: `WireFault` if the wire failed.
 pub type Sent = Result<(), WireFault>;
 
 /// A wire to the terminal, and the belief about the terminal at its end. The steps of a painter are its methods.

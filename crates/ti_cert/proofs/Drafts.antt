@@ -179,7 +179,7 @@ adds_other string row old mid new same room adds = λ rows cols entry n there ch
 same_string : (entry : Content) (row other : Row) → order row ≡ order other → string_of entry row ≡ string_of entry other
 same_string entry row other e = ap (λ (n : ℕ). string_at entry (83 + string_in_order n)) e
 
--- whether a capability has lines is told by its place in the order
+-- the place in the order tells whether a capability has lines
 at_order : (p : Progress) (row other : Row) → order row ≡ order other → has_group p.known.strings other ≡ true → has_group p.known.strings row ≡ true
 at_order p row other same h = subst (λ (k : ℕ). not (length (group_at p.known.strings k) == 0) ≡ true) (sym same) h
 

@@ -16,7 +16,7 @@ use ti_source::escape;
 struct Parts<'a> {
     /// The text before a field.
     front: &'a [u8],
-    /// The field, or what stands in its place.
+    /// The field, or the text in its place.
     own: &'a [u8],
     /// The text after it.
     back: &'a [u8],
