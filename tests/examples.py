@@ -174,6 +174,7 @@ c|used too,
 	setb=%p1%p2%^%d, use=b,
 d|not used,
 	bar, setf=%p1%p2%^%d,
+	ka1=^\, quux, ka3=^\q,
 """,
     "hostile": b"a|a, use=\x1b[31m,\n",
     "latin": b"h\xe9",
@@ -502,6 +503,8 @@ HINTS = [
 OTHERS = [
     "hint line 11: bar is no capability",
     "hint line 11: in setf `%^` is read as `%` and a control character; exclusive or is written `%\\^`",
+    # a caret takes the backslash behind it
+    "hint line 12: quux is no capability",
 ]
 DULL = [
     "advice sgr: smso=\\E[7m shows standout, sgr never does",

@@ -1,9 +1,10 @@
 //! The columns of a field in its line.
 
-ghost use Rattle.std.specs.Prelude.{◌≡◌, ◌≤◌, ◌<◌, ◌+◌, [], drop, length, take, IfNone, IfSome};
+ghost use Rattle.std.specs.Prelude.{◌≡◌, ◌≤◌, ◌<◌, ◌+◌, [], drop, length, slice_index, take, IfNone, IfSome};
 ghost use Rattle.std.specs.List.{list_all};
 ghost use Rattle.ti_entries.specs.Columns as spec;
 ghost use Rattle.ti_source.specs.Layout.{cut_of, is_white, put_field, skip_white};
+ghost use Rattle.ti_source.specs.Marks.{comma};
 ghost use Rattle.ti_source.specs.Scan.{comma_in};
 
 use ti_caps::{Cap, Opener, name};
@@ -18,11 +19,13 @@ pub struct Columns {
     pub end: usize,
 }
 
-/// The place of the first comma that ends a field.
+/// The place of the comma that ends the first field of `line`, a part of a line of source text; `None` if no comma ends it.
+/// A backslash takes the byte behind it, a comma too; a caret takes a backslash behind it (terminfo(5)).
 #[tactic(auto, unfolding(ti_source::specs::Scan::comma_in))]
-fn field_end(line: &[u8]) -> Option<usize>
+pub fn field_end(line: &[u8]) -> Option<usize>
     ensures place { result ≡ comma_in line.now }
     ensures range { IfSome result (λ at. at < length line.now) }
+    ensures mark { IfSome result (λ at. slice_index line.now at ≡ comma) }
 {
     let mut opener = Opener::Nothing;
     let mut at = 0;

@@ -1,9 +1,11 @@
 //! The fields of a line of source text, for messages.
 
-ghost use Rattle.std.specs.Prelude.{◌≡◌, ◌<◌, ◌++◌, ◌∷◌, IfSome, length, slice_index};
+ghost use Rattle.std.specs.Prelude.{◌≡◌, ◌++◌, ◌∷◌, IfNone, IfSome, None, Some, length};
 ghost use Rattle.ti_source.specs.Marks.{comma};
+ghost use Rattle.ti_source.specs.Scan.{comma_in};
 
-use ti_caps::{Kind, by_name, kind};
+use ti_caps::{Kind, Opener, by_name, kind};
+use ti_entries::field_end;
 use ti_source::FaultKind;
 
 /// A field as a line has it.
@@ -43,12 +45,12 @@ impl FieldText<'_> {
         if self.mark != Some(b'=') || self.is_left_out() || by_name(self.name).is_none() {
             return None;
         }
-        let mut is_escaped = false;
+        let mut opener = Opener::Nothing;
         for byte in self.value {
-            if is_escaped && !has_meaning(*byte) {
+            if matches!(opener, Opener::Backslash) && !has_meaning(*byte) {
                 return Some(*byte);
             }
-            is_escaped = !is_escaped && *byte == b'\\';
+            opener = opener.after(*byte);
         }
         None
     }
@@ -63,15 +65,25 @@ impl FieldText<'_> {
         let Some(cap) = by_name(self.name) else {
             return false;
         };
-        match (fault, self.mark) {
-            (FaultKind::WrongKind, Some(b'#')) => kind(cap) != Kind::Number,
-            (FaultKind::WrongKind, Some(b'=')) => kind(cap) != Kind::String,
-            (FaultKind::WrongKind, None) => kind(cap) != Kind::Flag,
-            (FaultKind::BadNumber, Some(b'#')) => number_of(self.value).is_none(),
-            (FaultKind::NumberRange, Some(b'#')) => {
-                number_of(self.value).is_some_and(|number| number > 2_147_483_647)
+        match fault {
+            FaultKind::WrongKind => self.has_form_of_other(kind(cap)),
+            FaultKind::BadNumber => self.is_number() && number_of(self.value).is_none(),
+            FaultKind::NumberRange => {
+                self.is_number()
+                    && number_of(self.value).is_some_and(|number| number > 2_147_483_647)
             }
-            _ => false,
+            FaultKind::NoName | FaultKind::OpenField | FaultKind::BadEscape => false,
+            FaultKind::TooLong | FaultKind::NoMemory => false,
+        }
+    }
+
+    /// Whether the field has the form of a flag, a number or a string, and `kind` is another.
+    fn has_form_of_other(&self, kind: Kind) -> bool {
+        match self.mark {
+            Some(b'#') => kind != Kind::Number,
+            Some(b'=') => kind != Kind::String,
+            Some(_) => false,
+            None => kind != Kind::Flag,
         }
     }
 }
@@ -123,28 +135,12 @@ pub fn next_field(rest: &[u8]) -> (FieldText<'_>, &[u8]) {
 /// The part of `rest` before the comma that ends its first field, and the part behind that comma; `None` if there is no
 /// such comma.
 pub(crate) fn cut_comma(rest: &[u8]) -> Option<(&[u8], &[u8])>
-    ensures { IfSome result (λ x. rest.now ≡ x.0.now ++ comma ∷ x.1.now) }
+    ensures parts { IfSome result (λ x. rest.now ≡ x.0.now ++ comma ∷ x.1.now) }
+    ensures first { IfSome result (λ x. comma_in rest.now ≡ Some (length x.0.now)) }
+    ensures none { IfNone result (comma_in rest.now ≡ None) }
 {
     let at = field_end(rest)?;
     Some((&rest[..at], &rest[at + 1..]))
-}
-
-/// The place of the first comma without a backslash.
-fn field_end(rest: &[u8]) -> Option<usize>
-    ensures range { IfSome result (λ at. at < length rest.now) }
-    ensures mark { IfSome result (λ at. slice_index rest.now at ≡ comma) }
-{
-    let mut is_escaped = false;
-    for (at, byte) in rest.iter().enumerate() {
-        if is_escaped {
-            is_escaped = false;
-        } else if *byte == b'\\' {
-            is_escaped = true;
-        } else if *byte == b',' {
-            return Some(at);
-        }
-    }
-    None
 }
 
 /// The parts of `field`.

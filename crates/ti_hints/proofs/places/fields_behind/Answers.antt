@@ -9,9 +9,9 @@ use Rattle.ti_hints.proofs.places.fields_behind.Goals.{then-not-is_empty+in_ok-p
 -- the part before the next comma is the next field
 pub loop-part-preserved : goal.loop-part-preserved
 loop-part-preserved c = record {
-  left = rest_behind c.args.line.now c.loop-part.rest.now c.in-Some.part.now c.in-Some.behind.now c.loop-part.passed c.loop-part.invariant.left c.in-Some.ensures;
+  left = rest_behind c.args.line.now c.loop-part.rest.now c.in-Some.part.now c.in-Some.behind.now c.loop-part.passed c.loop-part.invariant.left c.in-Some.ensures.parts;
   stand = one_more (λ (it : PlacedField). IsFieldOn c.args.line.now it.columns) c.loop-part.fields.items c.push.new.self.items c.placed.result c.in_ok-push.ensures.items c.loop-part.invariant.stand
-      (part_stands c.args.line.now c.loop-part.rest.now c.in-Some.part.now c.in-Some.behind.now c.loop-part.passed c.placed.result.columns c.loop-part.invariant.left c.in-Some.ensures c.placed.ensures);
+      (part_stands c.args.line.now c.loop-part.rest.now c.in-Some.part.now c.in-Some.behind.now c.loop-part.passed c.placed.result.columns c.loop-part.invariant.left c.in-Some.ensures.parts c.placed.ensures);
 }
 
 -- and what is left is the last one
