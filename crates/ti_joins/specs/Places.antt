@@ -2,6 +2,7 @@
 use Rattle.std.specs.Prelude.{◌≡◌, ◌≤◌, ◌+◌, ◌-◌, ℕ, List, [], ◌∷◌, Option, Some, None, drop, if◌then◌else◌, length, nat_lt, slice_get}
 use Rattle.ti_joins.specs.Joins.{joined_lines}
 use Rattle.ti_joins.specs.declared.places.Place.{Place}
+use Rattle.ti_joins.specs.declared.places.Region.{Region}
 use Rattle.ti_source.specs.Layout.{skip_white}
 
 -- the place of the byte with this many others before it, behind a line: on the first of the further lines, which has a
@@ -24,6 +25,33 @@ place_from number at (line ∷ behind) =
 -- the line that has its number
 unfoldable pub place_of : List (List ℕ) → Place → Place
 place_of lines place = place_from place.line (place.column - 1) (drop (place.line - 1) lines)
+
+-- ---- a region
+
+abbrev pub at : ℕ → ℕ → Place
+at line column = record { line = line; column = column }
+
+abbrev pub behind : Place → Place
+behind place = record { line = place.line; column = place.column + 1 }
+
+-- the place in a text behind the last of the bytes of a joined line from one column up to another; that of the first
+-- column, if there are none
+unfoldable pub end_of : List (List ℕ) → ℕ → ℕ → ℕ → Place
+end_of lines number start end =
+    if nat_lt start end then behind (place_of lines (at number (end - 1))) else place_of lines (at number start)
+
+-- from a place up to another
+abbrev pub up_to : Place → Place → Region
+up_to first end = record {
+  line = first.line;
+  column = first.column;
+  end_line = end.line;
+  end_column = end.column;
+}
+
+-- the region in a text of the bytes of a joined line from one column up to another
+unfoldable pub region_of : List (List ℕ) → ℕ → ℕ → ℕ → Region
+region_of lines number start end = up_to (place_of lines (at number start)) (end_of lines number start end)
 
 -- ---- the law
 

@@ -9,4 +9,4 @@ mod scan;
 
 pub use joiner::joined;
 pub use laws::{bytes_are_kept, lines_are_joined};
-pub use places::{Place, original_place};
+pub use places::{Place, Region, original_place, original_region};

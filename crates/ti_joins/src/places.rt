@@ -1,6 +1,6 @@
 //! The bytes of a text that the bytes of the joined text are.
 
-ghost use Rattle.std.specs.Prelude.{◌≡◌, ◌≤◌, ◌<◌, ◌+◌, ◌∷◌, [], IfNone, IfSome, drop, length, map};
+ghost use Rattle.std.specs.Prelude.{◌≡◌, ◌≤◌, ◌<◌, ◌+◌, ◌-◌, ◌∷◌, [], IfNone, IfSome, drop, length, map};
 ghost use Rattle.ti_joins.specs.Places as spec;
 
 use ti_source::skip_white;
@@ -14,31 +14,87 @@ pub struct Place {
     pub column: usize,
 }
 
+/// The region of a text from one byte up to another. Lines and columns are counted from 1, columns in bytes.
+#[derive(Clone, Copy, Debug, PartialEq, Eq)]
+pub struct Region {
+    /// The line of the first byte.
+    pub line: usize,
+    /// The column of the first byte.
+    pub column: usize,
+    /// The line of the last byte.
+    pub end_line: usize,
+    /// The column behind the last byte.
+    pub end_column: usize,
+}
+
 /// The place, in a text with these `lines`, of the byte at `place` of the joined text, which has as many lines. A joined
 /// line begins with the line that has its number, and each line that was joined to it follows without its leading white
 /// space. Behind the last byte the answer is a column behind the last line that was joined.
 #[tactic(auto, unfolding(crate::specs::Places::place_of))]
 pub fn original_place(lines: &[&[u8]], place: Place) -> Place
-    requires line { 1 ≤ place.line }
-    requires column { 1 ≤ place.column }
-    requires there { place.line ≤ length lines.now }
-    ensures { result ≡ spec.place_of (map (λ line. line.now) lines.now) place }
+    ensures place { result ≡ spec.place_of (map (λ line. line.now) lines.now) place }
+    ensures room { place.column < 18446744073709551615 → result.column < 18446744073709551615 }
 {
-    place_from(
-        place.line,
-        place.column - 1,
-        lines_from(lines, place.line - 1),
-    )
+    let behind = lines_from(lines, place.line.saturating_sub(1));
+    place_from(place.line, place.column.saturating_sub(1), behind)
+}
+
+/// The region, in a text with these `lines`, of the bytes of the joined line with this `number` from column `start` up to
+/// column `end`. It ends behind the last of these bytes, on the line that has it.
+#[tactic(auto, unfolding(crate::specs::Places::region_of, crate::specs::Places::end_of))]
+pub fn original_region(lines: &[&[u8]], number: usize, start: usize, end: usize) -> Region
+    ensures { result ≡ spec.region_of (map (λ line. line.now) lines.now) number start end }
+{
+    let first = Place {
+        line: number,
+        column: start,
+    };
+    let begin = original_place(lines, first);
+    let behind = end_of(lines, number, start, end);
+    Region {
+        line: begin.line,
+        column: begin.column,
+        end_line: behind.line,
+        end_column: behind.column,
+    }
+}
+
+/// The place behind the last of the bytes of the joined line with this `number` from column `start` up to column `end`;
+/// the place of the first column, if there are none.
+#[tactic(auto, unfolding(crate::specs::Places::end_of))]
+fn end_of(lines: &[&[u8]], number: usize, start: usize, end: usize) -> Place
+    ensures { result ≡ spec.end_of (map (λ line. line.now) lines.now) number start end }
+{
+    if start < end {
+        let last = Place {
+            line: number,
+            column: end - 1,
+        };
+        let last = original_place(lines, last);
+        Place {
+            line: last.line,
+            column: last.column + 1,
+        }
+    } else {
+        let first = Place {
+            line: number,
+            column: start,
+        };
+        original_place(lines, first)
+    }
 }
 
 /// The lines behind the first `count`.
-#[tactic(auto, using(crate::proofs::Origins::lines_behind))]
+#[tactic(auto, using(crate::proofs::Origins::lines_behind, crate::proofs::Origins::all_behind))]
 fn lines_from<'a, 'b>(lines: &'a [&'b [u8]], count: usize) -> &'a [&'b [u8]]
-    requires { count < length lines.now }
     ensures lines { map (λ line. line.now) result.now ≡ drop count (map (λ line. line.now) lines.now) }
-    ensures fewer { length result.now ≤ length lines.now }
+    ensures fewer { length result.now ≤ length lines.now - count }
 {
-    &lines[count..]
+    if count < lines.len() {
+        &lines[count..]
+    } else {
+        &[]
+    }
 }
 
 /// The first of these lines, and those behind it; `None` if there is none.
@@ -60,7 +116,8 @@ fn cut_first<'a, 'b>(lines: &'a [&'b [u8]]) -> Option<(&'b [u8], &'a [&'b [u8]])
 fn place_from(number: usize, at: usize, lines: &[&[u8]]) -> Place
     requires column { at + 1 ≤ 18446744073709551615 }
     requires line { number + length lines.now ≤ 18446744073709551615 }
-    ensures { result ≡ spec.place_from number at (map (λ line. line.now) lines.now) }
+    ensures place { result ≡ spec.place_from number at (map (λ line. line.now) lines.now) }
+    ensures room { at + 1 < 18446744073709551615 → result.column < 18446744073709551615 }
 {
     match cut_first(lines) {
         None => Place {
@@ -86,7 +143,8 @@ fn place_from(number: usize, at: usize, lines: &[&[u8]]) -> Place
 fn place_behind(number: usize, past: usize, behind: &[&[u8]]) -> Place
     requires column { past + 1 ≤ 18446744073709551615 }
     requires line { number + length behind.now ≤ 18446744073709551615 }
-    ensures { result ≡ spec.place_behind number past (map (λ line. line.now) behind.now) }
+    ensures place { result ≡ spec.place_behind number past (map (λ line. line.now) behind.now) }
+    ensures room { past + 1 < 18446744073709551615 → result.column < 18446744073709551615 }
 {
     let mut left = past;
     for at in 0..behind.len() {

@@ -3,8 +3,8 @@ use Rattle.ti_joins.specs.Places.{place_behind}
 use Rattle.ti_joins.proofs.Origins.{behind_next, on_next}
 use Rattle.ti_joins.proofs.places.place_behind.Goals as goal
 
-pub returns-then-left-own : goal.returns-then-left-own
-returns-then-left-own c =
+pub returns-then-left-own-clause-place : goal.returns-then-left-own-clause-place
+returns-then-left-own-clause-place c =
     let lines = map (λ line. line.now) c.args.behind.now in
     on_next (c.args.number + c.loop-at.at) c.loop-at.left c.line_there-next.result.now c.skip_white-own.result.now (drop c.loop-at.at lines) (drop (c.loop-at.at + 1) lines) (place_behind c.args.number c.args.past lines)
     c.line_there-next.ensures c.skip_white-own.ensures c.if-left-own.true c.loop-at.invariant.place
@@ -18,4 +18,5 @@ loop-at-preserved c =
           ∙ behind_next (c.args.number + c.loop-at.at) c.loop-at.left c.line_there-next.result.now c.skip_white-own.result.now (drop c.loop-at.at lines) (drop (c.loop-at.at + 1) lines) (place_behind c.args.number c.args.past lines)
           c.line_there-next.ensures c.skip_white-own.ensures c.if-left-own.false c.loop-at.invariant.place;
       column = omega arith;
+      fewer = let was = c.loop-at.invariant.fewer in omega (arith, was);
     }

@@ -7,4 +7,5 @@ abbrev pub invariant-loop-at : goal.invariant-loop-at
 invariant-loop-at l = record {
   place : place_behind (l.number + l.at) l.left (drop l.at (map (λ line. line.now) l.behind)) ≡ place_behind l.number l.past (map (λ line. line.now) l.behind);
   column : l.left + 1 ≤ 18446744073709551615;
+  fewer : l.left ≤ l.past;
 }
