@@ -110,8 +110,8 @@ has at most 131072 bytes; one that is written has at most 4096, or 32768 where a
 
 With --join, which check, infocmp, survey, tic and verify take, a field of a source may continue on further lines: where a
 line ends before the comma of its field, and the next one begins with a space or a tab and is neither blank nor a comment,
-the next line goes on in the field, without its leading white space. Each place is given by the lines of the file, that of
-such a field by its first line. The text that `check --fix --join` writes has each field on one line, and blank lines in
+the next line goes on in the field, without its leading white space. Each place is given by the lines of the file: with a
+column it is the place of that byte, and without one, as that of a note, the first of the lines that were joined. The text that `check --fix --join` writes has each field on one line, and blank lines in
 place of those that went on in it. A compiled file, and a certificate, is read as it is.
 
 With --with FILE, which the same commands take, as often as there are files, an entry of a source may use those of other
@@ -191,10 +191,10 @@ With --all there is no certificate. The output is all that is wrong: a line `no 
 a whole has or lacks (FlagOut, Absent, AcsByte), and one for each other capability that goes wrong, with the first of
 its parameters for which it does; then what is wrong with strings together that are right by themselves, and may go
 once the others are mended. Below each of an entry of a source is a line `FILE:LINE:COLUMN: CAP of NAME`, with the
-place of its field and the first name of the entry that has it, through `use=`, without COLUMN with --join. Then comes
-the field itself, after four spaces, with `^~~~` below the code, the control function or its parameter that is at fault,
-or below all of its value where none is alone; and the lines that explain the fault, after two
-spaces. Where the standard's string would be right in that place, with all others that are named taken too, the last
+place of its field and the first name of the entry that has it, through `use=`. Then comes the field itself, after four
+spaces, with `^~~~` below the code, the control function or its parameter that is at fault, or below all of its value
+where none is alone; with --join it comes as it stands in the file, up to the line on which the marks begin, which go no
+further than that line; and then the lines that explain the fault, after two spaces. Where the standard's string would be right in that place, with all others that are named taken too, the last
 of them is `CAP=STRING would be right on T`; below the fault of smacs or rmacs there may be one for each of enacs,
 smacs and rmacs, which are right only together. Where clear and cup are both at fault, standard error says instead
 that the entry seems to be for a terminal of another kind. The last line is the number of faults, and then how many
@@ -209,8 +209,8 @@ the members version (1), verdict, rule (a name for each kind of answer), entry (
 part (whether the entry is only there to be used by others), size (rows and cols), capability, parameters, cause, bytes
 (what the string sends, in hexadecimal), start, wanted and seen (the words of the lines that begin so), explanation (the
 lines below the fault, or the words of the advice or the hint), file (its path), line (on which the value stands, or the
-field of a hint, or what can't be read), column (of the first byte of that field), end_line and end_column (of the comma
-behind it; all from 1, and null with --join), source_entry (the first name of the entry that has the field), source_file
+field of a hint, or what can't be read), column (of the first byte of that field), end_line and end_column (behind
+its last byte, with --join perhaps on a later line; all from 1), source_entry (the first name of the entry that has the field), source_file
 (the file of the line; none for an entry that check can't obtain with --with), string and, with --all, suggestion (the string at fault and the one that would be right, as a source has
 them) and suggested_with (the fields that are to be given with it), judged (whether the string could be judged) and, with
 --all, another_kind (whether the entry seems to be for a terminal of another kind). entry_hex, aliases_hex,
@@ -222,7 +222,7 @@ With --sarif the output is one file of SARIF 2.1.0, which code hosts show at the
 of --json --all but a yes. ruleId is the rule. The level is error for what was shown to be wrong and for what can't be
 read, warning where the string couldn't be judged, and note for advice, for hints and where the entry seems to be for a
 terminal of another kind. The message has the line of the fault, its explanation and the suggestion. A result marks the whole field,
-and has a fix if a string is suggested that is right without others; with --join it marks the line and has none.
+and has a fix if a string is suggested that is right without others.
 
 With --fix there is no certificate. The output is the text of the source file in which each string that --all suggests
 is taken: the field is replaced where it stands, in the entry that --all names, and a missing one is put behind the last

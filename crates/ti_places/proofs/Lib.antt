@@ -1,2 +1,4 @@
 pub mod NoFacts
 pub mod SpotFacts
+pub mod OriginalFacts
+pub mod RowFacts

@@ -1,20 +1,22 @@
 -- The place of a capability's value in a source text, in the form that editors read.
-use Rattle.std.specs.Prelude.{◌≡◌, ◌==◌, ◌+◌, ℕ, Bool, true, false, List, [], ◌∷◌, ◌++◌, Option, Some, None, codes}
-use Rattle.std.specs.Prelude.{if◌then◌else◌}
+use Rattle.std.specs.Prelude.{◌≡◌, ◌==◌, ◌-◌, ℕ, List, [], ◌∷◌, ◌++◌, Option, Some, None, codes, if◌then◌else◌, length}
 use Rattle.std.specs.Fmt.{decimal}
 use Rattle.std.specs.List.{before_first}
 use Rattle.ti_caps.specs.Table.{name_at}
 use Rattle.ti_commands.specs.declared.sources.SourceText.{SourceText}
 use Rattle.ti_checker.specs.declared.causes.No.{No}
 use Rattle.ti_entries.specs.declared.columns.Columns.{Columns}
+use Rattle.ti_joins.specs.declared.places.Region.{Region}
 use Rattle.ti_resolve.specs.Origins.{IsOrigin, IsOriginAt}
 use Rattle.ti_resolve.specs.Uses.{names_at}
 use Rattle.ti_resolve.specs.declared.origins.Origin.{Origin}
 use Rattle.ti_source.specs.declared.types.RawEntry.{RawEntry}
 use Rattle.ti_stretches.specs.declared.stretches.Stretch.{Stretch}
-use Rattle.ti_places.specs.Excerpts.{IsFaulty, IsFaultyPart, before_value, excerpt, value_in}
+use Rattle.ti_places.specs.Excerpts.{IsFaulty, IsFaultyPart, excerpt, value_in}
+use Rattle.ti_places.specs.Originals.{begun_line, original_at, region_among, region_at, region_in}
 use Rattle.ti_places.specs.Refusals.{no_text}
-use Rattle.ti_places.specs.Spots.{Line, PutFiles, columns_among, files_of, line_among, piece_among, put_files}
+use Rattle.ti_places.specs.Rows.{marked_rows}
+use Rattle.ti_places.specs.Spots.{FileText, Line, PutFiles, columns_among, files_of, line_among, piece_among, put_files}
 use Rattle.ti_places.specs.declared.locations.PlacedFault.{PlacedFault}
 use Rattle.ti_places.specs.declared.source_places.NamedSource.{NamedSource}
 use Rattle.ti_places.specs.declared.source_places.SourcePlace.{SourcePlace}
@@ -28,32 +30,21 @@ first_name names = before_first (λ b. b == 124) names
 abbrev pub number_text : ℕ → List ℕ
 number_text number = if number == 0 then [] else codes ":" ++ decimal number
 
--- columns, if those of the lines are those of the files, as they aren't where lines were joined
-abbrev pub columns_if : Bool → Option Columns → Option Columns
-columns_if true columns = columns
-columns_if false columns = None
-
--- a colon and the column of a field's first byte; nothing without columns
-abbrev pub column_text : Option Columns → List ℕ
+-- a colon and the column of a field's first byte; nothing if it isn't known
+abbrev pub column_text : Option Region → List ℕ
 column_text None = []
-column_text (Some columns) = codes ":" ++ decimal columns.start
+column_text (Some region) = codes ":" ++ decimal region.column
 
--- `FILE:LINE:COLUMN: CAP of NAME` by the file's path, the line's number, a field's columns and the names of an entry
-unfoldable pub numbered_text : Line → Option Columns → ℕ → List ℕ → List ℕ
-numbered_text line columns cap names = line.path ++ (number_text line.number
-    ++ (column_text columns ++ (codes ": " ++ (name_at cap ++ (codes " of " ++ first_name names)))))
+-- `FILE:LINE:COLUMN: CAP of NAME` by the file's path, the line's number, a field's region and the names of an entry
+unfoldable pub numbered_text : Line → Option Region → ℕ → List ℕ → List ℕ
+numbered_text line region cap names = line.path ++ (number_text line.number
+    ++ (column_text region ++ (codes ": " ++ (name_at cap ++ (codes " of " ++ first_name names)))))
 
 -- by the files of the entries that were put together, with the first name of the entry that has the field
-unfoldable pub place_text : Bool → PutFiles → List RawEntry → ℕ → Origin → List ℕ
-place_text has_columns files raws cap origin =
-    numbered_text (line_among files origin) (columns_if has_columns (columns_among files cap origin)) cap
-    (names_at raws origin.entry)
-
--- the field between these columns, and below it the marks under the part of its value that is at fault; nothing without
--- columns
-abbrev pub piece_text : PutFiles → ℕ → Origin → Option Stretch → Option Columns → List ℕ
-piece_text files cap origin part None = []
-piece_text files cap origin part (Some columns) = excerpt cap part (piece_among files columns origin)
+unfoldable pub place_text : List FileText → PutFiles → List RawEntry → ℕ → Origin → List ℕ
+place_text originals files raws cap origin =
+    numbered_text (begun_line (line_among files origin) (region_among originals files cap origin))
+    (region_among originals files cap origin) cap (names_at raws origin.entry)
 
 -- the value of the field between these columns; nothing without columns
 abbrev pub piece_value : PutFiles → ℕ → Origin → Option Columns → List ℕ
@@ -64,52 +55,75 @@ piece_value files cap origin (Some columns) = value_in cap (piece_among files co
 unfoldable pub value_at : PutFiles → ℕ → Origin → List ℕ
 value_at files cap origin = piece_value files cap origin (columns_among files cap origin)
 
--- the columns of a part of the value of the field between these columns
-abbrev pub part_columns : ℕ → List ℕ → Columns → Stretch → Columns
-part_columns cap field columns part = record {
-  start = columns.start + (before_value cap field + part.from);
-  end = columns.start + (before_value cap field + part.to);
+-- the columns of a part of a value that ends where these columns do
+abbrev pub part_columns : List ℕ → Columns → Stretch → Columns
+part_columns value columns part = record {
+  start = columns.end - (length value - part.from);
+  end = columns.end - (length value - part.to);
 }
 
--- the columns of the part of the value that is at fault, in the field about a capability at an origin
-pub record AreFaultyColumns (files : PutFiles) (cap : ℕ) (origin : Origin) (found : Columns) : Type 0 where
+-- the region of the part of the value that is at fault, in the field about a capability at an origin
+pub record IsFaultyRegion (originals : List FileText) (files : PutFiles) (cap : ℕ) (origin : Origin) (found : Region)
+    : Type 0 where
   pub columns : Columns
   pub stand : columns_among files cap origin ≡ Some columns
   pub part : Stretch
   pub faulty : IsFaultyPart (value_in cap (piece_among files columns origin)) part
-  pub says : found ≡ part_columns cap (piece_among files columns origin) columns part
+  pub says : found ≡ region_at originals (line_among files origin)
+      (part_columns (value_in cap (piece_among files columns origin)) columns part)
+
+-- the columns of the part of a value that is at fault, or of all of it
+abbrev pub marked_columns : Option Stretch → List ℕ → Columns → Columns
+marked_columns None value columns = record { start = columns.end - length value; end = columns.end }
+marked_columns (Some part) value columns = part_columns value columns part
+
+-- a field about a capability between columns of a line, with marks under the part of its value that is at fault: on one
+-- line, or as it stands in the text before its lines were joined
+abbrev pub shown_field : Option (List ℕ) → ℕ → ℕ → Option Stretch → Columns → List ℕ → List ℕ
+shown_field None number cap part columns field = excerpt cap part field
+shown_field (Some text) number cap part columns field =
+    marked_rows text (region_in (Some text) number columns)
+    (region_in (Some text) number (marked_columns part (value_in cap field) columns))
+
+-- the field between these columns of a line; nothing without columns
+abbrev pub piece_text : List FileText → PutFiles → ℕ → Origin → Option Stretch → Option Columns → List ℕ
+piece_text originals files cap origin part None = []
+piece_text originals files cap origin part (Some columns) =
+    shown_field (original_at originals (line_among files origin).path) (line_among files origin).number cap part columns
+    (piece_among files columns origin)
 
 -- the field about a capability at an origin, in the file that has it, and the marks below it
-unfoldable pub excerpt_text : PutFiles → ℕ → Option Stretch → Origin → List ℕ
-excerpt_text files cap part origin = piece_text files cap origin part (columns_among files cap origin)
+unfoldable pub excerpt_text : List FileText → PutFiles → ℕ → Option Stretch → Origin → List ℕ
+excerpt_text originals files cap part origin =
+    piece_text originals files cap origin part (columns_among files cap origin)
 
 -- the line with the place, as far as it can be shown, and the field below it
-abbrev pub field_text : Bool → PutFiles → List RawEntry → ℕ → Option Stretch → Origin → List ℕ
-field_text has_columns files raws cap part origin =
-    shown (place_text has_columns files raws cap origin) ++ 10 ∷ excerpt_text files cap part origin
+abbrev pub field_text : List FileText → PutFiles → List RawEntry → ℕ → Option Stretch → Origin → List ℕ
+field_text originals files raws cap part origin =
+    shown (place_text originals files raws cap origin) ++ 10 ∷ excerpt_text originals files cap part origin
 
 -- of a source
-abbrev pub source_text : Bool → SourceText → ℕ → Option Stretch → Origin → List ℕ
-source_text has_columns source cap part origin =
-    field_text has_columns (files_of source) source.raws.items cap part origin
+abbrev pub source_text : List FileText → SourceText → ℕ → Option Stretch → Origin → List ℕ
+source_text originals source cap part origin =
+    field_text originals (files_of source) source.raws.items cap part origin
 
 -- the lines are those of the field at an origin, in which a part of the value is at fault, or all of it
-abbrev pub TellsOrigin : Bool → SourceText → ℕ → Option Origin → List ℕ → Type 0
-TellsOrigin has_columns source cap None lines = lines ≡ []
-TellsOrigin has_columns source cap (Some origin) lines =
+abbrev pub TellsOrigin : List FileText → SourceText → ℕ → Option Origin → List ℕ → Type 0
+TellsOrigin originals source cap None lines = lines ≡ []
+TellsOrigin originals source cap (Some origin) lines =
     (part : Option Stretch) × IsFaulty (value_at (files_of source) cap origin) part
-    × (lines ≡ source_text has_columns source cap part origin)
+    × (lines ≡ source_text originals source cap part origin)
 
 -- the field that gives the entry its value is the first one about it, among the entry's own and those that it uses
-pub record IsLocatedIn (has_columns : Bool) (source : SourceText) (cap : ℕ) (lines : List ℕ) : Type 0 where
+pub record IsLocatedIn (originals : List FileText) (source : SourceText) (cap : ℕ) (lines : List ℕ) : Type 0 where
   pub origin : Option Origin
   pub first : IsOrigin source.raws.items source.name.now cap origin
-  pub says : TellsOrigin has_columns source cap origin lines
+  pub says : TellsOrigin originals source cap origin lines
 
 -- the lines that say where the value is; none for a compiled file
-abbrev pub IsLocation : Bool → Option SourceText → ℕ → List ℕ → Type 0
-IsLocation has_columns None cap lines = lines ≡ []
-IsLocation has_columns (Some source) cap lines = IsLocatedIn has_columns source cap lines
+abbrev pub IsLocation : List FileText → Option SourceText → ℕ → List ℕ → Type 0
+IsLocation originals None cap lines = lines ≡ []
+IsLocation originals (Some source) cap lines = IsLocatedIn originals source cap lines
 
 -- ---- an entry by its place
 
@@ -128,31 +142,31 @@ pub record PlacedText : Type 0 where
   pub fault : List ℕ
 
 -- the place of the value that a fault is about, the name and the fault, as far as each can be shown; and the field
-abbrev pub fault_at : Bool → PutFiles → List RawEntry → List ℕ → No → Option Stretch → Origin → PlacedText
-fault_at has_columns files raws name refusal part origin = record {
-  place = shown (place_text has_columns files raws refusal.cap origin ++ codes ": ");
+abbrev pub fault_at : List FileText → PutFiles → List RawEntry → List ℕ → No → Option Stretch → Origin → PlacedText
+fault_at originals files raws name refusal part origin = record {
+  place = shown (place_text originals files raws refusal.cap origin ++ codes ": ");
   name = shown name;
-  fault = shown (codes " " ++ no_text refusal) ++ 10 ∷ excerpt_text files refusal.cap part origin;
+  fault = shown (codes " " ++ no_text refusal) ++ 10 ∷ excerpt_text originals files refusal.cap part origin;
 }
 
 -- the fault at an origin, in which a part of the value is at fault, or all of it; none for a capability without a value
-abbrev pub ArePlacedAt : Bool → PlaceInSource → List ℕ → No → Option Origin → List PlacedText → Type 0
-ArePlacedAt has_columns stands name refusal None placed = placed ≡ []
-ArePlacedAt has_columns stands name refusal (Some origin) placed =
+abbrev pub ArePlacedAt : List FileText → PlaceInSource → List ℕ → No → Option Origin → List PlacedText → Type 0
+ArePlacedAt originals stands name refusal None placed = placed ≡ []
+ArePlacedAt originals stands name refusal (Some origin) placed =
     (part : Option Stretch) × IsFaulty (value_at stands.files refusal.cap origin) part
-    × (placed ≡ fault_at has_columns stands.files stands.raws name refusal part origin ∷ [])
+    × (placed ≡ fault_at originals stands.files stands.raws name refusal part origin ∷ [])
 
 -- the value is that of the entry at its place, whatever other entries have its names
-pub record IsPlacedIn (has_columns : Bool) (stands : PlaceInSource) (name : List ℕ) (refusal : No)
+pub record IsPlacedIn (originals : List FileText) (stands : PlaceInSource) (name : List ℕ) (refusal : No)
     (placed : List PlacedText) : Type 0 where
   pub origin : Option Origin
   pub first : IsOriginAt stands.raws stands.place refusal.cap origin
-  pub says : ArePlacedAt has_columns stands name refusal origin placed
+  pub says : ArePlacedAt originals stands name refusal origin placed
 
 -- a fault at its place; none in the entry of a compiled file
-abbrev pub IsPlaced : Bool → Option PlaceInSource → List ℕ → No → List PlacedText → Type 0
-IsPlaced has_columns None name refusal placed = placed ≡ []
-IsPlaced has_columns (Some stands) name refusal placed = IsPlacedIn has_columns stands name refusal placed
+abbrev pub IsPlaced : List FileText → Option PlaceInSource → List ℕ → No → List PlacedText → Type 0
+IsPlaced originals None name refusal placed = placed ≡ []
+IsPlaced originals (Some stands) name refusal placed = IsPlacedIn originals stands name refusal placed
 
 -- (Serves the code alone.) the place without its memory
 abbrev pub place_in : SourcePlace → PlaceInSource

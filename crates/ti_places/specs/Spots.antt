@@ -95,7 +95,7 @@ files_of source = record {
   counts = source.counts.items;
 }
 
--- ---- for private clauses: files with the lines of all fields, without their memory
+-- ---- files with the lines of all fields, without their memory
 
 abbrev pub file_text : LinedFile → FileText
 file_text file = record { path = file.path.now; text = file.lined }

@@ -21,7 +21,7 @@ fn begins_value(byte: Option<&u8>) -> bool
 
 /// How many bytes of `field`, which is about `cap`, come before its value; 0 if it has none.
 #[tactic(auto, unfolding(crate::specs::Excerpts::before_value))]
-pub(crate) fn before_value(cap: Cap, field: &[u8]) -> usize
+fn before_value(cap: Cap, field: &[u8]) -> usize
     ensures count { result ≡ spec.before_value cap field.now }
     ensures range { result ≤ length field.now }
 {
@@ -83,7 +83,7 @@ fn part_of(value: &[u8], part: Option<Stretch>) -> &[u8]
 
 /// The `line`, and below it the line of the marks under the bytes `marked`, which come after those `before`.
 #[tactic(auto, unfolding(crate::specs::Excerpts::underlined))]
-fn underlined(
+pub(crate) fn underlined(
     alloc: Global,
     line: &[u8],
     before: &[u8],

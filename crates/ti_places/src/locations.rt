@@ -1,25 +1,29 @@
 //! The place of a capability's value in a source text.
 
-ghost use Rattle.std.specs.Prelude.{◌≡◌, ◌<◌, ◌==◌, ◌++◌, ◌∷◌, IfOk, IfSome, Option, Some, codes, length};
+ghost use Rattle.std.specs.Prelude.{◌≡◌, ◌<◌, ◌==◌, ◌++◌, ◌∷◌, IfOk, IfSome, Option, Some, codes, length, map};
 ghost use Rattle.std.specs.List as List;
 ghost use Rattle.ti_resolve.specs.Uses.{names_at};
 ghost use Rattle.ti_places.specs.Locations as spec;
 ghost use Rattle.ti_stretches.specs.declared.stretches.Stretch.{Stretch};
-ghost use Rattle.ti_places.specs.Excerpts.{IsFaulty};
+ghost use Rattle.ti_places.specs.Excerpts.{IsFaulty, value_in};
 ghost use Rattle.ti_places.specs.Locations.{excerpt_text, value_at};
 ghost use Rattle.ti_places.specs.Refusals.{no_text};
-ghost use Rattle.ti_places.specs.Spots.{line_of, put_files};
+ghost use Rattle.ti_places.specs.Spots.{file_text, line_of, piece_among, put_files};
 ghost use Rattle.ti_words.specs.Shown.{shown};
 
 use crate::excerpts::{excerpt, shown_bytes, value_in};
 use crate::faulty_parts::{Judged, faulty_part};
+use crate::faulty_regions::part_columns;
+use crate::originals::{begun_line, original_at, region_among, region_in};
 use crate::refusals::no_words;
+use crate::rows::marked_rows;
 use crate::source_places::{NamedSource, SourcePlace};
-use crate::spots::{FieldPlace, LinedFiles};
+use crate::spots::{FieldPlace, LinedFile, LinedFiles};
 use std::alloc::{AllocError, Global};
 use ti_caps::{Cap, name};
 use ti_checker::No;
 use ti_entries::Columns;
+use ti_joins::Region;
 use ti_resolve::Origin;
 use ti_source::RawEntry;
 use ti_stretches::Stretch;
@@ -44,19 +48,20 @@ pub fn first_name(names: &[u8]) -> &[u8]
 
 /// The lines that say where `source` has the value that `fault` is about: `FILE:LINE:COLUMN: CAP of NAME`, as far as that
 /// can be shown, and the field with marks under the part of the value that is at fault, or under all of it if no part is
-/// known. COLUMN is left out unless `has_columns`. Empty if there is no source or no value.
+/// known. The `originals` are the texts of those files whose lines were joined, as they were before: a field of one stands
+/// below its place as it does there, up to the line on which the marked part begins. Empty if there is no source or no value.
 pub fn location(
     alloc: Global,
     source: &Option<NamedSource<'_, '_>>,
-    has_columns: bool,
+    originals: &[LinedFile<'_>],
     fault: &Judged<'_>,
 ) -> Result<Vec<u8>, AllocError>
     ensures { IfOk result (λ lines.
-        spec.IsLocation has_columns (spec.source_if source.now) fault.now.no.now.cap lines.items) }
+        spec.IsLocation (map file_text originals.now) (spec.source_if source.now) fault.now.no.now.cap lines.items) }
 {
     match source {
         None => Ok(Vec::new(alloc)),
-        Some(named) => location_in(alloc, named, has_columns, fault),
+        Some(named) => location_in(alloc, named, originals, fault),
     }
 }
 
@@ -64,15 +69,15 @@ pub fn location(
 fn location_in(
     alloc: Global,
     named: &NamedSource<'_, '_>,
-    has_columns: bool,
+    originals: &[LinedFile<'_>],
     fault: &Judged<'_>,
 ) -> Result<Vec<u8>, AllocError>
     ensures { IfOk result (λ lines.
-        spec.IsLocatedIn has_columns named.now.source.now fault.now.no.now.cap lines.items) }
+        spec.IsLocatedIn (map file_text originals.now) named.now.source.now fault.now.no.now.cap lines.items) }
 {
     match named.origin(alloc, fault.no.cap)? {
         None => Ok(Vec::new(alloc)),
-        Some(origin) => origin_lines(alloc, named, has_columns, fault, origin),
+        Some(origin) => origin_lines(alloc, named, originals, fault, origin),
     }
 }
 
@@ -80,21 +85,22 @@ fn location_in(
 fn origin_lines(
     alloc: Global,
     named: &NamedSource<'_, '_>,
-    has_columns: bool,
+    originals: &[LinedFile<'_>],
     fault: &Judged<'_>,
     origin: Origin,
 ) -> Result<Vec<u8>, AllocError>
-    ensures { IfOk result (λ lines. spec.TellsOrigin has_columns named.now.source.now fault.now.no.now.cap
+    ensures { IfOk result (λ lines. spec.TellsOrigin (map file_text originals.now) named.now.source.now fault.now.no.now.cap
         (Some origin) lines.items) }
 {
     let field = PutField {
         files: named.files,
+        originals,
         raws: named.source.raws.as_slice(),
         cap: fault.no.cap,
         origin,
     };
     let part = part_at(alloc, &field, fault)?;
-    field_lines(alloc, &field, has_columns, part)
+    field_lines(alloc, &field, part)
 }
 
 /// The part of the value of `field` that is at fault; `None` if no part is known.
@@ -119,6 +125,8 @@ fn part_at(
 #[derive(Drop)]
 struct PutField<'a, 'b> {
     files: LinedFiles<'a, 'b>,
+    /// Those of them whose lines were joined, as they were before.
+    originals: &'a [LinedFile<'a>],
     /// The entries of these files.
     raws: &'b [RawEntry],
     cap: Cap,
@@ -130,14 +138,13 @@ struct PutField<'a, 'b> {
 fn field_lines(
     alloc: Global,
     field: &PutField<'_, '_>,
-    has_columns: bool,
     part: Option<Stretch>,
 ) -> Result<Vec<u8>, AllocError>
     requires { IsFaulty (value_at (put_files field.now.files) field.now.cap field.now.origin) part }
-    ensures { IfOk result (λ lines. lines.items ≡ spec.field_text has_columns (put_files field.now.files)
+    ensures { IfOk result (λ lines. lines.items ≡ spec.field_text (map file_text field.now.originals.now) (put_files field.now.files)
         field.now.raws.now field.now.cap part field.now.origin) }
 {
-    let words = place_words(alloc, field, has_columns)?;
+    let words = place_words(alloc, field)?;
     let below = excerpt_lines(alloc, field, part)?;
     let mut lines = Vec::new(alloc);
     push_shown(&mut lines, words.as_slice())?;
@@ -146,44 +153,33 @@ fn field_lines(
     Ok(lines)
 }
 
-/// `FILE:LINE:COLUMN: CAP of NAME` of `field`, without COLUMN unless `has_columns`.
+/// `FILE:LINE:COLUMN: CAP of NAME` of `field`.
 #[tactic(auto, unfolding(crate::specs::Locations::place_text))]
-fn place_words(
-    alloc: Global,
-    field: &PutField<'_, '_>,
-    has_columns: bool,
-) -> Result<Vec<u8>, AllocError>
-    ensures { IfOk result (λ words. words.items ≡ spec.place_text has_columns (put_files field.now.files)
+fn place_words(alloc: Global, field: &PutField<'_, '_>) -> Result<Vec<u8>, AllocError>
+    ensures { IfOk result (λ words. words.items ≡ spec.place_text (map file_text field.now.originals.now) (put_files field.now.files)
         field.now.raws.now field.now.cap field.now.origin) }
 {
-    let place = field.files.line(field.origin);
-    let columns = columns_if(has_columns, field.files.columns(field.origin, field.cap));
+    let region = region_among(field.originals, &field.files, field.origin, field.cap);
+    let place = begun_line(field.files.line(field.origin), region);
     let names = names_of(field.raws, field.origin.entry);
-    numbered_words(alloc, place, columns, field.cap, names)
+    numbered_words(alloc, place, region, field.cap, names)
 }
 
-/// The `columns`, if there are to be any.
-fn columns_if(has_columns: bool, columns: Option<Columns>) -> Option<Columns>
-    ensures { result ≡ spec.columns_if has_columns columns }
-{
-    if has_columns { columns } else { None }
-}
-
-/// `FILE:LINE:COLUMN: CAP of NAME` of a field at `place` with these `columns`, which is about `cap`, of the entry
-/// with these `names`.
+/// `FILE:LINE:COLUMN: CAP of NAME` of a field at `place` with this `region`, which is about `cap`, of the entry with these
+/// `names`.
 #[tactic(auto, unfolding(crate::specs::Locations::numbered_text))]
 fn numbered_words(
     alloc: Global,
     place: FieldPlace<'_>,
-    columns: Option<Columns>,
+    region: Option<Region>,
     cap: Cap,
     names: &[u8],
 ) -> Result<Vec<u8>, AllocError>
-    ensures { IfOk result (λ words. words.items ≡ spec.numbered_text (line_of place.entry) columns cap names.now) }
+    ensures { IfOk result (λ words. words.items ≡ spec.numbered_text (line_of place.entry) region cap names.now) }
 {
     let mut words = Vec::from_slice(alloc, place.path.as_bytes())?;
     words.extend_from_slice(number_words(alloc, place.line)?.as_slice())?;
-    words.extend_from_slice(column_words(alloc, columns)?.as_slice())?;
+    words.extend_from_slice(column_words(alloc, region)?.as_slice())?;
     words.extend_from_slice(b": ")?;
     words.extend_from_slice(name(cap))?;
     words.extend_from_slice(b" of ")?;
@@ -201,14 +197,15 @@ fn number_words(alloc: Global, number: usize) -> Result<Vec<u8>, AllocError>
     Vec::from_slice(alloc, format!(in alloc; ":{number}")?.as_bytes())
 }
 
-/// A colon and the first of the `columns`; nothing without columns.
-fn column_words(alloc: Global, columns: Option<Columns>) -> Result<Vec<u8>, AllocError>
-    ensures { IfOk result (λ words. words.items ≡ spec.column_text columns) }
+/// A colon and the first column of the `region`; nothing if it isn't known.
+fn column_words(alloc: Global, region: Option<Region>) -> Result<Vec<u8>, AllocError>
+    ensures { IfOk result (λ words. words.items ≡ spec.column_text region) }
 {
-    match columns {
+    match region {
         None => Ok(Vec::new(alloc)),
-        Some(Columns { start, end: _ }) => {
-            Vec::from_slice(alloc, format!(in alloc; ":{start}")?.as_bytes())
+        Some(region) => {
+            let column = region.column;
+            Vec::from_slice(alloc, format!(in alloc; ":{column}")?.as_bytes())
         }
     }
 }
@@ -221,15 +218,50 @@ fn excerpt_lines(
     part: Option<Stretch>,
 ) -> Result<Vec<u8>, AllocError>
     requires { IsFaulty (value_at (put_files field.now.files) field.now.cap field.now.origin) part }
-    ensures { IfOk result (λ lines. lines.items ≡ spec.excerpt_text (put_files field.now.files)
+    ensures { IfOk result (λ lines. lines.items ≡ spec.excerpt_text (map file_text field.now.originals.now) (put_files field.now.files)
         field.now.cap part field.now.origin) }
 {
     match field.files.columns(field.origin, field.cap) {
         None => Ok(Vec::new(alloc)),
-        Some(columns) => {
-            let piece = field.files.piece(field.origin, columns);
-            excerpt(alloc, field.cap, piece, part)
+        Some(columns) => shown_field(alloc, field, columns, part),
+    }
+}
+
+/// The bytes of `field` in its file, which were read between these `columns`, with marks under the `part` of its value that is at
+/// fault.
+fn shown_field(
+    alloc: Global,
+    field: &PutField<'_, '_>,
+    columns: Columns,
+    part: Option<Stretch>,
+) -> Result<Vec<u8>, AllocError>
+    requires { IsFaulty (value_in field.now.cap (piece_among (put_files field.now.files) columns field.now.origin)) part }
+    ensures { IfOk result (λ lines. lines.items ≡ spec.piece_text (map file_text field.now.originals.now)
+        (put_files field.now.files) field.now.cap field.now.origin part (Some columns)) }
+{
+    let piece = field.files.piece(field.origin, columns);
+    let place = field.files.line(field.origin);
+    match original_at(field.originals, place.path) {
+        None => excerpt(alloc, field.cap, piece, part),
+        Some(text) => {
+            let marked = marked_columns(value_in(field.cap, piece), columns, part);
+            let whole = region_in(Some(text), place.line, columns);
+            let part = region_in(Some(text), place.line, marked);
+            marked_rows(alloc, text, whole, part)
         }
+    }
+}
+
+/// The columns of the `part` of `value` that is at fault, or of all of it, where it ends with these `columns`.
+fn marked_columns(value: &[u8], columns: Columns, part: Option<Stretch>) -> Columns
+    ensures { result ≡ spec.marked_columns part value.now columns }
+{
+    match part {
+        None => Columns {
+            start: columns.end.saturating_sub(value.len()),
+            end: columns.end,
+        },
+        Some(part) => part_columns(value, columns, part),
     }
 }
 
@@ -244,25 +276,26 @@ pub struct PlacedFault {
     pub fault: Vec<u8>,
 }
 
-/// The fault of the entry of this `name` at the place of the value that it is about, where the entry is at `stands`. COLUMN
-/// is left out unless `has_columns`. `None` if the entry is in no source, or has no value.
+/// The fault of the entry of this `name` at the place of the value that it is about, where the entry is at `stands`. The
+/// `originals` are the texts of those files whose lines were joined, as they were before. `None` if the entry is in no source,
+/// or has no value.
 ///
 /// # Errors
 /// Out of memory.
 pub fn placed(
     alloc: Global,
     stands: &Option<SourcePlace<'_, '_>>,
-    has_columns: bool,
+    originals: &[LinedFile<'_>],
     name: &[u8],
     fault: &Judged<'_>,
 ) -> Result<Option<PlacedFault>, AllocError>
     requires { IfSome stands.now (λ there. there.place < length there.raws.now) }
-    ensures { IfOk result (λ found. spec.IsPlaced has_columns (spec.place_if stands.now) name.now fault.now.no.now
+    ensures { IfOk result (λ found. spec.IsPlaced (map file_text originals.now) (spec.place_if stands.now) name.now fault.now.no.now
         (spec.placed_if found)) }
 {
     match stands {
         None => Ok(None),
-        Some(stands) => placed_in(alloc, stands, has_columns, name, fault),
+        Some(stands) => placed_in(alloc, stands, originals, name, fault),
     }
 }
 
@@ -270,12 +303,12 @@ pub fn placed(
 fn placed_in(
     alloc: Global,
     stands: &SourcePlace<'_, '_>,
-    has_columns: bool,
+    originals: &[LinedFile<'_>],
     name: &[u8],
     fault: &Judged<'_>,
 ) -> Result<Option<PlacedFault>, AllocError>
     requires { stands.now.place < length stands.now.raws.now }
-    ensures { IfOk result (λ found. spec.IsPlacedIn has_columns (spec.place_in stands.now) name.now fault.now.no.now
+    ensures { IfOk result (λ found. spec.IsPlacedIn (map file_text originals.now) (spec.place_in stands.now) name.now fault.now.no.now
         (spec.placed_if found)) }
 {
     match stands.origin(alloc, fault.no.cap)? {
@@ -283,11 +316,12 @@ fn placed_in(
         Some(origin) => {
             let field = PutField {
                 files: stands.files,
+                originals,
                 raws: stands.raws,
                 cap: fault.no.cap,
                 origin,
             };
-            Ok(Some(placed_at(alloc, &field, has_columns, name, fault)?))
+            Ok(Some(placed_at(alloc, &field, name, fault)?))
         }
     }
 }
@@ -296,18 +330,17 @@ fn placed_in(
 fn placed_at(
     alloc: Global,
     field: &PutField<'_, '_>,
-    has_columns: bool,
     name: &[u8],
     fault: &Judged<'_>,
 ) -> Result<PlacedFault, AllocError>
     requires { field.now.cap ≡ fault.now.no.now.cap }
     ensures { IfOk result (λ placed. (part : Option Stretch)
         × IsFaulty (value_at (put_files field.now.files) fault.now.no.now.cap field.now.origin) part
-        × (spec.placed_in placed ≡ spec.fault_at has_columns (put_files field.now.files) field.now.raws.now name.now
+        × (spec.placed_in placed ≡ spec.fault_at (map file_text field.now.originals.now) (put_files field.now.files) field.now.raws.now name.now
         fault.now.no.now part field.now.origin)) }
 {
     let part = part_at(alloc, field, fault)?;
-    let mut words = place_words(alloc, field, has_columns)?;
+    let mut words = place_words(alloc, field)?;
     words.extend_from_slice(b": ")?;
     Ok(PlacedFault {
         place: shown_bytes(alloc, words.as_slice())?,
@@ -326,7 +359,7 @@ fn fault_lines(
     requires cap { field.now.cap ≡ no.now.cap }
     requires part { IsFaulty (value_at (put_files field.now.files) field.now.cap field.now.origin) part }
     ensures { IfOk result (λ lines. lines.items ≡ shown (codes " " ++ no_text no.now)
-        ++ 10 ∷ excerpt_text (put_files field.now.files) no.now.cap part field.now.origin) }
+        ++ 10 ∷ excerpt_text (map file_text field.now.originals.now) (put_files field.now.files) no.now.cap part field.now.origin) }
 {
     let mut words = Vec::from_slice(alloc, b" ")?;
     words.extend_from_slice(no_words(alloc, no)?.as_slice())?;

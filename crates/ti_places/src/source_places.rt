@@ -4,13 +4,15 @@ ghost use Rattle.std.specs.Prelude.{◌≡◌, ◌<◌, IfOk, length};
 ghost use Rattle.ti_resolve.specs.Origins.{IsOrigin, IsOriginAt};
 ghost use Rattle.ti_places.specs.Spots.{files_of, put_files};
 
-use crate::faulty_columns::faulty_columns;
 use crate::faulty_parts::Judged;
-use crate::spots::{FieldPlace, LinedFiles};
+use crate::faulty_regions::faulty_region;
+use crate::originals::region_among;
+use crate::spots::{FieldPlace, LinedFile, LinedFiles};
 use std::alloc::{AllocError, Global};
 use ti_caps::Cap;
 use ti_commands::SourceText;
 use ti_entries::{Columns, bad_use, place_named};
+use ti_joins::Region;
 use ti_resolve::{Index, Origin, origin_from};
 use ti_source::RawEntry;
 
@@ -29,11 +31,12 @@ pub struct SourcePlace<'a, 'b> {
 }
 
 impl<'b> SourcePlace<'_, 'b> {
-    ghost use Rattle.std.specs.Prelude.{◌≡◌, ◌<◌, [], IfOk, IfSome, length};
+    ghost use Rattle.std.specs.Prelude.{◌≡◌, ◌<◌, [], IfOk, IfSome, length, map};
     ghost use Rattle.ti_entries.specs.BadUses.{IsBadUse};
     ghost use Rattle.ti_resolve.specs.Origins.{IsOriginAt};
-    ghost use Rattle.ti_places.specs.Locations.{AreFaultyColumns};
-    ghost use Rattle.ti_places.specs.Spots.{columns_among, files_of, line_among, line_of, piece_among, put_files};
+    ghost use Rattle.ti_places.specs.Locations.{IsFaultyRegion};
+    ghost use Rattle.ti_places.specs.Originals.{region_among};
+    ghost use Rattle.ti_places.specs.Spots.{file_text, files_of, line_among, line_of, piece_among, put_files};
 
     /// The field that gives the entry its value of `cap`; `None` if it has none.
     ///
@@ -65,28 +68,31 @@ impl<'b> SourcePlace<'_, 'b> {
         self.files.line(origin)
     }
 
-    /// The columns of the first field about `cap` on the line that has the field at `origin`.
-    pub fn columns(&self, origin: Origin, cap: Cap) -> Option<Columns>
-        ensures { result ≡ columns_among (put_files self.now.files) cap origin }
+    /// The region of the first field about `cap` on the line that has the field at `origin`. The `originals` are the texts of
+    /// those files whose lines were joined, as they were before.
+    pub fn region(&self, originals: &[LinedFile<'_>], origin: Origin, cap: Cap) -> Option<Region>
+        ensures { result ≡ region_among (map file_text originals.now) (put_files self.now.files) cap origin }
     {
-        self.files.columns(origin, cap)
+        region_among(originals, &self.files, origin, cap)
     }
 
-    /// The columns of the part of the value that `fault` is about, in the field at `origin`; `None` if no line has the field,
-    /// or no smaller part is known than the whole value.
+    /// The region of the part of the value that `fault` is about, in the field at `origin`; `None` if no line has the field,
+    /// or no smaller part is known than the whole value. The `originals` are the texts of those files whose lines were joined,
+    /// as they were before.
     ///
     /// # Errors
     /// Out of memory.
-    pub fn faulty_columns(
+    pub fn faulty_region(
         &self,
         alloc: Global,
+        originals: &[LinedFile<'_>],
         origin: Origin,
         fault: &Judged<'_>,
-    ) -> Result<Option<Columns>, AllocError>
+    ) -> Result<Option<Region>, AllocError>
         ensures { IfOk result (λ found. IfSome found
-            (AreFaultyColumns (put_files self.now.files) fault.now.no.now.cap origin)) }
+            (IsFaultyRegion (map file_text originals.now) (put_files self.now.files) fault.now.no.now.cap origin)) }
     {
-        faulty_columns(alloc, &self.files, origin, fault)
+        faulty_region(alloc, originals, &self.files, origin, fault)
     }
 
     /// The bytes between these `columns` of the line that has the field at `origin`.
@@ -128,10 +134,11 @@ pub struct NamedSource<'a, 'b> {
 }
 
 impl<'b> NamedSource<'_, 'b> {
-    ghost use Rattle.std.specs.Prelude.{◌≡◌, IfOk, IfSome};
+    ghost use Rattle.std.specs.Prelude.{◌≡◌, IfOk, IfSome, map};
     ghost use Rattle.ti_resolve.specs.Origins.{IsOrigin};
-    ghost use Rattle.ti_places.specs.Locations.{AreFaultyColumns};
-    ghost use Rattle.ti_places.specs.Spots.{columns_among, files_of, line_among, line_of, piece_among, put_files};
+    ghost use Rattle.ti_places.specs.Locations.{IsFaultyRegion};
+    ghost use Rattle.ti_places.specs.Originals.{region_among};
+    ghost use Rattle.ti_places.specs.Spots.{file_text, files_of, line_among, line_of, piece_among, put_files};
 
     /// The field that gives the entry its value of `cap`; `None` if it has none.
     ///
@@ -150,28 +157,31 @@ impl<'b> NamedSource<'_, 'b> {
         self.files.line(origin)
     }
 
-    /// The columns of the first field about `cap` on the line that has the field at `origin`.
-    pub fn columns(&self, origin: Origin, cap: Cap) -> Option<Columns>
-        ensures { result ≡ columns_among (files_of self.now.source.now) cap origin }
+    /// The region of the first field about `cap` on the line that has the field at `origin`. The `originals` are the texts of
+    /// those files whose lines were joined, as they were before.
+    pub fn region(&self, originals: &[LinedFile<'_>], origin: Origin, cap: Cap) -> Option<Region>
+        ensures { result ≡ region_among (map file_text originals.now) (files_of self.now.source.now) cap origin }
     {
-        self.files.columns(origin, cap)
+        region_among(originals, &self.files, origin, cap)
     }
 
-    /// The columns of the part of the value that `fault` is about, in the field at `origin`; `None` if no line has the field,
-    /// or no smaller part is known than the whole value.
+    /// The region of the part of the value that `fault` is about, in the field at `origin`; `None` if no line has the field,
+    /// or no smaller part is known than the whole value. The `originals` are the texts of those files whose lines were joined,
+    /// as they were before.
     ///
     /// # Errors
     /// Out of memory.
-    pub fn faulty_columns(
+    pub fn faulty_region(
         &self,
         alloc: Global,
+        originals: &[LinedFile<'_>],
         origin: Origin,
         fault: &Judged<'_>,
-    ) -> Result<Option<Columns>, AllocError>
+    ) -> Result<Option<Region>, AllocError>
         ensures { IfOk result (λ found. IfSome found
-            (AreFaultyColumns (files_of self.now.source.now) fault.now.no.now.cap origin)) }
+            (IsFaultyRegion (map file_text originals.now) (files_of self.now.source.now) fault.now.no.now.cap origin)) }
     {
-        faulty_columns(alloc, &self.files, origin, fault)
+        faulty_region(alloc, originals, &self.files, origin, fault)
     }
 
     /// The bytes between these `columns` of the line that has the field at `origin`.

@@ -20,6 +20,24 @@ pub struct LinedFile<'b> {
     pub lined: LinedText<'b>,
 }
 
+impl<'b> LinedFile<'b> {
+    ghost use Rattle.std.specs.Prelude.{◌≡◌, IfOk};
+    ghost use Rattle.ti_places.specs.Spots.{file_text, text_at};
+
+    /// The file at `path` with this `text`.
+    ///
+    /// # Errors
+    /// Out of memory.
+    pub fn new(alloc: Global, path: &'b str, text: &'b [u8]) -> Result<LinedFile<'b>, AllocError>
+        ensures { IfOk result (λ file. file_text file ≡ text_at path.now text.now) }
+    {
+        Ok(LinedFile {
+            path,
+            lined: LinedText::new(alloc, text)?,
+        })
+    }
+}
+
 /// The files whose entries were put together, and how many entries each has.
 #[derive(Clone, Copy)]
 pub struct LinedFiles<'a, 'b> {
@@ -162,8 +180,7 @@ pub fn lined_files<'b>(
         ≡ spec.texts_of_files path.now text.now further.now) }
 {
     let mut files = Vec::new(alloc);
-    let lined = LinedText::new(alloc, text)?;
-    files.push(LinedFile { path, lined })?;
+    files.push(LinedFile::new(alloc, path, text)?)?;
     for file in further {
         files.push(lined_further(alloc, file)?)?;
     }
@@ -174,10 +191,7 @@ pub fn lined_files<'b>(
 fn lined_further<'b>(alloc: Global, file: &'b FurtherFile) -> Result<LinedFile<'b>, AllocError>
     ensures { IfOk result (λ lined. spec.file_text lined ≡ spec.further_text file.now) }
 {
-    Ok(LinedFile {
-        path: file.path.as_str(),
-        lined: LinedText::new(alloc, file.text())?,
-    })
+    LinedFile::new(alloc, file.path.as_str(), file.text())
 }
 
 /// The files of `source`, with the lines of all fields.

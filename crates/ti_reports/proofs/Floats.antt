@@ -5,8 +5,8 @@ use Rattle.std.specs.declared.alloc.Global.{Global}
 use Rattle.serde_json.specs.Data.{number, string, unsigned}
 use Rattle.serde_json.specs.View.{items_of}
 use Rattle.serde_json.specs.Written.{has_float, items_have_float}
-use Rattle.ti_entries.specs.declared.columns.Columns.{Columns}
-use Rattle.ti_reports.specs.Reports.{column_data, end_column_data, end_line_data, hex_data, number_data, report_data, rule_data, text_data, truth_data, written_data}
+use Rattle.ti_joins.specs.declared.places.Region.{Region}
+use Rattle.ti_reports.specs.Reports.{column_data, end_column_data, end_line_data, hex_data, line_data, number_data, report_data, rule_data, text_data, truth_data, written_data}
 use Rattle.ti_members.specs.declared.forms.Written.{Written}
 use Rattle.ti_reports.specs.declared.reports.Report.{Report}
 use Rattle.ti_reports.specs.declared.reports.Verdict.{Verdict}
@@ -20,17 +20,21 @@ number_whole : (n : Option ℕ) → has_float (number_data n) ≡ false
 number_whole (Some n) = refl
 number_whole None = refl
 
-column_whole : (columns : Option Columns) → has_float (column_data columns) ≡ false
-column_whole (Some columns) = refl
+line_whole : (region : Option Region) → has_float (line_data region) ≡ false
+line_whole (Some region) = refl
+line_whole None = refl
+
+column_whole : (region : Option Region) → has_float (column_data region) ≡ false
+column_whole (Some region) = refl
 column_whole None = refl
 
-end_column_whole : (columns : Option Columns) → has_float (end_column_data columns) ≡ false
-end_column_whole (Some columns) = refl
-end_column_whole None = refl
+end_line_whole : (region : Option Region) → has_float (end_line_data region) ≡ false
+end_line_whole (Some region) = refl
+end_line_whole None = refl
 
-end_line_whole : (columns : Option Columns) (line : Option ℕ) → has_float (end_line_data columns line) ≡ false
-end_line_whole (Some columns) line = number_whole line
-end_line_whole None line = refl
+end_column_whole : (region : Option Region) → has_float (end_column_data region) ≡ false
+end_column_whole (Some region) = refl
+end_column_whole None = refl
 
 truth_whole : (b : Option Bool) → has_float (truth_data b) ≡ false
 truth_whole (Some b) = refl
@@ -70,4 +74,4 @@ texts_whole (text ∷ texts) = texts_whole texts
 pub report_whole : (report : Report) → has_float (report_data report) ≡ false
 report_whole report =
     let finding = report.finding in
-    rw (names_whole report.aliases.items, digits_whole report.aliases.items, truth_whole finding.another_kind, text_whole finding.bytes, text_whole finding.capability, text_whole report.cause, column_whole finding.place.columns, end_column_whole finding.place.columns, end_line_whole finding.place.columns finding.place.line, written_whole report.entry, hex_whole report.entry, texts_whole finding.explanation.items, column_whole finding.faulty_columns, end_column_whole finding.faulty_columns, truth_whole finding.judged, number_whole finding.place.line, numbers_whole finding.parameters.items, truth_whole report.is_part, rule_whole report.verdict report.cause, text_whole finding.run.seen, written_whole finding.place.entry, hex_whole finding.place.entry, text_whole finding.place.file, text_whole finding.run.start, written_whole finding.string, hex_whole finding.string, texts_whole finding.suggested_with.items, written_whole finding.suggestion, hex_whole finding.suggestion, text_whole finding.run.wanted) refl
+    rw (names_whole report.aliases.items, digits_whole report.aliases.items, truth_whole finding.another_kind, text_whole finding.bytes, text_whole finding.capability, text_whole report.cause, column_whole finding.place.region, end_column_whole finding.place.region, end_line_whole finding.place.region, written_whole report.entry, hex_whole report.entry, texts_whole finding.explanation.items, column_whole finding.faulty_region, end_column_whole finding.faulty_region, end_line_whole finding.faulty_region, line_whole finding.faulty_region, truth_whole finding.judged, number_whole finding.place.line, numbers_whole finding.parameters.items, truth_whole report.is_part, rule_whole report.verdict report.cause, text_whole finding.run.seen, written_whole finding.place.entry, hex_whole finding.place.entry, text_whole finding.place.file, text_whole finding.run.start, written_whole finding.string, hex_whole finding.string, texts_whole finding.suggested_with.items, written_whole finding.suggestion, hex_whole finding.suggestion, text_whole finding.run.wanted) refl

@@ -13,6 +13,7 @@ use Rattle.ti_reports.specs.Faults.{AreFoundLines}
 use Rattle.ti_reports.specs.Findings.{AreFaults}
 use Rattle.ti_reports.specs.Lacks.{ReportsLackOf, is_alone}
 use Rattle.ti_reports.specs.Sources.{Whereabouts, by_name}
+use Rattle.ti_places.specs.Spots.{FileText}
 use Rattle.ti_requests.specs.declared.request.FaultsWords.{FaultsWords}
 use Rattle.ti_verdicts.specs.Checks.{TellsNotes}
 use Rattle.ti_verdicts.specs.FaultLists.{EndsAsNo}
@@ -43,17 +44,17 @@ pub record ReportsMissing (held : Held) (words : FaultsWords) (reply : Reply) : 
   pub tells : ReportsLackOf height width (is_alone held.with_paths) words.entry.now failure reply
 
 -- The reply has the notes of this entry, and reports its first fault, or all of them, or that there is none.
-pub record ReportsEntry (has_columns : Bool) (entry : Content) (source : Option SourceText) (height width : ℕ)
+pub record ReportsEntry (originals : List FileText) (entry : Content) (source : Option SourceText) (height width : ℕ)
     (lists_all : Bool) (word : List ℕ) (reply : Reply) : Type 0 where
   pub file : List ℕ
   pub stands : file ≡ file_of source word
   pub notes : TellsNotes entry reply.notes.items
   pub nos : List No
   pub found : AreFaults lists_all entry height width nos
-  pub tells : TellsFound entry height width lists_all file (by_name has_columns source) nos reply
+  pub tells : TellsFound entry height width lists_all file (by_name originals source) nos reply
 
 -- the reply reports on the entry that the word gives, at the size that the words give
-pub record ReportsOn (has_columns : Bool) (held : Held) (lists_all : Bool) (words : FaultsWords) (reply : Reply)
+pub record ReportsOn (originals : List FileText) (held : Held) (lists_all : Bool) (words : FaultsWords) (reply : Reply)
     : Type 0 where
   pub height : ℕ
   pub width : ℕ
@@ -61,9 +62,9 @@ pub record ReportsOn (has_columns : Bool) (held : Held) (lists_all : Bool) (word
   pub entry : Content
   pub source : Option SourceText
   pub gives : IsSourced held words.entry.now entry source
-  pub tells : ReportsEntry has_columns entry source height width lists_all words.entry.now reply
+  pub tells : ReportsEntry originals entry source height width lists_all words.entry.now reply
 
--- a report on the entry, with columns or without, or that there is none
-abbrev pub Replies : Bool → Held → Bool → FaultsWords → Reply → Type 0
-Replies has_columns held lists_all words reply =
-    ReportsOn has_columns held lists_all words reply ⊎ ReportsMissing held words reply
+-- a report on the entry, or that there is none
+abbrev pub Replies : List FileText → Held → Bool → FaultsWords → Reply → Type 0
+Replies originals held lists_all words reply =
+    ReportsOn originals held lists_all words reply ⊎ ReportsMissing held words reply

@@ -12,7 +12,7 @@ use Rattle.ti_members.specs.Names.{AreAliases, HasName}
 use Rattle.ti_reports.specs.Hints.{HintText, IsHintPlace, hint_text}
 use Rattle.ti_reports.specs.Reports.{IsNothing, report_line}
 use Rattle.ti_members.specs.Sent.{IsSentText}
-use Rattle.ti_reports.specs.Sources.{AreFaultyAt, ByName, ByPlace, IsNowhere, IsValuePlace, Nowhere, Whereabouts, whereabouts_of}
+use Rattle.ti_reports.specs.Sources.{ByName, ByPlace, IsFaultyAt, IsNowhere, IsValuePlace, Nowhere, Whereabouts, whereabouts_of}
 use Rattle.ti_members.specs.Spellings.{IsSpelling}
 use Rattle.ti_members.specs.Suggestions.{AreFields, IsMendedFor, IsSuggested, is_judged, mended_with, other_kind}
 use Rattle.ti_members.specs.Texts.{IsShownAs}
@@ -26,7 +26,7 @@ use Rattle.ti_surveys.specs.Parts.{is_part}
 use Rattle.ti_verdicts.specs.Parts.{HasParts}
 use Rattle.ti_places.specs.Locations.{PlaceInSource, first_name}
 use Rattle.ti_places.specs.Refusals.{cause_name}
-use Rattle.ti_places.specs.Spots.{files_of}
+use Rattle.ti_places.specs.Spots.{FileText, files_of}
 
 -- the text of these bytes is there
 abbrev pub HasWords : List ℕ → Option (String Global) → Type 0
@@ -75,7 +75,7 @@ pub record Finds (of : OfFaults) (refusal : No) (finding : Finding) : Type 0 whe
   pub parameters : finding.parameters.items ≡ refusal.params.items
   pub bytes : IsSentText of.entry refusal finding.bytes
   pub place : IsValuePlace of.stands refusal.cap finding.place
-  pub faulty_columns : IfSome finding.faulty_columns (AreFaultyAt of.stands refusal.cap)
+  pub faulty_region : IfSome finding.faulty_region (IsFaultyAt of.stands refusal.cap)
   pub string_is : IsSpelling (string_at of.entry refusal.cap) finding.string
   pub suggestion : IsSuggested of.entry of.mended of.nos refusal.cap finding.suggestion
   pub suggested_with : AreFields of.entry of.mended of.nos (mended_with refusal.cap)
@@ -115,7 +115,7 @@ AreVerdictLines entry height width all file stands (first ∷ others) lines =
 pub record SaysWords (finding : Finding) : Type 0 where
   pub parameters : finding.parameters.items ≡ []
   pub bytes : finding.bytes ≡ None
-  pub faulty_columns : finding.faulty_columns ≡ None
+  pub faulty_region : finding.faulty_region ≡ None
   pub string_is : finding.string ≡ None
   pub suggestion : finding.suggestion ≡ None
   pub suggested_with : finding.suggested_with.items ≡ []
@@ -167,20 +167,20 @@ AreLinesIf P None lines = lines ≡ []
 AreLinesIf P (Some text) lines = AreLinesOf (P text) lines
 
 -- hints about an entry at its place, if they are asked for
-abbrev pub ArePlacedHints : Content → ℕ → ℕ → List ℕ → Bool → Bool → PlaceInSource → List ℕ → Type 0
-ArePlacedHints entry height width file false has_columns stands lines = lines ≡ []
-ArePlacedHints entry height width file true has_columns stands lines =
+abbrev pub ArePlacedHints : Content → ℕ → ℕ → List ℕ → Bool → List FileText → PlaceInSource → List ℕ → Type 0
+ArePlacedHints entry height width file false originals stands lines = lines ≡ []
+ArePlacedHints entry height width file true originals stands lines =
     AreLinesIf (λ text. ReportsHint entry height width file text stands.place)
-    (hint_text has_columns stands.files stands.raws) lines
+    (hint_text originals stands.files stands.raws) lines
 
 -- hints about an entry that was asked for by its name, and about those of its file that it uses; about an entry at a
 -- place alone, with all faults
 abbrev pub AreHintLines : Content → ℕ → ℕ → Bool → List ℕ → Whereabouts → List ℕ → Type 0
 AreHintLines entry height width all file Nowhere lines = lines ≡ []
-AreHintLines entry height width all file (ByName has_columns source) lines =
-    AreLinesIf (ReportsAnyHint entry height width file) (hint_text has_columns (files_of source) source.raws.items) lines
-AreHintLines entry height width all file (ByPlace has_columns stands) lines =
-    ArePlacedHints entry height width file all has_columns stands lines
+AreHintLines entry height width all file (ByName originals source) lines =
+    AreLinesIf (ReportsAnyHint entry height width file) (hint_text originals (files_of source) source.raws.items) lines
+AreHintLines entry height width all file (ByPlace originals stands) lines =
+    ArePlacedHints entry height width file all originals stands lines
 
 -- the verdict or the faults, then advice, and then hints
 pub record AreFoundLines (entry : Content) (height width : ℕ) (all : Bool) (file : List ℕ) (stands : Whereabouts)

@@ -1,11 +1,11 @@
--- A report and its JSON: an object that always has the same thirty-four members, null where one doesn't apply.
+-- A report and its JSON: an object that always has the same thirty-six members, null where one doesn't apply.
 use Rattle.std.specs.Prelude.{◌≡◌, ℕ, Bool, List, [], ◌∷◌, ◌++◌, Option, Some, None, String, codes, map, string_bytes}
 use Rattle.std.specs.declared.alloc.Global.{Global}
 use Rattle.serde_json.specs.Data.{Data, Members, no_members, member, array, boolean, null, number, object, put, string}
 use Rattle.serde_json.specs.Data.{unsigned}
 use Rattle.serde_json.specs.View.{items_of}
 use Rattle.serde_json.specs.Written.{compact_text}
-use Rattle.ti_entries.specs.declared.columns.Columns.{Columns}
+use Rattle.ti_joins.specs.declared.places.Region.{Region}
 use Rattle.ti_objects.specs.Escapes.{printable_json}
 use Rattle.ti_reports.specs.declared.lines.ValuePlace.{ValuePlace}
 use Rattle.ti_reports.specs.declared.reports.Finding.{Finding}
@@ -35,7 +35,7 @@ pub record IsBare (finding : Finding) : Type 0 where
   pub capability : finding.capability ≡ None
   pub parameters : finding.parameters.items ≡ []
   pub bytes : finding.bytes ≡ None
-  pub faulty_columns : finding.faulty_columns ≡ None
+  pub faulty_region : finding.faulty_region ≡ None
   pub string : finding.string ≡ None
   pub suggestion : finding.suggestion ≡ None
   pub suggested_with : finding.suggested_with.items ≡ []
@@ -50,7 +50,7 @@ pub record IsBare (finding : Finding) : Type 0 where
 pub record IsNothing (finding : Finding) : Type 0 where
   pub bare : IsBare finding
   pub line : finding.place.line ≡ None
-  pub columns : finding.place.columns ≡ None
+  pub region : finding.place.region ≡ None
   pub source_entry : finding.place.entry ≡ None
   pub source_file : finding.place.file ≡ None
 
@@ -64,19 +64,22 @@ abbrev pub number_data : Option ℕ → Data
 number_data (Some n) = number (unsigned n)
 number_data None = null
 
--- the columns of a field, or of the part of its value that is at fault; and the line on which a field ends, which is the
--- one on which it begins
-abbrev pub column_data : Option Columns → Data
-column_data (Some columns) = number (unsigned columns.start)
+-- the lines and the columns of the region of a field, or of the part of its value that is at fault
+abbrev pub line_data : Option Region → Data
+line_data (Some region) = number (unsigned region.line)
+line_data None = null
+
+abbrev pub column_data : Option Region → Data
+column_data (Some region) = number (unsigned region.column)
 column_data None = null
 
-abbrev pub end_column_data : Option Columns → Data
-end_column_data (Some columns) = number (unsigned columns.end)
-end_column_data None = null
+abbrev pub end_line_data : Option Region → Data
+end_line_data (Some region) = number (unsigned region.end_line)
+end_line_data None = null
 
-abbrev pub end_line_data : Option Columns → Option ℕ → Data
-end_line_data (Some columns) line = number_data line
-end_line_data None line = null
+abbrev pub end_column_data : Option Region → Data
+end_column_data (Some region) = number (unsigned region.end_column)
+end_column_data None = null
 
 abbrev pub truth_data : Option Bool → Data
 truth_data (Some b) = boolean b
@@ -129,14 +132,16 @@ report_data report = object (
     (member (codes "bytes") (text_data report.finding.bytes)
     (member (codes "capability") (text_data report.finding.capability)
     (member (codes "cause") (text_data report.cause)
-    (member (codes "column") (column_data report.finding.place.columns)
-    (member (codes "end_column") (end_column_data report.finding.place.columns)
-    (member (codes "end_line") (end_line_data report.finding.place.columns report.finding.place.line)
+    (member (codes "column") (column_data report.finding.place.region)
+    (member (codes "end_column") (end_column_data report.finding.place.region)
+    (member (codes "end_line") (end_line_data report.finding.place.region)
     (member (codes "entry") (written_data report.entry)
     (member (codes "entry_hex") (hex_data report.entry)
     (member (codes "explanation") (texts_data report.finding.explanation.items)
-    (member (codes "fault_column") (column_data report.finding.faulty_columns)
-    (member (codes "fault_end_column") (end_column_data report.finding.faulty_columns)
+    (member (codes "fault_column") (column_data report.finding.faulty_region)
+    (member (codes "fault_end_column") (end_column_data report.finding.faulty_region)
+    (member (codes "fault_end_line") (end_line_data report.finding.faulty_region)
+    (member (codes "fault_line") (line_data report.finding.faulty_region)
     (member (codes "file") (string (string_bytes report.file))
     (member (codes "judged") (truth_data report.finding.judged)
     (member (codes "line") (number_data report.finding.place.line)
@@ -156,7 +161,7 @@ report_data report = object (
     (member (codes "suggestion_hex") (hex_data report.finding.suggestion)
     (member (codes "verdict") (string (word_of report.verdict))
     (member (codes "version") version
-    (member (codes "wanted") (text_data report.finding.run.wanted) no_members))))))))))))))))))))))))))))))))))
+    (member (codes "wanted") (text_data report.finding.run.wanted) no_members))))))))))))))))))))))))))))))))))))
 
 -- the object without a space, in characters that can be printed, and the end of the line
 abbrev pub report_line : Report → List ℕ
@@ -187,22 +192,25 @@ with_value finding ms =
     (put (codes "parameters") (numbers_data finding.parameters.items)
     (put (codes "capability") (text_data finding.capability) ms))
 
-abbrev pub with_faulty : Option Columns → Members → Members
-with_faulty columns ms =
-    put (codes "fault_end_column") (end_column_data columns) (put (codes "fault_column") (column_data columns) ms)
+abbrev pub with_faulty : Option Region → Members → Members
+with_faulty region ms =
+    put (codes "fault_end_column") (end_column_data region)
+    (put (codes "fault_end_line") (end_line_data region)
+    (put (codes "fault_column") (column_data region)
+    (put (codes "fault_line") (line_data region) ms)))
 
-abbrev pub with_columns : ValuePlace → Members → Members
-with_columns place ms =
-    put (codes "end_column") (end_column_data place.columns)
-    (put (codes "end_line") (end_line_data place.columns place.line)
-    (put (codes "column") (column_data place.columns) ms))
+abbrev pub with_end : ValuePlace → Members → Members
+with_end place ms =
+    put (codes "end_column") (end_column_data place.region)
+    (put (codes "end_line") (end_line_data place.region)
+    (put (codes "column") (column_data place.region) ms))
 
 abbrev pub with_place : ValuePlace → Members → Members
 with_place place ms =
     put (codes "source_file") (text_data place.file)
     (put (codes "source_entry_hex") (hex_data place.entry)
     (put (codes "source_entry") (written_data place.entry)
-    (with_columns place
+    (with_end place
     (put (codes "line") (number_data place.line) ms))))
 
 abbrev pub with_strings : Finding → Members → Members

@@ -1,12 +1,12 @@
 -- The place of a value in a source text.
-use Rattle.std.specs.Prelude.{◌≡◌, ◌⊎◌, ◌<◌, ◌==◌, ⊤, ℕ, Bool, true, false, List, Option, Some, None, if◌then◌else◌}
-use Rattle.std.specs.Prelude.{[], length, option_map}
+use Rattle.std.specs.Prelude.{◌≡◌, ◌⊎◌, ◌<◌, ◌==◌, ⊤, ℕ, List, Option, Some, None, if◌then◌else◌}
+use Rattle.std.specs.Prelude.{[], length, map, option_map}
 use Rattle.std.specs.String.{string_bytes}
 use Rattle.ti_commands.specs.declared.failure.CommandRefusal.{CommandRefusal}
 use Rattle.ti_commands.specs.declared.failure.CommandRefusal.TheVariants as refusals
 use Rattle.ti_commands.specs.declared.sources.SourceText.{SourceText}
 use Rattle.ti_entries.specs.BadUses.{IsBadUse}
-use Rattle.ti_entries.specs.declared.columns.Columns.{Columns}
+use Rattle.ti_joins.specs.declared.places.Region.{Region}
 use Rattle.ti_members.specs.Names.{HasName}
 use Rattle.ti_members.specs.declared.forms.Written.{Written}
 use Rattle.ti_reports.specs.declared.lines.Standing.{Standing}
@@ -16,25 +16,26 @@ use Rattle.ti_resolve.specs.Origins.{IsOrigin, IsOriginAt}
 use Rattle.ti_resolve.specs.Uses.{names_at}
 use Rattle.ti_resolve.specs.declared.origins.Origin.{Origin}
 use Rattle.ti_source.specs.declared.types.RawEntry.{RawEntry}
-use Rattle.ti_places.specs.Locations.{AreFaultyColumns, PlaceInSource, first_name, place_in}
-use Rattle.ti_places.specs.Spots.{Line, PutFiles, columns_among, files_of, line_among}
+use Rattle.ti_places.specs.Locations.{IsFaultyRegion, PlaceInSource, first_name, place_in}
+use Rattle.ti_places.specs.Originals.{begun_line, region_among}
+use Rattle.ti_places.specs.Spots.{FileText, Line, PutFiles, file_text, files_of, line_among}
 
--- The origin of an entry: no source, a source that gives it by its name, or a place of a source; and whether fields have
--- columns, which those of files whose lines were joined have not.
+-- The origin of an entry: no source, a source that gives it by its name, or a place of a source; and the texts of those
+-- files whose lines were joined, as they were before.
 pub data Whereabouts : Type 0 where
   Nowhere : Whereabouts
-  ByName : Bool → SourceText → Whereabouts
-  ByPlace : Bool → PlaceInSource → Whereabouts
+  ByName : List FileText → SourceText → Whereabouts
+  ByPlace : List FileText → PlaceInSource → Whereabouts
 
 -- an entry that was asked for by its name; the entry of a compiled file is in no source
-abbrev pub by_name : Bool → Option SourceText → Whereabouts
-by_name has_columns None = Nowhere
-by_name has_columns (Some source) = ByName has_columns source
+abbrev pub by_name : List FileText → Option SourceText → Whereabouts
+by_name originals None = Nowhere
+by_name originals (Some source) = ByName originals source
 
 -- an entry at its place in a source; the entry of a compiled file is in none
-abbrev pub by_place : Bool → Option PlaceInSource → Whereabouts
-by_place has_columns None = Nowhere
-by_place has_columns (Some stands) = ByPlace has_columns stands
+abbrev pub by_place : List FileText → Option PlaceInSource → Whereabouts
+by_place originals None = Nowhere
+by_place originals (Some stands) = ByPlace originals stands
 
 -- the first name of the entry that has the field at this origin
 abbrev pub HasHolder : List RawEntry → Option Origin → Option Written → Type 0
@@ -51,70 +52,72 @@ HasLine None place = (place.line ≡ None) × (place.file ≡ None)
 HasLine (Some line) place =
     (place.line ≡ number_of line) × (option_map (λ f. string_bytes f) place.file ≡ Some line.path)
 
--- the file and the line of the field at this origin, among the entries of these files, and the entry that has it
-pub record IsFieldPlace (files : PutFiles) (raws : List RawEntry) (origin : Option Origin) (place : ValuePlace)
+-- the file and a line of it, for the field at this origin, and the entry that has it
+pub record IsFieldPlace (line : Option Line) (raws : List RawEntry) (origin : Option Origin) (place : ValuePlace)
     : Type 0 where
-  pub line : HasLine (option_map (line_among files) origin) place
+  pub line_is : HasLine line place
   pub holder : HasHolder raws origin place.entry
 
--- the columns of the field at this origin, which is about the capability, if fields have columns
-abbrev pub columns_at : Bool → PutFiles → ℕ → Option Origin → Option Columns
-columns_at has_columns files cap None = None
-columns_at true files cap (Some origin) = columns_among files cap origin
-columns_at false files cap (Some origin) = None
+-- the region of the field at this origin, which is about the capability
+abbrev pub region_if : List FileText → PutFiles → ℕ → Option Origin → Option Region
+region_if originals files cap None = None
+region_if originals files cap (Some origin) = region_among originals files cap origin
 
--- the place of the field at this origin, which is about the capability, with its columns
-pub record IsPlaceOf (has_columns : Bool) (files : PutFiles) (raws : List RawEntry) (cap : ℕ) (origin : Option Origin)
-    (place : ValuePlace) : Type 0 where
-  pub field : IsFieldPlace files raws origin place
-  pub columns : place.columns ≡ columns_at has_columns files cap origin
+-- the line on which it begins
+abbrev pub line_if : List FileText → PutFiles → ℕ → Option Origin → Option Line
+line_if originals files cap None = None
+line_if originals files cap (Some origin) =
+    Some (begun_line (line_among files origin) (region_among originals files cap origin))
 
--- the columns of the part of the value that is at fault, in a source, in which the entry is found by its name
-pub record AreFaultyIn (source : SourceText) (cap : ℕ) (columns : Columns) : Type 0 where
+-- the place of the field at this origin, which is about the capability, with its region
+pub record IsPlaceOf (originals : List FileText) (files : PutFiles) (raws : List RawEntry) (cap : ℕ)
+    (origin : Option Origin) (place : ValuePlace) : Type 0 where
+  pub field : IsFieldPlace (line_if originals files cap origin) raws origin place
+  pub region : place.region ≡ region_if originals files cap origin
+
+-- the region of the part of the value that is at fault, in a source, in which the entry is found by its name
+pub record IsFaultyIn (originals : List FileText) (source : SourceText) (cap : ℕ) (region : Region) : Type 0 where
   pub origin : Origin
   pub first : IsOrigin source.raws.items source.name.now cap (Some origin)
-  pub are : AreFaultyColumns (files_of source) cap origin columns
+  pub is : IsFaultyRegion originals (files_of source) cap origin region
 
 -- of an entry at its place
-pub record AreFaultyOf (stands : PlaceInSource) (cap : ℕ) (columns : Columns) : Type 0 where
+pub record IsFaultyOf (originals : List FileText) (stands : PlaceInSource) (cap : ℕ) (region : Region) : Type 0 where
   pub origin : Origin
   pub first : IsOriginAt stands.raws stands.place cap (Some origin)
-  pub are : AreFaultyColumns stands.files cap origin columns
+  pub is : IsFaultyRegion originals stands.files cap origin region
 
--- only fields with columns have such a part
-abbrev pub AreFaultyAt : Whereabouts → ℕ → Columns → Type 0
-AreFaultyAt Nowhere cap columns = ⊥
-AreFaultyAt (ByName true source) cap columns = AreFaultyIn source cap columns
-AreFaultyAt (ByName false source) cap columns = ⊥
-AreFaultyAt (ByPlace true stands) cap columns = AreFaultyOf stands cap columns
-AreFaultyAt (ByPlace false stands) cap columns = ⊥
+abbrev pub IsFaultyAt : Whereabouts → ℕ → Region → Type 0
+IsFaultyAt Nowhere cap region = ⊥
+IsFaultyAt (ByName originals source) cap region = IsFaultyIn originals source cap region
+IsFaultyAt (ByPlace originals stands) cap region = IsFaultyOf originals stands cap region
 
--- for private clauses: a field on this line at these columns, and the entry that has it
-pub record IsHeldAt (line : Line) (columns : Option Columns) (raws : List RawEntry) (origin : Origin) (place : ValuePlace)
+-- for private clauses: a field on this line with this region, and the entry that has it
+pub record IsHeldAt (line : Line) (region : Option Region) (raws : List RawEntry) (origin : Origin) (place : ValuePlace)
     : Type 0 where
-  pub line_is : HasLine (Some line) place
-  pub columns_are : place.columns ≡ columns
+  pub line_is : HasLine (Some (begun_line line region)) place
+  pub region_is : place.region ≡ region
   pub holder : HasHolder raws (Some origin) place.entry
 
 -- the place of the first field about the capability, among the entry's own and those that it uses, if there is a value
-pub record IsPlaceIn (has_columns : Bool) (source : SourceText) (cap : ℕ) (place : ValuePlace) : Type 0 where
+pub record IsPlaceIn (originals : List FileText) (source : SourceText) (cap : ℕ) (place : ValuePlace) : Type 0 where
   pub origin : Option Origin
   pub first : IsOrigin source.raws.items source.name.now cap origin
-  pub says : IsPlaceOf has_columns (files_of source) source.raws.items cap origin place
+  pub says : IsPlaceOf originals (files_of source) source.raws.items cap origin place
 
 -- the place for the entry at a place of the source, whatever other entries have its names
-pub record IsPlaceAt (has_columns : Bool) (stands : PlaceInSource) (cap : ℕ) (place : ValuePlace) : Type 0 where
+pub record IsPlaceAt (originals : List FileText) (stands : PlaceInSource) (cap : ℕ) (place : ValuePlace) : Type 0 where
   pub origin : Option Origin
   pub first : IsOriginAt stands.raws stands.place cap origin
-  pub says : IsPlaceOf has_columns stands.files stands.raws cap origin place
+  pub says : IsPlaceOf originals stands.files stands.raws cap origin place
 
 abbrev pub IsNowhere : ValuePlace → Type 0
-IsNowhere place = (place.line ≡ None) × (place.columns ≡ None) × (place.file ≡ None) × (place.entry ≡ None)
+IsNowhere place = (place.line ≡ None) × (place.region ≡ None) × (place.file ≡ None) × (place.entry ≡ None)
 
 abbrev pub IsValuePlace : Whereabouts → ℕ → ValuePlace → Type 0
 IsValuePlace Nowhere cap place = IsNowhere place
-IsValuePlace (ByName has_columns source) cap place = IsPlaceIn has_columns source cap place
-IsValuePlace (ByPlace has_columns stands) cap place = IsPlaceAt has_columns stands cap place
+IsValuePlace (ByName originals source) cap place = IsPlaceIn originals source cap place
+IsValuePlace (ByPlace originals stands) cap place = IsPlaceAt originals stands cap place
 
 -- ---- a refusal
 
@@ -122,14 +125,14 @@ IsValuePlace (ByPlace has_columns stands) cap place = IsPlaceAt has_columns stan
 abbrev pub IsOnLine : Option (List ℕ) → ℕ → ValuePlace → Type 0
 IsOnLine None line place = IsNowhere place
 IsOnLine (Some path) line place =
-    HasLine (Some (record { path = path; number = line })) place × (place.columns ≡ None) × (place.entry ≡ None)
+    HasLine (Some (record { path = path; number = line })) place × (place.region ≡ None) × (place.entry ≡ None)
 
 -- the field of a use that leads to no entry or back, of the entry or of one that is reached from it by uses
 pub record IsUseAt (stands : PlaceInSource) (place : ValuePlace) : Type 0 where
   pub origin : Origin
   pub bad : IsBadUse stands.raws origin [] stands.place
-  pub says : IsFieldPlace stands.files stands.raws (Some origin) place
-  pub no_columns : place.columns ≡ None
+  pub says : IsFieldPlace (Some (line_among stands.files origin)) stands.raws (Some origin) place
+  pub no_region : place.region ≡ None
 
 -- such a use, if one is found; nowhere for an entry whose place isn't known
 abbrev pub IsUsePlace : Option PlaceInSource → ValuePlace → Type 0
@@ -159,10 +162,10 @@ fault_file path (Some stands) = (line_among stands.files (record { entry = stand
 
 abbrev pub whereabouts_of : Standing → Whereabouts
 whereabouts_of Unsourced = Nowhere
-whereabouts_of (Named named has_columns) = ByName has_columns named.now.source.now
-whereabouts_of (Placed there has_columns) = ByPlace has_columns (place_in there.now)
+whereabouts_of (Named named originals) = ByName (map file_text originals.now) named.now.source.now
+whereabouts_of (Placed there originals) = ByPlace (map file_text originals.now) (place_in there.now)
 
 abbrev pub IsThere : Standing → Type 0
 IsThere Unsourced = ⊤
-IsThere (Named named has_columns) = ⊤
-IsThere (Placed there has_columns) = there.now.place < length there.now.raws.now
+IsThere (Named named originals) = ⊤
+IsThere (Placed there originals) = there.now.place < length there.now.raws.now

@@ -25,6 +25,7 @@ use Rattle.ti_surveys.specs.Strict.{EndsStrictly}
 use Rattle.ti_surveys.specs.Surveys.{EndsPaths}
 use Rattle.ti_surveys.specs.Told.{Told}
 use Rattle.ti_places.specs.Locations.{PlaceInSource}
+use Rattle.ti_places.specs.Spots.{FileText}
 use Rattle.ti_verdicts.specs.declared.answers.Answer.{Answer}
 use Rattle.ti_verdicts.specs.declared.answers.Answer.TheVariants as answers
 
@@ -61,9 +62,9 @@ pub record AreOfEntry (height width : ℕ) (all : Bool) (path : List ℕ) (stand
   pub each : answered ≡ kind_answers (kind_of all entry nos) nos
 
 -- the reports on an entry, and nothing beside them
-abbrev pub Reports : ℕ → ℕ → Bool → Bool → Saying
-Reports height width all has_columns path stands name entry told =
-    AreOfEntry height width all path (by_place has_columns stands) entry told.lines told.answers × (told.places ≡ [])
+abbrev pub Reports : ℕ → ℕ → Bool → List FileText → Saying
+Reports height width all originals path stands name entry told =
+    AreOfEntry height width all path (by_place originals stands) entry told.lines told.answers × (told.places ≡ [])
 
 -- the line about an entry that can't be obtained, or about a whole file, with the refusal and its reason's place
 pub record IsOfRefusal (height width : ℕ) (path : List ℕ) (stands : Option PlaceInSource) (name : Option (List ℕ))
@@ -92,14 +93,14 @@ ReportsUnread height width path told =
 
 -- The lines of each path are heard, also of one that can't be read, and the reply has no text. It fails if a path can't
 -- be read, or, if the words ask for it, if a line has a verdict other than yes.
-pub record AreSurveyed (has_columns : Bool) (held : Held) (words : SurveyWords) (remarks : List (List ℕ))
+pub record AreSurveyed (originals : List FileText) (held : Held) (words : SurveyWords) (remarks : List (List ℕ))
     (AreHeard : List ℕ → Type 0) (reply : Reply) : Type 0 where
   pub height : ℕ
   pub width : ℕ
   pub given : SizeGiven words.rows.now words.cols.now height width
   pub told : Told
   pub failed : Option Failure
-  pub ends : EndsPaths (AreLines (Reports height width words.lists_all has_columns) (ReportsLack height width))
+  pub ends : EndsPaths (AreLines (Reports height width words.lists_all originals) (ReportsLack height width))
       (ReportsUnread height width) held (texts_of words.paths.items) told failed remarks
   pub strictly : EndsStrictly words.is_strict told.answers failed reply.failure
   pub places : reply.notes.items ≡ places_text told.places

@@ -1,10 +1,11 @@
 //! The command `check --json`.
 
-ghost use Rattle.std.specs.Prelude.{◌≡◌, IfErr, IfOk, Some};
+ghost use Rattle.std.specs.Prelude.{◌≡◌, IfErr, IfOk, Some, map};
 ghost use Rattle.ti_reports.specs.Checks as spec;
 ghost use Rattle.ti_reports.specs.Lacks.{is_alone};
 ghost use Rattle.ti_reports.specs.Sources.{IsThere, by_name, whereabouts_of};
 ghost use Rattle.ti_commands.specs.Sizes.{LacksSize};
+ghost use Rattle.ti_places.specs.Spots.{file_text};
 
 use crate::asked::Asked;
 use crate::faults::{Subject, found_lines};
@@ -15,7 +16,7 @@ use std::alloc::{AllocError, Global};
 use ti_caps::Entry;
 use ti_checker::No;
 use ti_commands::{Failure, Files, Reply, SourceText, Sourced, size_words, sourced_entry};
-use ti_places::{LinedFiles, NamedSource, no_failure, source_files};
+use ti_places::{LinedFile, LinedFiles, NamedSource, no_failure, source_files};
 use ti_requests::FaultsWords;
 use ti_resolve::Index;
 use ti_verdicts::{explain_no, notes_on};
@@ -29,8 +30,8 @@ pub struct Check<'a> {
     pub words: &'a FaultsWords<'a>,
     /// Whether all faults are reported, and not only the first one.
     pub lists_all: bool,
-    /// Whether faults have columns, that is, whether the lines of the files are read as they are.
-    pub has_columns: bool,
+    /// The texts of those files whose lines were joined, as they were before.
+    pub originals: &'a [LinedFile<'a>],
 }
 
 /// Replies with the notes on the entry that the words of `check` give and, in JSON, with its faults, the first one or
@@ -42,8 +43,8 @@ pub fn check_reports<F: Files>(
     files: &mut F,
     remarks: &mut Remarks,
 ) -> Result<Reply, Failure>
-    ensures reply { IfOk result (λ reply. spec.Replies check.now.has_columns (F.holds files.old) check.now.lists_all
-        check.now.words.now reply) }
+    ensures reply { IfOk result (λ reply. spec.Replies (map file_text check.now.originals.now) (F.holds files.old)
+        check.now.lists_all check.now.words.now reply) }
     ensures failure { IfErr result (λ e. LacksSize check.now.words.now.rows.now check.now.words.now.cols.now e) }
     ensures kept { F.holds files.new ≡ F.holds files.old }
 {
@@ -52,11 +53,11 @@ pub fn check_reports<F: Files>(
     let asked = Asked {
         size,
         lists_all: check.lists_all,
-        has_columns: check.has_columns,
+        originals: check.originals,
     };
     match sourced_entry(alloc, files, words.entry, remarks) {
         Ok(found) => Ok(entry_reply(alloc, asked, words.entry, &found, remarks)?),
-        Err(failure) => lack_reply(alloc, asked, is_alone(files), words.entry, failure),
+        Err(failure) => lack_reply(alloc, size, is_alone(files), words.entry, failure),
     }
 }
 
@@ -73,13 +74,13 @@ fn is_alone<F: Files>(files: &F) -> bool
 /// The reply on the entry that was `found` by the ENTRY `word`, as it is `asked` for.
 fn entry_reply(
     alloc: Global,
-    asked: Asked,
+    asked: Asked<'_>,
     word: &str,
     found: &Sourced<'_>,
     remarks: &mut Remarks,
 ) -> Result<Reply, AllocError>
-    ensures { IfOk result (λ reply. spec.ReportsEntry asked.has_columns found.now.entry found.now.source
-        asked.size.rows asked.size.cols asked.lists_all word.now reply) }
+    ensures { IfOk result (λ reply. spec.ReportsEntry (map file_text asked.entry.originals.now) found.now.entry
+        found.now.source asked.entry.size.rows asked.entry.size.cols asked.entry.lists_all word.now reply) }
 {
     let notes = notes_on(alloc, &found.entry, asked.size)?;
     let nos = found_faults(alloc, &found.entry, asked.size, asked.lists_all)?;
@@ -94,16 +95,16 @@ fn entry_reply(
 /// is `asked` for.
 fn located_reply<'x>(
     alloc: Global,
-    asked: Asked,
+    asked: Asked<'_>,
     word: &'x str,
     found: &'x Sourced<'x>,
     notes: Vec<u8>,
     nos: &[No],
 ) -> Result<Reply, AllocError>
     ensures noted { IfOk result (λ reply. reply.notes ≡ notes) }
-    ensures told { IfOk result (λ reply. spec.TellsFound found.now.entry asked.size.rows asked.size.cols
-        asked.lists_all (spec.file_of found.now.source word.now) (by_name asked.has_columns found.now.source) nos.now
-        reply) }
+    ensures told { IfOk result (λ reply. spec.TellsFound found.now.entry asked.entry.size.rows asked.entry.size.cols
+        asked.entry.lists_all (spec.file_of found.now.source word.now)
+        (by_name (map file_text asked.entry.originals.now) found.now.source) nos.now reply) }
 {
     match &found.source {
         None => {
@@ -122,15 +123,16 @@ fn located_reply<'x>(
 /// The reply with `notes` that says that `nos` are the faults of the `entry` of `source`, as it is `asked` for.
 fn source_reply<'x>(
     alloc: Global,
-    asked: Asked,
+    asked: Asked<'_>,
     entry: &'x Entry,
     source: &'x SourceText<'x>,
     notes: Vec<u8>,
     nos: &[No],
 ) -> Result<Reply, AllocError>
     ensures noted { IfOk result (λ reply. reply.notes ≡ notes) }
-    ensures told { IfOk result (λ reply. spec.TellsFound entry.now asked.size.rows asked.size.cols
-        asked.lists_all source.now.path.now (by_name asked.has_columns (Some source.now)) nos.now reply) }
+    ensures told { IfOk result (λ reply. spec.TellsFound entry.now asked.entry.size.rows asked.entry.size.cols
+        asked.entry.lists_all source.now.path.now (by_name (map file_text asked.entry.originals.now) (Some source.now))
+        nos.now reply) }
 {
     let index = Index::new(alloc, source.raws.as_slice())?;
     let files = source_files(alloc, source)?;
@@ -149,22 +151,22 @@ fn source_reply<'x>(
 /// for.
 fn named_reply<'x, 'y>(
     alloc: Global,
-    asked: Asked,
+    asked: Asked<'_>,
     entry: &'x Entry,
     named: &'x NamedSource<'x, 'y>,
     notes: Vec<u8>,
     nos: &[No],
 ) -> Result<Reply, AllocError>
     ensures noted { IfOk result (λ reply. reply.notes ≡ notes) }
-    ensures told { IfOk result (λ reply. spec.TellsFound entry.now asked.size.rows asked.size.cols
-        asked.lists_all named.now.source.now.path.now (by_name asked.has_columns (Some named.now.source.now)) nos.now
-        reply) }
+    ensures told { IfOk result (λ reply. spec.TellsFound entry.now asked.entry.size.rows asked.entry.size.cols
+        asked.entry.lists_all named.now.source.now.path.now
+        (by_name (map file_text asked.entry.originals.now) (Some named.now.source.now)) nos.now reply) }
 {
     let subject = Subject {
         entry,
         size: asked.size,
         file: named.source.path,
-        stands: Standing::Named(named, asked.has_columns),
+        stands: Standing::Named(named, asked.originals),
     };
     reply_of(alloc, &subject, asked.lists_all, notes, nos)
 }

@@ -1,9 +1,10 @@
 //! The reports on the entries of a file.
 
-ghost use Rattle.std.specs.Prelude.{◌≡◌, ◌<◌, [], IfOk, IfSome, length};
+ghost use Rattle.std.specs.Prelude.{◌≡◌, ◌<◌, [], IfOk, IfSome, length, map};
 ghost use Rattle.ti_reports.specs.Sources.{IsThere, whereabouts_of};
 ghost use Rattle.ti_reports.specs.Surveys as spec;
 ghost use Rattle.ti_places.specs.Locations.{place_if};
+ghost use Rattle.ti_places.specs.Spots.{file_text};
 
 use crate::asked::Asked;
 use crate::faults::{Subject, found_lines};
@@ -15,9 +16,9 @@ use ti_caps::Entry;
 use ti_surveys::{FileEntry, Lacking, Said, Speaker, answers_of, kind_of};
 use ti_verdicts::Answer;
 
-impl Speaker for Asked {
+impl Speaker for Asked<'_> {
     ghost says = { λ asked. spec.Reports asked.size.rows asked.size.cols asked.lists_all
-        asked.has_columns };
+        (map file_text asked.originals.now) };
 
     ghost refuses = { λ asked. spec.ReportsLack asked.size.rows asked.size.cols };
 
@@ -32,18 +33,18 @@ impl Speaker for Asked {
             alloc,
             *self,
             found.path,
-            placed(found.stands, self.has_columns),
+            placed(found.stands, self.originals),
             found.entry,
         )
     }
 
     fn refuse(&self, alloc: Global, lacking: &Lacking<'_, '_>) -> Result<Said, AllocError> {
-        let line = lacking_line(alloc, *self, lacking)?;
+        let line = lacking_line(alloc, self.size, lacking)?;
         Said::of_line(alloc, line, Answer::Refused)
     }
 
     fn leave(&self, alloc: Global, path: &str) -> Result<Said, AllocError> {
-        let line = unread_line(alloc, *self, path)?;
+        let line = unread_line(alloc, self.size, path)?;
         Said::of_line(alloc, line, Answer::Refused)
     }
 }
@@ -51,14 +52,14 @@ impl Speaker for Asked {
 /// The report lines of `entry`, which is at the place `stands` in the file at `path`, and the answer of each.
 fn entry_said(
     alloc: Global,
-    asked: Asked,
+    asked: Asked<'_>,
     path: &str,
     stands: Standing<'_, '_>,
     entry: &Entry,
 ) -> Result<Said, AllocError>
     requires { IsThere stands }
-    ensures lines { IfOk result (λ said. spec.AreOfEntry asked.size.rows asked.size.cols asked.lists_all
-        path.now (whereabouts_of stands.entry) entry.now said.lines.items said.answers.items) }
+    ensures lines { IfOk result (λ said. spec.AreOfEntry asked.entry.size.rows asked.entry.size.cols
+        asked.entry.lists_all path.now (whereabouts_of stands.entry) entry.now said.lines.items said.answers.items) }
     ensures places { IfOk result (λ said. said.places.items ≡ []) }
 {
     let nos = found_faults(alloc, entry, asked.size, asked.lists_all)?;

@@ -10,7 +10,7 @@ ghost use Rattle.ti_places.specs.Refusals.{cause_name};
 
 use crate::advice::advice_lines;
 use crate::hints::hint_lines;
-use crate::lines::{Standing, faulty_columns, value_place};
+use crate::lines::{Standing, faulty_region, value_place};
 use crate::reports::{Finding, Report, Verdict, report_line};
 use std::alloc::{AllocError, Global};
 use ti_caps::{Cap, Entry, name};
@@ -209,7 +209,7 @@ fn finding_of(
         parameters: Vec::from_slice(alloc, no.params.as_slice())?,
         bytes: sent_text(alloc, entry, no)?,
         place: value_place(alloc, &subject.stands, no.cap)?,
-        faulty_columns: faulty_columns(alloc, &subject.stands, &fault)?,
+        faulty_region: faulty_region(alloc, &subject.stands, &fault)?,
         string: own_string(alloc, entry, no.cap)?,
         suggestion: suggested(alloc, entry, mended, nos, no.cap)?,
         suggested_with: suggested_with(alloc, entry, mended, nos, no.cap)?,

@@ -1,14 +1,14 @@
 //! Reports of hints about the fields of an entry's source text.
 
-ghost use Rattle.std.specs.Prelude.{◌≡◌, IfOk, OnOk, option_map};
+ghost use Rattle.std.specs.Prelude.{◌≡◌, IfOk, OnOk, map, option_map};
 ghost use Rattle.std.specs.List.{AllByRecursion};
 ghost use Rattle.ti_hints.specs.Places.{IsHintOf};
 ghost use Rattle.ti_reports.specs.Faults as spec;
-ghost use Rattle.ti_reports.specs.Hints.{IsHintPlace, hint_text, text_in};
+ghost use Rattle.ti_reports.specs.Hints.{IsHintPlace, hint_text, line_hinted, region_hinted, text_in};
 ghost use Rattle.ti_reports.specs.Sources.{whereabouts_of};
 ghost use Rattle.ti_source.specs.Layout.{lines_of};
-ghost use Rattle.ti_places.specs.Locations.{columns_if, place_in};
-ghost use Rattle.ti_places.specs.Spots.{files_of, put_files};
+ghost use Rattle.ti_places.specs.Locations.{place_in};
+ghost use Rattle.ti_places.specs.Spots.{file_text, files_of, line_of, put_files};
 
 use crate::faults::{Subject, cap_text, report_on};
 use crate::lines::{Standing, ValuePlace, holder};
@@ -16,9 +16,12 @@ use crate::reports::{Finding, Verdict, report_line};
 use std::alloc::{AllocError, Global};
 use ti_caps::Cap;
 use ti_commands::own_raws;
-use ti_entries::{Columns, LinedText};
+use ti_entries::LinedText;
 use ti_hints::{FieldHint, entry_hints, used_places};
-use ti_places::{LinedFiles, NamedSource, SourcePlace};
+use ti_joins::Region;
+use ti_places::{
+    FieldPlace, LinedFile, LinedFiles, NamedSource, SourcePlace, begun_line, region_at,
+};
 use ti_resolve::Origin;
 use ti_source::RawEntry;
 
@@ -35,9 +38,9 @@ pub fn hint_lines(
 {
     match &subject.stands {
         Standing::Unsourced => Ok(Vec::new(alloc)),
-        Standing::Named(named, has_columns) => named_lines(alloc, subject, named, *has_columns),
-        Standing::Placed(there, has_columns) => {
-            placed_lines(alloc, subject, lists_all, there, *has_columns)
+        Standing::Named(named, originals) => named_lines(alloc, subject, named, originals),
+        Standing::Placed(there, originals) => {
+            placed_lines(alloc, subject, lists_all, there, originals)
         }
     }
 }
@@ -48,13 +51,13 @@ fn named_lines(
     alloc: Global,
     subject: &Subject<'_, '_>,
     named: &NamedSource<'_, '_>,
-    has_columns: bool,
+    originals: &[LinedFile<'_>],
 ) -> Result<Vec<u8>, AllocError>
     ensures { IfOk result (λ lines. spec.AreLinesIf (spec.ReportsAnyHint subject.now.entry.now
         subject.now.size.rows subject.now.size.cols subject.now.file.now)
-        (hint_text has_columns (files_of named.now.source.now) named.now.source.now.raws.items) lines.items) }
+        (hint_text (map file_text originals.now) (files_of named.now.source.now) named.now.source.now.raws.items) lines.items) }
 {
-    match hint_source(named.files, named.source.raws.as_slice(), has_columns) {
+    match hint_source(named.files, named.source.raws.as_slice(), originals) {
         Some(source) => used_lines(alloc, subject, &source, named.source.name.as_bytes()),
         None => Ok(Vec::new(alloc)),
     }
@@ -66,15 +69,16 @@ fn placed_lines(
     subject: &Subject<'_, '_>,
     lists_all: bool,
     there: &SourcePlace<'_, '_>,
-    has_columns: bool,
+    originals: &[LinedFile<'_>],
 ) -> Result<Vec<u8>, AllocError>
     ensures { IfOk result (λ lines. spec.ArePlacedHints subject.now.entry.now subject.now.size.rows
-        subject.now.size.cols subject.now.file.now lists_all has_columns (place_in there.now) lines.items) }
+        subject.now.size.cols subject.now.file.now lists_all (map file_text originals.now)
+        (place_in there.now) lines.items) }
 {
     if !lists_all {
         return Ok(Vec::new(alloc));
     }
-    match hint_source(there.files, there.raws, has_columns) {
+    match hint_source(there.files, there.raws, originals) {
         Some(source) => own_lines(alloc, subject, &source, there.place),
         None => Ok(Vec::new(alloc)),
     }
@@ -89,24 +93,24 @@ struct HintSource<'a, 'b> {
     lined: &'a LinedText<'b>,
     /// Its entries.
     raws: &'b [RawEntry],
-    /// Whether fields have columns.
-    has_columns: bool,
+    /// The texts of those files whose lines were joined, as they were before.
+    originals: &'a [LinedFile<'a>],
 }
 
 /// The first of these `files`, which have the entries `raws`; `None` if there is none.
 fn hint_source<'a, 'b>(
     files: LinedFiles<'a, 'b>,
     raws: &'b [RawEntry],
-    has_columns: bool,
+    originals: &'a [LinedFile<'a>],
 ) -> Option<HintSource<'a, 'b>>
-    ensures { option_map text_in result ≡ hint_text has_columns (put_files files.entry) raws.now }
+    ensures { option_map text_in result ≡ hint_text (map file_text originals.now) (put_files files.entry) raws.now }
 {
     match files.files {
         [first, ..] => Some(HintSource {
             path: first.path,
             lined: &first.lined,
             raws: own_raws(raws, files.counts),
-            has_columns,
+            originals,
         }),
         [] => None,
     }
@@ -232,17 +236,31 @@ fn hint_place(
         entry: hint.entry,
         field: 0,
     };
+    let region = hint_region(source, hint);
     Ok(ValuePlace {
-        line: Some(hint.line),
-        columns: columns_if(source.has_columns, hint.columns),
+        line: Some(begun_line(hint_line_of(source, hint), region).line),
+        region,
         file: Some(String::from_str(alloc, source.path)?),
         entry: Some(holder(alloc, source.raws, names)?),
     })
 }
 
-/// The `columns`, if fields have columns.
-fn columns_if(has_columns: bool, columns: Option<Columns>) -> Option<Columns>
-    ensures { result ≡ columns_if has_columns columns }
+/// The line of the `hint` in `source`.
+fn hint_line_of<'b>(source: &HintSource<'_, 'b>, hint: &FieldHint) -> FieldPlace<'b>
+    ensures { line_of result ≡ line_hinted (text_in source.now) hint.now }
 {
-    if has_columns { columns } else { None }
+    FieldPlace {
+        path: source.path,
+        line: hint.line,
+    }
+}
+
+/// The region of the field that the `hint` in `source` is about, if it is about one.
+fn hint_region(source: &HintSource<'_, '_>, hint: &FieldHint) -> Option<Region>
+    ensures { result ≡ region_hinted (text_in source.now) hint.now }
+{
+    match hint.columns {
+        Some(columns) => Some(region_at(source.originals, hint_line_of(source, hint), columns)),
+        None => None,
+    }
 }

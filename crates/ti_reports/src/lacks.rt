@@ -5,26 +5,26 @@ ghost use Rattle.ti_commands.specs.Findings.{IsPath, IsPathAndName};
 ghost use Rattle.ti_commands.specs.declared.failure.Failure.TheVariants.{NoMemory};
 ghost use Rattle.ti_reports.specs.Lacks as spec;
 
-use crate::asked::Asked;
 use crate::lines::{ValuePlace, refusal_place};
 use crate::refusals::{file_words, refused_line};
 use std::alloc::{AllocError, Global};
 use ti_commands::{Failure, Reply, refusal_words};
+use vt_term::Size;
 
-/// The reply that reports, for the size of `asked`, that the ENTRY `word` gives no entry, with the reason of `failure`;
+/// The reply that reports, for this `size`, that the ENTRY `word` gives no entry, with the reason of `failure`;
 /// the reply fails so too. If the word's file is read `alone`, the place of the reason is one in it.
 pub fn lack_reply(
     alloc: Global,
-    asked: Asked,
+    size: Size,
     alone: bool,
     word: &str,
     failure: Failure,
 ) -> Result<Reply, Failure>
-    ensures reply { IfOk result (λ reply. spec.ReportsLackOf asked.size.rows asked.size.cols alone word.now failure
+    ensures reply { IfOk result (λ reply. spec.ReportsLackOf size.rows size.cols alone word.now failure
         reply) }
     ensures failure { IfErr result (λ e. e ≡ NoMemory) }
 {
-    let line = lack_line(alloc, asked, alone, word, &failure)?;
+    let line = lack_line(alloc, size, alone, word, &failure)?;
     Ok(Reply {
         notes: Vec::new(alloc),
         text: line,
@@ -64,17 +64,17 @@ fn reason_place(
 /// The line that the ENTRY `word` gives no entry, with the reason of `failure`.
 fn lack_line(
     alloc: Global,
-    asked: Asked,
+    size: Size,
     alone: bool,
     word: &str,
     failure: &Failure,
 ) -> Result<Vec<u8>, AllocError>
-    ensures { IfOk result (λ line. spec.IsLackLine asked.size.rows asked.size.cols alone word.now failure.now
+    ensures { IfOk result (λ line. spec.IsLackLine size.rows size.cols alone word.now failure.now
         line.items) }
 {
     match path_and_name(word) {
-        Some((path, name)) => lack_of(alloc, asked, alone, failure, path, Some(name.as_bytes())),
-        None => lack_of(alloc, asked, alone, failure, word, None),
+        Some((path, name)) => lack_of(alloc, size, alone, failure, path, Some(name.as_bytes())),
+        None => lack_of(alloc, size, alone, failure, word, None),
     }
 }
 
@@ -82,18 +82,18 @@ fn lack_line(
 /// with the reason of `failure`.
 fn lack_of(
     alloc: Global,
-    asked: Asked,
+    size: Size,
     alone: bool,
     failure: &Failure,
     path: &str,
     name: Option<&[u8]>,
 ) -> Result<Vec<u8>, AllocError>
-    ensures { IfOk result (λ line. spec.IsLackOf asked.size.rows asked.size.cols alone failure.now path.now
+    ensures { IfOk result (λ line. spec.IsLackOf size.rows size.cols alone failure.now path.now
         (option_map (λ n. n.now) name.entry) line.items) }
 {
     let why = reason(alloc, failure)?;
     let place = reason_place(alloc, sole_path(alone, path), failure)?;
-    refused_line(alloc, asked, path, name, why.as_slice(), place)
+    refused_line(alloc, size, path, name, why.as_slice(), place)
 }
 
 /// The `path`, if its file is read `alone`.

@@ -1,18 +1,18 @@
 //! The place of a value in a source text.
 
-ghost use Rattle.std.specs.Prelude.{◌≡◌, ◌<◌, ◌==◌, IfOk, IfSome, None, Some, if◌then◌else◌, length, option_map};
+ghost use Rattle.std.specs.Prelude.{◌≡◌, ◌<◌, ◌==◌, IfOk, IfSome, None, Some, if◌then◌else◌, length, map, option_map};
 ghost use Rattle.ti_members.specs.Names.{IsNameOf};
 ghost use Rattle.ti_reports.specs.Sources as spec;
 ghost use Rattle.ti_resolve.specs.Uses.{names_at};
 ghost use Rattle.ti_places.specs.Locations.{first_name, place_if, place_in};
-ghost use Rattle.ti_places.specs.Spots.{line_of};
+ghost use Rattle.ti_places.specs.Spots.{file_text, line_of};
 
 use std::alloc::{AllocError, Global};
 use ti_caps::Cap;
 use ti_commands::CommandRefusal;
-use ti_entries::Columns;
+use ti_joins::Region;
 use ti_members::{Written, name_of};
-use ti_places::{FieldPlace, Judged, NamedSource, SourcePlace, first_name};
+use ti_places::{FieldPlace, Judged, LinedFile, NamedSource, SourcePlace, begun_line, first_name};
 use ti_resolve::Origin;
 use ti_source::RawEntry;
 
@@ -21,10 +21,10 @@ use ti_source::RawEntry;
 pub enum Standing<'a, 'b> {
     /// The entry is in no source.
     Unsourced,
-    /// The entry is in a source, found by its name; and whether the source has columns.
-    Named(&'a NamedSource<'a, 'b>, bool),
-    /// The entry is in a source, at a place; and whether the source has columns.
-    Placed(&'a SourcePlace<'a, 'b>, bool),
+    /// The entry is in a source, found by its name; and the texts of those files whose lines were joined.
+    Named(&'a NamedSource<'a, 'b>, &'a [LinedFile<'a>]),
+    /// The entry is in a source, at a place; and the texts of those files whose lines were joined.
+    Placed(&'a SourcePlace<'a, 'b>, &'a [LinedFile<'a>]),
 }
 
 /// The place of a capability's value in a source text.
@@ -32,8 +32,8 @@ pub enum Standing<'a, 'b> {
 pub struct ValuePlace {
     /// The line of the field that gives the value; `None` if there is no source or no value, or if the file is compiled.
     pub line: Option<usize>,
-    /// The columns of this field, if fields have columns.
-    pub columns: Option<Columns>,
+    /// The region of this field in its file, if it is known.
+    pub region: Option<Region>,
     /// The path of the file that has this field.
     pub file: Option<String>,
     /// The first name of the entry that has this field.
@@ -47,7 +47,7 @@ impl ValuePlace {
     {
         ValuePlace {
             line: None,
-            columns: None,
+            region: None,
             file: None,
             entry: None,
         }
@@ -106,7 +106,7 @@ fn on_line(alloc: Global, file: Option<&str>, line: usize) -> Result<ValuePlace,
     match file {
         Some(path) => Ok(ValuePlace {
             line: number_of(line),
-            columns: None,
+            region: None,
             file: Some(String::from_str(alloc, path)?),
             entry: None,
         }),
@@ -114,17 +114,18 @@ fn on_line(alloc: Global, file: Option<&str>, line: usize) -> Result<ValuePlace,
     }
 }
 
-/// The origin of an entry at the place `stands` of a source, or in no source; a source may have columns.
+/// The origin of an entry at the place `stands` of a source, or in no source. The `originals` are the texts of those files whose
+/// lines were joined.
 pub fn placed<'a, 'b>(
     stands: &'a Option<SourcePlace<'a, 'b>>,
-    has_columns: bool,
+    originals: &'a [LinedFile<'a>],
 ) -> Standing<'a, 'b>
     requires { IfSome stands.now (λ there. there.place < length there.raws.now) }
-    ensures stands { spec.whereabouts_of result ≡ spec.by_place has_columns (place_if stands.now) }
+    ensures stands { spec.whereabouts_of result ≡ spec.by_place (map file_text originals.now) (place_if stands.now) }
     ensures there { spec.IsThere result }
 {
     match stands {
-        Some(there) => Standing::Placed(there, has_columns),
+        Some(there) => Standing::Placed(there, originals),
         None => Standing::Unsourced,
     }
 }
@@ -141,120 +142,115 @@ pub fn value_place(
 {
     match stands {
         Standing::Unsourced => Ok(ValuePlace::nowhere()),
-        Standing::Named(named, has_columns) => place_in(alloc, named, *has_columns, cap),
-        Standing::Placed(there, has_columns) => place_at(alloc, there, *has_columns, cap),
+        Standing::Named(named, originals) => place_in(alloc, named, originals, cap),
+        Standing::Placed(there, originals) => place_at(alloc, there, originals, cap),
     }
 }
 
-/// The columns of the part of the value that `fault` is about, in the source of the entry whose origin is `stands`; `None` if
-/// there is no source or no value, or fields have no columns, or no smaller part is known than the whole value.
-pub fn faulty_columns(
+/// The region of the part of the value that `fault` is about, in the source of the entry whose origin is `stands`; `None` if
+/// there is no source or no value, or no smaller part is known than the whole value.
+pub fn faulty_region(
     alloc: Global,
     stands: &Standing<'_, '_>,
     fault: &Judged<'_>,
-) -> Result<Option<Columns>, AllocError>
+) -> Result<Option<Region>, AllocError>
     requires { spec.IsThere stands.now }
     ensures { IfOk result (λ found. IfSome found
-        (spec.AreFaultyAt (spec.whereabouts_of stands.now) fault.now.no.now.cap)) }
+        (spec.IsFaultyAt (spec.whereabouts_of stands.now) fault.now.no.now.cap)) }
 {
     match stands {
-        Standing::Named(named, true) => faulty_in(alloc, named, fault),
-        Standing::Placed(there, true) => faulty_at(alloc, there, fault),
-        Standing::Unsourced | Standing::Named(_, false) | Standing::Placed(_, false) => Ok(None),
+        Standing::Unsourced => Ok(None),
+        Standing::Named(named, originals) => faulty_in(alloc, named, originals, fault),
+        Standing::Placed(there, originals) => faulty_at(alloc, there, originals, fault),
     }
 }
 
-/// The columns of the part of the value that `fault` is about, in the source `named`.
+/// The region of the part of the value that `fault` is about, in the source `named`.
 fn faulty_in(
     alloc: Global,
     named: &NamedSource<'_, '_>,
+    originals: &[LinedFile<'_>],
     fault: &Judged<'_>,
-) -> Result<Option<Columns>, AllocError>
+) -> Result<Option<Region>, AllocError>
     ensures { IfOk result (λ found. IfSome found
-        (spec.AreFaultyIn named.now.source.now fault.now.no.now.cap)) }
+        (spec.IsFaultyIn (map file_text originals.now) named.now.source.now fault.now.no.now.cap)) }
 {
     match named.origin(alloc, fault.no.cap)? {
-        Some(origin) => named.faulty_columns(alloc, origin, fault),
+        Some(origin) => named.faulty_region(alloc, originals, origin, fault),
         None => Ok(None),
     }
 }
 
-/// The columns of the part of the value that `fault` is about, of the entry at `there`.
+/// The region of the part of the value that `fault` is about, of the entry at `there`.
 fn faulty_at(
     alloc: Global,
     there: &SourcePlace<'_, '_>,
+    originals: &[LinedFile<'_>],
     fault: &Judged<'_>,
-) -> Result<Option<Columns>, AllocError>
+) -> Result<Option<Region>, AllocError>
     requires { there.now.place < length there.now.raws.now }
     ensures { IfOk result (λ found. IfSome found
-        (spec.AreFaultyOf (place_in there.now) fault.now.no.now.cap)) }
+        (spec.IsFaultyOf (map file_text originals.now) (place_in there.now) fault.now.no.now.cap)) }
 {
     match there.origin(alloc, fault.no.cap)? {
-        Some(origin) => there.faulty_columns(alloc, origin, fault),
+        Some(origin) => there.faulty_region(alloc, originals, origin, fault),
         None => Ok(None),
     }
 }
 
-/// The place of the value of `cap` in the source `named`, which may have columns.
+/// The place of the value of `cap` in the source `named`.
 fn place_in(
     alloc: Global,
     named: &NamedSource<'_, '_>,
-    has_columns: bool,
+    originals: &[LinedFile<'_>],
     cap: Cap,
 ) -> Result<ValuePlace, AllocError>
-    ensures { IfOk result (λ place. spec.IsPlaceIn has_columns named.now.source.now cap place) }
+    ensures { IfOk result (λ place. spec.IsPlaceIn (map file_text originals.now) named.now.source.now cap place) }
 {
     match named.origin(alloc, cap)? {
         Some(origin) => {
-            let columns = if has_columns {
-                named.columns(origin, cap)
-            } else {
-                None
-            };
+            let region = named.region(originals, origin, cap);
             let raws = named.source.raws.as_slice();
-            field_place(alloc, named.line(origin), columns, raws, origin)
+            field_place(alloc, named.line(origin), region, raws, origin)
         }
         None => Ok(ValuePlace::nowhere()),
     }
 }
 
-/// The place of the value of `cap` of the entry at `there`, in a source that may have columns.
+/// The place of the value of `cap` of the entry at `there`.
 fn place_at(
     alloc: Global,
     there: &SourcePlace<'_, '_>,
-    has_columns: bool,
+    originals: &[LinedFile<'_>],
     cap: Cap,
 ) -> Result<ValuePlace, AllocError>
     requires { there.now.place < length there.now.raws.now }
-    ensures { IfOk result (λ place. spec.IsPlaceAt has_columns (place_in there.now) cap place) }
+    ensures { IfOk result (λ place. spec.IsPlaceAt (map file_text originals.now) (place_in there.now) cap place) }
 {
     match there.origin(alloc, cap)? {
         Some(origin) => {
-            let columns = if has_columns {
-                there.columns(origin, cap)
-            } else {
-                None
-            };
-            field_place(alloc, there.line(origin), columns, there.raws, origin)
+            let region = there.region(originals, origin, cap);
+            field_place(alloc, there.line(origin), region, there.raws, origin)
         }
         None => Ok(ValuePlace::nowhere()),
     }
 }
 
-/// The place of the field at `origin`, which is on the line at `there` at these `columns`, among the entries `raws`.
+/// The place of the field at `origin`, which was read on the line at `there` and has this `region`, among the entries `raws`.
 fn field_place(
     alloc: Global,
     there: FieldPlace<'_>,
-    columns: Option<Columns>,
+    region: Option<Region>,
     raws: &[RawEntry],
     origin: Origin,
 ) -> Result<ValuePlace, AllocError>
-    ensures { IfOk result (λ place. spec.IsHeldAt (line_of there.entry) columns raws.now origin place) }
+    ensures { IfOk result (λ place. spec.IsHeldAt (line_of there.entry) region raws.now origin place) }
 {
+    let begun = begun_line(there, region);
     Ok(ValuePlace {
-        line: number_of(there.line),
-        columns,
-        file: Some(String::from_str(alloc, there.path)?),
+        line: number_of(begun.line),
+        region,
+        file: Some(String::from_str(alloc, begun.path)?),
         entry: Some(holder(alloc, raws, origin)?),
     })
 }

@@ -6,7 +6,6 @@ ghost use Rattle.ti_reports.specs.Sources.{fault_file};
 ghost use Rattle.ti_reports.specs.Surveys as spec;
 ghost use Rattle.ti_places.specs.Locations.{place_if};
 
-use crate::asked::Asked;
 use crate::lines::{ValuePlace, refusal_place};
 use crate::reports::{Finding, Report, Verdict, report_line};
 use std::alloc::{AllocError, Global};
@@ -14,15 +13,16 @@ use ti_commands::refusal_words;
 use ti_members::{name_if, text_of};
 use ti_resolve::Origin;
 use ti_surveys::Lacking;
+use vt_term::Size;
 
 /// The line about an entry that is `lacking`, or about a file that has no entries.
 pub fn lacking_line(
     alloc: Global,
-    asked: Asked,
+    size: Size,
     lacking: &Lacking<'_, '_>,
 ) -> Result<Vec<u8>, AllocError>
     requires { IfSome lacking.now.stands.now (λ there. there.place < length there.raws.now) }
-    ensures { IfOk result (λ line. spec.IsOfRefusal asked.size.rows asked.size.cols lacking.now.path.now
+    ensures { IfOk result (λ line. spec.IsOfRefusal size.rows size.cols lacking.now.path.now
         (place_if lacking.now.stands.now) (option_map (λ n. n.now) lacking.now.name) lacking.now.refusal.now
         line.items) }
 {
@@ -31,7 +31,7 @@ pub fn lacking_line(
     let place = refusal_place(alloc, lacking.stands, file, lacking.refusal)?;
     refused_line(
         alloc,
-        asked,
+        size,
         lacking.path,
         lacking.name,
         why.as_slice(),
@@ -56,12 +56,12 @@ fn fault_file<'a>(lacking: &Lacking<'a, '_>) -> &'a str
 }
 
 /// The line that the file at `path` can't be read.
-pub fn unread_line(alloc: Global, asked: Asked, path: &str) -> Result<Vec<u8>, AllocError>
-    ensures { IfOk result (λ line. spec.IsUnreadLine asked.size.rows asked.size.cols path.now line.items) }
+pub fn unread_line(alloc: Global, size: Size, path: &str) -> Result<Vec<u8>, AllocError>
+    ensures { IfOk result (λ line. spec.IsUnreadLine size.rows size.cols path.now line.items) }
 {
     let why = file_words(alloc, path.as_bytes())?;
     let place = ValuePlace::nowhere();
-    refused_line(alloc, asked, path, None, why.as_slice(), place)
+    refused_line(alloc, size, path, None, why.as_slice(), place)
 }
 
 /// The words that the file at `path` can't be read.
@@ -77,40 +77,37 @@ pub fn file_words(alloc: Global, path: &[u8]) -> Result<Vec<u8>, AllocError>
 /// no name, with the reason `why`, which is found at `place`.
 pub fn refused_line(
     alloc: Global,
-    asked: Asked,
+    size: Size,
     path: &str,
     name: Option<&[u8]>,
     why: &[u8],
     place: ValuePlace,
 ) -> Result<Vec<u8>, AllocError>
-    ensures { IfOk result (λ line. spec.IsRefusedReport asked.size.rows asked.size.cols
+    ensures { IfOk result (λ line. spec.IsRefusedReport size.rows size.cols
         path.now (option_map (λ n. n.now) name.entry) why.now place line.items) }
 {
-    report_line(
-        alloc,
-        &refused_report(alloc, asked, path, name, why, place)?,
-    )
+    report_line(alloc, &refused_report(alloc, size, path, name, why, place)?)
 }
 
 /// The report that the entry `name` of the file at `path` can't be obtained, with the reason `why`, which is found at
 /// `place`.
 fn refused_report(
     alloc: Global,
-    asked: Asked,
+    size: Size,
     path: &str,
     name: Option<&[u8]>,
     why: &[u8],
     place: ValuePlace,
 ) -> Result<Report, AllocError>
-    ensures { IfOk result (λ report. spec.ReportsRefused asked.size.rows asked.size.cols
+    ensures { IfOk result (λ report. spec.ReportsRefused size.rows size.cols
         path.now (option_map (λ n. n.now) name.entry) why.now place report) }
 {
     Ok(Report {
         entry: name_if(alloc, name)?,
         aliases: Vec::new(alloc),
         is_part: None,
-        rows: asked.size.rows,
-        cols: asked.size.cols,
+        rows: size.rows,
+        cols: size.cols,
         file: String::from_str(alloc, path)?,
         verdict: Verdict::Refused,
         cause: Some(text_of(alloc, why)?),

@@ -7,8 +7,8 @@ ghost use Rattle.ti_reports.specs.Reports as spec;
 use crate::lines::ValuePlace;
 use serde_json::{Map, Value, json, put};
 use std::alloc::{AllocError, Global};
-use ti_entries::Columns;
 use ti_hints::HintKind;
+use ti_joins::Region;
 use ti_members::{Explanation, Written, text_of};
 use ti_objects::printable_json;
 
@@ -79,8 +79,8 @@ pub struct Finding {
     pub bytes: Option<String>,
     /// The place of the capability's value, or of the reason why an entry can't be obtained.
     pub place: ValuePlace,
-    /// The columns of the part of the value that is at fault, if a smaller part is known than the whole.
-    pub faulty_columns: Option<Columns>,
+    /// The region of the part of the value that is at fault, if a smaller part is known than the whole.
+    pub faulty_region: Option<Region>,
     /// The capability's string.
     pub string: Option<Written>,
     /// The string that would be right.
@@ -129,7 +129,7 @@ impl Finding {
             parameters: Vec::new(alloc),
             bytes: None,
             place: ValuePlace::nowhere(),
-            faulty_columns: None,
+            faulty_region: None,
             string: None,
             suggestion: None,
             suggested_with: Vec::new(alloc),
@@ -162,7 +162,7 @@ fn value_of(alloc: Global, report: &Report) -> Result<Value, AllocError>
     put_entry(alloc, report, &mut members)?;
     put_verdict(alloc, report, &mut members)?;
     put_value(alloc, &report.finding, &mut members)?;
-    put_faulty(alloc, report.finding.faulty_columns, &mut members)?;
+    put_faulty(alloc, report.finding.faulty_region, &mut members)?;
     put_place(alloc, &report.finding.place, &mut members)?;
     put_strings(alloc, &report.finding, &mut members)?;
     put_run(alloc, &report.finding, &mut members)?;
@@ -228,17 +228,19 @@ fn put_value(
     put(members, alloc, "bytes", bytes)
 }
 
-/// Puts the `columns` of the part of a value that is at fault into `members`.
+/// Puts the `region` of the part of a value that is at fault into `members`.
 fn put_faulty(
     alloc: Global,
-    columns: Option<Columns>,
+    region: Option<Region>,
     members: &mut Map<String, Value>,
 ) -> Result<(), AllocError>
     ensures { OnOk result (members_view members.new.entries
-        ≡ spec.with_faulty columns (members_view members.old.entries)) }
+        ≡ spec.with_faulty region (members_view members.old.entries)) }
 {
-    put(members, alloc, "fault_column", start_value(columns))?;
-    put(members, alloc, "fault_end_column", end_value(columns))
+    put(members, alloc, "fault_line", line_value(region))?;
+    put(members, alloc, "fault_column", column_value(region))?;
+    put(members, alloc, "fault_end_line", end_line_value(region))?;
+    put(members, alloc, "fault_end_column", end_column_value(region))
 }
 
 /// Puts `place` into `members`.
@@ -254,25 +256,24 @@ fn put_place(
     let holder_hex = hex_value(alloc, &place.entry)?;
     let file = text_value(alloc, &place.file)?;
     put(members, alloc, "line", number_value(place.line))?;
-    put_columns(alloc, place, members)?;
+    put_end(alloc, place, members)?;
     put(members, alloc, "source_entry", holder)?;
     put(members, alloc, "source_entry_hex", holder_hex)?;
     put(members, alloc, "source_file", file)
 }
 
-/// Puts the columns of the field at `place`, and the line on which it ends, into `members`.
-fn put_columns(
+/// Puts the column of the field at `place`, and the line and the column at which it ends, into `members`.
+fn put_end(
     alloc: Global,
     place: &ValuePlace,
     members: &mut Map<String, Value>,
 ) -> Result<(), AllocError>
     ensures { OnOk result (members_view members.new.entries
-        ≡ spec.with_columns place.now (members_view members.old.entries)) }
+        ≡ spec.with_end place.now (members_view members.old.entries)) }
 {
-    let end_line = end_line_value(place.columns, place.line);
-    put(members, alloc, "column", start_value(place.columns))?;
-    put(members, alloc, "end_line", end_line)?;
-    put(members, alloc, "end_column", end_value(place.columns))
+    put(members, alloc, "column", column_value(place.region))?;
+    put(members, alloc, "end_line", end_line_value(place.region))?;
+    put(members, alloc, "end_column", end_column_value(place.region))
 }
 
 /// Puts the string of `finding`, and the one that would be right, into `members`.
@@ -424,32 +425,42 @@ fn number_value(number: Option<usize>) -> Value
     }
 }
 
-/// The JSON number of the column of the first byte at these `columns`, or null.
-fn start_value(columns: Option<Columns>) -> Value
-    ensures { view result ≡ spec.column_data columns }
+/// The JSON number of the line on which the `region` begins, or null.
+fn line_value(region: Option<Region>) -> Value
+    ensures { view result ≡ spec.line_data region }
 {
-    match columns {
-        Some(columns) => Value::from(columns.start),
+    match region {
+        Some(region) => Value::from(region.line),
         None => Value::Null,
     }
 }
 
-/// The JSON number of the column behind these `columns`, or null.
-fn end_value(columns: Option<Columns>) -> Value
-    ensures { view result ≡ spec.end_column_data columns }
+/// The JSON number of the column of the first byte of the `region`, or null.
+fn column_value(region: Option<Region>) -> Value
+    ensures { view result ≡ spec.column_data region }
 {
-    match columns {
-        Some(columns) => Value::from(columns.end),
+    match region {
+        Some(region) => Value::from(region.column),
         None => Value::Null,
     }
 }
 
-/// The JSON number of the `line` on which a field with columns ends, or null.
-fn end_line_value(columns: Option<Columns>, line: Option<usize>) -> Value
-    ensures { view result ≡ spec.end_line_data columns line }
+/// The JSON number of the line on which the `region` ends, or null.
+fn end_line_value(region: Option<Region>) -> Value
+    ensures { view result ≡ spec.end_line_data region }
 {
-    match columns {
-        Some(_) => number_value(line),
+    match region {
+        Some(region) => Value::from(region.end_line),
+        None => Value::Null,
+    }
+}
+
+/// The JSON number of the column behind the last byte of the `region`, or null.
+fn end_column_value(region: Option<Region>) -> Value
+    ensures { view result ≡ spec.end_column_data region }
+{
+    match region {
+        Some(region) => Value::from(region.end_column),
         None => Value::Null,
     }
 }

@@ -1,6 +1,7 @@
 //! The command `survey --json`.
 
-ghost use Rattle.std.specs.Prelude.{◌≡◌, IfErr, IfOk};
+ghost use Rattle.std.specs.Prelude.{◌≡◌, IfErr, IfOk, map};
+ghost use Rattle.ti_places.specs.Spots.{file_text};
 ghost use Rattle.ti_surveys.specs.Together.{FailsToSurvey};
 ghost use Rattle.ti_reports.specs.Surveys as spec;
 ghost use Rattle.ti_surveys.specs.Heard.{Hears};
@@ -8,6 +9,7 @@ ghost use Rattle.ti_surveys.specs.Heard.{Hears};
 use crate::asked::Asked;
 use std::alloc::Global;
 use ti_commands::{Failure, Files, Reply, size_words};
+use ti_places::LinedFile;
 use ti_requests::SurveyWords;
 use ti_surveys::{Said, Surveyed, Watcher, places_lines, strict_failure, survey_paths};
 use ti_words::Remarks;
@@ -17,8 +19,8 @@ use ti_words::Remarks;
 pub struct SurveyReports<'a> {
     /// The words of the command.
     pub words: &'a SurveyWords<'a>,
-    /// Whether faults have columns, that is, whether the lines of the files are read as they are.
-    pub has_columns: bool,
+    /// The texts of those files whose lines were joined, as they were before.
+    pub originals: &'a [LinedFile<'a>],
 }
 
 /// Reports in JSON on each entry of each file that the words of `survey` name: its first fault, or all of them if the
@@ -38,8 +40,8 @@ pub fn survey_reports<F: Files, W: Watcher>(
     watcher: &mut W,
     remarks: &mut Remarks,
 ) -> Result<Reply, Failure>
-    ensures reply { IfOk result (λ reply. spec.AreSurveyed survey.now.has_columns (F.holds files.old)
-        survey.now.words.now remarks.new (Hears W.heard W.has_failed watcher.old watcher.new) reply) }
+    ensures reply { IfOk result (λ reply. spec.AreSurveyed (map file_text survey.now.originals.now)
+        (F.holds files.old) survey.now.words.now remarks.new (Hears W.heard W.has_failed watcher.old watcher.new) reply) }
     ensures failure { IfErr result (λ e. FailsToSurvey (F.holds files.old) survey.now.words.now.rows.now
         survey.now.words.now.cols.now e) }
     ensures kept { F.holds files.new ≡ F.holds files.old }
@@ -49,7 +51,7 @@ pub fn survey_reports<F: Files, W: Watcher>(
     let asked = Asked {
         size,
         lists_all: words.lists_all,
-        has_columns: survey.has_columns,
+        originals: survey.originals,
     };
     let paths = words.paths.as_slice();
     let Surveyed { said, failure } = survey_paths(alloc, &asked, paths, files, watcher, remarks)?;

@@ -1,6 +1,6 @@
 -- The lines of `survey` about an entry: one under its name, or one for each of its faults, and beside these the faults'
 -- places. Each byte of a line can be printed.
-use Rattle.std.specs.Prelude.{◌≡◌, ◌≢◌, ◌⊎◌, ℕ, Bool, true, false, List, [], ◌∷◌, ◌++◌, Option, Some, None, codes}
+use Rattle.std.specs.Prelude.{◌≡◌, ◌≢◌, ◌⊎◌, ℕ, Bool, true, false, List, [], ◌∷◌, ◌++◌, Option, Some, None, codes, map}
 use Rattle.std.specs.List.{flat_map}
 use Rattle.ti_caps.specs.Entry.{Content}
 use Rattle.ti_checker.specs.declared.causes.Cause.TheVariants.{NoMemory}
@@ -13,6 +13,7 @@ use Rattle.ti_surveys.specs.Lines.{Leaving, Refusing, Saying}
 use Rattle.ti_verdicts.specs.Parts.{HasParts}
 use Rattle.ti_places.specs.Locations.{IsPlaced, PlaceInSource, PlacedText}
 use Rattle.ti_places.specs.Refusals.{no_text}
+use Rattle.ti_places.specs.Spots.{FileText, file_text}
 use Rattle.ti_surveys.specs.Told.{Told, nothing}
 use Rattle.ti_verdicts.specs.declared.answers.Answer.{Answer}
 use Rattle.ti_verdicts.specs.declared.answers.Answer.TheVariants as answers
@@ -64,35 +65,35 @@ part_lines false name = []
 
 -- The lines of an entry's faults, under its name, and for each of them the place of its value. An entry for terminals
 -- of another kind has one line.
-abbrev pub TellsFaults : EntryKind → Bool → Bool → Option PlaceInSource → List ℕ → List No → List ℕ → List PlacedText
-    → Type 0
-TellsFaults Part names_parts has_columns stands name nos lines places =
+abbrev pub TellsFaults : EntryKind → Bool → List FileText → Option PlaceInSource → List ℕ → List No → List ℕ
+    → List PlacedText → Type 0
+TellsFaults Part names_parts originals stands name nos lines places =
     (lines ≡ part_lines names_parts name) × (places ≡ [])
-TellsFaults Other names_parts has_columns stands name nos lines places =
+TellsFaults Other names_parts originals stands name nos lines places =
     (lines ≡ line_of name (codes " no: OtherKind")) × (places ≡ [])
-TellsFaults Usual names_parts has_columns stands name nos lines places =
-    (lines ≡ fault_lines name nos) × HasParts (IsPlaced has_columns stands name) nos places
+TellsFaults Usual names_parts originals stands name nos lines places =
+    (lines ≡ fault_lines name nos) × HasParts (IsPlaced originals stands name) nos places
 
 -- the statement about an entry of which all faults are listed
-pub record HasAllFaults (height width : ℕ) (names_parts has_columns : Bool) (stands : Option PlaceInSource)
-    (name : List ℕ) (entry : Content) (told : Told) : Type 0 where
+pub record HasAllFaults (height width : ℕ) (names_parts : Bool) (originals : List FileText)
+    (stands : Option PlaceInSource) (name : List ℕ) (entry : Content) (told : Told) : Type 0 where
   pub nos : List No
   pub all : AreAllFaults entry height width nos
-  pub tells : TellsFaults (listed_kind entry nos) names_parts has_columns stands name nos told.lines told.places
+  pub tells : TellsFaults (listed_kind entry nos) names_parts originals stands name nos told.lines told.places
   pub answers : told.answers ≡ kind_answers (listed_kind entry nos) nos
 
 -- the statement about an entry under its name: all its faults, or a certifier's answer
-abbrev pub SaysBy : Bool → Bool → Bool → (Content → ℕ → ℕ → List ℕ → Type 0) → (Content → ℕ → ℕ → No → Type 0) → ℕ → ℕ
-    → Saying
-SaysBy true names_parts has_columns certifies refuses height width path stands name entry told =
-    HasAllFaults height width names_parts has_columns stands name entry told
-SaysBy false names_parts has_columns certifies refuses height width path stands name entry told =
+abbrev pub SaysBy : Bool → Bool → List FileText → (Content → ℕ → ℕ → List ℕ → Type 0)
+    → (Content → ℕ → ℕ → No → Type 0) → ℕ → ℕ → Saying
+SaysBy true names_parts originals certifies refuses height width path stands name entry told =
+    HasAllFaults height width names_parts originals stands name entry told
+SaysBy false names_parts originals certifies refuses height width path stands name entry told =
     HasAnswer certifies refuses height width name entry told
 
 -- (Serves the code alone.) the statement about an entry, as the survey is asked for it
 abbrev pub SaysTo : {C : Type 0} → (C → Content → ℕ → ℕ → List ℕ → Type 0) → (C → Content → ℕ → ℕ → No → Type 0)
     → Asked C → Saying
-SaysTo certifies refuses asked = SaysBy asked.lists_all asked.names_parts asked.has_columns
+SaysTo certifies refuses asked = SaysBy asked.lists_all asked.names_parts (map file_text asked.originals.now)
     (certifies asked.certifier.now) (refuses asked.certifier.now) asked.size.rows asked.size.cols
 
 -- the words of a refusal behind the name

@@ -1,5 +1,5 @@
 -- The answer of `survey`, by the contents of its files and the promises of a certifier.
-use Rattle.std.specs.Prelude.{◌≡◌, ℕ, Bool, List, [], ◌∷◌, ◌++◌, Option, Some, None, codes, map}
+use Rattle.std.specs.Prelude.{◌≡◌, ℕ, List, [], ◌∷◌, ◌++◌, Option, Some, None, codes, map}
 use Rattle.std.specs.String.{string_bytes}
 use Rattle.ti_caps.specs.Entry.{Content}
 use Rattle.ti_checker.specs.declared.causes.No.{No}
@@ -11,6 +11,7 @@ use Rattle.ti_commands.specs.declared.failure.Failure.{Failure}
 use Rattle.ti_commands.specs.declared.failure.Failure.TheVariants.{File}
 use Rattle.ti_commands.specs.declared.failure.Reply.{Reply}
 use Rattle.ti_further.specs.declared.files.FurtherFile.{FurtherFile}
+use Rattle.ti_places.specs.Spots.{FileText}
 use Rattle.ti_surveys.specs.Answers.{IsRefused, SaysBy, SaysNothing}
 use Rattle.ti_verdicts.specs.Counts.{answers_line}
 use Rattle.ti_surveys.specs.Lines.{AreLines, Leaving}
@@ -58,7 +59,7 @@ pub record EndsPaths (Are : List FurtherFile → OfFile) (Leaves : Leaving) (hel
 -- The lines of each path are heard, and the reply has the number of lines with each answer; its notes are the faults in
 -- the lines at their places, each once. It fails if a path can't be read, or, if the words ask for it, if a line
 -- doesn't say yes.
-pub record IsSurveyed (has_columns : Bool) (certifies : Content → ℕ → ℕ → List ℕ → Type 0)
+pub record IsSurveyed (originals : List FileText) (certifies : Content → ℕ → ℕ → List ℕ → Type 0)
     (refuses : Content → ℕ → ℕ → No → Type 0) (held : Held) (words : SurveyWords) (remarks : List (List ℕ))
     (AreHeard : List ℕ → Type 0) (reply : Reply) : Type 0 where
   pub height : ℕ
@@ -67,7 +68,7 @@ pub record IsSurveyed (has_columns : Bool) (certifies : Content → ℕ → ℕ 
   pub told : Told
   pub failed : Option Failure
   pub ends : EndsPaths
-      (AreLines (SaysBy words.lists_all words.names_parts has_columns certifies refuses height width) IsRefused)
+      (AreLines (SaysBy words.lists_all words.names_parts originals certifies refuses height width) IsRefused)
       SaysNothing held (texts_of words.paths.items) told failed remarks
   pub strictly : EndsStrictly words.is_strict told.answers failed reply.failure
   pub places : reply.notes.items ≡ places_text told.places

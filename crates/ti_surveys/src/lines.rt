@@ -6,6 +6,7 @@ ghost use Rattle.ti_surveys.specs.Answers as spec;
 ghost use Rattle.ti_verdicts.specs.Parts.{HasParts};
 ghost use Rattle.ti_places.specs.Locations.{IsPlaced, place_if, placed_if, placed_in};
 ghost use Rattle.ti_places.specs.Refusals.{no_text};
+ghost use Rattle.ti_places.specs.Spots.{file_text};
 ghost use Rattle.ti_surveys.specs.Told.{told_of};
 
 use crate::asked::Asked;
@@ -107,7 +108,7 @@ fn all_faults<C: Certifier>(
 ) -> Result<Said, AllocError>
     requires { IfSome found.now.stands.now (λ there. there.place < length there.raws.now) }
     ensures { IfOk result (λ said. spec.HasAllFaults asked.now.size.rows asked.now.size.cols asked.now.names_parts
-        asked.now.has_columns (place_if found.now.stands.now) found.now.name.now found.now.entry.now (told_of said)) }
+        (map file_text asked.now.originals.now) (place_if found.now.stands.now) found.now.name.now found.now.entry.now (told_of said)) }
 {
     let nos = faults(alloc, found.entry, asked.size)?;
     let kind = kind_of(true, found.entry, nos.as_slice());
@@ -130,7 +131,7 @@ fn told<C>(
     nos: &[No],
 ) -> Result<(Vec<u8>, Vec<PlacedFault>), AllocError>
     requires { IfSome found.now.stands.now (λ there. there.place < length there.raws.now) }
-    ensures { IfOk result (λ told. spec.TellsFaults kind asked.now.names_parts asked.now.has_columns
+    ensures { IfOk result (λ told. spec.TellsFaults kind asked.now.names_parts (map file_text asked.now.originals.now)
         (place_if found.now.stands.now) found.now.name.now nos.now told.0.items (map placed_in told.1.items)) }
 {
     match kind {
@@ -168,7 +169,7 @@ fn places_of<C>(
 ) -> Result<Vec<PlacedFault>, AllocError>
     requires { IfSome found.now.stands.now (λ there. there.place < length there.raws.now) }
     ensures { IfOk result (λ places. HasParts
-        (IsPlaced asked.now.has_columns (place_if found.now.stands.now) found.now.name.now) nos.now
+        (IsPlaced (map file_text asked.now.originals.now) (place_if found.now.stands.now) found.now.name.now) nos.now
         (map placed_in places.items)) }
 {
     let mut places = Vec::new(alloc);
@@ -177,7 +178,7 @@ fn places_of<C>(
             no,
             size: asked.size,
         };
-        let own = placed(alloc, found.stands, asked.has_columns, found.name, &fault)?;
+        let own = placed(alloc, found.stands, asked.originals, found.name, &fault)?;
         push_if(&mut places, own)?;
     }
     Ok(places)

@@ -1,7 +1,8 @@
 //! The command `survey`, and the common part of all surveys.
 
-ghost use Rattle.std.specs.Prelude.{◌≡◌, ◌++◌, ◌⊎◌, IfErr, IfOk, OnOk};
+ghost use Rattle.std.specs.Prelude.{◌≡◌, ◌++◌, ◌⊎◌, IfErr, IfOk, OnOk, map};
 ghost use Rattle.ti_commands.specs.Words.{texts_of};
+ghost use Rattle.ti_places.specs.Spots.{file_text};
 ghost use Rattle.ti_surveys.specs.Heard.{Hears};
 ghost use Rattle.ti_surveys.specs.Lines.{AreLines};
 ghost use Rattle.ti_surveys.specs.Surveys as spec;
@@ -18,6 +19,7 @@ use crate::unread::named;
 use crate::watchers::{Watcher, pass_on};
 use std::alloc::{AllocError, Global};
 use ti_commands::{Failure, Files, LONGEST_FILE, Reply, further_files, read_whole, size_words};
+use ti_places::LinedFile;
 use ti_requests::SurveyWords;
 use ti_verdicts::{Certifier, answers_line};
 use ti_words::Remarks;
@@ -38,8 +40,8 @@ pub struct Survey<'a, C> {
     pub certifier: &'a C,
     /// The words of the command.
     pub words: &'a SurveyWords<'a>,
-    /// Whether places have columns, that is, whether the lines of the files are read as they are.
-    pub has_columns: bool,
+    /// The texts of those files whose lines were joined, as they were before.
+    pub originals: &'a [LinedFile<'a>],
 }
 
 /// Surveys the files that the words of `survey` name. The `watcher` passes on the line of each entry once it is
@@ -63,8 +65,8 @@ pub fn survey_files<C: Certifier, F: Files, W: Watcher>(
     watcher: &mut W,
     remarks: &mut Remarks,
 ) -> Result<Reply, Failure>
-    ensures reply { IfOk result (λ reply. spec.IsSurveyed survey.now.has_columns (C.certifies survey.now.certifier.now)
-        (C.refuses survey.now.certifier.now) (F.holds files.old) survey.now.words.now remarks.new
+    ensures reply { IfOk result (λ reply. spec.IsSurveyed (map file_text survey.now.originals.now)
+        (C.certifies survey.now.certifier.now) (C.refuses survey.now.certifier.now) (F.holds files.old) survey.now.words.now remarks.new
         (Hears W.heard W.has_failed watcher.old watcher.new) reply) }
     ensures failure { IfErr result (λ e. FailsToSurvey (F.holds files.old) survey.now.words.now.rows.now
         survey.now.words.now.cols.now e) }
@@ -77,7 +79,7 @@ pub fn survey_files<C: Certifier, F: Files, W: Watcher>(
         size,
         lists_all: words.lists_all,
         names_parts: words.names_parts,
-        has_columns: survey.has_columns,
+        originals: survey.originals,
     };
     let paths = words.paths.as_slice();
     let surveyed = survey_paths(alloc, &asked, paths, files, watcher, remarks)?;

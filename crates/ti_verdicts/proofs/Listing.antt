@@ -1,5 +1,5 @@
 -- The reply that lists faults.
-use Rattle.std.proofs.Common.{◌≡◌, ◌≤◌, ℕ, Bool, List, [], ◌∷◌, length, get_or, Option, Some, sym, subst, arith}
+use Rattle.std.proofs.Common.{◌≡◌, ◌≤◌, ℕ, List, [], ◌∷◌, length, get_or, Option, Some, sym, subst, arith}
 use Rattle.ti_caps.specs.Entry.{Content}
 use Rattle.ti_checker.specs.declared.causes.No.{No}
 use Rattle.ti_commands.specs.declared.failure.Failure.{Failure}
@@ -9,11 +9,12 @@ use Rattle.ti_faults.specs.Mended.{IsBestMended}
 use Rattle.ti_faults.specs.declared.mended.Mended.{Mended}
 use Rattle.ti_verdicts.specs.FaultLists.{EndsAsNo, IsFaultsText, TellsFaults}
 use Rattle.ti_places.specs.Refusals.{TellsNo}
+use Rattle.ti_places.specs.Spots.{FileText}
 
-pub lists_faults : (has_columns : Bool) (entry : Content) (source : Option SourceText) (rows cols : ℕ) (nos : List No) (first : No) (mended : Mended) (reply : Reply) (failure : Failure) → 1 ≤ length nos → first ≡ get_or nos 0 first → IsBestMended entry rows cols nos mended → IsFaultsText has_columns entry source mended nos reply.text.items
-    → reply.failure ≡ Some failure → TellsNo first failure → TellsFaults has_columns entry source rows cols nos reply
-lists_faults has_columns entry source rows cols [] first mended reply failure some there best text fails told = absurd (omega arith)
-lists_faults has_columns entry source rows cols (x ∷ xs) first mended reply failure some there best text fails told =
+pub lists_faults : (originals : List FileText) (entry : Content) (source : Option SourceText) (rows cols : ℕ) (nos : List No) (first : No) (mended : Mended) (reply : Reply) (failure : Failure) → 1 ≤ length nos → first ≡ get_or nos 0 first → IsBestMended entry rows cols nos mended → IsFaultsText originals entry source mended nos reply.text.items
+    → reply.failure ≡ Some failure → TellsNo first failure → TellsFaults originals entry source rows cols nos reply
+lists_faults originals entry source rows cols [] first mended reply failure some there best text fails told = absurd (omega arith)
+lists_faults originals entry source rows cols (x ∷ xs) first mended reply failure some there best text fails told =
     let same : first ≡ x = there in
     record {
       mended = mended;

@@ -1,5 +1,5 @@
 -- The answer of `check --all`: all faults of an entry, and their number.
-use Rattle.std.specs.Prelude.{◌≡◌, ℕ, Bool, List, [], ◌∷◌, ◌++◌, Option, Some, None, codes, map}
+use Rattle.std.specs.Prelude.{◌≡◌, ℕ, List, [], ◌∷◌, ◌++◌, Option, Some, None, codes, map}
 use Rattle.std.specs.List.{AllByRecursion, flat_map}
 use Rattle.ti_caps.specs.Entry.{Content}
 use Rattle.ti_checker.specs.declared.causes.No.{No}
@@ -18,6 +18,7 @@ use Rattle.ti_verdicts.specs.Checks.{HasText, TellsNotes}
 use Rattle.ti_verdicts.specs.Counts.{answers_line}
 use Rattle.ti_verdicts.specs.Parts.{HasParts}
 use Rattle.ti_places.specs.Locations.{IsLocation}
+use Rattle.ti_places.specs.Spots.{FileText}
 use Rattle.ti_verdicts.specs.Remedies.{HasRemedies}
 use Rattle.ti_places.specs.Refusals.{TellsNo, no_text}
 use Rattle.ti_words.specs.Remarks.{IsRemark}
@@ -36,9 +37,9 @@ pub record AreIndented (lines : List ℕ) : Type 0 where
 
 -- The line of a fault; below it the place of its value in the source and the field there, further lines in free words,
 -- each after two spaces, and the lines of the strings that would be right.
-abbrev pub HasFaultLines : Bool → Content → Option SourceText → Mended → List No → No → List ℕ → Type 0
-HasFaultLines has_columns entry source mended nos refusal lines =
-    (place : List ℕ) × (further : List ℕ) × (remedies : List ℕ) × IsLocation has_columns source refusal.cap place
+abbrev pub HasFaultLines : List FileText → Content → Option SourceText → Mended → List No → No → List ℕ → Type 0
+HasFaultLines originals entry source mended nos refusal lines =
+    (place : List ℕ) × (further : List ℕ) × (remedies : List ℕ) × IsLocation originals source refusal.cap place
     × AreIndented further × HasRemedies entry mended nos refusal.cap remedies
     × (lines ≡ no_text refusal ++ 10 ∷ (place ++ (further ++ remedies)))
 
@@ -51,10 +52,10 @@ counts_line nos = answers_line (map fault_answer nos)
 -- ---- the reply
 
 -- the lines of each fault, in their order, and the line of counts
-pub record IsFaultsText (has_columns : Bool) (entry : Content) (source : Option SourceText) (mended : Mended)
+pub record IsFaultsText (originals : List FileText) (entry : Content) (source : Option SourceText) (mended : Mended)
     (nos : List No) (text : List ℕ) : Type 0 where
   pub lines : List ℕ
-  pub each : HasParts (HasFaultLines has_columns entry source mended nos) nos lines
+  pub each : HasParts (HasFaultLines originals entry source mended nos) nos lines
   pub says : text ≡ lines ++ counts_line nos
 
 abbrev pub EndsAsNo : No → Option Failure → Type 0
@@ -63,22 +64,22 @@ EndsAsNo refusal None = ⊥
 
 -- The reply lists these faults, with the suggestions by the entry in which all of them are mended at once, and fails as
 -- the first does.
-pub record HasFaults (has_columns : Bool) (entry : Content) (source : Option SourceText) (rows cols : ℕ) (first : No)
+pub record HasFaults (originals : List FileText) (entry : Content) (source : Option SourceText) (rows cols : ℕ) (first : No)
     (others : List No) (reply : Reply) : Type 0 where
   pub mended : Mended
   pub best : IsBestMended entry rows cols (first ∷ others) mended
-  pub text : IsFaultsText has_columns entry source mended (first ∷ others) reply.text.items
+  pub text : IsFaultsText originals entry source mended (first ∷ others) reply.text.items
   pub ends : EndsAsNo first reply.failure
 
 -- the reply is `yes` if there is no fault
-abbrev pub TellsFaults : Bool → Content → Option SourceText → ℕ → ℕ → List No → Reply → Type 0
-TellsFaults has_columns entry source rows cols [] reply = HasText (codes "yes\n") reply
-TellsFaults has_columns entry source rows cols (first ∷ others) reply =
-    HasFaults has_columns entry source rows cols first others reply
+abbrev pub TellsFaults : List FileText → Content → Option SourceText → ℕ → ℕ → List No → Reply → Type 0
+TellsFaults originals entry source rows cols [] reply = HasText (codes "yes\n") reply
+TellsFaults originals entry source rows cols (first ∷ others) reply =
+    HasFaults originals entry source rows cols first others reply
 
 -- The entry that the word gives, at the size that the words give: the reply has its notes, and lists all its faults, or
--- says that there is none. Places have columns if the lines of the files are read as they are.
-pub record ListsFaults (has_columns : Bool) (held : Held) (words : FaultsWords) (reply : Reply) : Type 0 where
+-- says that there is none. The originals are the texts of those files whose lines were joined, as they were before.
+pub record ListsFaults (originals : List FileText) (held : Held) (words : FaultsWords) (reply : Reply) : Type 0 where
   pub height : ℕ
   pub width : ℕ
   pub given : SizeGiven words.rows.now words.cols.now height width
@@ -88,4 +89,4 @@ pub record ListsFaults (has_columns : Bool) (held : Held) (words : FaultsWords) 
   pub notes : TellsNotes entry reply.notes.items
   pub nos : List No
   pub all : AreAllFaults entry height width nos
-  pub tells : TellsFaults has_columns entry source height width nos reply
+  pub tells : TellsFaults originals entry source height width nos reply

@@ -1,9 +1,10 @@
 //! The command `check --all`.
 
-ghost use Rattle.std.specs.Prelude.{◌≡◌, IfErr, IfOk, Some};
+ghost use Rattle.std.specs.Prelude.{◌≡◌, IfErr, IfOk, Some, map};
 ghost use Rattle.ti_verdicts.specs.Checks.{FailsForEntry};
 ghost use Rattle.ti_verdicts.specs.FaultLists as spec;
 ghost use Rattle.ti_places.specs.Locations.{source_if};
+ghost use Rattle.ti_places.specs.Spots.{file_text};
 ghost use Rattle.ti_verdicts.specs.Parts.{HasParts};
 
 use crate::answers::{answers_line, fault_answers};
@@ -17,7 +18,9 @@ use ti_checker::No;
 use ti_commands::{Failure, Files, Reply, SourceText, Sourced, size_words, sourced_entry};
 use ti_faults::{Mended, faults};
 use ti_hints::{advise, advise_unchecked};
-use ti_places::{Judged, LinedFiles, NamedSource, location, no_failure, no_words, source_files};
+use ti_places::{
+    Judged, LinedFile, LinedFiles, NamedSource, location, no_failure, no_words, source_files,
+};
 use ti_requests::FaultsWords;
 use ti_resolve::Index;
 use ti_words::Remarks;
@@ -25,18 +28,18 @@ use vt_term::Size;
 
 /// Replies with the notes on the entry that the `words` give, and with all its faults, each with its place, the field
 /// there and its explanation, and with their number; or with `yes` if there is none. The reply fails as the first of
-/// the faults does. Places have columns if `has_columns`, that is, if the lines of the files are read as they are.
+/// the faults does. The `originals` are the texts of those files whose lines were joined, as they were before.
 /// Further lines go to `remarks`: that the entry seems to be for a terminal of another kind, that a fault may go once
 /// others are mended, advice on an entry without a fault, and advice on strings that aren't checked, with their
 /// number.
 pub fn check_all<F: Files>(
     alloc: Global,
     words: &FaultsWords<'_>,
-    has_columns: bool,
+    originals: &[LinedFile<'_>],
     files: &mut F,
     remarks: &mut Remarks,
 ) -> Result<Reply, Failure>
-    ensures reply { IfOk result (λ reply. spec.ListsFaults has_columns (F.holds files.old) words.now reply) }
+    ensures reply { IfOk result (λ reply. spec.ListsFaults (map file_text originals.now) (F.holds files.old) words.now reply) }
     ensures failure { IfErr result (λ e. FailsForEntry (F.holds files.old) words.now.rows.now words.now.cols.now
         words.now.entry.now e) }
     ensures kept { F.holds files.new ≡ F.holds files.old }
@@ -48,7 +51,7 @@ pub fn check_all<F: Files>(
     let asked = Asked {
         found: &found,
         size,
-        has_columns,
+        originals,
     };
     let reply = reply_of(alloc, &asked, notes, nos.as_slice())?;
     note_another_kind(nos.as_slice(), remarks);
@@ -60,12 +63,12 @@ pub fn check_all<F: Files>(
     Ok(reply)
 }
 
-/// The entry whose faults are listed, for a size, and whether their places have columns.
+/// The entry whose faults are listed, for a size, and the texts of those files whose lines were joined.
 #[derive(Drop)]
 struct Asked<'x> {
     found: &'x Sourced<'x>,
     size: Size,
-    has_columns: bool,
+    originals: &'x [LinedFile<'x>],
 }
 
 /// The reply with `notes` that says of the entry that is `asked` about that `nos` are its faults.
@@ -76,7 +79,7 @@ fn reply_of(
     nos: &[No],
 ) -> Result<Reply, AllocError>
     ensures noted { IfOk result (λ reply. reply.notes ≡ notes) }
-    ensures told { IfOk result (λ reply. spec.TellsFaults asked.now.has_columns asked.now.found.now.entry
+    ensures told { IfOk result (λ reply. spec.TellsFaults (map file_text asked.now.originals.now) asked.now.found.now.entry
         asked.now.found.now.source asked.now.size.rows asked.now.size.cols nos.now reply) }
 {
     match nos {
@@ -103,7 +106,7 @@ fn faults_text(
     mended: &Mended,
     nos: &[No],
 ) -> Result<Vec<u8>, AllocError>
-    ensures { IfOk result (λ text. spec.IsFaultsText asked.now.has_columns asked.now.found.now.entry
+    ensures { IfOk result (λ text. spec.IsFaultsText (map file_text asked.now.originals.now) asked.now.found.now.entry
         asked.now.found.now.source mended.now nos.now text.items) }
 {
     match &asked.found.source {
@@ -112,7 +115,7 @@ fn faults_text(
                 entry: &asked.found.entry,
                 source: None,
                 size: asked.size,
-                has_columns: asked.has_columns,
+                originals: asked.originals,
             };
             located_text(alloc, &located, mended, nos)
         }
@@ -129,7 +132,7 @@ fn source_text<'x>(
     mended: &Mended,
     nos: &[No],
 ) -> Result<Vec<u8>, AllocError>
-    ensures { IfOk result (λ text. spec.IsFaultsText asked.now.has_columns asked.now.found.now.entry (Some source.now)
+    ensures { IfOk result (λ text. spec.IsFaultsText (map file_text asked.now.originals.now) asked.now.found.now.entry (Some source.now)
         mended.now nos.now text.items) }
 {
     let index = Index::new(alloc, source.raws.as_slice())?;
@@ -145,18 +148,18 @@ fn source_text<'x>(
             index: &index,
         }),
         size: asked.size,
-        has_columns: asked.has_columns,
+        originals: asked.originals,
     };
     located_text(alloc, &located, mended, nos)
 }
 
-/// An entry with its source, if it is in one; the size that it is for, and whether places have columns.
+/// An entry with its source, if it is in one; the size that it is for, and the texts of those files whose lines were joined.
 #[derive(Drop)]
 struct Located<'a, 'b> {
     entry: &'b Entry,
     source: Option<NamedSource<'a, 'b>>,
     size: Size,
-    has_columns: bool,
+    originals: &'a [LinedFile<'a>],
 }
 
 /// The lines of the faults `nos` of the entry `found`, which is `mended`, and then their counts.
@@ -166,7 +169,7 @@ fn located_text(
     mended: &Mended,
     nos: &[No],
 ) -> Result<Vec<u8>, AllocError>
-    ensures { IfOk result (λ text. spec.IsFaultsText found.now.has_columns found.now.entry.now
+    ensures { IfOk result (λ text. spec.IsFaultsText (map file_text found.now.originals.now) found.now.entry.now
         (source_if found.now.source) mended.now nos.now text.items) }
 {
     let mut text = fault_lines(alloc, found, mended, nos)?;
@@ -190,7 +193,7 @@ fn fault_lines(
     mended: &Mended,
     nos: &[No],
 ) -> Result<Vec<u8>, AllocError>
-    ensures { IfOk result (λ lines. HasParts (spec.HasFaultLines found.now.has_columns found.now.entry.now
+    ensures { IfOk result (λ lines. HasParts (spec.HasFaultLines (map file_text found.now.originals.now) found.now.entry.now
         (source_if found.now.source) mended.now nos.now) nos.now lines.items) }
 {
     let mut lines = Vec::new(alloc);
@@ -210,7 +213,7 @@ fn own_lines(
     no: &No,
     nos: &[No],
 ) -> Result<Vec<u8>, AllocError>
-    ensures { IfOk result (λ lines. spec.HasFaultLines found.now.has_columns found.now.entry.now
+    ensures { IfOk result (λ lines. spec.HasFaultLines (map file_text found.now.originals.now) found.now.entry.now
         (source_if found.now.source) mended.now nos.now no.now lines.items) }
 {
     let mut lines = no_words(alloc, no)?;
@@ -219,7 +222,7 @@ fn own_lines(
         no,
         size: found.size,
     };
-    let place = location(alloc, &found.source, found.has_columns, &fault)?;
+    let place = location(alloc, &found.source, found.originals, &fault)?;
     lines.extend_from_slice(place.as_slice())?;
     let further = explanation(alloc, found.entry, found.size, no)?;
     lines.extend_from_slice(further.as_slice())?;

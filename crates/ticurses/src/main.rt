@@ -5,6 +5,7 @@ mod batches;
 mod counted;
 mod forms;
 mod hints;
+mod originals;
 mod progress;
 mod run;
 mod stored;

@@ -5,6 +5,7 @@ ghost use Rattle.std.specs.Prelude.{◌≤◌};
 use crate::counted::Counted;
 use crate::forms::{formed, is_formed};
 use crate::hints::{hint_join, hint_path};
+use crate::originals::{Kept, lined, originals};
 use crate::progress::SurveyLines;
 use crate::stored::Sources;
 use cur_commands::{play_script, show_script};
@@ -17,6 +18,7 @@ use ti_commands::{
     write_text,
 };
 use ti_mends::fix_entry;
+use ti_places::LinedFile;
 use ti_repairs::{FixWords, fix_survey};
 use ti_reports::{Check, SurveyReports, check_reports, survey_reports};
 use ti_requests::{CheckWords, FaultsWords, Request, ScriptWords, SurveyWords};
@@ -148,30 +150,34 @@ fn play<F: Files, O: Output>(
     Ok(Reply::of_text(alloc, Vec::new(alloc)))
 }
 
-/// The check with reports by these `words`, as it is `asked` for.
-fn check_of<'a>(words: &'a FaultsWords<'a>, lists_all: bool, asked: &Asked<'_>) -> Check<'a> {
+/// The check with reports by these `words`, where the `originals` are the texts whose lines are joined.
+fn check_of<'a>(
+    words: &'a FaultsWords<'a>,
+    lists_all: bool,
+    originals: &'a [LinedFile<'a>],
+) -> Check<'a> {
     Check {
         words,
         lists_all,
-        has_columns: !asked.joins,
+        originals,
     }
 }
 
-/// The survey by these `words`, as it is `asked` for; the checker certifies.
-fn survey_of<'a>(words: &'a SurveyWords<'a>, asked: &Asked<'_>) -> Survey<'a, Checker> {
+/// The survey by these `words`, where the `originals` are the texts whose lines are joined; the checker certifies.
+fn survey_of<'a>(
+    words: &'a SurveyWords<'a>,
+    originals: &'a [LinedFile<'a>],
+) -> Survey<'a, Checker> {
     Survey {
         certifier: &Checker,
         words,
-        has_columns: !asked.joins,
+        originals,
     }
 }
 
-/// The survey with reports by these `words`, as it is `asked` for.
-fn reports_of<'a>(words: &'a SurveyWords<'a>, asked: &Asked<'_>) -> SurveyReports<'a> {
-    SurveyReports {
-        words,
-        has_columns: !asked.joins,
-    }
+/// The survey with reports by these `words`, where the `originals` are the texts whose lines are joined.
+fn reports_of<'a>(words: &'a SurveyWords<'a>, originals: &'a [LinedFile<'a>]) -> SurveyReports<'a> {
+    SurveyReports { words, originals }
 }
 
 /// The reply of `survey` that is wanted. The lines of the entries go to the output as they come.
@@ -244,20 +250,43 @@ fn reply_by<F: Files + Sources, O: Output, E: Write + IsTerminal>(
     if asked.fixes {
         files.allow_source();
     }
-    let mut beside = Beside::new(files, asked.further.as_slice());
     if asked.joins {
-        let mut joined = Wrapped::new(alloc, &mut beside);
-        reply_to(alloc, asked, &mut joined, streams, remarks)
-    } else {
-        reply_to(alloc, asked, &mut beside, streams, remarks)
+        return joined_reply(alloc, asked, files, streams, remarks);
     }
+    let mut beside = Beside::new(files, asked.further.as_slice());
+    reply_to(alloc, asked, &[], &mut beside, streams, remarks)
 }
 
-/// The reply of the command that is `asked` for. The bytes that `play` sends and the lines of a
-/// survey go to `out` as they come, and the reply has what follows them.
+/// The reply of the command that is `asked` for, whose sources are read with each field on one line. Their texts are kept as
+/// they are, for the places in them.
+fn joined_reply<F: Files, O: Output, E: Write + IsTerminal>(
+    alloc: Global,
+    asked: &Asked<'_>,
+    files: &mut F,
+    streams: &mut Streams<'_, '_, O, E>,
+    remarks: &mut Remarks,
+) -> Result<Reply, Failure> {
+    let originals = originals(alloc, asked, files)?;
+    let texts = lined(alloc, originals.as_slice())?;
+    let mut kept = Kept::new(files, originals.as_slice());
+    let mut beside = Beside::new(&mut kept, asked.further.as_slice());
+    let mut joined = Wrapped::new(alloc, &mut beside);
+    reply_to(
+        alloc,
+        asked,
+        texts.as_slice(),
+        &mut joined,
+        streams,
+        remarks,
+    )
+}
+
+/// The reply of the command that is `asked` for, where the `originals` are the texts whose lines are joined. The bytes that
+/// `play` sends and the lines of a survey go to `out` as they come, and the reply has what follows them.
 fn reply_to<F: Files, O: Output, E: Write + IsTerminal>(
     alloc: Global,
     asked: &Asked<'_>,
+    originals: &[LinedFile<'_>],
     files: &mut F,
     streams: &mut Streams<'_, '_, O, E>,
     remarks: &mut Remarks,
@@ -269,9 +298,14 @@ fn reply_to<F: Files, O: Output, E: Write + IsTerminal>(
         Request::Tic { entry, out } => compile_entry(alloc, entry, *out, files, remarks),
         Request::Check(words) if asked.fixes => fix_entry(alloc, words, files, remarks),
         Request::Check(words) => check_counted(alloc, words, files, streams.err, remarks),
-        Request::CheckAll(words) => check_all(alloc, words, !asked.joins, files, remarks),
+        Request::CheckAll(words) => check_all(alloc, words, originals, files, remarks),
         Request::CheckJson { lists_all, words } => {
-            check_reports(alloc, &check_of(words, *lists_all, asked), files, remarks)
+            check_reports(
+                alloc,
+                &check_of(words, *lists_all, originals),
+                files,
+                remarks,
+            )
         }
         Request::Verify(words) => verify_certificate(alloc, words, files, remarks),
         Request::Play(words) => play(alloc, words, files, streams.out, remarks),
@@ -280,10 +314,16 @@ fn reply_to<F: Files, O: Output, E: Write + IsTerminal>(
             fix_survey(alloc, &fix_words(words, asked.out), files, remarks)
         }
         Request::Survey(words) => {
-            survey_plainly(alloc, &survey_of(words, asked), files, streams, remarks)
+            survey_plainly(alloc, &survey_of(words, originals), files, streams, remarks)
         }
         Request::SurveyJson(words) => {
-            survey_json(alloc, &reports_of(words, asked), files, streams, remarks)
+            survey_json(
+                alloc,
+                &reports_of(words, originals),
+                files,
+                streams,
+                remarks,
+            )
         }
         Request::Print { entry } => print_entry(alloc, entry, files, remarks),
         Request::Common { first, second } => {

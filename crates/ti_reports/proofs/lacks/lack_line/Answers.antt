@@ -7,5 +7,5 @@ use Rattle.ti_reports.proofs.lacks.lack_line.Goals as goal
 pub returns-in-Some : goal.returns-in-Some
 returns-in-Some c =
     IfOk-weaker c.lack_of.result _ _
-    (λ line h. inl (c.in-Some.path.now, c.in-Some.name.now, c.in-Some.ensures.parts, subst (λ (name : List ℕ). IsLackOf c.args.asked.size.rows c.args.asked.size.cols c.args.alone c.args.failure.now c.in-Some.path.now (Some name) line.items) c.as_bytes.ensures.value h))
+    (λ line h. inl (c.in-Some.path.now, c.in-Some.name.now, c.in-Some.ensures.parts, subst (λ (name : List ℕ). IsLackOf c.args.size.rows c.args.size.cols c.args.alone c.args.failure.now c.in-Some.path.now (Some name) line.items) c.as_bytes.ensures.value h))
     c.lack_of.ensures

@@ -14,6 +14,6 @@ returns c =
       reason = c.in_ok-why.ensures;
       place = c.in_ok-place.place;
       stands = subst (λ (path : Option (List ℕ)). IsReasonPlace path c.args.failure.now c.in_ok-place.place) c.sole_path.ensures c.in_ok-place.ensures;
-      says = subst (λ (why : List ℕ). IsRefusedReport c.args.asked.size.rows c.args.asked.size.cols c.args.path.now (option_map (λ n. n.now) c.args.name) why c.in_ok-place.place line.items) c.as_slice.ensures.value h;
+      says = subst (λ (why : List ℕ). IsRefusedReport c.args.size.rows c.args.size.cols c.args.path.now (option_map (λ n. n.now) c.args.name) why c.in_ok-place.place line.items) c.as_slice.ensures.value h;
     })
     c.refused_line.ensures

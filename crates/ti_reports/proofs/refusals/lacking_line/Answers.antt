@@ -13,6 +13,6 @@ returns c =
     (λ line h. record {
       place = c.in_ok-place.place;
       found = subst (λ (path : List ℕ). IsRefusalPlace (place_if c.args.lacking.now.stands.now) (Some path) c.args.lacking.now.refusal.now c.in_ok-place.place) c.fault_file.ensures c.in_ok-place.ensures;
-      says = subst (λ (why : List ℕ). IsRefusedReport c.args.asked.size.rows c.args.asked.size.cols c.args.lacking.now.path.now (option_map (λ n. n.now) c.args.lacking.now.name) why c.in_ok-place.place line.items) (c.as_slice.ensures.value ∙ c.in_ok-why.ensures) h;
+      says = subst (λ (why : List ℕ). IsRefusedReport c.args.size.rows c.args.size.cols c.args.lacking.now.path.now (option_map (λ n. n.now) c.args.lacking.now.name) why c.in_ok-place.place line.items) (c.as_slice.ensures.value ∙ c.in_ok-why.ensures) h;
     })
     c.refused_line.ensures

@@ -5,5 +5,5 @@ use Rattle.ti_reports.proofs.refusals.refused_line.Goals as goal
 
 pub returns : goal.returns
 returns c =
-    as_report_line (λ line. line.items) (ReportsRefused c.args.asked.size.rows c.args.asked.size.cols c.args.path.now (option_map (λ n. n.now) c.args.name) c.args.why.now c.args.place)
+    as_report_line (λ line. line.items) (ReportsRefused c.args.size.rows c.args.size.cols c.args.path.now (option_map (λ n. n.now) c.args.name) c.args.why.now c.args.place)
     c.in_ok-refused_report.field-0 c.report_line.result c.report_line.ensures c.in_ok-refused_report.ensures

@@ -10,7 +10,7 @@ returns c =
     (λ line h. record {
       place = c.nowhere-place.result;
       nowhere = c.nowhere-place.ensures;
-      says = subst (λ (why : List ℕ). IsRefusedReport c.args.asked.size.rows c.args.asked.size.cols c.args.path.now None why c.nowhere-place.result line.items)
+      says = subst (λ (why : List ℕ). IsRefusedReport c.args.size.rows c.args.size.cols c.args.path.now None why c.nowhere-place.result line.items)
           (c.as_slice.ensures.value ∙ (c.in_ok-why.ensures ∙ ap file_text c.as_bytes.ensures.value)) h;
     })
     c.refused_line.ensures

@@ -8,6 +8,7 @@ use Rattle.ti_surveys.specs.Surveys.{EndsPaths}
 use Rattle.ti_surveys.specs.Strict.{EndsStrictly}
 use Rattle.ti_surveys.specs.Told.{told_of}
 use Rattle.ti_places.specs.Locations.{placed_in}
+use Rattle.ti_places.specs.Spots.{file_text}
 use Rattle.ti_verdicts.specs.declared.answers.Answer.{Answer}
 use Rattle.ti_places.specs.declared.locations.PlacedFault.{PlacedFault}
 use Rattle.ti_surveys.proofs.surveys.survey_files.Goals as goal
@@ -25,7 +26,7 @@ returns-clause-reply g c =
       ends = subst
           (λ (paths : List (Bor (List ℕ))).
           EndsPaths
-          (AreLines (SaysBy c.args.survey.now.words.now.lists_all c.args.survey.now.words.now.names_parts c.args.survey.now.has_columns (g.C.Certifier.certifies c.args.survey.now.certifier.now) (g.C.Certifier.refuses c.args.survey.now.certifier.now) c.in_ok-size.size.rows c.in_ok-size.size.cols) IsRefused) SaysNothing
+          (AreLines (SaysBy c.args.survey.now.words.now.lists_all c.args.survey.now.words.now.names_parts (map file_text c.args.survey.now.originals.now) (g.C.Certifier.certifies c.args.survey.now.certifier.now) (g.C.Certifier.refuses c.args.survey.now.certifier.now) c.in_ok-size.size.rows c.in_ok-size.size.cols) IsRefused) SaysNothing
           (g.F.Files.holds c.args.files.now) (texts_of paths) (told_of said) c.in_ok-surveyed.surveyed.failure c.survey_paths.new.remarks)
           c.as_slice-paths.ensures.value c.in_ok-surveyed.ensures.told;
       strictly = subst (λ (answered : List Answer). EndsStrictly c.args.survey.now.words.now.is_strict answered c.in_ok-surveyed.surveyed.failure c.in_ok-failure.failure) c.as_slice-3.ensures.value c.in_ok-failure.ensures;
