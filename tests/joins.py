@@ -49,6 +49,30 @@ user|another entry,
 # both with the fault of `el` mended
 MENDED = JOINED.replace(rb"el=\E[1K,", rb"el=\E[K,")
 WRAPPED_MENDED = WRAPPED.replace(b"el=\\E[1K\n\t,", b"el=\\E[K\n\t,")
+# a wrapped entry with faults: a field that begins on the third line, goes on to the fifth and is wrong as a whole, one
+# that is wrong by a parameter on its second line, one whose wrong control function goes over two lines, one behind a
+# wrapped field, and a hint about a wrapped field
+FAULTY = rb"""faulty|wrong strings over several lines,
+	sgr0=\E[m, clear=\E[H
+	\E[2J, cup=\E[%i
+	  %p1%d;
+ %p2%dX,
+	home=\E[
+		2;1H, el=\E[
+	K\E[1
+	C, ed=\E[1J,
+	nope=\E[1
+	;2x, bel=^G,
+"""
+# each fault's capability, the place of its field, that of the part of its value that is at fault, and the lines of the
+# field with their marks; worked out by hand
+PLACES = [
+    ("cup", (3, 9, 5, 8), None, ["cup=\\E[%i", "    ^~~~~"]),
+    ("home", (6, 2, 7, 7), (7, 3, 7, 4), ["home=\\E[", "2;1H", "^"]),
+    ("el", (7, 9, 9, 3), (8, 3, 9, 3), ["el=\\E[", "K\\E[1", " ^~~~"]),
+    ("ed", (9, 5, 9, 13), None, ["ed=\\E[1J", "   ^~~~~"]),
+]
+NOPE = (10, 2, 11, 5)
 # the further line of a refusal
 HINT = "with --join a field may continue on further lines\n"
 # where a field can't go on: before a comment, a blank line, a line in column one, the end
@@ -83,12 +107,28 @@ def joining(words):
     return [words[0], "--join", *words[1:]]
 
 
-def without_columns(words, out):
-    """The output of a run without `--join`, as it is with it: objects and places have no columns then."""
+def in_wrapped(line, column):
+    """The place in the wrapped text of the byte at this line and column of the joined one: that line, and those that it has
+    taken up, which are blank there, without the white space before them."""
+    lines, blank = WRAPPED.split(b"\n"), [not it for it in JOINED.split(b"\n")]
+    white = 0
+    while column > len(lines[line - 1]) - white and blank[line]:
+        column -= len(lines[line - 1]) - white
+        line += 1
+        white = len(lines[line - 1]) - len(lines[line - 1].lstrip(b" \t"))
+    return line, white + column
+
+
+def as_wrapped(words, out):
+    """The output of a run on the joined text, with the places that it has in the wrapped one."""
     if "--json" not in words:
-        return re.sub(rb"(?m)^(text:\d+):\d+: ", rb"\1: ", out)
-    gone = dict.fromkeys(("column", "end_column", "end_line", "fault_column", "fault_end_column"))
-    ones = [{**json.loads(line), **gone} for line in out.splitlines()]
+        return re.sub(rb"(?m)^text:(\d+):(\d+): ", lambda found: b"text:%d:%d: " % in_wrapped(*map(int, found.groups())), out)
+    ones = [json.loads(line) for line in out.splitlines()]
+    for one in ones:
+        if one["column"] is not None:
+            end_line, last = in_wrapped(one["line"], one["end_column"] - 1)
+            one["line"], one["column"] = in_wrapped(one["line"], one["column"])
+            one["end_line"], one["end_column"] = end_line, last + 1
     return b"".join(json.dumps(one, ensure_ascii=False, separators=(",", ":")).encode() + b"\n" for one in ones)
 
 
@@ -105,10 +145,10 @@ def judge_same():
         same = run_cases(PROGRAM, [Case(joining(it)) for it in words], {"text": JOINED, "cert": cert})
         read = run_cases(PROGRAM, [Case(joining(it)) for it in words], {"text": WRAPPED, "cert": cert})
         for it, want, other, told in zip(words, right, same, read):
-            wanted = want.status, without_columns(it, want.out), without_columns([], want.err)
-            for one in (other, told):
+            wrapped = want.status, as_wrapped(it, want.out), as_wrapped([], want.err)
+            for one, wanted in ((other, (want.status, want.out, want.err)), (told, wrapped)):
                 if (one.status, one.out, one.err) != wanted:
-                    fail(f"{it} with --join: {one.status} {one.out} {one.err}, and {want.status} {want.out} {want.err}")
+                    fail(f"{it} with --join: {one.status} {one.out} {one.err}, and {wanted}")
             count += 1
     words = joining(["verify", "text:wrapped", *SIZE, "cert"])
     for text in (MENDED, WRAPPED_MENDED):
@@ -130,13 +170,57 @@ def judge_places():
         {"text": WRAPPED},
     )
     every, fixed, given = told
-    if "no el: WrongEffect\ntext:8: el of wrapped\n" not in every.out.decode():
+    if "no el: WrongEffect\ntext:8:13: el of wrapped\n    el=\\E[1K\n       ^~~~~\n" not in every.out.decode():
         fail(f"the line of el: {every.out}")
     if (fixed.status, fixed.out, fixed.err) != (0, MENDED, b""):
         fail(f"--fix --join: {fixed.status} {fixed.out} {fixed.err}")
     if (given.status, b"refused: no el: WrongEffect\n" in given.err) != (1, True):
         fail(f"standard input: {given.status} {given.err}")
     print("joins: places are told by the lines of the file")
+
+
+def judge_regions():
+    """Places of wrapped fields and of parts of them: their lines and columns, the lines that are shown, and the fixes."""
+    words = (["check", "--all", "text:faulty", *SIZE], ["survey", "--all", *SIZE, "text"])
+    words += (["check", "--all", "--json", "text:faulty", *SIZE], ["survey", "--sarif", *SIZE, "text"])
+    plain, survey, objects, sarif = run_cases(PROGRAM, [Case(joining(it)) for it in words], {"text": FAULTY})
+    ones = [json.loads(line) for line in objects.out.splitlines()]
+    results = json.loads(sarif.out)["runs"][0]["results"]
+    for cap, place, part, shown in PLACES:
+        lines = "".join(f"    {line}\n" for line in shown)
+        if f"text:{place[0]}:{place[1]}: {cap} of faulty\n{lines}" not in plain.out.decode():
+            fail(f"check --all --join: {lines} of {cap} is not in {plain.out.decode()}")
+        if f"text:{place[0]}:{place[1]}: {cap} of faulty: faulty no {cap}" not in survey.err.decode() or lines not in survey.err.decode():
+            fail(f"survey --all --join: {lines} of {cap} is not in {survey.err.decode()}")
+        [one] = [one for one in ones if (one["verdict"], one["capability"]) == ("no", cap)]
+        if tuple(one[key] for key in ("line", "column", "end_line", "end_column")) != place:
+            fail(f"--json --join: {one} is not at {place}")
+        if tuple(one[f"fault_{key}"] for key in ("line", "column", "end_line", "end_column")) != (part or (None,) * 4):
+            fail(f"--json --join: the part of {one} is not at {part}")
+        judge_fix(results, one)
+    [hint] = [one for one in ones if one["verdict"] == "hint"]
+    if tuple(hint[key] for key in ("line", "column", "end_line", "end_column")) != NOPE:
+        fail(f"--json --join: {hint} is not at {NOPE}")
+    print(f"joins: {len(PLACES) + 1} places of wrapped fields are those of the file")
+
+
+def judge_fix(results, one):
+    """The fix of an object's fault puts the string that is suggested in place of the field, and of nothing else."""
+    [result] = [it for it in results if it["level"] != "note" and it["message"]["text"].startswith(f"faulty: no {one['capability']}")]
+    region = {"startLine": one["line"], "startColumn": one["column"], "endLine": one["end_line"], "endColumn": one["end_column"]}
+    if result["locations"][0]["physicalLocation"]["region"] != region:
+        fail(f"--sarif --join: the region of {result} is not {region}")
+    [change] = result["fixes"][0]["artifactChanges"]
+    [replacement] = change["replacements"]
+    lines = FAULTY.split(b"\n")
+    front = b"\n".join([*lines[: one["line"] - 1], lines[one["line"] - 1][: one["column"] - 1]])
+    behind = b"\n".join([lines[one["end_line"] - 1][one["end_column"] - 1 :], *lines[one["end_line"] :]])
+    mended = front + replacement["insertedContent"]["text"].encode() + behind
+    words = ["check", "--json", "--all", "text:faulty", *SIZE]
+    found = run_cases(PROGRAM, [Case(joining(words))], {"text": mended})[0].out
+    left = {it["capability"] for it in map(json.loads, found.splitlines()) if it["verdict"] == "no"}
+    if replacement["deletedRegion"] != region or left != {cap for cap, *_ in PLACES} - {one["capability"]}:
+        fail(f"--sarif --join: the fix of {one} leaves {left}")
 
 
 def is_refused(words, out):
@@ -209,6 +293,7 @@ def judge_stored():
 def main():
     judge_same()
     judge_places()
+    judge_regions()
     judge_refusals()
     judge_stored()
 

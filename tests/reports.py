@@ -18,12 +18,12 @@ from trying import PROGRAM, TOP, Case, run_cases
 TEXT, NUMBER, TRUTH = (str, type(None)), (int, type(None)), (bool, type(None))
 MEMBERS = {
     "aliases": (list,), "aliases_hex": (list,), "another_kind": TRUTH, "bytes": TEXT, "capability": TEXT, "cause": TEXT,
-    "column": NUMBER, "end_column": NUMBER, "end_line": NUMBER, "entry": TEXT, "entry_hex": TEXT, "explanation": (list,), "fault_column": NUMBER, "fault_end_column": NUMBER, "file": (str,), "judged": TRUTH, "line": NUMBER, "parameters": (list,), "part": TRUTH, "rule": TEXT, "seen": TEXT, "size": (dict,),
+    "column": NUMBER, "end_column": NUMBER, "end_line": NUMBER, "entry": TEXT, "entry_hex": TEXT, "explanation": (list,), "fault_column": NUMBER, "fault_end_column": NUMBER, "fault_end_line": NUMBER, "fault_line": NUMBER, "file": (str,), "judged": TRUTH, "line": NUMBER, "parameters": (list,), "part": TRUTH, "rule": TEXT, "seen": TEXT, "size": (dict,),
     "source_entry": TEXT, "source_entry_hex": TEXT, "source_file": TEXT, "start": TEXT, "string": TEXT, "string_hex": TEXT, "suggested_with": (list,), "suggestion": TEXT, "suggestion_hex": TEXT, "verdict": (str,),
     "version": (int,), "wanted": TEXT,
 }  # fmt: skip
 OF_FAULTS = [
-    "another_kind", "bytes", "capability", "column", "end_column", "end_line", "fault_column", "fault_end_column", "judged", "line", "seen", "source_entry", "source_entry_hex", "source_file", "start", "string", "string_hex",
+    "another_kind", "bytes", "capability", "column", "end_column", "end_line", "fault_column", "fault_end_column", "fault_end_line", "fault_line", "judged", "line", "seen", "source_entry", "source_entry_hex", "source_file", "start", "string", "string_hex",
     "suggestion", "suggestion_hex", "wanted",
 ]  # fmt: skip
 # an entry is refused for a use, which has a line where a survey finds it
@@ -84,7 +84,7 @@ REFUSED_BY_SCHEMA = [
     {"cause": "WrongEffect"},
     {"line": 0},
     {"column": 5, "end_line": 5, "end_column": 9},
-    {"fault_column": 7, "fault_end_column": 8},
+    {"fault_line": 5, "fault_column": 7, "fault_end_line": 5, "fault_end_column": 8},
     {"other": None},
     {"verdict": "no"},
     {**ABSENT, "cause": "Unheard", "rule": "Unheard"},
@@ -96,7 +96,7 @@ REFUSED_BY_SCHEMA = [
     {**ABSENT, "line": 5},
     {**ABSENT, "line": 5, "source_entry": "a", "source_entry_hex": "61", "column": 5},
     {**ABSENT, "column": 5, "end_line": 5, "end_column": 9},
-    {**ABSENT, "fault_column": 7, "fault_end_column": 8},
+    {**ABSENT, "fault_line": 5, "fault_column": 7, "fault_end_line": 5, "fault_end_column": 8},
     {"verdict": "refused", "part": None, "cause": "NoSuchEntry a", "rule": "Refused", "explanation": ["never"]},
     {"verdict": "advice", "rule": "Advice", "capability": "sgr"},
     {"verdict": "advice", "rule": None, "capability": "sgr", "explanation": ["never"]},
@@ -296,8 +296,12 @@ def judge_columns(one, lines):
     if field[len(name) : len(name) + 1] == b"=" and value_bytes(field[len(name) + 1 :].decode("latin-1")).hex() != one["string_hex"]:
         fail(f"another string is at the columns of {one}: {field}")
     value = one["column"] + len(name) + 1
-    if one["fault_column"] is not None and not value <= one["fault_column"] < one["fault_end_column"] <= one["end_column"]:
+    if one["fault_column"] is None:
+        return
+    if not value <= one["fault_column"] < one["fault_end_column"] <= one["end_column"]:
         fail(f"the part at fault is not within the value of {one}: {field}")
+    if (one["fault_line"], one["fault_end_line"]) != (one["line"], one["line"]):
+        fail(f"the part at fault is not on the line of {one}")
 
 
 def judge_lines(one, lines, path):
@@ -597,8 +601,7 @@ def judge_hints():
     words += [["check", "--join", "--json", "hinted:a", *SIZE]]
     told = run_cases(PROGRAM, [Case(it) for it in words], {"hinted": HINTED})
     placed = [("a", *it) for it in HINTS]
-    columnless = [(*it[:5], None, None, it[7]) for it in placed]
-    for it, one, wanted in zip(words, told, (placed, placed, [(hint[0], *hint) for hint in HINTS], [], columnless)):
+    for it, one, wanted in zip(words, told, (placed, placed, [(hint[0], *hint) for hint in HINTS], [], placed)):
         keys = ("entry", "source_entry", "rule", "capability", "line", "column", "end_column")
         found = [(*(o[key] for key in keys), *o["explanation"]) for o in objects(one) if o["verdict"] == "hint"]
         if found != wanted:
