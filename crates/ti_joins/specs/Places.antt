@@ -21,8 +21,8 @@ place_from number at (line ∷ behind) =
     if nat_lt at (length line) then record { line = number; column = at + 1 }
     else place_behind (number + 1) (at - length line) behind
 
--- the place in a text of the byte at a column of one of its joined lines, both counted from 1: a joined line begins with
--- the line that has its number
+-- the place in a text of the byte at a column of one of its joined lines, both counted from 1: a joined line begins
+-- with the line that has its number
 unfoldable pub place_of : List (List ℕ) → Place → Place
 place_of lines place = place_from place.line (place.column - 1) (drop (place.line - 1) lines)
 

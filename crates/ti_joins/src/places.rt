@@ -27,9 +27,9 @@ pub struct Region {
     pub end_column: usize,
 }
 
-/// The place, in a text with these `lines`, of the byte at `place` of the joined text, which has as many lines. A joined
-/// line begins with the line that has its number, and each line that was joined to it follows without its leading white
-/// space. Behind the last byte the answer is a column behind the last line that was joined.
+/// The place, in a text with these `lines`, of the byte at `place` of the joined text, which has as many lines. A
+/// joined line begins with the line that has its number, and each line that was joined to it follows without its
+/// leading white space. Behind the last byte the answer is a column behind the last line that was joined.
 #[tactic(auto, unfolding(crate::specs::Places::place_of))]
 pub fn original_place(lines: &[&[u8]], place: Place) -> Place
     ensures place { result ≡ spec.place_of (map (λ line. line.now) lines.now) place }
@@ -39,8 +39,8 @@ pub fn original_place(lines: &[&[u8]], place: Place) -> Place
     place_from(place.line, place.column.saturating_sub(1), behind)
 }
 
-/// The region, in a text with these `lines`, of the bytes of the joined line with this `number` from column `start` up to
-/// column `end`. It ends behind the last of these bytes, on the line that has it.
+/// The region, in a text with these `lines`, of the bytes of the joined line with this `number` from column `start` up
+/// to column `end`. It ends behind the last of these bytes, on the line that has it.
 #[tactic(auto, unfolding(crate::specs::Places::region_of, crate::specs::Places::end_of))]
 pub fn original_region(lines: &[&[u8]], number: usize, start: usize, end: usize) -> Region
     ensures { result ≡ spec.region_of (map (λ line. line.now) lines.now) number start end }
@@ -137,8 +137,8 @@ fn place_from(number: usize, at: usize, lines: &[&[u8]]) -> Place
     }
 }
 
-/// The place of the byte with `past` others before it, where `behind` are the lines that may have it, of which the first
-/// has this `number`.
+/// The place of the byte with `past` others before it, where `behind` are the lines that may have it, of which the
+/// first has this `number`.
 #[tactic(auto, using(crate::proofs::Origins::skip_shorter, crate::proofs::Origins::on_next, crate::proofs::Origins::behind_next, crate::proofs::Origins::behind_all, crate::proofs::Origins::all_behind))]
 fn place_behind(number: usize, past: usize, behind: &[&[u8]]) -> Place
     requires column { past + 1 ≤ 18446744073709551615 }

@@ -7,8 +7,8 @@ use Rattle.ti_places.specs.Excerpts.{deeper, underlined}
 use Rattle.ti_source.specs.Layout.{lines_of, skip_white}
 use Rattle.ti_words.specs.Shown.{shown}
 
--- the columns of a region on a line with a number: on its first line it begins with its first byte, on others behind the
--- white space, and it goes to the line's end, but on its last line to its last byte
+-- the columns of a region on a line with a number: on its first line it begins with its first byte, on others behind
+-- the white space, and it goes to the line's end, but on its last line to its last byte
 abbrev pub first_column : List ℕ → Region → ℕ → ℕ
 first_column line region number =
     if number == region.line then region.column else (length line - length (skip_white line)) + 1

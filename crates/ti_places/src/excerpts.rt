@@ -101,7 +101,8 @@ pub(crate) fn underlined(
     Ok(text)
 }
 
-/// The bytes of `field`, which is about `cap`, before the `part` of its value that is at fault, as far as they can be shown.
+/// The bytes of `field`, which is about `cap`, before the `part` of its value that is at fault, as far as they can be
+/// shown.
 fn shown_before(
     alloc: Global,
     cap: Cap,
@@ -117,8 +118,8 @@ fn shown_before(
     shown_bytes(alloc, before.as_slice())
 }
 
-/// The line of `field`, which is about `cap`, as far as it can be shown, and below it the marks under the `part` of its value
-/// that is at fault, or under all of it if no part is known.
+/// The line of `field`, which is about `cap`, as far as it can be shown, and below it the marks under the `part` of its
+/// value that is at fault, or under all of it if no part is known.
 #[tactic(auto, unfolding(crate::specs::Excerpts::excerpt))]
 pub(crate) fn excerpt(
     alloc: Global,

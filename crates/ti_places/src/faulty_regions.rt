@@ -28,9 +28,9 @@ pub(crate) fn part_columns(value: &[u8], columns: Columns, part: Stretch) -> Col
     }
 }
 
-/// The region of the part of the value that is at fault, in the field at `origin` of the `files`, of which the `originals` are
-/// as they were before their lines were joined; `None` if no line has the field, or no smaller part is known than the whole
-/// value.
+/// The region of the part of the value that is at fault, in the field at `origin` of the `files`, of which the
+/// `originals` are as they were before their lines were joined; `None` if no line has the field, or no smaller part is
+/// known than the whole value.
 ///
 /// # Errors
 /// Out of memory.

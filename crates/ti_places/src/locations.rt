@@ -46,10 +46,11 @@ pub fn first_name(names: &[u8]) -> &[u8]
     }
 }
 
-/// The lines that say where `source` has the value that `fault` is about: `FILE:LINE:COLUMN: CAP of NAME`, as far as that
-/// can be shown, and the field with marks under the part of the value that is at fault, or under all of it if no part is
-/// known. The `originals` are the texts of those files whose lines were joined, as they were before: a field of one stands
-/// below its place as it does there, up to the line on which the marked part begins. Empty if there is no source or no value.
+/// The lines that say where `source` has the value that `fault` is about: `FILE:LINE:COLUMN: CAP of NAME`, as far as
+/// that can be shown, and the field with marks under the part of the value that is at fault, or under all of it if no
+/// part is known. The `originals` are the texts of those files whose lines were joined, as they were before: a field of
+/// one stands below its place as it does there, up to the line on which the marked part begins. Empty if there is no
+/// source or no value.
 pub fn location(
     alloc: Global,
     source: &Option<NamedSource<'_, '_>>,
@@ -134,14 +135,16 @@ struct PutField<'a, 'b> {
     origin: Origin,
 }
 
-/// The line with the place of `field`, and the field below it, with marks under the `part` of its value that is at fault.
+/// The line with the place of `field`, and the field below it, with marks under the `part` of its value that is at
+/// fault.
 fn field_lines(
     alloc: Global,
     field: &PutField<'_, '_>,
     part: Option<Stretch>,
 ) -> Result<Vec<u8>, AllocError>
     requires { IsFaulty (value_at (put_files field.now.files) field.now.cap field.now.origin) part }
-    ensures { IfOk result (λ lines. lines.items ≡ spec.field_text (map file_text field.now.originals.now) (put_files field.now.files)
+    ensures { IfOk result (λ lines. lines.items ≡ spec.field_text (map file_text field.now.originals.now)
+        (put_files field.now.files)
         field.now.raws.now field.now.cap part field.now.origin) }
 {
     let words = place_words(alloc, field)?;
@@ -156,7 +159,8 @@ fn field_lines(
 /// `FILE:LINE:COLUMN: CAP of NAME` of `field`.
 #[tactic(auto, unfolding(crate::specs::Locations::place_text))]
 fn place_words(alloc: Global, field: &PutField<'_, '_>) -> Result<Vec<u8>, AllocError>
-    ensures { IfOk result (λ words. words.items ≡ spec.place_text (map file_text field.now.originals.now) (put_files field.now.files)
+    ensures { IfOk result (λ words. words.items ≡ spec.place_text (map file_text field.now.originals.now)
+        (put_files field.now.files)
         field.now.raws.now field.now.cap field.now.origin) }
 {
     let region = region_among(field.originals, &field.files, field.origin, field.cap);
@@ -165,8 +169,8 @@ fn place_words(alloc: Global, field: &PutField<'_, '_>) -> Result<Vec<u8>, Alloc
     numbered_words(alloc, place, region, field.cap, names)
 }
 
-/// `FILE:LINE:COLUMN: CAP of NAME` of a field at `place` with this `region`, which is about `cap`, of the entry with these
-/// `names`.
+/// `FILE:LINE:COLUMN: CAP of NAME` of a field at `place` with this `region`, which is about `cap`, of the entry with
+/// these `names`.
 #[tactic(auto, unfolding(crate::specs::Locations::numbered_text))]
 fn numbered_words(
     alloc: Global,
@@ -210,7 +214,8 @@ fn column_words(alloc: Global, region: Option<Region>) -> Result<Vec<u8>, AllocE
     }
 }
 
-/// The bytes of `field` in its file, with marks under the `part` of its value that is at fault; nothing if no line has it.
+/// The bytes of `field` in its file, with marks under the `part` of its value that is at fault; nothing if no line has
+/// it.
 #[tactic(auto, unfolding(crate::specs::Locations::excerpt_text, crate::specs::Locations::value_at))]
 fn excerpt_lines(
     alloc: Global,
@@ -218,7 +223,8 @@ fn excerpt_lines(
     part: Option<Stretch>,
 ) -> Result<Vec<u8>, AllocError>
     requires { IsFaulty (value_at (put_files field.now.files) field.now.cap field.now.origin) part }
-    ensures { IfOk result (λ lines. lines.items ≡ spec.excerpt_text (map file_text field.now.originals.now) (put_files field.now.files)
+    ensures { IfOk result (λ lines. lines.items ≡ spec.excerpt_text (map file_text field.now.originals.now)
+        (put_files field.now.files)
         field.now.cap part field.now.origin) }
 {
     match field.files.columns(field.origin, field.cap) {
@@ -227,8 +233,8 @@ fn excerpt_lines(
     }
 }
 
-/// The bytes of `field` in its file, which were read between these `columns`, with marks under the `part` of its value that is at
-/// fault.
+/// The bytes of `field` in its file, which were read between these `columns`, with marks under the `part` of its value
+/// that is at fault.
 fn shown_field(
     alloc: Global,
     field: &PutField<'_, '_>,
@@ -272,13 +278,14 @@ pub struct PlacedFault {
     pub place: Vec<u8>,
     /// The name of the entry that has the fault.
     pub name: Vec<u8>,
-    /// A space, the words of the fault, the end of the line, and the field with marks under the part of its value that is at fault.
+    /// A space, the words of the fault, the end of the line, and the field with marks under the part of its value that
+    /// is at fault.
     pub fault: Vec<u8>,
 }
 
-/// The fault of the entry of this `name` at the place of the value that it is about, where the entry is at `stands`. The
-/// `originals` are the texts of those files whose lines were joined, as they were before. `None` if the entry is in no source,
-/// or has no value.
+/// The fault of the entry of this `name` at the place of the value that it is about, where the entry is at `stands`.
+/// The `originals` are the texts of those files whose lines were joined, as they were before. `None` if the entry is in
+/// no source, or has no value.
 ///
 /// # Errors
 /// Out of memory.
@@ -290,7 +297,8 @@ pub fn placed(
     fault: &Judged<'_>,
 ) -> Result<Option<PlacedFault>, AllocError>
     requires { IfSome stands.now (λ there. there.place < length there.raws.now) }
-    ensures { IfOk result (λ found. spec.IsPlaced (map file_text originals.now) (spec.place_if stands.now) name.now fault.now.no.now
+    ensures { IfOk result (λ found. spec.IsPlaced (map file_text originals.now)
+        (spec.place_if stands.now) name.now fault.now.no.now
         (spec.placed_if found)) }
 {
     match stands {
@@ -308,7 +316,8 @@ fn placed_in(
     fault: &Judged<'_>,
 ) -> Result<Option<PlacedFault>, AllocError>
     requires { stands.now.place < length stands.now.raws.now }
-    ensures { IfOk result (λ found. spec.IsPlacedIn (map file_text originals.now) (spec.place_in stands.now) name.now fault.now.no.now
+    ensures { IfOk result (λ found. spec.IsPlacedIn (map file_text originals.now)
+        (spec.place_in stands.now) name.now fault.now.no.now
         (spec.placed_if found)) }
 {
     match stands.origin(alloc, fault.no.cap)? {
@@ -336,7 +345,8 @@ fn placed_at(
     requires { field.now.cap ≡ fault.now.no.now.cap }
     ensures { IfOk result (λ placed. (part : Option Stretch)
         × IsFaulty (value_at (put_files field.now.files) fault.now.no.now.cap field.now.origin) part
-        × (spec.placed_in placed ≡ spec.fault_at (map file_text field.now.originals.now) (put_files field.now.files) field.now.raws.now name.now
+        × (spec.placed_in placed ≡ spec.fault_at (map file_text field.now.originals.now)
+        (put_files field.now.files) field.now.raws.now name.now
         fault.now.no.now part field.now.origin)) }
 {
     let part = part_at(alloc, field, fault)?;
@@ -349,7 +359,8 @@ fn placed_at(
     })
 }
 
-/// A space, the words of `no`, the end of the line, and the `field` with marks under the `part` of its value that is at fault.
+/// A space, the words of `no`, the end of the line, and the `field` with marks under the `part` of its value that is at
+/// fault.
 fn fault_lines(
     alloc: Global,
     field: &PutField<'_, '_>,
@@ -359,7 +370,8 @@ fn fault_lines(
     requires cap { field.now.cap ≡ no.now.cap }
     requires part { IsFaulty (value_at (put_files field.now.files) field.now.cap field.now.origin) part }
     ensures { IfOk result (λ lines. lines.items ≡ shown (codes " " ++ no_text no.now)
-        ++ 10 ∷ excerpt_text (map file_text field.now.originals.now) (put_files field.now.files) no.now.cap part field.now.origin) }
+        ++ 10 ∷ excerpt_text (map file_text field.now.originals.now)
+        (put_files field.now.files) no.now.cap part field.now.origin) }
 {
     let mut words = Vec::from_slice(alloc, b" ")?;
     words.extend_from_slice(no_words(alloc, no)?.as_slice())?;

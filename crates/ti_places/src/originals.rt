@@ -25,8 +25,8 @@ pub(crate) fn original_at<'a, 'b>(
     None
 }
 
-/// The region in a file of the bytes between these `columns` of the line with this `number` that was read; `original` is the
-/// file's text before its lines were joined, if they were.
+/// The region in a file of the bytes between these `columns` of the line with this `number` that was read; `original`
+/// is the file's text before its lines were joined, if they were.
 pub(crate) fn region_in(original: Option<&LinedText<'_>>, number: usize, columns: Columns) -> Region
     ensures { result ≡ spec.region_in (option_map (λ text. text.now) original.entry) number columns }
 {
@@ -41,8 +41,8 @@ pub(crate) fn region_in(original: Option<&LinedText<'_>>, number: usize, columns
     }
 }
 
-/// The region in its file of the bytes between these `columns` of the line at `place`. The `originals` are the texts of those
-/// files whose lines were joined, as they were before.
+/// The region in its file of the bytes between these `columns` of the line at `place`. The `originals` are the texts of
+/// those files whose lines were joined, as they were before.
 #[tactic(auto, unfolding(crate::specs::Originals::region_at))]
 pub fn region_at(originals: &[LinedFile<'_>], place: FieldPlace<'_>, columns: Columns) -> Region
     ensures { result ≡ spec.region_at (map file_text originals.now) (line_of place.entry) columns }
@@ -50,8 +50,8 @@ pub fn region_at(originals: &[LinedFile<'_>], place: FieldPlace<'_>, columns: Co
     region_in(original_at(originals, place.path), place.line, columns)
 }
 
-/// The region of the first field about `cap` on the line that has the field at `origin`, a place among the entries of these
-/// `files`; `None` if no line has that field.
+/// The region of the first field about `cap` on the line that has the field at `origin`, a place among the entries of
+/// these `files`; `None` if no line has that field.
 #[tactic(auto, unfolding(crate::specs::Originals::region_among))]
 pub(crate) fn region_among(
     originals: &[LinedFile<'_>],

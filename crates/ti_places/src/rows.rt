@@ -87,8 +87,8 @@ fn rows_of(
     Ok(lines)
 }
 
-/// The lines of `region` in `text` up to the one on which a `part` of it begins, and below that the marks under this part, up to
-/// the end of the line.
+/// The lines of `region` in `text` up to the one on which a `part` of it begins, and below that the marks under this
+/// part, up to the end of the line.
 #[tactic(auto, unfolding(crate::specs::Rows::marked_rows))]
 pub(crate) fn marked_rows(
     alloc: Global,

@@ -49,7 +49,8 @@ impl<'b> SourcePlace<'_, 'b> {
         origin_by(alloc, self.index, self.place, cap)
     }
 
-    /// The use for which the entry can't be resolved, its own or that of an entry that it uses; `None` if none is found.
+    /// The use for which the entry can't be resolved, its own or that of an entry that it uses; `None` if none is
+    /// found.
     ///
     /// # Errors
     /// Out of memory.
@@ -68,17 +69,17 @@ impl<'b> SourcePlace<'_, 'b> {
         self.files.line(origin)
     }
 
-    /// The region of the first field about `cap` on the line that has the field at `origin`. The `originals` are the texts of
-    /// those files whose lines were joined, as they were before.
+    /// The region of the first field about `cap` on the line that has the field at `origin`. The `originals` are the
+    /// texts of those files whose lines were joined, as they were before.
     pub fn region(&self, originals: &[LinedFile<'_>], origin: Origin, cap: Cap) -> Option<Region>
         ensures { result ≡ region_among (map file_text originals.now) (put_files self.now.files) cap origin }
     {
         region_among(originals, &self.files, origin, cap)
     }
 
-    /// The region of the part of the value that `fault` is about, in the field at `origin`; `None` if no line has the field,
-    /// or no smaller part is known than the whole value. The `originals` are the texts of those files whose lines were joined,
-    /// as they were before.
+    /// The region of the part of the value that `fault` is about, in the field at `origin`; `None` if no line has the
+    /// field, or no smaller part is known than the whole value. The `originals` are the texts of those files whose
+    /// lines were joined, as they were before.
     ///
     /// # Errors
     /// Out of memory.
@@ -157,17 +158,17 @@ impl<'b> NamedSource<'_, 'b> {
         self.files.line(origin)
     }
 
-    /// The region of the first field about `cap` on the line that has the field at `origin`. The `originals` are the texts of
-    /// those files whose lines were joined, as they were before.
+    /// The region of the first field about `cap` on the line that has the field at `origin`. The `originals` are the
+    /// texts of those files whose lines were joined, as they were before.
     pub fn region(&self, originals: &[LinedFile<'_>], origin: Origin, cap: Cap) -> Option<Region>
         ensures { result ≡ region_among (map file_text originals.now) (files_of self.now.source.now) cap origin }
     {
         region_among(originals, &self.files, origin, cap)
     }
 
-    /// The region of the part of the value that `fault` is about, in the field at `origin`; `None` if no line has the field,
-    /// or no smaller part is known than the whole value. The `originals` are the texts of those files whose lines were joined,
-    /// as they were before.
+    /// The region of the part of the value that `fault` is about, in the field at `origin`; `None` if no line has the
+    /// field, or no smaller part is known than the whole value. The `originals` are the texts of those files whose
+    /// lines were joined, as they were before.
     ///
     /// # Errors
     /// Out of memory.

@@ -71,8 +71,8 @@ impl<'b> LinedFiles<'_, 'b> {
         }
     }
 
-    /// The columns of the first field about `cap` on the line that has the field at `origin`, a place among the entries put
-    /// together; `None` if no line has that field.
+    /// The columns of the first field about `cap` on the line that has the field at `origin`, a place among the entries
+    /// put together; `None` if no line has that field.
     #[tactic(auto, unfolding(crate::specs::Spots::columns_among))]
     pub fn columns(&self, origin: Origin, cap: Cap) -> Option<Columns>
         ensures { result ≡ columns_among (put_files self.now) cap origin }
@@ -212,8 +212,8 @@ pub fn source_files<'b>(
     )
 }
 
-/// The file and the line of `source` and its further files that have the field at `origin`. Only that file is read, up to
-/// the entry.
+/// The file and the line of `source` and its further files that have the field at `origin`. Only that file is read, up
+/// to the entry.
 ///
 /// # Errors
 /// Out of memory.

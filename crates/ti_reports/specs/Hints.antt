@@ -13,7 +13,8 @@ use Rattle.ti_places.specs.Locations.{first_name}
 use Rattle.ti_places.specs.Originals.{begun_line, region_at}
 use Rattle.ti_places.specs.Spots.{FileText, Line, PutFiles, file_text}
 
--- a source text about which hints are given: its path, its entries, and the texts of files before their lines were joined
+-- a source text about which hints are given: its path, its entries, and the texts of files before their lines were
+-- joined
 pub record HintText : Type 0 where
   pub path : List ℕ
   pub text : List ℕ

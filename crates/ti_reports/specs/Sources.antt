@@ -152,8 +152,8 @@ IsRefusalPlace stands path (refusals.Resolve fault) place = IsUsePlace stands pl
 IsRefusalPlace stands path (refusals.Pack fault) place = IsNowhere place
 IsRefusalPlace stands path (refusals.Verdict words) place = IsNowhere place
 
--- the path of the file with the fault that hides an entry: that of the place at which the refusal stands, or else that of
--- the survey's file
+-- the path of the file with the fault that hides an entry: that of the place at which the refusal stands, or else that
+-- of the survey's file
 abbrev pub fault_file : List ℕ → Option PlaceInSource → List ℕ
 fault_file path None = path
 fault_file path (Some stands) = (line_among stands.files (record { entry = stands.place; field = 0 })).path

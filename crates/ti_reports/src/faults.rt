@@ -40,8 +40,8 @@ pub struct Subject<'a, 'b> {
 }
 
 /// The lines of the faults `nos` of the `subject`, or the line that it has a certificate if there are none; and then
-/// those of the advice on it and of the hints about its fields. If `lists_all`, they must be all faults of the entry, and
-/// what is suggested is right with all of them mended.
+/// those of the advice on it and of the hints about its fields. If `lists_all`, they must be all faults of the entry,
+/// and what is suggested is right with all of them mended.
 pub fn found_lines(
     alloc: Global,
     subject: &Subject<'_, '_>,

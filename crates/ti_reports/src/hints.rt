@@ -25,9 +25,9 @@ use ti_places::{
 use ti_resolve::Origin;
 use ti_source::RawEntry;
 
-/// A line for each hint about the `subject`. Of an entry that was asked for by its name, the fields are its own and those
-/// of the entries of its file that it uses; of one at a place they are its own, and there are hints only if `lists_all`.
-/// None if it is in no source.
+/// A line for each hint about the `subject`. Of an entry that was asked for by its name, the fields are its own and
+/// those of the entries of its file that it uses; of one at a place they are its own, and there are hints only if
+/// `lists_all`. None if it is in no source.
 pub fn hint_lines(
     alloc: Global,
     subject: &Subject<'_, '_>,
@@ -45,8 +45,8 @@ pub fn hint_lines(
     }
 }
 
-/// The lines of the hints about the `subject`, which is the entry of the source `named` that has its name, and about the
-/// entries of the file that it uses.
+/// The lines of the hints about the `subject`, which is the entry of the source `named` that has its name, and about
+/// the entries of the file that it uses.
 fn named_lines(
     alloc: Global,
     subject: &Subject<'_, '_>,
@@ -55,7 +55,8 @@ fn named_lines(
 ) -> Result<Vec<u8>, AllocError>
     ensures { IfOk result (λ lines. spec.AreLinesIf (spec.ReportsAnyHint subject.now.entry.now
         subject.now.size.rows subject.now.size.cols subject.now.file.now)
-        (hint_text (map file_text originals.now) (files_of named.now.source.now) named.now.source.now.raws.items) lines.items) }
+        (hint_text (map file_text originals.now)
+        (files_of named.now.source.now) named.now.source.now.raws.items) lines.items) }
 {
     match hint_source(named.files, named.source.raws.as_slice(), originals) {
         Some(source) => used_lines(alloc, subject, &source, named.source.name.as_bytes()),

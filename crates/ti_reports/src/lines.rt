@@ -30,7 +30,8 @@ pub enum Standing<'a, 'b> {
 /// The place of a capability's value in a source text.
 #[derive(Debug, Drop)]
 pub struct ValuePlace {
-    /// The line of the field that gives the value; `None` if there is no source or no value, or if the file is compiled.
+    /// The line of the field that gives the value; `None` if there is no source or no value, or if the file is
+    /// compiled.
     pub line: Option<usize>,
     /// The region of this field in its file, if it is known.
     pub region: Option<Region>,
@@ -54,8 +55,8 @@ impl ValuePlace {
     }
 }
 
-/// The place at which `refusal` finds its reason: the line of a fault of a source text, if the path `file` of the text is
-/// known, or the use for which the entry at `stands` can't be resolved; else nowhere.
+/// The place at which `refusal` finds its reason: the line of a fault of a source text, if the path `file` of the text
+/// is known, or the use for which the entry at `stands` can't be resolved; else nowhere.
 pub fn refusal_place(
     alloc: Global,
     stands: &Option<SourcePlace<'_, '_>>,
@@ -114,8 +115,8 @@ fn on_line(alloc: Global, file: Option<&str>, line: usize) -> Result<ValuePlace,
     }
 }
 
-/// The origin of an entry at the place `stands` of a source, or in no source. The `originals` are the texts of those files whose
-/// lines were joined.
+/// The origin of an entry at the place `stands` of a source, or in no source. The `originals` are the texts of those
+/// files whose lines were joined.
 pub fn placed<'a, 'b>(
     stands: &'a Option<SourcePlace<'a, 'b>>,
     originals: &'a [LinedFile<'a>],
@@ -147,8 +148,8 @@ pub fn value_place(
     }
 }
 
-/// The region of the part of the value that `fault` is about, in the source of the entry whose origin is `stands`; `None` if
-/// there is no source or no value, or no smaller part is known than the whole value.
+/// The region of the part of the value that `fault` is about, in the source of the entry whose origin is `stands`;
+/// `None` if there is no source or no value, or no smaller part is known than the whole value.
 pub fn faulty_region(
     alloc: Global,
     stands: &Standing<'_, '_>,
@@ -236,7 +237,8 @@ fn place_at(
     }
 }
 
-/// The place of the field at `origin`, which was read on the line at `there` and has this `region`, among the entries `raws`.
+/// The place of the field at `origin`, which was read on the line at `there` and has this `region`, among the entries
+/// `raws`.
 fn field_place(
     alloc: Global,
     there: FieldPlace<'_>,

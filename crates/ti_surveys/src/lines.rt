@@ -108,7 +108,8 @@ fn all_faults<C: Certifier>(
 ) -> Result<Said, AllocError>
     requires { IfSome found.now.stands.now (λ there. there.place < length there.raws.now) }
     ensures { IfOk result (λ said. spec.HasAllFaults asked.now.size.rows asked.now.size.cols asked.now.names_parts
-        (map file_text asked.now.originals.now) (place_if found.now.stands.now) found.now.name.now found.now.entry.now (told_of said)) }
+        (map file_text asked.now.originals.now)
+        (place_if found.now.stands.now) found.now.name.now found.now.entry.now (told_of said)) }
 {
     let nos = faults(alloc, found.entry, asked.size)?;
     let kind = kind_of(true, found.entry, nos.as_slice());
@@ -159,8 +160,8 @@ fn part_lines(alloc: Global, names_parts: bool, name: &[u8]) -> Result<Vec<u8>, 
     }
 }
 
-/// The faults `nos` of the entry that was `found`: each at the place of the field at fault, as the survey is `asked` for
-/// them.
+/// The faults `nos` of the entry that was `found`: each at the place of the field at fault, as the survey is `asked`
+/// for them.
 fn places_of<C>(
     alloc: Global,
     asked: &Asked<'_, C>,

@@ -66,7 +66,8 @@ pub fn survey_files<C: Certifier, F: Files, W: Watcher>(
     remarks: &mut Remarks,
 ) -> Result<Reply, Failure>
     ensures reply { IfOk result (λ reply. spec.IsSurveyed (map file_text survey.now.originals.now)
-        (C.certifies survey.now.certifier.now) (C.refuses survey.now.certifier.now) (F.holds files.old) survey.now.words.now remarks.new
+        (C.certifies survey.now.certifier.now) (C.refuses survey.now.certifier.now)
+        (F.holds files.old) survey.now.words.now remarks.new
         (Hears W.heard W.has_failed watcher.old watcher.new) reply) }
     ensures failure { IfErr result (λ e. FailsToSurvey (F.holds files.old) survey.now.words.now.rows.now
         survey.now.words.now.cols.now e) }

@@ -39,7 +39,8 @@ pub fn check_all<F: Files>(
     files: &mut F,
     remarks: &mut Remarks,
 ) -> Result<Reply, Failure>
-    ensures reply { IfOk result (λ reply. spec.ListsFaults (map file_text originals.now) (F.holds files.old) words.now reply) }
+    ensures reply { IfOk result (λ reply. spec.ListsFaults (map file_text originals.now)
+        (F.holds files.old) words.now reply) }
     ensures failure { IfErr result (λ e. FailsForEntry (F.holds files.old) words.now.rows.now words.now.cols.now
         words.now.entry.now e) }
     ensures kept { F.holds files.new ≡ F.holds files.old }
@@ -132,7 +133,8 @@ fn source_text<'x>(
     mended: &Mended,
     nos: &[No],
 ) -> Result<Vec<u8>, AllocError>
-    ensures { IfOk result (λ text. spec.IsFaultsText (map file_text asked.now.originals.now) asked.now.found.now.entry (Some source.now)
+    ensures { IfOk result (λ text. spec.IsFaultsText
+        (map file_text asked.now.originals.now) asked.now.found.now.entry (Some source.now)
         mended.now nos.now text.items) }
 {
     let index = Index::new(alloc, source.raws.as_slice())?;
@@ -153,7 +155,8 @@ fn source_text<'x>(
     located_text(alloc, &located, mended, nos)
 }
 
-/// An entry with its source, if it is in one; the size that it is for, and the texts of those files whose lines were joined.
+/// An entry with its source, if it is in one; the size that it is for, and the texts of those files whose lines were
+/// joined.
 #[derive(Drop)]
 struct Located<'a, 'b> {
     entry: &'b Entry,

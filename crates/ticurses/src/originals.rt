@@ -15,8 +15,8 @@ pub struct Original<'a> {
     bytes: Vec<u8>,
 }
 
-/// The files in which the places are that the reply to the command that is `asked` for names. One that can't be read isn't
-/// among them: it is the command's to say so.
+/// The files in which the places are that the reply to the command that is `asked` for names. One that can't be read
+/// isn't among them: it is the command's to say so.
 pub fn originals<'a, F: Files>(
     alloc: Global,
     asked: &'a Asked<'a>,
@@ -72,8 +72,8 @@ pub fn lined<'a>(
     Ok(texts)
 }
 
-/// The files of a command, of which some were read before and aren't read again: one that is no file on a device, such as
-/// standard input, gives its bytes only once.
+/// The files of a command, of which some were read before and aren't read again: one that is no file on a device, such
+/// as standard input, gives its bytes only once.
 #[derive(Drop)]
 pub struct Kept<'a, F> {
     files: &'a mut F,

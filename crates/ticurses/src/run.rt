@@ -257,8 +257,8 @@ fn reply_by<F: Files + Sources, O: Output, E: Write + IsTerminal>(
     reply_to(alloc, asked, &[], &mut beside, streams, remarks)
 }
 
-/// The reply of the command that is `asked` for, whose sources are read with each field on one line. Their texts are kept as
-/// they are, for the places in them.
+/// The reply of the command that is `asked` for, whose sources are read with each field on one line. Their texts are
+/// kept as they are, for the places in them.
 fn joined_reply<F: Files, O: Output, E: Write + IsTerminal>(
     alloc: Global,
     asked: &Asked<'_>,
@@ -281,8 +281,8 @@ fn joined_reply<F: Files, O: Output, E: Write + IsTerminal>(
     )
 }
 
-/// The reply of the command that is `asked` for, where the `originals` are the texts whose lines are joined. The bytes that
-/// `play` sends and the lines of a survey go to `out` as they come, and the reply has what follows them.
+/// The reply of the command that is `asked` for, where the `originals` are the texts whose lines are joined. The bytes
+/// that `play` sends and the lines of a survey go to `out` as they come, and the reply has what follows them.
 fn reply_to<F: Files, O: Output, E: Write + IsTerminal>(
     alloc: Global,
     asked: &Asked<'_>,
