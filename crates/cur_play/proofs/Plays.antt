@@ -170,6 +170,11 @@ screen_sizes t End v w status after (Was n) h = absurd h
 screen_sizes t End v w status after (Refused r) h = absurd h
 screen_sizes t End v w status after WireFailed h = (ap (λ (y : Screen). y.rows) h.screen, ap (λ (y : Screen). y.cols) h.screen)
 
+pub sizes_sent : (t : Table) (o : Emission) (d e : State) (u v w : Screen) (status after : Status) (a : Answer) → SameSizes d u e v → Delivers t o v status a w after → SameSizes d u e w
+sizes_sent t o d e u v w status after a sizes h =
+    let left = screen_sizes t o v w status after a h in
+    record { desk_rows = sizes.desk_rows; desk_cols = sizes.desk_cols; rows = left.0 ∙ sizes.rows; cols = left.1 ∙ sizes.cols }
+
 -- ---- a whole call, over the certificates that the painters hold
 
 pub record Played {W C : Type 0} (went : W → W → List ℕ → Type 0) (failures : W → ℕ) (old new : W) (table : C → Table) (partners : C → ℕ → Option ℕ) (p : Stage C) (call : Call) (a : Answer) (q : Stage C) : Type 0 where
@@ -213,11 +218,10 @@ played_done {W} {C} went failures laws bound old new table partners d v p call m
     puts_done went failures old new t (partners p.checked) st call mid a bytes q r drawn_done poised_q refl (subst H out (subst G same puts)) in
     let step : CallStep t (scene_of st) call a (record mid { screen = w; status = r.session.status }) = call_done t (scene_of st) call mid a w r.session.status drawn_done sent in
     let M : Mode → Type 0 = λ m. CallStep t (scene_of st) call a (record { desk = md; screen = w; mode = m; status = r.session.status }) in
-    let left = screen_sizes t (output_of call) mv w p.session.status r.session.status a sent in
     record {
       step = subst M (sym mode) step;
       carries = carried went failures laws bound old new t (partners p.checked) st call a bytes r verified rows cols goes;
-      sizes = record { desk_rows = sizes.desk_rows; desk_cols = sizes.desk_cols; rows = left.0 ∙ sizes.rows; cols = left.1 ∙ sizes.cols };
+      sizes = sizes_sent t (output_of call) d md v mv w p.session.status r.session.status a sizes sent;
       certificate = checked ∙ same;
     }
 

@@ -108,7 +108,10 @@ pub(crate) fn send<C: Certificate, W: Wire>(
         Emission::Nothing => Answer::Done,
         Emission::Update => update(screen, marks, painter, wire),
         Emission::Bell => ring(painter, wire),
-        Emission::End => finish(painter, wire),
+        Emission::End => match painter.finish(wire) {
+            Ok(()) => Answer::Done,
+            Err(_) => Answer::WireFailed,
+        },
     }
 }
 
@@ -158,23 +161,5 @@ fn ring<C: Certificate, W: Wire>(painter: &mut Painter<C>, wire: &mut W) -> Answ
         Ok(()) => Answer::Done,
         Err(Unsent::Refused(refusal)) => Answer::Refused(refusal),
         Err(Unsent::Wire(_)) => Answer::WireFailed,
-    }
-}
-
-/// Ends the program's screen.
-fn finish<C: Certificate, W: Wire>(painter: &mut Painter<C>, wire: &mut W) -> Answer
-    ensures delivers { (screen : Screen)
-        → Delivers (C.table painter.old.checked) Emission.End screen painter.old.session.status result screen
-        painter.new.session.status }
-    ensures puts { (screen : Screen) → (bytes : List ℕ)
-        × Puts W.went W.failures wire.old wire.new (C.table painter.old.checked) (C.partners painter.old.checked)
-        screen Emission.End result bytes painter.old painter.new }
-    ensures certificate { painter.new.checked ≡ painter.old.checked }
-    ensures mode { painter.new.mode ≡ painter.old.mode }
-    ensures shown { painter.new.shown ≡ painter.old.shown }
-{
-    match painter.finish(wire) {
-        Ok(()) => Answer::Done,
-        Err(_) => Answer::WireFailed,
     }
 }

@@ -3,7 +3,6 @@ ghost use Rattle.std.specs.Prelude.{◌≡◌, IfOk};
 ghost use Rattle.ti_conforms.specs.Certified.{IsChecked};
 ghost use Rattle.cur_play.specs.StaleMarks.{IsKnown};
 ghost use Rattle.cur_play.specs.Deliveries.{Carries};
-ghost use Rattle.cur_play.specs.Drawings.{SameSizes};
 ghost use Rattle.cur_play.specs.Outputs.{poised};
 ghost use Rattle.cur_play.specs.Scenes.{IsStage, first, lost_stage, scene_of, stage_of};
 ghost use Rattle.cur_play.specs.Steps.{CallStep, added, drawn, lines_shown, output_of, recolored};
@@ -136,46 +135,23 @@ impl<C: Certificate> Session<C> {
         ensures checked { IsChecked (C.table self.new.painter.checked) }
         ensures certificate { self.new.painter.checked ≡ self.old.painter.checked }
     {
-        play(
+        cells_bounded();
+        let drawn = draw(
             &mut self.desk,
             &mut self.screen,
             &mut self.stale,
             &mut self.painter,
             call,
-            wire,
-        )
-    }
-}
-
-/// Draws what `call` draws, and then sends what it sends.
-fn play<C: Certificate, W: Wire>(
-    desk: &mut Desk,
-    screen: &mut Virtual,
-    stale: &mut StaleMarks,
-    painter: &mut Painter<C>,
-    call: &Call<'_>,
-    wire: &mut W,
-) -> Answer
-    requires checked { IsChecked (C.table painter.old.checked) }
-    requires rows { (screen.old).rows ≡ (C.table painter.old.checked).rows }
-    requires cols { (screen.old).cols ≡ (C.table painter.old.checked).cols }
-    requires desk_rows { (desk.old).rows ≡ (C.table painter.old.checked).rows }
-    requires desk_cols { (desk.old).cols ≡ (C.table painter.old.checked).cols }
-    requires known { IsKnown stale.old desk.old screen.old painter.old.shown.grid }
-    ensures step { CallStep (C.table painter.old.checked) (scene_of (stage_of desk.old screen.old painter.old))
-        call.now result (scene_of (stage_of desk.new screen.new painter.new)) }
-    ensures carries { Carries W.went W.failures wire.old wire.new (C.table painter.old.checked)
-        (C.partners painter.old.checked) (drawn (C.table painter.old.checked)
-        (scene_of (stage_of desk.old screen.old painter.old)) call.now).0.screen
-        (output_of call.now) result (poised (C.table painter.old.checked) (stage_of desk.old screen.old painter.old)
-        call.now) painter.new }
-    ensures sizes { SameSizes desk.old screen.old desk.new screen.new }
-    ensures certificate { painter.new.checked ≡ painter.old.checked }
-    ensures known { IsKnown stale.new desk.new screen.new painter.new.shown.grid }
-{
-    cells_bounded();
-    match draw(desk, screen, stale, painter, call) {
-        Answer::Done => send(screen, &mut stale.screen, painter, output_of(call), wire),
-        answer => answer,
+        );
+        match drawn {
+            Answer::Done => send(
+                &mut self.screen,
+                &mut self.stale.screen,
+                &mut self.painter,
+                output_of(call),
+                wire,
+            ),
+            answer => answer,
+        }
     }
 }
