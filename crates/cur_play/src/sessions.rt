@@ -4,7 +4,7 @@ ghost use Rattle.ti_conforms.specs.Certified.{IsChecked};
 ghost use Rattle.cur_play.specs.StaleMarks.{IsKnown};
 ghost use Rattle.cur_play.specs.Deliveries.{Carries};
 ghost use Rattle.cur_play.specs.Outputs.{poised};
-ghost use Rattle.cur_play.specs.Scenes.{IsStage, first, lost_stage, scene_of, stage_of};
+ghost use Rattle.cur_play.specs.Scenes.{IsStage, first, lost_stage, scene_of};
 ghost use Rattle.cur_play.specs.Steps.{CallStep, added, drawn, lines_shown, output_of, recolored};
 
 use crate::answers::{Answer, answer_of};
