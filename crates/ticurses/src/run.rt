@@ -254,7 +254,8 @@ fn reply_by<F: Files + Sources, O: Output, E: Write + IsTerminal>(
         return joined_reply(alloc, asked, files, streams, remarks);
     }
     let mut beside = Beside::new(files, asked.further.as_slice());
-    reply_to(alloc, asked, &[], &mut beside, streams, remarks)
+    let command = Command { asked, texts: &[] };
+    reply_to(alloc, &command, &mut beside, streams, remarks)
 }
 
 /// The reply of the command that is `asked` for, whose sources are read with each field on one line. Their texts are
@@ -271,26 +272,30 @@ fn joined_reply<F: Files, O: Output, E: Write + IsTerminal>(
     let mut kept = Kept::new(files, originals.as_slice());
     let mut beside = Beside::new(&mut kept, asked.further.as_slice());
     let mut joined = Wrapped::new(alloc, &mut beside);
-    reply_to(
-        alloc,
+    let command = Command {
         asked,
-        texts.as_slice(),
-        &mut joined,
-        streams,
-        remarks,
-    )
+        texts: texts.as_slice(),
+    };
+    reply_to(alloc, &command, &mut joined, streams, remarks)
 }
 
-/// The reply of the command that is `asked` for, where the `originals` are the texts whose lines are joined. The bytes
-/// that `play` sends and the lines of a survey go to `out` as they come, and the reply has what follows them.
+/// A command that is asked for, and the texts whose lines are joined for it.
+#[derive(Clone, Copy)]
+struct Command<'a> {
+    asked: &'a Asked<'a>,
+    texts: &'a [LinedFile<'a>],
+}
+
+/// The reply of the `command`. The bytes that `play` sends and the lines of a survey go to `out` as they come, and the
+/// reply has what follows them.
 fn reply_to<F: Files, O: Output, E: Write + IsTerminal>(
     alloc: Global,
-    asked: &Asked<'_>,
-    originals: &[LinedFile<'_>],
+    command: &Command<'_>,
     files: &mut F,
     streams: &mut Streams<'_, '_, O, E>,
     remarks: &mut Remarks,
 ) -> Result<Reply, Failure> {
+    let Command { asked, texts } = *command;
     match &asked.request {
         Request::Expand(words) => expand_string(alloc, words, remarks),
         Request::Feed { rows, cols, file } => feed_file(alloc, rows, cols, file, files, remarks),
@@ -298,14 +303,9 @@ fn reply_to<F: Files, O: Output, E: Write + IsTerminal>(
         Request::Tic { entry, out } => compile_entry(alloc, entry, *out, files, remarks),
         Request::Check(words) if asked.fixes => fix_entry(alloc, words, files, remarks),
         Request::Check(words) => check_counted(alloc, words, files, streams.err, remarks),
-        Request::CheckAll(words) => check_all(alloc, words, originals, files, remarks),
+        Request::CheckAll(words) => check_all(alloc, words, texts, files, remarks),
         Request::CheckJson { lists_all, words } => {
-            check_reports(
-                alloc,
-                &check_of(words, *lists_all, originals),
-                files,
-                remarks,
-            )
+            check_reports(alloc, &check_of(words, *lists_all, texts), files, remarks)
         }
         Request::Verify(words) => verify_certificate(alloc, words, files, remarks),
         Request::Play(words) => play(alloc, words, files, streams.out, remarks),
@@ -314,16 +314,10 @@ fn reply_to<F: Files, O: Output, E: Write + IsTerminal>(
             fix_survey(alloc, &fix_words(words, asked.out), files, remarks)
         }
         Request::Survey(words) => {
-            survey_plainly(alloc, &survey_of(words, originals), files, streams, remarks)
+            survey_plainly(alloc, &survey_of(words, texts), files, streams, remarks)
         }
         Request::SurveyJson(words) => {
-            survey_json(
-                alloc,
-                &reports_of(words, originals),
-                files,
-                streams,
-                remarks,
-            )
+            survey_json(alloc, &reports_of(words, texts), files, streams, remarks)
         }
         Request::Print { entry } => print_entry(alloc, entry, files, remarks),
         Request::Common { first, second } => {
