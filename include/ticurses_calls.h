@@ -67,13 +67,6 @@ static inline int ticurses_make_flag(ticurses *session, uint32_t kind, size_t wi
     return ticurses_make(session, &request);
 }
 
-/* Makes a call with attributes. */
-static inline int ticurses_make_attrs(ticurses *session, uint32_t kind, size_t window, int attrs) {
-    ticurses_request request = ticurses_request_of(kind, window, 0);
-    request.attrs = attrs;
-    return ticurses_make(session, &request);
-}
-
 /* Makes a call with a cell, and perhaps a number. */
 static inline int ticurses_make_cell(ticurses *session, uint32_t kind, size_t window, ticurses_cell cell, int count) {
     ticurses_request request = ticurses_request_of(kind, window, 0);
@@ -129,7 +122,7 @@ static inline int ticurses_mvwin(ticurses *session, size_t window, int row, int 
 
 /* Moves a window's cursor: TICURSES_OUT_OF_WINDOW. */
 static inline int ticurses_move(ticurses *session, size_t window, int row, int col) {
-    return ticurses_make_numbers(session, TICURSES_MOVE, window, row, col);
+    return !session ? TICURSES_NULL : ticurses_raw_move(session, window, row, col);
 }
 
 /* Writes a character at the cursor and advances the cursor; controls act as in ticurses_addstr. TICURSES_BAD_CELL for a
@@ -217,22 +210,22 @@ static inline int ticurses_setscrreg(ticurses *session, size_t window, int top, 
 
 /* Adds attributes to those that a window writes with. This and the next two: TICURSES_BAD_CALL. */
 static inline int ticurses_attron(ticurses *session, size_t window, int attrs) {
-    return ticurses_make_attrs(session, TICURSES_ATTRON, window, attrs);
+    return !session ? TICURSES_NULL : ticurses_raw_attron(session, window, attrs);
 }
 
 /* Removes attributes from those that a window writes with. */
 static inline int ticurses_attroff(ticurses *session, size_t window, int attrs) {
-    return ticurses_make_attrs(session, TICURSES_ATTROFF, window, attrs);
+    return !session ? TICURSES_NULL : ticurses_raw_attroff(session, window, attrs);
 }
 
 /* Sets the attributes that a window writes with. */
 static inline int ticurses_attrset(ticurses *session, size_t window, int attrs) {
-    return ticurses_make_attrs(session, TICURSES_ATTRSET, window, attrs);
+    return !session ? TICURSES_NULL : ticurses_raw_attrset(session, window, attrs);
 }
 
 /* Sets the color pair that a window writes with: TICURSES_BAD_PAIR. */
 static inline int ticurses_color_set(ticurses *session, size_t window, int pair) {
-    return ticurses_make_numbers(session, TICURSES_COLOR_SET, window, pair, 0);
+    return !session ? TICURSES_NULL : ticurses_raw_color_set(session, window, pair);
 }
 
 /* Sets the background, with which a window is erased. */

@@ -90,7 +90,7 @@ def check_manual(prefix, work):
     declared = {name: (kind.strip(), re.sub(r"\s+", " ", words)) for kind, name, words in declared}
     # what the others are made of
     parts = "bytes is_bad unmade digits format short_at is_entry read entry_in variable set is_full"
-    made = "plain numbers window pair flag attrs cell shown"
+    made = "plain numbers window pair flag cell shown"
     for name in [*parts.split(), *(f"make_{it}" for it in made.split())]:
         del declared[f"ticurses_{name}"]
     written = {}

@@ -1,10 +1,11 @@
 -- From a call's drawing and its sending to the whole call.
 use Rattle.std.proofs.Common.{◌≡◌, ℕ, List, [], true, false, Option, refl, sym, ◌∙◌, ap, subst}
-use Rattle.std.specs.Prelude.{Ok, Err}
+use Rattle.std.specs.Prelude.{Result, Ok, Err}
 use Rattle.cur_drawing.specs.declared.refusals.Refusal.{Refusal}
 use Rattle.cur_drawing.specs.declared.refusals.Refusal.TheVariants.{NoMemory}
-use Rattle.cur_drawing.specs.declared.puts.Put.{Put}
-use Rattle.cur_windows.specs.Desks.{State, DeskStep}
+use Rattle.cur_windows.specs.Desks.{State, DeskStep, step}
+use Rattle.cur_windows.specs.TouchedWindows.{KeepsShown}
+use Rattle.cur_screens.specs.Touched.{Markings}
 use Rattle.cur_screens.specs.VirtualScreen.{Screen, refreshed}
 use Rattle.ti_conforms.specs.Certified.{Table, IsChecked}
 use Rattle.cur_steps.specs.declared.beliefs.Mode.{Mode}
@@ -12,8 +13,7 @@ use Rattle.cur_paint.specs.declared.updates.Status.{Status}
 use Rattle.cur_paint.specs.declared.updates.Status.TheVariants.{Fresh, Known, Lost}
 use Rattle.cur_update.specs.Painters.{Painted}
 use Rattle.cur_calls.specs.declared.calls.Call.{Call}
-use Rattle.cur_calls.specs.declared.calls.Call.TheVariants.{Newwin, Newpad, Dupwin, Cell}
-use Rattle.cur_calls.specs.declared.groups.CellCall.TheVariants.{Addch}
+use Rattle.cur_calls.specs.declared.calls.Call.TheVariants.{Newwin, Newpad, Dupwin}
 use Rattle.cur_wires.specs.Wire.{IsWire}
 use Rattle.cur_play.proofs.Deliveries.{IsBound, carries}
 use Rattle.cur_play.proofs.Performances.{draws_answer, drawn_sizes}
@@ -22,8 +22,10 @@ use Rattle.cur_play.specs.Drawings.{Draws, Drawn, NoSpace, SameSizes}
 use Rattle.cur_play.specs.Outputs.{IsQuiet, Puts, poised}
 use Rattle.cur_play.specs.Scenes.{IsStage, Scene, Stage, scene_of, stage_of}
 use Rattle.cur_play.specs.Sends.{Delivers, Leaves}
-use Rattle.cur_play.specs.Steps.{CallStep, Stepped, NoRoom, Failed, Step, added, answer_of, drawn, is_sent, on_desk, output_of, then_sent}
-use Rattle.cur_play.specs.Windows.{takes_memory, cell_step}
+use Rattle.cur_play.specs.Steps.{CallStep, DoesAlone, Stepped, NoRoom, Failed, Step, answer_of, drawn, is_sent, on_desk, output_of, then_sent}
+use Rattle.cur_play.specs.Windows.{takes_memory}
+use Rattle.cur_play.specs.StaleMarks.{IsKnown}
+use Rattle.cur_play.specs.declared.stale_marks.StaleMarks.{StaleMarks}
 use Rattle.cur_play.specs.declared.answers.Answer.{Answer}
 use Rattle.cur_play.specs.declared.answers.Answer.TheVariants.{Done, Was, Refused, WireFailed}
 use Rattle.cur_play.specs.declared.sends.Emission.{Emission}
@@ -247,30 +249,43 @@ played_refused {W} {C} went failures laws bound wire table partners d v p call m
       certificate = ap (λ (y : Painted C). y.checked) poised_q;
     }
 
--- ---- the call `addch` by itself
+-- ---- a call on windows alone, by itself
 
-pub added_sizes : (t : Table) (s : Scene) (n : ℕ) (put : Put) → SameSizes s.desk s.screen (cell_step Addch s.desk n put).0 s.screen
-added_sizes t s n put = drawn_sizes t s (Cell Addch n put)
+-- sizes and marks are kept
+pub kept_alone : {C : Type 0} (table : C → Table) (p : Painted C) (call : Call) (d e : State) (v : Screen) (x : DeskStep) (r : Result (Unit {0}) Refusal) (s : StaleMarks) (m : Markings)
+    → drawn (table p.checked) (scene_of (stage_of d v p)) call ≡ on_desk (scene_of (stage_of d v p)) x → step e r ≡ x → KeepsShown s.window d m e
+    → IsStage (table p.checked) d v × IsChecked (table p.checked) × IsKnown s d v p.shown.grid
+    → IsStage (table p.checked) e v × IsChecked (table p.checked) × IsKnown (record s { window = m }) e v p.shown.grid
+kept_alone {C} table p call d e v x r s m is e_is marks i =
+    let t = table p.checked in
+    let P : DeskStep → Type 0 = λ y. drawn t (scene_of (stage_of d v p)) call ≡ on_desk (scene_of (stage_of d v p)) y in
+    let sizes : SameSizes d v e v = subst (λ (y : Step). SameSizes d v y.0.desk y.0.screen) (subst P (sym e_is) is) (drawn_sizes t (scene_of (stage_of d v p)) call) in (
+      stage_kept table p p d e v v i.0 sizes refl,
+      i.1,
+      record { window = marks v.grid i.2.window; screen = i.2.screen },
+    )
 
-added_as : {W C : Type 0} (went : W → W → List ℕ → Type 0) (failures : W → ℕ) → IsWire went failures → IsBound → (wire : W) (table : C → Table) (partners : C → ℕ → Option ℕ) (p : Stage C) (n : ℕ) (put : Put)
+alone_as : {W C : Type 0} (went : W → W → List ℕ → Type 0) (failures : W → ℕ) → IsWire went failures → IsBound → (wire : W) (table : C → Table) (partners : C → ℕ → Option ℕ) (p : Stage C) (call : Call)
     → IsChecked (table p.painter.checked) → p.screen.rows ≡ (table p.painter.checked).rows → p.screen.cols ≡ (table p.painter.checked).cols
-    → (x : DeskStep) → x ≡ cell_step Addch p.desk n put → Played went failures wire wire table partners p (Cell Addch n put) (answer_of x.1) (record p { desk = x.0 })
-added_as {W} {C} went failures laws bound wire table partners p n put checked rows cols (d, Ok tt) e =
+    → (x : DeskStep) → drawn (table p.painter.checked) (scene_of p) call ≡ on_desk (scene_of p) x → output_of call ≡ Nothing
+    → Played went failures wire wire table partners p call (answer_of x.1) (record p { desk = x.0 })
+alone_as {W} {C} went failures laws bound wire table partners p call checked rows cols (d, Ok tt) is quiet =
     let t = table p.painter.checked in
     let s = scene_of p in
-    let sizes : SameSizes p.desk p.screen d p.screen = subst (λ (y : DeskStep). SameSizes p.desk p.screen y.0 p.screen) (sym e) (added_sizes t s n put) in
-    played_done went failures laws bound wire wire table partners p.desk p.screen p.painter (Cell Addch n put) d p.screen p.painter Done Done Nothing [] p.screen p.painter
-    checked rows cols refl (Drawn (ap (on_desk s) e)) sizes refl refl (record { screen = refl; status = refl }) (record { none = refl; wire = refl; session = refl; shown = refl }) refl refl
-added_as {W} {C} went failures laws bound wire table partners p n put checked rows cols (d, Err r) e =
+    let sizes : SameSizes p.desk p.screen d p.screen = subst (λ (y : Step). SameSizes p.desk p.screen y.0.desk y.0.screen) is (drawn_sizes t s call) in
+    played_done went failures laws bound wire wire table partners p.desk p.screen p.painter call d p.screen p.painter Done Done Nothing [] p.screen p.painter
+    checked rows cols refl (Drawn (sym is)) sizes refl (sym quiet) (record { screen = refl; status = refl }) (record { none = refl; wire = refl; session = refl; shown = refl }) refl refl
+alone_as {W} {C} went failures laws bound wire table partners p call checked rows cols (d, Err r) is quiet =
     let t = table p.painter.checked in
     let s = scene_of p in
-    let sizes : SameSizes p.desk p.screen d p.screen = subst (λ (y : DeskStep). SameSizes p.desk p.screen y.0 p.screen) (sym e) (added_sizes t s n put) in
-    played_refused went failures laws bound wire table partners p.desk p.screen p.painter (Cell Addch n put) d p.screen p.painter (Refused r)
-    checked rows cols (λ same. not_refused r (sym same)) (Drawn (ap (on_desk s) e)) sizes refl
+    let sizes : SameSizes p.desk p.screen d p.screen = subst (λ (y : Step). SameSizes p.desk p.screen y.0.desk y.0.screen) is (drawn_sizes t s call) in
+    played_refused went failures laws bound wire table partners p.desk p.screen p.painter call d p.screen p.painter (Refused r)
+    checked rows cols (λ same. not_refused r (sym same)) (Drawn (sym is)) sizes refl
 
 -- it is the call
-pub added_played : {W C : Type 0} (went : W → W → List ℕ → Type 0) (failures : W → ℕ) → IsWire went failures → IsBound → (wire : W) (table : C → Table) (partners : C → ℕ → Option ℕ) (p : Stage C) (n : ℕ) (put : Put)
-    → IsChecked (table p.painter.checked) → p.screen.rows ≡ (table p.painter.checked).rows → p.screen.cols ≡ (table p.painter.checked).cols
-    → Played went failures wire wire table partners p (Cell Addch n put) (added n put p).1 (added n put p).0
-added_played went failures laws bound wire table partners p n put checked rows cols =
-    added_as went failures laws bound wire table partners p n put checked rows cols (cell_step Addch p.desk n put) refl
+pub alone_played : {W C : Type 0} (went : W → W → List ℕ → Type 0) (failures : W → ℕ) → IsWire went failures → IsBound → (wire : W) (table : C → Table) (partners : C → ℕ → Option ℕ) (p q : Stage C) (call : Call) (a : Answer) (x : DeskStep)
+    → drawn (table p.painter.checked) (scene_of p) call ≡ on_desk (scene_of p) x → output_of call ≡ Nothing → DoesAlone table x p a q
+    → Played went failures wire wire table partners p call a q
+alone_played {W} {C} went failures laws bound wire table partners p q call a x is quiet does =
+    let P : Stage C × Answer → Type 0 = λ r. Played went failures wire wire table partners p call r.1 r.0 in
+    subst P (sym does.step) (alone_as went failures laws bound wire table partners p call does.checked does.stage.rows does.stage.cols x is quiet)

@@ -1,7 +1,6 @@
 -- The step of each call, and its answer (X/Open Curses Issue 7, the reference pages of the calls).
 use Rattle.std.specs.Prelude.{ℕ, ℤ, ◌≡◌, Bool, true, false, Result, Ok, Err}
 use Rattle.ti_rows.specs.declared.rows.Row.TheVariants.{Bel}
-use Rattle.cur_drawing.specs.declared.puts.Put.{Put}
 use Rattle.cur_drawing.specs.declared.refusals.Refusal.{Refusal}
 use Rattle.cur_drawing.specs.declared.refusals.Refusal.TheVariants.{NoMemory, NoCap, IsLost}
 use Rattle.cur_windows.specs.Desks as desks
@@ -12,7 +11,7 @@ use Rattle.cur_windows.specs.Creations as make
 use Rattle.cur_windows.specs.Copies as copy
 use Rattle.cur_pads.specs.Creations as pads
 use Rattle.cur_pads.specs.Displays.{pnoutrefresh}
-use Rattle.ti_conforms.specs.Certified.{Table, has}
+use Rattle.ti_conforms.specs.Certified.{IsChecked, Table, has}
 use Rattle.cur_steps.specs.declared.beliefs.Mode.{Mode}
 use Rattle.cur_paint.specs.declared.updates.Status.{Status}
 use Rattle.cur_paint.specs.declared.updates.Status.TheVariants.{Fresh, Known, Lost}
@@ -21,14 +20,13 @@ use Rattle.cur_calls.specs.declared.calls.Call.{Call}
 use Rattle.cur_calls.specs.declared.calls.Call.TheVariants.{Newwin, Newpad, Part, Dupwin, Plain, Number, Numbers, Flag}
 use Rattle.cur_calls.specs.declared.calls.Call.TheVariants.{Attributes, Cell, Addstr, Line, DrawBorder, DrawBox, Lay}
 use Rattle.cur_calls.specs.declared.calls.Call.TheVariants.{Copywin, Show, ShowPad, Screen, CursSet, InitPair}
-use Rattle.cur_calls.specs.declared.groups.CellCall.TheVariants.{Addch}
 use Rattle.cur_calls.specs.declared.groups.ShowCall.{ShowCall}
 use Rattle.cur_calls.specs.declared.groups.ShowCall.TheVariants.{Noutrefresh, Refresh}
 use Rattle.cur_calls.specs.declared.groups.PadCall.{PadCall}
 use Rattle.cur_calls.specs.declared.groups.PadCall.TheVariants.{Pnoutrefresh, Prefresh}
 use Rattle.cur_calls.specs.declared.groups.ScreenCall.{ScreenCall}
 use Rattle.cur_calls.specs.declared.groups.ScreenCall.TheVariants.{Doupdate, Beep, Endwin}
-use Rattle.cur_play.specs.Scenes.{Scene, Stage}
+use Rattle.cur_play.specs.Scenes.{IsStage, Scene, Stage}
 use Rattle.cur_play.specs.Windows as windows
 use Rattle.cur_play.specs.Windows.{takes_memory}
 use Rattle.cur_play.specs.declared.answers.Answer.{Answer}
@@ -99,11 +97,16 @@ lines_shown n top bottom s =
     let x = refreshes.noutrefresh_lines s.desk s.screen n top bottom in
     (record s { desk = x.0; screen = x.1 }, answer_of x.2)
 
--- the call `addch` by itself, which sends nothing
-abbrev pub added : {C : Type 0} → ℕ → Put → Stage C → Stage C × Answer
-added n p s =
-    let x = windows.cell_step Addch s.desk n p in
-    (record s { desk = x.0 }, answer_of x.1)
+-- a call by itself that has this step on windows alone, and sends nothing
+abbrev pub alone : {C : Type 0} → desks.DeskStep → Stage C → Stage C × Answer
+alone x s = (record s { desk = x.0 }, answer_of x.1)
+
+-- such a call on a session: windows and screen were legal, and the certificate verified
+pub record DoesAlone {C : Type 0} (table : C → Table) (x : desks.DeskStep) (before : Stage C) (answer : Answer)
+    (after : Stage C) : Type 0 where
+  pub step : (after, answer) ≡ alone x before
+  pub stage : IsStage (table before.painter.checked) before.desk before.screen
+  pub checked : IsChecked (table before.painter.checked)
 
 abbrev pub shown_window : ShowCall → Emission
 shown_window Noutrefresh = Nothing

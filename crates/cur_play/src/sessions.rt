@@ -1,17 +1,24 @@
 //! A session: windows, the virtual screen, and a painter for the terminal.
 ghost use Rattle.std.specs.Prelude.{◌≡◌, IfOk};
 ghost use Rattle.ti_conforms.specs.Certified.{IsChecked};
+ghost use Rattle.cur_drawing.specs.Calls.{added_all};
+ghost use Rattle.cur_windows.specs.Desks.{on_window};
+ghost use Rattle.cur_calls.specs.declared.groups.CellCall.TheVariants.{Addch};
+ghost use Rattle.cur_calls.specs.declared.groups.NumberCall.TheVariants.{ColorSet};
+ghost use Rattle.cur_calls.specs.declared.groups.NumbersCall.TheVariants.{Move};
 ghost use Rattle.cur_play.specs.StaleMarks.{IsKnown};
 ghost use Rattle.cur_play.specs.Deliveries.{Carries};
 ghost use Rattle.cur_play.specs.Outputs.{poised};
 ghost use Rattle.cur_play.specs.Scenes.{IsStage, first, lost_stage, scene_of};
-ghost use Rattle.cur_play.specs.Steps.{CallStep, added, drawn, lines_shown, output_of, recolored};
+ghost use Rattle.cur_play.specs.Steps.{CallStep, DoesAlone, drawn, lines_shown, output_of, recolored};
+ghost use Rattle.cur_play.specs.Windows.{attributes_step, cell_step, number_step, numbers_step};
 
 use crate::answers::{Answer, answer_of};
 use crate::drawings::draw;
 use crate::sends::{output_of, send};
 use crate::stale_marks::StaleMarks;
-use cur_calls::{Call, Put};
+use crate::windows::{attributes, number_call, numbers_call};
+use cur_calls::{Attrs, AttrsCall, Call, NumberCall, NumbersCall, Put};
 use cur_screens::Virtual;
 use cur_update::{Painter, Wire, cells_bounded};
 use cur_windows::{Desk, Size, WindowLines};
@@ -107,11 +114,50 @@ impl<C: Certificate> Session<C> {
     /// 63, `NoWindow`, `BadCell` for a byte above 127, `BadPair`, and `NoScroll` if the window would have to scroll and may
     /// not.
     pub fn addch(&mut self, window: usize, put: Put) -> Answer
-        ensures added { (self.new, result) ≡ added window put self.old }
-        ensures stage { IsStage (C.table self.old.painter.checked) self.old.desk self.old.screen }
-        ensures checked { IsChecked (C.table self.old.painter.checked) }
+        ensures { DoesAlone C.table (cell_step Addch self.old.desk window put) self.old result self.new }
     {
         answer_of(self.desk.addch_marked(window, put, &mut self.stale.window))
+    }
+
+    /// Does the call `addstr` of `text` in `window`, as `call` does it; nothing is sent. Fails with `Full` for a number
+    /// above 63, `NoWindow`, and as `addch` at the first byte that `addch` refuses; the bytes before it are written.
+    pub fn addstr(&mut self, window: usize, text: &[u8]) -> Answer
+        ensures { DoesAlone C.table (on_window self.old.desk window (added_all text.now)) self.old result self.new }
+    {
+        let touched = &mut self.stale.window;
+        answer_of(self.desk.addstr_marked(window, text, touched))
+    }
+
+    /// Does the call `move` in `window`, as `call` does it; nothing is sent. Fails with `Full` for a number above 63,
+    /// `NoWindow`, and `OutOfWindow` if there is no such place; nothing has changed then.
+    pub fn move_to(&mut self, window: usize, row: i32, col: i32) -> Answer
+        ensures { DoesAlone C.table (numbers_step Move self.old.desk window row col) self.old result self.new }
+    {
+        let touched = &mut self.stale.window;
+        answer_of(numbers_call(
+            &mut self.desk,
+            touched,
+            NumbersCall::Move,
+            window,
+            (row, col),
+        ))
+    }
+
+    /// Does the call `color_set` of `pair` in `window`, as `call` does it; nothing is sent. Fails with `Full` for a number
+    /// above 63, `NoWindow`, and `BadPair` for a pair that isn't 0 to 63; nothing has changed then.
+    pub fn color_set(&mut self, window: usize, pair: i32) -> Answer
+        ensures { DoesAlone C.table (number_step ColorSet self.old.desk window pair) self.old result self.new }
+    {
+        let touched = &mut self.stale.window;
+        answer_of(number_call(&mut self.desk, touched, NumberCall::ColorSet, window, pair))
+    }
+
+    /// Does `attron`, `attroff` or `attrset` of `attrs` in `window`, as `call` does it; nothing is sent. Fails with `Full`
+    /// for a number above 63 and `NoWindow`; nothing has changed then.
+    pub fn attributes(&mut self, call: AttrsCall, window: usize, attrs: Attrs) -> Answer
+        ensures { DoesAlone C.table (attributes_step call self.old.desk window attrs) self.old result self.new }
+    {
+        answer_of(attributes(&mut self.desk, call, window, attrs))
     }
 
     /// The session's windows.

@@ -161,7 +161,7 @@ fn plain(desk: &mut Desk, call: PlainCall, window: usize) -> Result<(), Refusal>
     }
 }
 
-fn number_call(
+pub(crate) fn number_call(
     desk: &mut Desk,
     touched: &mut Touched,
     call: NumberCall,
@@ -180,7 +180,7 @@ fn number_call(
     }
 }
 
-fn numbers_call(
+pub(crate) fn numbers_call(
     desk: &mut Desk,
     touched: &mut Touched,
     call: NumbersCall,
@@ -213,7 +213,12 @@ fn flag(desk: &mut Desk, call: FlagCall, window: usize, on: bool) -> Result<(), 
     }
 }
 
-fn attributes(desk: &mut Desk, call: AttrsCall, window: usize, attrs: Attrs) -> Result<(), Refusal>
+pub(crate) fn attributes(
+    desk: &mut Desk,
+    call: AttrsCall,
+    window: usize,
+    attrs: Attrs,
+) -> Result<(), Refusal>
     ensures { desks.step desk.new result ≡ spec.attributes_step call desk.old window attrs }
 {
     match call {

@@ -1,3 +1,4 @@
+mod Alone
 mod Looses
 mod Making
 pub mod Places

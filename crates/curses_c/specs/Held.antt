@@ -5,6 +5,7 @@ use Rattle.ti_cert.specs.Table.{certified}
 use Rattle.ti_cert.specs.Verified.{partner_in}
 use Rattle.cur_scripts.specs.Texts.{only_call, script_of}
 use Rattle.cur_calls.specs.declared.calls.Call.{Call}
+use Rattle.cur_calls.specs.declared.groups.AttrsCall.{AttrsCall}
 use Rattle.cur_scripts.specs.declared.faults.ScriptFault.{ScriptFault}
 use Rattle.cur_scripts.specs.declared.faults.ScriptFaultKind.{ScriptFaultKind}
 use Rattle.cur_scripts.specs.declared.faults.ScriptFaultKind.TheVariants.{BadLine, TooLong, NoMemory}
@@ -17,7 +18,7 @@ use Rattle.cur_play.specs.declared.answers.Answer.TheVariants.{Done, Was, Refuse
 use Rattle.curses_c.specs.Codes.{answer_code, failure_code, script_code}
 use Rattle.curses_c.specs.Lines.{line_of}
 use Rattle.curses_c.specs.Outbox.{Posted, Posts}
-use Rattle.curses_c.specs.Requests.{call_of}
+use Rattle.curses_c.specs.Requests.{call_of, styled}
 use Rattle.curses_c.specs.declared.codes.Failure.TheVariants.{BadCall}
 use Rattle.curses_c.specs.declared.held.Held.{Held}
 use Rattle.curses_c.specs.declared.requests.Request.{Request}
@@ -46,6 +47,10 @@ MakesIfCall None h code k = (k ≡ h) × (code ≡ failure_code BadCall)
 
 abbrev pub Does : Request → Held → ℤ → Held → Type 0
 Does request h code k = MakesIfCall (call_of request) h code k
+
+-- a call for the attributes that a number encodes
+abbrev pub Styles : AttrsCall → ℕ → ℤ → Held → ℤ → Held → Type 0
+Styles call window attrs h code k = MakesIfCall (styled call window attrs) h code k
 
 abbrev pub is_done : Answer → Bool
 is_done Done = true

@@ -77,8 +77,12 @@ numbers call r = Some (Numbers call r.window r.first r.second)
 abbrev pub flag : FlagCall → Request → Option Call
 flag call r = option_map (λ on. Flag call r.window on) (as_flag r.flag)
 
+-- the call for attributes that a number encodes
+abbrev pub styled : AttrsCall → ℕ → ℤ → Option Call
+styled call window attrs = option_map (λ a. Attributes call window a) (attrs_in attrs)
+
 abbrev pub attributes : AttrsCall → Request → Option Call
-attributes call r = option_map (λ attrs. Attributes call r.window attrs) (attrs_in r.attrs)
+attributes call r = styled call r.window r.attrs
 
 abbrev pub cell : CellCall → Request → Option Call
 cell call r = Some (Cell call r.window (put_of r.cell))

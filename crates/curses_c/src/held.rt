@@ -1,20 +1,22 @@
 //! The content of an open handle: a session, and the bytes that wait to be taken.
 ghost use Rattle.std.specs.Prelude.{◌≡◌, ◌++◌, IfOk, [], drop, take};
-ghost use Rattle.cur_calls.specs.declared.calls.Call.TheVariants.{Addstr, Cell};
+ghost use Rattle.cur_calls.specs.declared.calls.Call.TheVariants.{Addstr, Attributes, Cell, Number, Numbers};
 ghost use Rattle.cur_calls.specs.declared.groups.CellCall.TheVariants.{Addch};
+ghost use Rattle.cur_calls.specs.declared.groups.NumberCall.TheVariants.{ColorSet};
+ghost use Rattle.cur_calls.specs.declared.groups.NumbersCall.TheVariants.{Move};
 ghost use Rattle.cur_play.specs.Scenes.{first, scene_of};
 ghost use Rattle.ti_cert.specs.Table.{certified};
 ghost use Rattle.ti_conforms.specs.Certified.{IsChecked};
 ghost use Rattle.curses_c.specs.Codes as codes;
-ghost use Rattle.curses_c.specs.Held.{CopiesLines, Does, Hands, Loses, Makes, MakesUpTo, Plays, Recolors, Says};
+ghost use Rattle.curses_c.specs.Held.{CopiesLines, Does, Hands, Loses, Makes, MakesUpTo, Plays, Recolors, Says, Styles};
 ghost use Rattle.curses_c.specs.Held.{fault_line, is_done, line_left, noting};
 
 use crate::codes::{Failure, answer_code, failure_code, script_code};
 use crate::lines::line_of;
 use crate::outbox::Outbox;
-use crate::requests::{Request, call_of};
-use cur_calls::{Call, Text};
-use cur_drawing::Put;
+use crate::requests::{Request, attrs_in, call_of};
+use cur_calls::{AttrsCall, Call};
+use cur_drawing::{Attrs, Put};
 use cur_play::{Answer, Session};
 use cur_scripts::{ScriptFault, ScriptFaultKind, read_call, read_script};
 use cur_update::cells_bounded;
@@ -71,11 +73,8 @@ impl Held {
         ensures makes { Makes self.old (Addstr window text.now) result self.new }
         ensures failed { (self.new).failed ≡ (self.old).failed }
     {
-        let call = Call::Addstr {
-            window,
-            text: Text::new(text),
-        };
-        self.call(&call)
+        cells_bounded();
+        self.session.addstr(window, text)
     }
 
     /// Does `addch` of `put` in `window`.
@@ -85,6 +84,44 @@ impl Held {
     {
         cells_bounded();
         self.session.addch(window, put)
+    }
+
+    /// Does `move` in `window`.
+    pub fn move_to(&mut self, window: usize, row: i32, col: i32) -> Answer
+        ensures makes { Makes self.old (Numbers Move window row col) result self.new }
+        ensures failed { (self.new).failed ≡ (self.old).failed }
+    {
+        cells_bounded();
+        self.session.move_to(window, row, col)
+    }
+
+    /// Does `color_set` of `pair` in `window`.
+    pub fn color_set(&mut self, window: usize, pair: i32) -> Answer
+        ensures makes { Makes self.old (Number ColorSet window pair) result self.new }
+        ensures failed { (self.new).failed ≡ (self.old).failed }
+    {
+        cells_bounded();
+        self.session.color_set(window, pair)
+    }
+
+    /// Does `attron`, `attroff` or `attrset` in `window`.
+    fn styled(&mut self, call: AttrsCall, window: usize, attrs: Attrs) -> Answer
+        ensures makes { Makes self.old (Attributes call window attrs) result self.new }
+        ensures failed { (self.new).failed ≡ (self.old).failed }
+    {
+        cells_bounded();
+        self.session.attributes(call, window, attrs)
+    }
+
+    /// Does `attron`, `attroff` or `attrset` in `window`, and gives the number of its answer; if `attrs` isn't 0 to 255,
+    /// that of `BadCall`.
+    pub fn attributes(&mut self, call: AttrsCall, window: usize, attrs: i32) -> i32
+        ensures { Styles call window attrs self.old result self.new }
+    {
+        match attrs_in(attrs) {
+            Some(attrs) => answer_code(self.styled(call, window, attrs)),
+            None => failure_code(Failure::BadCall),
+        }
     }
 
     /// Does the call that `request` encodes, and gives the number of its answer; if it encodes none, that of `BadCall`.

@@ -421,7 +421,7 @@ fn flag_in(number: i32) -> Option<bool>
 }
 
 /// The attributes that `number` encodes, if it is 0 to 255.
-fn attrs_in(number: i32) -> Option<Attrs>
+pub(crate) fn attrs_in(number: i32) -> Option<Attrs>
     ensures { result ≡ spec.attrs_in number }
 {
     if 0 <= number && number <= 255 {

@@ -1,9 +1,12 @@
 //! The calls on sessions.
 ghost use Rattle.std.specs.Prelude.{◌≡◌, None, IfErr, IfOk, length, pos};
-ghost use Rattle.cur_calls.specs.declared.calls.Call.TheVariants.{Addstr, Cell};
+ghost use Rattle.cur_calls.specs.declared.calls.Call.TheVariants.{Addstr, Cell, Number, Numbers};
+ghost use Rattle.cur_calls.specs.declared.groups.AttrsCall.TheVariants.{Attroff, Attron, Attrset};
 ghost use Rattle.cur_calls.specs.declared.groups.CellCall.TheVariants.{Addch};
+ghost use Rattle.cur_calls.specs.declared.groups.NumberCall.TheVariants.{ColorSet};
+ghost use Rattle.cur_calls.specs.declared.groups.NumbersCall.TheVariants.{Move};
 ghost use Rattle.curses_c.specs.Entries.{IsShown};
-ghost use Rattle.curses_c.specs.Held.{CopiesLinesAs, Does, Loses, MakesAlone, RecolorsAs, Says};
+ghost use Rattle.curses_c.specs.Held.{CopiesLinesAs, Does, Loses, MakesAlone, RecolorsAs, Says, Styles};
 ghost use Rattle.curses_c.specs.Requests.{put_of};
 ghost use Rattle.curses_c.specs.Sessions.{Answers, Fetches, IsOpened, IsOwnTable, IsTableFor, IsUnopened, LacksChecked};
 ghost use Rattle.curses_c.specs.Sessions.{LacksOwn, Opens, closed};
@@ -14,6 +17,7 @@ use crate::handles::Handle;
 use crate::held::Held;
 use crate::queries::Standing;
 use crate::requests::{Request, put_of};
+use cur_calls::AttrsCall;
 use std::alloc::Global;
 use ti_cert::Checked;
 
@@ -160,6 +164,110 @@ pub extern "C" fn ticurses_raw_addch(
     };
     let mut held = held;
     let code = answer_code(held.addch(window, put_of(Standing { byte, attrs, pair })));
+    handle.put(held);
+    code
+}
+
+/// Does `move` in `window`. Returns the number of the answer, or of `Closed`.
+#[unsafe(no_mangle)]
+pub extern "C" fn ticurses_raw_move(
+    alloc: Global,
+    handle: &mut Handle,
+    window: usize,
+    row: i32,
+    col: i32,
+) -> i32
+    ensures { Answers closed (MakesAlone (Numbers Move window row col)) (handle.old).slot.held result
+        (handle.new).slot.held }
+{
+    let Some(held) = handle.take(alloc) else {
+        return failure_code(Failure::Closed);
+    };
+    let mut held = held;
+    let code = answer_code(held.move_to(window, row, col));
+    handle.put(held);
+    code
+}
+
+/// Does `color_set` of `pair` in `window`. Returns the number of the answer, or of `Closed`.
+#[unsafe(no_mangle)]
+pub extern "C" fn ticurses_raw_color_set(
+    alloc: Global,
+    handle: &mut Handle,
+    window: usize,
+    pair: i32,
+) -> i32
+    ensures { Answers closed (MakesAlone (Number ColorSet window pair)) (handle.old).slot.held result
+        (handle.new).slot.held }
+{
+    let Some(held) = handle.take(alloc) else {
+        return failure_code(Failure::Closed);
+    };
+    let mut held = held;
+    let code = answer_code(held.color_set(window, pair));
+    handle.put(held);
+    code
+}
+
+/// Does `attron` of the set `attrs` in `window`. Returns the number of the answer, of `BadCall` if `attrs` isn't 0 to 255, or
+/// of `Closed`.
+#[unsafe(no_mangle)]
+pub extern "C" fn ticurses_raw_attron(
+    alloc: Global,
+    handle: &mut Handle,
+    window: usize,
+    attrs: i32,
+) -> i32
+    ensures { Answers closed (Styles Attron window attrs) (handle.old).slot.held result
+        (handle.new).slot.held }
+{
+    let Some(held) = handle.take(alloc) else {
+        return failure_code(Failure::Closed);
+    };
+    let mut held = held;
+    let code = held.attributes(AttrsCall::Attron, window, attrs);
+    handle.put(held);
+    code
+}
+
+/// Does `attroff` of the set `attrs` in `window`. Returns the number of the answer, of `BadCall` if `attrs` isn't 0 to 255, or
+/// of `Closed`.
+#[unsafe(no_mangle)]
+pub extern "C" fn ticurses_raw_attroff(
+    alloc: Global,
+    handle: &mut Handle,
+    window: usize,
+    attrs: i32,
+) -> i32
+    ensures { Answers closed (Styles Attroff window attrs) (handle.old).slot.held result
+        (handle.new).slot.held }
+{
+    let Some(held) = handle.take(alloc) else {
+        return failure_code(Failure::Closed);
+    };
+    let mut held = held;
+    let code = held.attributes(AttrsCall::Attroff, window, attrs);
+    handle.put(held);
+    code
+}
+
+/// Does `attrset` of the set `attrs` in `window`. Returns the number of the answer, of `BadCall` if `attrs` isn't 0 to 255, or
+/// of `Closed`.
+#[unsafe(no_mangle)]
+pub extern "C" fn ticurses_raw_attrset(
+    alloc: Global,
+    handle: &mut Handle,
+    window: usize,
+    attrs: i32,
+) -> i32
+    ensures { Answers closed (Styles Attrset window attrs) (handle.old).slot.held result
+        (handle.new).slot.held }
+{
+    let Some(held) = handle.take(alloc) else {
+        return failure_code(Failure::Closed);
+    };
+    let mut held = held;
+    let code = held.attributes(AttrsCall::Attrset, window, attrs);
     handle.put(held);
     code
 }
