@@ -151,7 +151,7 @@ fn source_reply<'x>(
 /// for.
 fn named_reply<'x, 'y>(
     alloc: Global,
-    asked: Asked<'_>,
+    asked: Asked<'x>,
     entry: &'x Entry,
     named: &'x NamedSource<'x, 'y>,
     notes: Vec<u8>,

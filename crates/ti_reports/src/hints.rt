@@ -36,7 +36,7 @@ pub fn hint_lines(
     ensures { IfOk result (λ lines. spec.AreHintLines subject.now.entry.now subject.now.size.rows
         subject.now.size.cols lists_all subject.now.file.now (whereabouts_of subject.now.stands) lines.items) }
 {
-    match &subject.stands {
+    match subject.stands {
         Standing::Unsourced => Ok(Vec::new(alloc)),
         Standing::Named(named, originals) => named_lines(alloc, subject, named, originals),
         Standing::Placed(there, originals) => {

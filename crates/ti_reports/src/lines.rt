@@ -17,7 +17,7 @@ use ti_resolve::Origin;
 use ti_source::RawEntry;
 
 /// The origin of an entry.
-#[derive(Drop)]
+#[derive(Clone, Copy)]
 pub enum Standing<'a, 'b> {
     /// The entry is in no source.
     Unsourced,
@@ -141,7 +141,7 @@ pub fn value_place(
     requires { spec.IsThere stands.now }
     ensures { IfOk result (λ place. spec.IsValuePlace (spec.whereabouts_of stands.now) cap place) }
 {
-    match stands {
+    match *stands {
         Standing::Unsourced => Ok(ValuePlace::nowhere()),
         Standing::Named(named, originals) => place_in(alloc, named, originals, cap),
         Standing::Placed(there, originals) => place_at(alloc, there, originals, cap),
@@ -159,7 +159,7 @@ pub fn faulty_region(
     ensures { IfOk result (λ found. IfSome found
         (spec.IsFaultyAt (spec.whereabouts_of stands.now) fault.now.no.now.cap)) }
 {
-    match stands {
+    match *stands {
         Standing::Unsourced => Ok(None),
         Standing::Named(named, originals) => faulty_in(alloc, named, originals, fault),
         Standing::Placed(there, originals) => faulty_at(alloc, there, originals, fault),
