@@ -254,8 +254,8 @@ fn reply_by<F: Files + Sources, O: Output, E: Write + IsTerminal>(
         return joined_reply(alloc, asked, files, streams, remarks);
     }
     let mut beside = Beside::new(files, asked.further.as_slice());
-    let command = Command { asked, texts: &[] };
-    reply_to(alloc, &command, &mut beside, streams, remarks)
+    let job = Job { asked, texts: &[] };
+    reply_to(alloc, &job, &mut beside, streams, remarks)
 }
 
 /// The reply of the command that is `asked` for, whose sources are read with each field on one line. Their texts are
@@ -272,30 +272,30 @@ fn joined_reply<F: Files, O: Output, E: Write + IsTerminal>(
     let mut kept = Kept::new(files, originals.as_slice());
     let mut beside = Beside::new(&mut kept, asked.further.as_slice());
     let mut joined = Wrapped::new(alloc, &mut beside);
-    let command = Command {
+    let job = Job {
         asked,
         texts: texts.as_slice(),
     };
-    reply_to(alloc, &command, &mut joined, streams, remarks)
+    reply_to(alloc, &job, &mut joined, streams, remarks)
 }
 
 /// A command that is asked for, and the texts whose lines are joined for it.
 #[derive(Clone, Copy)]
-struct Command<'a> {
+struct Job<'a> {
     asked: &'a Asked<'a>,
     texts: &'a [LinedFile<'a>],
 }
 
-/// The reply of the `command`. The bytes that `play` sends and the lines of a survey go to `out` as they come, and the
-/// reply has what follows them.
+/// The reply of the command of the `job`. The bytes that `play` sends and the lines of a survey go to `out` as they
+/// come, and the reply has what follows them.
 fn reply_to<F: Files, O: Output, E: Write + IsTerminal>(
     alloc: Global,
-    command: &Command<'_>,
+    job: &Job<'_>,
     files: &mut F,
     streams: &mut Streams<'_, '_, O, E>,
     remarks: &mut Remarks,
 ) -> Result<Reply, Failure> {
-    let Command { asked, texts } = *command;
+    let Job { asked, texts } = *job;
     match &asked.request {
         Request::Expand(words) => expand_string(alloc, words, remarks),
         Request::Feed { rows, cols, file } => feed_file(alloc, rows, cols, file, files, remarks),
