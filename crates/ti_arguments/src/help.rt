@@ -79,8 +79,8 @@ come of a sequence that is not whole, in hexadecimal, or -. With --json the stat
 these names.
 
 With --cases each line of the file is a case: a name, a space, and bytes in hexadecimal, or - for none. The output has
-for each case the JSON object of the state that its bytes leave of a blank terminal, with the case's `name`; if its bytes
-are stuck, also with `stuck`, the place, and the state is that of the bytes before it.
+for each case the JSON object of the state that its bytes leave of a blank terminal, with the case's `name`; if its
+bytes are stuck, also with `stuck`, the place, and the state is that of the bytes before it.
 
 With --plain-text the file is a recording: strings (titles and other OSC, DCS, SOS, PM, APC) are dropped up to their
 end, and a character above 127 counts as `?`. Standard error has the count of dropped bytes.
@@ -108,18 +108,19 @@ is written. With --out the file is written whole or not at all.
 A source file has at most 16777216 bytes, its names and each string at most 4095. A compiled file that is read
 has at most 131072 bytes; one that is written has at most 4096, or 32768 where a number is above 32767.
 
-With --join, which check, infocmp, survey, tic and verify take, a field of a source may continue on further lines: where a
-line ends before the comma of its field, and the next one begins with a space or a tab and is neither blank nor a comment,
-the next line goes on in the field, without its leading white space. Each place is given by the lines of the file: with a
-column it is the place of that byte, and without one, as that of a note, the first of the lines that were joined. The text that `check --fix --join` writes has each field on one line, and blank lines in
-place of those that went on in it. A compiled file, and a certificate, is read as it is.
+With --join, which check, infocmp, survey, tic and verify take, a field of a source may continue on further lines: where
+a line ends before the comma of its field, and the next one begins with a space or a tab and is neither blank nor a
+comment, the next line goes on in the field, without its leading white space. Each place is given by the lines of the
+file: with a column it is the place of that byte, and without one, as that of a note, the first of the lines that were
+joined. The text that `check --fix --join` writes has each field on one line, and blank lines in place of those that
+went on in it. A compiled file, and a certificate, is read as it is.
 
 With --with FILE, which the same commands take, as often as there are files, an entry of a source may use those of other
-files too: a name leads to the first entry that has it, in the entry's own file or else in these, in order. Such a FILE is
-a source, or a compiled file, whose entry is one that gives each of its values itself. Each place names the file that it
-is in; a compiled file has no lines. Notes and hints are those of the entry's own file. If one of these files can't be
-read, or has a fault, the command is refused. `survey` reads each entry of these files by itself, and lists those of its own
-files alone. A compiled ENTRY uses no other, and the files are not read.
+files too: a name leads to the first entry that has it, in the entry's own file or else in these, in order. Such a FILE
+is a source, or a compiled file, whose entry is one that gives each of its values itself. Each place names the file that
+it is in; a compiled file has no lines. Notes and hints are those of the entry's own file. If one of these files can't
+be read, or has a fault, the command is refused. `survey` reads each entry of these files by itself, and lists those of
+its own files alone. A compiled ENTRY uses no other, and the files are not read.
 
 Exit status: 0 done; 1 refused, with a line `refused: KIND` on standard error; 2 usage error; 3 a file could
 not be read or written, or is too long; 4 out of memory.
@@ -177,61 +178,64 @@ whole or not at all, and there is no output; a terminal as standard error has a 
 
 Standard error gets a line `note CAP HEX` for each sequence of the entry's strings, with the first parameters of each,
 that the terminal ignores, or of which it ignores a number. There are none where a string can't be expanded, or doesn't
-send text and whole sequences. Of an entry of a source, and of those that it uses, it gets a line
-`hint line N: NAME is no capability` for each name that is none, and hints at names that the entry has twice, and at
-escapes without a meaning. Behind a certificate it gets a line `advice CAP: ..` for what is never seen although the entry
-has a string for it: an attribute that sgr never shows, colors without setaf, setab or op, acsc without smacs or rmacs,
-civis without cnorm. Neither changes what is answered.
+send text and whole sequences. Of an entry of a source, and of those that it uses, it gets a line `hint line N: NAME is
+no capability` for each name that is none, and hints at names that the entry has twice, and at escapes without a
+meaning. Behind a certificate it gets a line `advice CAP: ..` for what is never seen although the entry has a string for
+it: an attribute that sgr never shows, colors without setaf, setab or op, acsc without smacs or rmacs, civis without
+cnorm. Neither changes what is answered.
 
-If there is no certificate, standard error has a line `refused: no CAP P..: CAUSE` with a capability and its parameters, the
-first in the order of a certificate's lines. The lines below it say what the string sends for these parameters, from
+If there is no certificate, standard error has a line `refused: no CAP P..: CAUSE` with a capability and its parameters,
+the first in the order of a certificate's lines. The lines below it say what the string sends for these parameters, from
 which state of the terminal it goes wrong, what was wanted there, and what happens instead.
 
-With --all there is no certificate. The output is all that is wrong: a line `no CAP P..: CAUSE` for what the entry as
-a whole has or lacks (FlagOut, Absent, AcsByte), and one for each other capability that goes wrong, with the first of
-its parameters for which it does; then what is wrong with strings together that are right by themselves, and may go
-once the others are mended. Below each of an entry of a source is a line `FILE:LINE:COLUMN: CAP of NAME`, with the
-place of its field and the first name of the entry that has it, through `use=`. Then comes the field itself, after four
-spaces, with `^~~~` below the code, the control function or its parameter that is at fault, or below all of its value
-where none is alone; with --join it comes as it stands in the file, up to the line on which the marks begin, which go no
-further than that line; and then the lines that explain the fault, after two spaces. Where the standard's string would be right in that place, with all others that are named taken too, the last
-of them is `CAP=STRING would be right on T`; below the fault of smacs or rmacs there may be one for each of enacs,
-smacs and rmacs, which are right only together. Where clear and cup are both at fault, standard error says instead
-that the entry seems to be for a terminal of another kind. The last line is the number of faults, and then how many
-have which CAUSE. Standard error has the first of them too, after `refused: `. If nothing is wrong, the output is
-`yes`. Standard error also gets advice on strings that aren't checked but don't do on T what their names say, and a
-line `strings: ..` that counts those that were checked and those that were not looked at.
+With --all there is no certificate. The output is all that is wrong: a line `no CAP P..: CAUSE` for what the entry as a
+whole has or lacks (FlagOut, Absent, AcsByte), and one for each other capability that goes wrong, with the first of its
+parameters for which it does; then what is wrong with strings together that are right by themselves, and may go once the
+others are mended. Below each of an entry of a source is a line `FILE:LINE:COLUMN: CAP of NAME`, with the place of its
+field and the first name of the entry that has it, through `use=`. Then comes the field itself, after four spaces, with
+`^~~~` below the code, the control function or its parameter that is at fault, or below all of its value where none is
+alone; with --join it comes as it is in the file, up to the line on which the marks begin, which go no further than
+that line; and then the lines that explain the fault, after two spaces. Where the standard's string would be right in
+that place, with all others that are named taken too, the last of them is `CAP=STRING would be right on T`; below the
+fault of smacs or rmacs there may be one for each of enacs, smacs and rmacs, which are right only together. Where clear
+and cup are both at fault, standard error says instead that the entry seems to be for a terminal of another kind. The
+last line is the number of faults, and then how many have which CAUSE. Standard error has the first of them too, after
+`refused: `. If nothing is wrong, the output is `yes`. Standard error also gets advice on strings that aren't checked
+but don't do on T what their names say, and a line `strings: ..` that counts those that were checked and those that were
+not looked at.
 
-With --json there is no certificate either. The output is a JSON object on a line of its own: what is wrong first, or with
---all one for each fault, or one with the verdict `yes`; and behind it one with the verdict `advice` for each advice, and
-one with the verdict `hint` for each hint. An entry that can't be obtained has one with the verdict `refused`. Each has
-the members version (1), verdict, rule (a name for each kind of answer), entry (the first name), aliases (the others),
-part (whether the entry is only there to be used by others), size (rows and cols), capability, parameters, cause, bytes
-(what the string sends, in hexadecimal), start, wanted and seen (the words of the lines that begin so), explanation (the
-lines below the fault, or the words of the advice or the hint), file (its path), line (on which the value stands, or the
-field of a hint, or what can't be read), column (of the first byte of that field), end_line and end_column (behind
-its last byte, with --join perhaps on a later line; all from 1), source_entry (the first name of the entry that has the field), source_file
-(the file of the line; none for an entry that check can't obtain with --with), string and, with --all, suggestion (the string at fault and the one that would be right, as a source has
-them) and suggested_with (the fields that are to be given with it), judged (whether the string could be judged) and, with
---all, another_kind (whether the entry seems to be for a terminal of another kind). entry_hex, aliases_hex,
-source_entry_hex, string_hex and suggestion_hex have the bytes in hexadecimal. Where a member doesn't apply, it is null, or
-an empty list. Characters outside 32 to 126 are escapes of JSON. The notes, the line `refused: ` and the exit status are
-those of the form without --json.
+With --json there is no certificate either. The output is a JSON object on a line of its own: what is wrong first, or
+with --all one for each fault, or one with the verdict `yes`; and behind it one with the verdict `advice` for each
+advice, and one with the verdict `hint` for each hint. An entry that can't be obtained has one with the verdict
+`refused`. Each has the members version (1), verdict, rule (a name for each kind of answer), entry (the first name),
+aliases (the others), part (whether the entry is only there to be used by others), size (rows and cols), capability,
+parameters, cause, bytes (what the string sends, in hexadecimal), start, wanted and seen (the words of the lines that
+begin so), explanation (the lines below the fault, or the words of the advice or the hint), file (its path), line (on
+which the value stands, or the field of a hint, or what can't be read), column (of the first byte of that field),
+end_line and end_column (behind its last byte, with --join perhaps on a later line; all from 1), fault_line,
+fault_column, fault_end_line and fault_end_column (the same for the part of its value that is at fault), source_entry
+(the first name of the entry that has the field), source_file (the file of the line; none for an entry that check can't
+obtain with --with), string and, with --all, suggestion (the string at fault and the one that would be right, as a
+source has them) and suggested_with (the fields that are to be given with it), judged (whether the string could be
+judged) and, with --all, another_kind (whether the entry seems to be for a terminal of another kind). entry_hex,
+aliases_hex, source_entry_hex, string_hex and suggestion_hex have the bytes in hexadecimal. Where a member doesn't
+apply, it is null, or an empty list. Characters outside 32 to 126 are escapes of JSON. The notes, the line `refused: `
+and the exit status are those of the form without --json.
 
 With --sarif the output is one file of SARIF 2.1.0, which code hosts show at the lines of FILE: a result for each object
 of --json --all but a yes. ruleId is the rule. The level is error for what was shown to be wrong and for what can't be
 read, warning where the string couldn't be judged, and note for advice, for hints and where the entry seems to be for a
-terminal of another kind. The message has the line of the fault, its explanation and the suggestion. A result marks the whole field,
-and has a fix if a string is suggested that is right without others.
+terminal of another kind. The message has the line of the fault, its explanation and the suggestion. A result marks the
+whole field, and has a fix if a string is suggested that is right without others.
 
 With --fix there is no certificate. The output is the text of the source file in which each string that --all suggests
 is taken: the field is replaced where it stands, in the entry that --all names, and a missing one is put behind the last
-field of the entry; nothing else of the text is changed. With --out it is written to FILE, whole or not at all; only here
-FILE may be the source itself. Standard error has a line `kept CAP: REASON` for each of these strings that isn't taken: no
-place for its field was found, or an entry of the source would lose its yes. The text is judged again: standard error has
-a line `left: no CAP P..: CAUSE` for each fault that is left, and the first of them after `refused: `. With --with the
-strings are taken in those files too, and --out names a folder: each file that has changed is written there under its own
-name, or none is.
+field of the entry; nothing else of the text is changed. With --out it is written to FILE, whole or not at all; only
+here FILE may be the source itself. Standard error has a line `kept CAP: REASON` for each of these strings that isn't
+taken: no place for its field was found, or an entry of the source would lose its yes. The text is judged again:
+standard error has a line `left: no CAP P..: CAUSE` for each fault that is left, and the first of them after
+`refused: `. With --with the strings are taken in those files too, and --out names a folder: each file that has changed
+is written there under its own name, or none is.
 
 A certificate has at most 67108864 bytes. The limits of a source file and of a compiled file are those of
 `ticurses tic --help`.
@@ -249,14 +253,15 @@ CAUSE is one of:
   StaticRead   the string reads a static variable, %gA to %gZ, before it sets it
   Unfinished   what the string sends ends within a control sequence
   Stuck        what the string sends has a byte that is neither text nor part of a sequence
-  BadLook      `sgr` with one attribute, or the string of one, turns on a rendition that is not its own; of acsc: the line
-               drawing set can stay active, and the entry can't switch sets
-  WrongEffect  from the state that is described the string doesn't do what it is for; of smacs and rmacs also: it activates
-               the wrong character set
+  BadLook      `sgr` with one attribute, or the string of one, turns on a rendition that is not its own; of acsc: the
+               line drawing set can stay active, and the entry can't switch sets
+  WrongEffect  from the state that is described the string doesn't do what it is for; of smacs and rmacs also: it
+               activates the wrong character set
   NotTame      no single effect describes what is sent from all states; the string may be right
   NotShown     the effect is not the wanted one, but no state was found that shows it; the string may be right
   TooLong      with this line the certificate would have more than 67108864 bytes
-  NoResync     what leads out of any state (smcup, enacs, sgr0, rmacs, csr and clear, one after another) doesn't begin with ESC
+  NoResync     what leads out of any state (smcup, enacs, sgr0, rmacs, csr and clear, one after another) doesn't begin
+               with ESC
 KIND is one of:
   BadSize      ROWS is not 2 to 200, or COLS is not 2 to 500
   NoSource     with --fix: the entry is that of a compiled file
@@ -440,11 +445,11 @@ Each FILE is a source file, of which all entries are checked in their order, or 
   NAME yes                   there is a certificate
   NAME no CAP P..: CAUSE     there is none; `ticurses check --help` explains each CAUSE
   NAME refused: KIND         the entry can't be read; `ticurses tic --help` explains each KIND
-Each entry of a source is read by itself, from a line that begins in column one up to the next. One that can't be read, and
-one that uses it, has the line `NAME refused: line N: KIND`; the others are checked. A FILE with a fault of its own has one
-line, `FILE refused: KIND`: a compiled file, or a source that is too long or has a fault before its first entry. A source
-without entries has none. A byte outside 32 to 126 of a name is a backslash and three octal digits. The last line is the
-number of the lines before it, and then how many got each answer.
+Each entry of a source is read by itself, from a line that begins in column one up to the next. One that can't be read,
+and one that uses it, has the line `NAME refused: line N: KIND`; the others are checked. A FILE with a fault of its own
+has one line, `FILE refused: KIND`: a compiled file, or a source that is too long or has a fault before its first entry.
+A source without entries has none. A byte outside 32 to 126 of a name is a backslash and three octal digits. The last
+line is the number of the lines before it, and then how many got each answer.
 
 With --all an entry that has no certificate has a line `NAME no CAP P..: CAUSE` for each of its faults, those that
 `ticurses check --all` lists. One that is for a terminal of another kind has one line, `NAME no: OtherKind`. One that
@@ -456,33 +461,35 @@ several entries have at one place is there once, with a line `in NAME, NAME..` o
 `ticurses check`, each with `, in FILE` at its end.
 
 With --json the output is a JSON object on a line of its own for each of these lines but the last, with the members of
-`ticurses check --json`, and one for each advice, and with --all for each hint. In place of KIND the verdict is `refused`, and cause has the KIND; line
-is that of the fault, and source_file the file that has it, which may be one of --with. Where a use leads to no entry, or
-back, they are those of the use, and source_entry is the entry that has it. entry is null where a FILE has a fault of its
-own, or can't be read, with the cause `file: FILE`.
+`ticurses check --json`, and one for each advice, and with --all for each hint. In place of KIND the verdict is
+`refused`, and cause has the KIND; line is that of the fault, and source_file the file that has it, which may be one of
+--with. Where a use leads to no entry, or back, they are those of the use, and source_entry is the entry that has it.
+entry is null where a FILE has a fault of its own, or can't be read, with the cause `file: FILE`.
 
 With --sarif the output is one file of SARIF for all FILEs, as `ticurses check --help` describes it.
 
-With --baseline FILE, which is for --json and --sarif, the objects that FILE has are left out: those of an earlier output
-of --json, whatever lines they are on. An object that says the same of the same entry of the same file counts as one. So
-the output is what is new. With --fail the status is 1 only if a new object is a fault or a refusal.
+With --baseline FILE, which is for --json and --sarif, the objects that FILE has are left out: those of an earlier
+output of --json, whatever lines they are on. An object that says the same of the same entry of the same file counts as
+one. So the output is what is new. With --fail the status is 1 only if a new object is a fault or a refusal.
 
-With --fail the status is 1 if an answer isn't yes, with the line `refused: Faulty` on standard error. The output is the same.
+With --fail the status is 1 if an answer isn't yes, with the line `refused: Faulty` on standard error. The output is the
+same.
 
-With --fix the output is the text of the one FILE, a source file, in which each string that --all suggests for one of its
-entries is taken, as `ticurses check --help` describes it for one entry; nothing else of the text is changed. With --out
-it is written to the file named there, whole or not at all, which may be FILE itself. For each of these strings that isn't
-taken standard error has a line `kept CAP of NAME: REASON`: no place for its field was found, another entry wants another
-string in the field, or an entry that has a yes would lose it. The text is judged again: standard error has a line
-`left: NAME no CAP P..: CAUSE` for each fault that is left, and `left: NAME refused: KIND` for an entry that can't be
-resolved. An entry that can't be read refuses the text. With --fail the status is 1 if something is left. FILE stands
-alone: --with is a usage error beside --fix, and `ticurses check --fix` mends an entry with the files that it uses.
+With --fix the output is the text of the one FILE, a source file, in which each string that --all suggests for one of
+its entries is taken, as `ticurses check --help` describes it for one entry; nothing else of the text is changed. With
+--out it is written to the file named there, whole or not at all, which may be FILE itself. For each of these strings
+that isn't taken standard error has a line `kept CAP of NAME: REASON`: no place for its field was found, another entry
+wants another string in the field, or an entry that has a yes would lose it. The text is judged again: standard error
+has a line `left: NAME no CAP P..: CAUSE` for each fault that is left, and `left: NAME refused: KIND` for an entry that
+can't be resolved. An entry that can't be read refuses the text. With --fail the status is 1 if something is left. FILE
+stands alone: --with is a usage error beside --fix, and `ticurses check --fix` mends an entry with the files that it
+uses.
 
 A FILE has at most 16777216 bytes. One that can't be read has no line, and the others are checked all the same.
 
-Exit status: 0 done, whatever the answers are without --fail; 1 refused, with a line `refused: BadSize` on standard error,
-or `refused: Faulty` with --fail, or `refused: line N: KIND` with --fix; 2 usage error; 3 a file could not be read or is
-too long (`file: PATH` names the first), or a text or standard output could not be written; 4 out of memory.
+Exit status: 0 done, whatever the answers are without --fail; 1 refused, with a line `refused: BadSize` on standard
+error, or `refused: Faulty` with --fail, or `refused: line N: KIND` with --fix; 2 usage error; 3 a file could not be
+read or is too long (`file: PATH` names the first), or a text or standard output could not be written; 4 out of memory.
 
 Example:
   ticurses survey 24 80 my.ti /usr/share/terminfo/*/*

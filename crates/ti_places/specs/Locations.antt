@@ -78,7 +78,7 @@ marked_columns None value columns = record { start = columns.end - length value;
 marked_columns (Some part) value columns = part_columns value columns part
 
 -- a field about a capability between columns of a line, with marks under the part of its value that is at fault: on one
--- line, or as it stands in the text before its lines were joined
+-- line, or as it is in the text before its lines were joined
 abbrev pub shown_field : Option (List ℕ) → ℕ → ℕ → Option Stretch → Columns → List ℕ → List ℕ
 shown_field None number cap part columns field = excerpt cap part field
 shown_field (Some text) number cap part columns field =

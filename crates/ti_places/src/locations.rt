@@ -126,7 +126,7 @@ fn part_at(
 #[derive(Drop)]
 struct PutField<'a, 'b> {
     files: LinedFiles<'a, 'b>,
-    /// Those of them whose lines were joined, as they were before.
+    /// The texts of those whose lines were joined, as they were before.
     originals: &'a [LinedFile<'a>],
     /// The entries of these files.
     raws: &'b [RawEntry],

@@ -45,7 +45,11 @@ fn paths_of<'a>(alloc: Global, asked: &'a Asked<'a>) -> Result<Vec<&'a str>, All
         Request::Survey(words) | Request::SurveyJson(words) if !asked.fixes => {
             paths.extend_from_slice(words.paths.as_slice())?;
         }
-        _ => return Ok(paths),
+        Request::Survey(_) | Request::SurveyJson(_) | Request::Check(_) => return Ok(paths),
+        Request::Expand(_) | Request::Feed { .. } | Request::FeedAs(_) => return Ok(paths),
+        Request::Tic { .. } | Request::Verify(_) | Request::Play(_) => return Ok(paths),
+        Request::Show(_) | Request::Print { .. } => return Ok(paths),
+        Request::Common { .. } | Request::Neither { .. } => return Ok(paths),
     }
     paths.extend_from_slice(asked.further.as_slice())?;
     Ok(paths)
