@@ -16,7 +16,7 @@ import sys
 import time
 from concurrent.futures import ThreadPoolExecutor
 
-from linked import PATIENCE, SANITIZED, STRICT, installed, missing, rooms
+from linked import SANITIZED, STRICT, installed, missing, rooms
 from trying import TOP, held_in
 
 sys.path.append(f"{TOP}/tools")
@@ -26,8 +26,9 @@ import curses_library
 PAGE = f"{TOP}/docs/CURSES.md"
 HERE = f"{TOP}/tests/curses"
 ROWS, COLS = 24, 80
-# seconds after which an unchanged screen is compared, and the longest time that a program draws by itself
-QUIET, LONGEST = 0.3, 5
+# seconds after which an unchanged screen is compared, the longest time that a program draws by itself, and the longest
+# that it may take to begin or to end
+QUIET, LONGEST, STARTING = 0.3, 5, 60
 MACROS = {"getyx", "getbegyx", "getmaxyx", "getparyx", "COLOR_PAIR", "PAIR_NUMBER"}
 
 # The programs, their arguments and their keys: names of tmux, or texts after =. @N waits for N milliseconds; after a
@@ -266,7 +267,7 @@ class Pane:
         else:
             self.run("send-keys", key)
 
-    def until(self, holds, seconds=PATIENCE):
+    def until(self, holds, seconds=STARTING):
         """The text of the screen once it meets the condition, or after so long."""
         end, text = time.monotonic() + seconds, self.seen()[0]
         while not holds(text) and time.monotonic() < end:

@@ -16,7 +16,7 @@ import time
 
 import edge_python
 from linked import SANITIZED, STRICT, Terminal, installed, missing, rooms
-from trying import TOP, write
+from trying import PATIENCE, TOP, write
 
 WARNED = ["-Wall", "-Wextra", "-Wconversion", "-Wshadow", "-pedantic", "-Werror"]
 # how much of what is random is tried
@@ -113,7 +113,7 @@ def write_at(path, held):
 
 def found(program, work, environment):
     """The length of the entry that the program finds, which is that which Python finds."""
-    ran = subprocess.run([program], env=environment, stdout=subprocess.PIPE, stdin=subprocess.DEVNULL, timeout=60)
+    ran = subprocess.run([program], env=environment, stdout=subprocess.PIPE, stdin=subprocess.DEVNULL, timeout=PATIENCE)
     length, *others = map(int, ran.stdout.split())
     hold(ran.returncode == 0 and others == [0, 24, 80, 26, -1, 0], "sizes and answers without a terminal", ran)
     by_python = edge_python.run(work, "print(found())", environment)
@@ -145,7 +145,7 @@ class Run(Terminal):
     """A program on a terminal, which has to be left as it was found."""
 
     def waits_for(self, text):
-        end = time.monotonic() + 60
+        end = time.monotonic() + PATIENCE
         while text not in self.sent:
             hold(time.monotonic() < end, f"{text} doesn't come", self.sent)
             self.read(0.05)
@@ -156,7 +156,7 @@ class Run(Terminal):
 
     def is_left(self, before, status, wanted=b"<endwin>"):
         """Waits for the end: the modes are those of before, and the last that it sent ends with this."""
-        end = time.monotonic() + 60
+        end = time.monotonic() + PATIENCE
         while self.program.poll() is None:
             hold(time.monotonic() < end, "the program does not end", self.sent)
             self.read(0.05)
@@ -234,7 +234,7 @@ def check_cuts(work, linked):
             os.close(inner)
             sent = taken_slowly(outer, taken)
             os.close(outer)
-            told = run.communicate(timeout=60)[1]
+            told = run.communicate(timeout=PATIENCE)[1]
             hold(run.returncode == 0 and told == b"%d 0 <again>\n" % errno.EIO, "a cut is told otherwise", taken, run, told)
             whole = (b"<24x80>" + b"x" * 200_000 + b"<endwin>") + (b"x" * 200_000 + b"<endwin>")
             hold(sent == whole[:taken], "something else arrives", taken, sent[:40], sent[-40:])

@@ -6,7 +6,7 @@ import subprocess
 import sys
 import sysconfig
 
-from trying import TOP, held_in, write
+from trying import PATIENCE, TOP, held_in, write
 
 sys.path.append(f"{TOP}/tools")
 
@@ -262,7 +262,7 @@ def variables(work):
 def run(work, program, environment):
     """The output of a program, which has to end well."""
     write(f"{work}/program.py", (BEGINNING + program).encode())
-    how = {"env": {**environment, **variables(work)}, "stdin": subprocess.DEVNULL, "timeout": 120}
+    how = {"env": {**environment, **variables(work)}, "stdin": subprocess.DEVNULL, "timeout": PATIENCE}
     words = [sys.executable, "-X", "dev", f"{work}/program.py"]
     ran = subprocess.run(words, stdout=subprocess.PIPE, stderr=subprocess.STDOUT, **how)
     if ran.returncode:

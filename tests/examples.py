@@ -11,7 +11,7 @@ import subprocess
 import sys
 import tempfile
 
-from trying import PROGRAM, TOP, Case, Told, run_cases
+from trying import PATIENCE, PROGRAM, TOP, Case, Told, run_cases
 
 MINI = b"mini|sample,\n\tclear=\\E[H\\E[2J, cup=\\E[%i%p1%d;%p2%dH, sgr0=\\E[m,\n"
 VT = rb"""vt|vt100 manner,
@@ -818,8 +818,8 @@ def judge_streamed(work):
     for form in [], ["--all"], ["--json"]:
         words = ["survey", *form, "2", "2", "mini", "pipe"]
         with subprocess.Popen([f"{PROGRAM}/out/ticurses", *words], cwd=work, env={}, stdout=subprocess.PIPE) as survey:
-            is_known = select.select([survey.stdout], [], [], 60)[0]
-            subprocess.run(["sh", "-c", "cat mini >pipe"], cwd=work, check=True, timeout=60)
+            is_known = select.select([survey.stdout], [], [], PATIENCE)[0]
+            subprocess.run(["sh", "-c", "cat mini >pipe"], cwd=work, check=True, timeout=PATIENCE)
             lines = survey.stdout.read().splitlines()
         if form == ["--json"]:
             lines = [json.loads(line)["file"] for line in lines]

@@ -13,7 +13,7 @@ import tempfile
 import termios
 import time
 
-from trying import PROGRAM, TOP, Case, held_in, run_cases
+from trying import PATIENCE, PROGRAM, TOP, Case, held_in, run_cases
 
 sys.path.append(f"{TOP}/tools")
 
@@ -27,8 +27,6 @@ WRONG = (
     "w|w,\n\tclear=\\E[H\\E[2J, cup=\\E[%i%p1%d;%p2%dH, sgr0=\\E[m,\n"
     "\tsetaf=\\E[3%p1%dm, setab=\\E[4%p1%dm, op=\\E[m,\n"
 )
-# a program that is slower than this has failed
-PATIENCE = 60
 
 
 def missing(script, *tools):

@@ -17,8 +17,8 @@ import time
 # tests/curses.py, and not the standard module
 import curses as panes
 import python_screen
-from linked import PATIENCE, Terminal, missing, rooms
-from trying import TOP, held_in, write
+from linked import Terminal, missing, rooms
+from trying import PATIENCE, TOP, held_in, write
 
 HEADER = f"{TOP}/include/ticurses/curses.h"
 STANDARD = os.path.dirname(os.__file__)
@@ -124,7 +124,7 @@ def check_own_tests(package, work):
     log = f"{work}/own.log"
     line = " ".join(package.words("-m", "unittest", "-v", "test.test_curses"))
     pane = package.pane(work, "own", ["sh", "-c", f"{line} 2>{log}; echo over >>{log}"])
-    end = time.monotonic() + 120
+    end = time.monotonic() + PATIENCE
     while not held_in(log, b"").endswith(b"over\n") and time.monotonic() < end:
         time.sleep(0.1)
     pane.run("kill-server")
@@ -146,7 +146,7 @@ def shots(package, work, name, words, keys):
     """The screens of a program after each key, over the standard module and over the package."""
     one = package.pane(work, f"{name}-ncurses", [sys.executable, *words])
     other = package.pane(work, f"{name}-ticurses", package.words(*words))
-    return one.shots(keys, PATIENCE), other.shots(keys, PATIENCE)
+    return one.shots(keys, panes.STARTING), other.shots(keys, panes.STARTING)
 
 
 def check_programs(package, work):

@@ -8,8 +8,8 @@ import sys
 import termios
 import time
 
-from linked import PATIENCE, fed
-from trying import TOP, held_in, write
+from linked import fed
+from trying import PATIENCE, TOP, held_in, write
 
 CALLS = f"{TOP}/tests/python_calls.txt"
 # a program reports to a file, since the terminal is the screen

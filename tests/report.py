@@ -11,7 +11,7 @@ import sys
 import tempfile
 
 from faults import COLS, ROWS, all_entries
-from trying import PROGRAM, TOP, Case, run_cases, write
+from trying import PATIENCE, PROGRAM, TOP, Case, run_cases, write
 
 LARGEST = 2_000_000
 # elements that have no end
@@ -208,7 +208,7 @@ def browsed(held):
     with tempfile.TemporaryDirectory() as room:
         write(f"{room}/page.html", held.replace(b"</body>", STEPS.encode() + b"</body>"))
         words = ["--headless", "--no-sandbox", "--disable-gpu", f"--user-data-dir={room}/user", "--virtual-time-budget=5000", "--dump-dom"]
-        ran = subprocess.run([browser, *words, f"file://{room}/page.html"], capture_output=True, timeout=300)
+        ran = subprocess.run([browser, *words, f"file://{room}/page.html"], capture_output=True, timeout=PATIENCE)
     told = re.search(rb'<pre id="told">(.*)</pre>', ran.stdout)
     if not told:
         fail(f"the page's script failed in {browser}: {ran.stderr.decode(errors='replace')[-400:]}")

@@ -17,6 +17,8 @@ import tempfile
 TOP = os.path.dirname(os.path.dirname(os.path.abspath(__file__)))
 sys.path.append(f"{TOP}/tools")
 PROGRAM = f"{TOP}/crates/ticurses"
+# a program that takes longer hangs: no measure of speed, since machines are slow or busy
+PATIENCE = 600
 
 import crates as listing
 
