@@ -30,6 +30,7 @@ PUBLISHED = [
     "vt_effects",
     "ti_cert",
     "ti_checker",
+    "ti_certify",
     "cur_windows",
     "cur_pads",
     "cur_update",

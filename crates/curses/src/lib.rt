@@ -3,12 +3,12 @@
 #![tactic(auto)]
 
 // A terminal: its size, its entry from a source text, and the facts that are shown of the entry. `certify` shows them
-// by the entry alone, and needs no file beside it. `verify` takes a certificate that was kept, such as the output of
-// `ticurses check`, and shows that it is the entry's.
+// by the entry alone, with no file beside it, or says why the entry has no certificate. `verify` takes a certificate
+// that was kept, such as the output of `ticurses check`, and shows that it is the entry's.
 pub use ti_caps::Entry;
-pub use ti_cert::{
-    AgreeFault, CertFault, CertFaultKind, CertifyFault, Checked, VerifyFault, certify, verify,
-};
+pub use ti_cert::{AgreeFault, CertFault, CertFaultKind, Checked, VerifyFault, verify};
+pub use ti_certify::certify;
+pub use ti_checker::{Cause, No};
 pub use ti_conforms::Certificate;
 pub use ti_reach::{Miss, MissKind, reach_cup};
 pub use ti_resolve::{ResolveFault, resolve};

@@ -7,4 +7,3 @@ pub mod Rows
 mod Slots
 mod Told
 mod Openings
-mod Owning

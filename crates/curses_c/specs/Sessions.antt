@@ -3,10 +3,11 @@ use Rattle.std.specs.Prelude.{ℕ, ℤ, pos, ◌≡◌, ◌⊎◌, List, [], ◌
 use Rattle.ti_caps.specs.Entry.{Content}
 use Rattle.ti_cert.specs.Table.{CheckedTable, certified}
 use Rattle.ti_cert.specs.Texts.{IsTableOf}
+use Rattle.ti_certify.specs.Owned.{IsOwnTable}
 use Rattle.ti_conforms.specs.Certified.{IsChecked}
 use Rattle.cur_play.specs.Scenes.{first, scene_of}
 use Rattle.curses_c.specs.Codes.{failure_code}
-use Rattle.curses_c.specs.Entries.{Gives, IsCertified, IsShown, IsUncertified, IsUnshown, Lacks}
+use Rattle.curses_c.specs.Entries.{Gives, IsShown, IsUncertified, IsUnshown, Lacks}
 use Rattle.curses_c.specs.declared.codes.Failure.{Failure}
 use Rattle.curses_c.specs.declared.codes.Failure.TheVariants.{NoMemory}
 use Rattle.curses_c.specs.Held.{Hands}
@@ -22,12 +23,6 @@ Answers none R None answer None = answer ≡ none
 -- the answer of a closed handle
 abbrev pub closed : ℤ
 closed = pos 20
-
--- the strings are those of the entry's own certificate
-pub record IsOwnTable (entry : Content) (rows cols : ℕ) (checked : CheckedTable) : Type 0 where
-  pub text : List ℕ
-  pub certified : IsCertified entry rows cols text
-  pub accepted : IsTableOf rows cols text checked
 
 -- the strings of the entry's own certificate if none was given; else those of the given one
 abbrev pub IsTableFor : Content → ℕ → ℕ → List ℕ → CheckedTable → Type 0
@@ -45,19 +40,9 @@ pub record IsOpened (bytes name : List ℕ) (rows cols : ℕ) (certificate : Lis
   pub failed : h.failed ≡ 0
   pub checked : IsChecked (certified h.session.painter.checked)
 
--- a certificate that was made here isn't accepted
-pub record IsOwnUnshown (entry : Content) (rows cols : ℕ) (e : Failure) : Type 0 where
-  pub text : List ℕ
-  pub certified : IsCertified entry rows cols text
-  pub unshown : IsUnshown entry rows cols text e
-
--- the entry has no certificate
-abbrev pub LacksOwn : Content → ℕ → ℕ → Failure → Type 0
-LacksOwn entry rows cols e = IsUncertified entry rows cols e ⊎ IsOwnUnshown entry rows cols e
-
 -- the entry has no certificate, if none was given; else the given one isn't its own
 abbrev pub LacksChecked : Content → ℕ → ℕ → List ℕ → Failure → Type 0
-LacksChecked entry rows cols [] e = LacksOwn entry rows cols e
+LacksChecked entry rows cols [] e = IsUncertified entry rows cols e
 LacksChecked entry rows cols (b ∷ certificate) e = IsUnshown entry rows cols (b ∷ certificate) e
 
 -- the entry is there, but has no certificate, or memory ran out

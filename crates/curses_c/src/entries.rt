@@ -1,16 +1,17 @@
 //! Entries, sizes and certificates from the bytes that a program hands over.
-ghost use Rattle.std.specs.Prelude.{◌≡◌, if◌then◌else◌, IfErr, IfOk, IfSome};
+ghost use Rattle.std.specs.Prelude.{◌≡◌, if◌then◌else◌, IfErr, IfOk};
 ghost use Rattle.ti_checker.specs.Certificate.{IsCertificateOf};
 ghost use Rattle.ti_cert.specs.Texts.{IsTableOf};
+ghost use Rattle.ti_certify.specs.Owned.{IsOwnTable};
 ghost use Rattle.ti_conforms.specs.Conforms.{Conforms};
 ghost use Rattle.vt_term.specs.Size.{IsSize};
 ghost use Rattle.curses_c.specs.Entries as spec;
-ghost use Rattle.curses_c.specs.Sessions.{IsOwnTable};
 
 use crate::codes::Failure;
 use std::alloc::Global;
 use ti_caps::Entry;
-use ti_cert::{AgreeFault, CertFaultKind, Checked, VerifyFault, certify, verify};
+use ti_cert::{AgreeFault, CertFaultKind, Checked, VerifyFault, verify};
+use ti_certify::certify;
 use ti_checker::{Cause, check};
 use ti_compiled::{PackFault, decode};
 use ti_resolve::{ResolveFault, resolve};
@@ -156,14 +157,16 @@ pub fn certificate_of(alloc: Global, described: &Described) -> Result<Vec<u8>, F
     }
 }
 
-/// The strings that the certificate of the entry of `described` would have, with no text made; `None` if it has no
-/// certificate, or memory ran out, or the text is nearly as long as one may be.
-pub fn certified(alloc: Global, described: &Described) -> Option<Checked>
-    ensures shown { IfSome result (spec.IsShown described.now.entry described.now.size.rows described.now.size.cols) }
-    ensures own { IfSome result (IsOwnTable described.now.entry described.now.size.rows described.now.size.cols) }
+/// The strings of the certificate of the entry of `described`. Fails with `NoCertificate` if the entry has none, or
+/// with `NoMemory`.
+pub fn checked_by_own(alloc: Global, described: &Described) -> Result<Checked, Failure>
+    ensures shown { IfOk result (spec.IsShown described.now.entry described.now.size.rows described.now.size.cols) }
+    ensures own { IfOk result (IsOwnTable described.now.entry described.now.size.rows described.now.size.cols) }
+    ensures refused { IfErr result (spec.IsUncertified described.now.entry described.now.size.rows
+        described.now.size.cols) }
 {
     match certify(alloc, &described.entry, described.size) {
-        Ok(checked) => Some(checked),
-        Err(_) => None,
+        Ok(checked) => Ok(checked),
+        Err(no) => Err(failure(matches!(no.cause, Cause::NoMemory), Failure::NoCertificate)),
     }
 }

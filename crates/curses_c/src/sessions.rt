@@ -8,11 +8,10 @@ ghost use Rattle.cur_calls.specs.declared.groups.NumbersCall.TheVariants.{Move};
 ghost use Rattle.curses_c.specs.Entries.{IsShown};
 ghost use Rattle.curses_c.specs.Held.{CopiesLinesAs, Does, Loses, MakesAlone, RecolorsAs, Says, Styles};
 ghost use Rattle.curses_c.specs.Requests.{put_of};
-ghost use Rattle.curses_c.specs.Sessions.{Answers, Fetches, IsOpened, IsOwnTable, IsTableFor, IsUnopened, LacksChecked};
-ghost use Rattle.curses_c.specs.Sessions.{LacksOwn, Opens, closed};
+ghost use Rattle.curses_c.specs.Sessions.{Answers, Fetches, IsOpened, IsTableFor, IsUnopened, LacksChecked, Opens, closed};
 
 use crate::codes::{Failure, OK, answer_code, failure_code};
-use crate::entries::{Described, Subject, certificate_of, certified, checked_by, describe};
+use crate::entries::{Described, Subject, checked_by, checked_by_own, describe};
 use crate::handles::Handle;
 use crate::held::Held;
 use crate::queries::Standing;
@@ -86,20 +85,6 @@ fn checked_for(alloc: Global, described: &Described, certificate: &[u8]) -> Resu
         [] => checked_by_own(alloc, described),
         _ => checked_by(alloc, described, certificate),
     }
-}
-
-/// The strings of the entry of `described`. Where none are found without a text, makes the certificate and verifies it,
-/// which says what is wrong.
-fn checked_by_own(alloc: Global, described: &Described) -> Result<Checked, Failure>
-    ensures shown { IfOk result (IsShown described.now.entry described.now.size.rows described.now.size.cols) }
-    ensures accepted { IfOk result (IsOwnTable described.now.entry described.now.size.rows described.now.size.cols) }
-    ensures lacks { IfErr result (LacksOwn described.now.entry described.now.size.rows described.now.size.cols) }
-{
-    if let Some(checked) = certified(alloc, described) {
-        return Ok(checked);
-    }
-    let text = certificate_of(alloc, described)?;
-    checked_by(alloc, described, text.as_slice())
 }
 
 /// Closes the session of `handle`; a handle that holds none stays as it is. Nothing is sent: `endwin` comes before it.

@@ -187,7 +187,14 @@ fn write_refusal<E: Write>(refusal: &CommandRefusal, err: &mut E) -> io::Result<
             write_shown(err, name.as_slice())?;
         }
         CommandRefusal::Verdict(words) => write_shown(err, words.as_slice())?,
-        _ => {}
+        CommandRefusal::Size
+        | CommandRefusal::Escape(_)
+        | CommandRefusal::Parm(_)
+        | CommandRefusal::Token(_)
+        | CommandRefusal::Stuck(_)
+        | CommandRefusal::Source(_)
+        | CommandRefusal::Resolve(ResolveFault::NoMemory)
+        | CommandRefusal::Pack(_) => {}
     }
     err.write_all(b"\n")
 }

@@ -27,7 +27,16 @@ fn explain_cause(
 ) -> Result<(), AllocError> {
     let row = match no.cause {
         Cause::NoResync => first_of_resync(alloc, entry, size),
-        _ => row_of(no),
+        Cause::FlagOut | Cause::Absent | Cause::AcsByte | Cause::NoMemory => None,
+        Cause::Parm(_)
+        | Cause::StaticRead
+        | Cause::Unfinished
+        | Cause::Stuck
+        | Cause::NotTame
+        | Cause::BadLook
+        | Cause::WrongEffect(_)
+        | Cause::NotShown
+        | Cause::TooLong => row_of(no),
     };
     match no.cause {
         Cause::FlagOut => explain_flag(no.cap, remarks),
@@ -56,7 +65,18 @@ fn explain_string(
     let unsent: &[u8] = match cause {
         Cause::StaticRead => STATIC_READ,
         Cause::Parm(fault) => unsent_words(fault),
-        _ => b" can't be expanded",
+        Cause::FlagOut
+        | Cause::Absent
+        | Cause::AcsByte
+        | Cause::Unfinished
+        | Cause::Stuck
+        | Cause::NotTame
+        | Cause::BadLook
+        | Cause::WrongEffect(_)
+        | Cause::NotShown
+        | Cause::TooLong
+        | Cause::NoResync
+        | Cause::NoMemory => b" can't be expanded",
     };
     match explain_field(alloc, entry, row, unsent, remarks)? {
         Some(bytes) => explain_sent(alloc, size, row, cause, bytes.as_slice(), remarks),
@@ -84,7 +104,14 @@ fn explain_sent(
         Cause::NotTame => remarks.add_words(NOT_TAME),
         Cause::TooLong => remarks.add_words(TOO_LONG),
         Cause::NoResync => remarks.add_words(NO_RESYNC),
-        _ => explain_unshown(alloc, size, row, bytes, remarks)?,
+        Cause::NotShown => explain_unshown(alloc, size, row, bytes, remarks)?,
+        // these are told before any bytes are looked at
+        Cause::FlagOut
+        | Cause::Absent
+        | Cause::AcsByte
+        | Cause::Parm(_)
+        | Cause::StaticRead
+        | Cause::NoMemory => {}
     }
     Ok(())
 }

@@ -70,7 +70,8 @@ fn is_entry(request: &Request<'_>, path: &str) -> bool {
         Request::Common { first, second } | Request::Neither { first, second } => {
             *first == path || *second == path
         }
-        _ => false,
+        Request::Expand(_) | Request::Feed { .. } | Request::FeedAs(_) => false,
+        Request::Survey(_) | Request::SurveyJson(_) => false,
     };
     named && path != "-" && !path.contains('/')
 }

@@ -1,0 +1,2 @@
+-- The definitions of an entry's own table.
+pub mod Owned
