@@ -1,9 +1,8 @@
 -- An entry's own certificate is accepted, unless memory runs out.
-use Rattle.std.proofs.Common.{◌≡◌, ℕ, Bool, true, false, List, Option, Some, None, Result, Ok, Err, inl, inr, refl, sym, ap, subst, ◌∙◌}
+use Rattle.std.proofs.Common.{◌≡◌, ℕ, true, false, List, Option, Some, None, Result, Ok, Err, inl, inr, refl, sym, ap, subst, ◌∙◌}
 use Rattle.std.proofs.lemmas.Bool.{false≢true}
 use Rattle.ti_caps.specs.Entry.{Content, string_at}
 use Rattle.ti_conforms.specs.Charsets.{IsAmong}
-use Rattle.ti_conforms.specs.Conforms.{Conforms, IsFit}
 use Rattle.ti_conforms.specs.Entries.{acsc, is_checked, EntryAgrees, EntrySends}
 use Rattle.ti_rows.specs.declared.rows.Row.{Row}
 use Rattle.ti_rows.specs.Lists.{IsInRange}
