@@ -6,6 +6,7 @@ import os
 import pty
 import select
 import shutil
+import signal
 import struct
 import subprocess
 import sys
@@ -27,6 +28,12 @@ WRONG = (
     "w|w,\n\tclear=\\E[H\\E[2J, cup=\\E[%i%p1%d;%p2%dH, sgr0=\\E[m,\n"
     "\tsetaf=\\E[3%p1%dm, setab=\\E[4%p1%dm, op=\\E[m,\n"
 )
+
+
+# A test in the background, or under nohup, ignores signals, and so would each program that it starts and sends them to.
+for number, usual in ((signal.SIGHUP, signal.SIG_DFL), (signal.SIGINT, signal.default_int_handler), (signal.SIGQUIT, signal.SIG_DFL)):
+    if signal.getsignal(number) == signal.SIG_IGN:
+        signal.signal(number, usual)
 
 
 def missing(script, *tools):
