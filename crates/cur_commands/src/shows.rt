@@ -2,8 +2,7 @@
 ghost use Rattle.std.specs.Prelude.{◌≡◌, [], IfOk, Some};
 ghost use Rattle.ti_commands.specs.Feeds.{ShowsAfter};
 ghost use Rattle.cur_play.specs.Log.{Ran};
-ghost use Rattle.cur_commands.specs.Shows.{IsTaken, ShowsRun};
-ghost use Rattle.cur_commands.specs.Through.{AreThrough, unfailing};
+ghost use Rattle.cur_commands.specs.{Shows.{IsTaken, ShowsRun}, Through.{AreThrough, unfailing}};
 
 use crate::refusals::refusal_lines;
 use crate::taken::Taken;

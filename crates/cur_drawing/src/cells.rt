@@ -89,8 +89,7 @@ pub struct Cell {
 impl Model for Cell {
     ghost use Rattle.std.specs.Prelude.{◌≡◌, ◌<◌, ◌≤◌, ◌+◌, ◌*◌, ◌%◌, ◌/◌, ℕ};
     ghost use Rattle.std.proofs.Common.{ap};
-    ghost use Rattle.cur_drawing.specs.Cells.{Content};
-    ghost use Rattle.cur_drawing.specs.Codes.{rejoined};
+    ghost use Rattle.cur_drawing.specs.{Cells.{Content}, Codes.{rejoined}};
 
     ghost Value = { Content };
 

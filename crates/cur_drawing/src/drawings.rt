@@ -1,8 +1,6 @@
 //! Writing, drawing and scrolling in one window.
 ghost use Rattle.std.specs.Prelude.{◌≡◌, ◌<◌, ◌≤◌, ◌+◌, ◌-◌, min, true};
-ghost use Rattle.cur_drawing.specs.Cells.{IsPrinted};
-ghost use Rattle.cur_drawing.specs.Grids.{shape_of};
-ghost use Rattle.cur_drawing.specs.Windows.{IsWindow, is_pair, is_printed};
+ghost use Rattle.cur_drawing.specs.{Cells.{IsPrinted}, Grids.{shape_of}, Windows.{IsWindow, is_pair, is_printed}};
 ghost use Rattle.cur_drawing.specs.Calls.{IsCanvas, IsKept, canvas, step, done, advanced, written, written_times};
 ghost use Rattle.cur_drawing.specs.Calls.{character, added, erased, cleared, insert_char, horizontal, vertical};
 ghost use Rattle.cur_drawing.specs.Calls.{IsBorder, sides, corners, bordered, scrolled, scroll_by, change_background};

@@ -1,8 +1,7 @@
 //! One window: its rectangle, cursor, background, scrolling region and options.
 ghost use Rattle.std.specs.Prelude.{◌≡◌, ◌<◌, ◌≤◌, ◌+◌, nat_lt, Option, IfSome, IfOk, bit_or, bit_and, ◌-◌, ◌==◌};
 ghost use Rattle.std.specs.Prelude.{if◌then◌else◌};
-ghost use Rattle.cur_drawing.specs.Cells.{IsPrinted};
-ghost use Rattle.cur_drawing.specs.Grids.{is_in};
+ghost use Rattle.cur_drawing.specs.{Cells.{IsPrinted}, Grids.{is_in}};
 ghost use Rattle.cur_drawing.specs.Windows.{IsWindow, fresh, lines_of, cells_of, column_of, place_below, count_to};
 ghost use Rattle.cur_drawing.specs.Windows.{first_pair, content, as_is, move_to, part_cursor, set_region, set_pair};
 ghost use Rattle.cur_drawing.specs.Windows.{set_background, is_printed, is_pair};

@@ -1,23 +1,16 @@
 //! Laws of the calls, each for all desks.
 ghost use Rattle.std.specs.Prelude.{◌≡◌, ◌≢◌, ◌⊎◌, ℕ, ◌+◌, ◌<◌, Bool, false, List, length, slice_index_or, Some, None};
 ghost use Rattle.std.specs.Prelude.{Ok, Err, IfOk, ℤ, pos};
-ghost use Rattle.cur_drawing.specs.Cells.{Content, space};
-ghost use Rattle.cur_drawing.specs.Grids.{Grid, cell_at, is_in};
-ghost use Rattle.cur_drawing.specs.Laws.{IsLocal};
-ghost use Rattle.cur_drawing.specs.Calls as calls;
-ghost use Rattle.cur_drawing.specs.Windows as window_calls;
+ghost use Rattle.cur_drawing.specs.{Cells.{Content, space}, Grids.{Grid, cell_at, is_in}, Laws.{IsLocal}};
+ghost use Rattle.cur_drawing.specs.{Calls as calls, Windows as window_calls, Refusals.{IsFirstOf}};
 ghost use Rattle.cur_windows.specs.Copies as copying;
 ghost use Rattle.cur_windows.specs.Desks.{State, IsDesk, slot_of, window_at, grid_at, cell, on_window, on_grid};
 ghost use Rattle.cur_windows.specs.Desks.{on_cursor, set, unchanged};
-ghost use Rattle.cur_windows.specs.Laws.{OnlyWithin, Apart, IsSubwindowOf, UnchangedIfRefused};
-ghost use Rattle.cur_windows.specs.Creations as making;
-ghost use Rattle.cur_drawing.specs.Refusals.{IsFirstOf};
-ghost use Rattle.cur_windows.specs.Refusals as causes;
-ghost use Rattle.cur_windows.specs.Rows.{line_of, line_area, row_written, written_through};
+ghost use Rattle.cur_windows.specs.{Laws.{OnlyWithin, Apart, IsSubwindowOf, UnchangedIfRefused}, Creations as making};
+ghost use Rattle.cur_windows.specs.{Refusals as causes, Rows.{line_of, line_area, row_written, written_through}};
+ghost use Rattle.cur_windows.specs.{Views.{window_cells}, Refreshes.{noutrefresh, noutrefresh_lines}};
 ghost use Rattle.cur_laws.specs.Places.{AreLinesShown, IsWindowShown, IsCopied, IsOverlaid, IsCopyOf};
-ghost use Rattle.cur_windows.specs.Views.{window_cells};
 ghost use Rattle.cur_screens.specs.VirtualScreen.{Screen};
-ghost use Rattle.cur_windows.specs.Refreshes.{noutrefresh, noutrefresh_lines};
 
 use cur_drawing::{Border, Cell, Put, Refusal, Window};
 use cur_screens::{Origin, Slot};

@@ -4,8 +4,7 @@ ghost use Rattle.ti_rows.specs.declared.rows.Row.TheVariants.{Sgr0};
 ghost use Rattle.ti_conforms.specs.Certified.{IsChecked, cell_limit, text_of};
 ghost use Rattle.cur_steps.specs.Inks.{CanShow, IsInk, IsColored, put_at, plain_brush};
 ghost use Rattle.cur_steps.specs.Beliefs.{IsNext, plain_limit, colors_limit, brush_limit, ready_limit, stamp_limit};
-ghost use Rattle.cur_steps.specs.Beliefs.{ink_limit};
-ghost use Rattle.cur_steps.specs.Steps.{IsGoal, Keeps, KeepsFrom, Makes, MakesFrom};
+ghost use Rattle.cur_steps.specs.{Beliefs.{ink_limit}, Steps.{IsGoal, Keeps, KeepsFrom, Makes, MakesFrom}};
 
 use crate::routes::is_alike;
 use crate::targets::Target;

@@ -1,10 +1,9 @@
 //! Erasures, each from a place and in the plain brush.
 ghost use Rattle.std.specs.Prelude.{◌≡◌, ◌<◌, ℕ, Some, None, OnOk, IfSome};
 ghost use Rattle.ti_conforms.specs.Certified.{IsChecked, cell_limit};
-ghost use Rattle.cur_steps.specs.Inks.{CanShow, plain_brush};
-ghost use Rattle.cur_steps.specs.Beliefs.{ready_limit};
-ghost use Rattle.cur_moves.specs.Erasures.{erasure_row, erased};
+ghost use Rattle.cur_steps.specs.{Inks.{CanShow, plain_brush}, Beliefs.{ready_limit}};
 ghost use Rattle.cur_steps.specs.Steps.{IsGoal, Keeps, Makes, MakesFrom};
+ghost use Rattle.cur_moves.specs.Erasures.{erasure_row, erased};
 
 use crate::cells::brush_as;
 use crate::reaches::reach_by_line;

@@ -1,9 +1,7 @@
 //! Single lines that go out while margins may be set.
 ghost use Rattle.std.specs.Prelude.{◌≡◌, ◌+◌, ◌<◌, ◌≤◌, ℕ, true, Some};
-ghost use Rattle.ti_conforms.specs.Certified.{IsChecked, has, limit_of};
-ghost use Rattle.ti_conforms.specs.Table.{widening};
-ghost use Rattle.cur_steps.specs.Pieces.{paints};
-ghost use Rattle.cur_steps.specs.declared.beliefs.Belief.{Belief};
+ghost use Rattle.ti_conforms.specs.{Certified.{IsChecked, has, limit_of}, Table.{widening}};
+ghost use Rattle.cur_steps.specs.{Pieces.{paints}, declared.beliefs.Belief.{Belief}};
 ghost use Rattle.ti_rows.specs.declared.rows.Row.TheVariants.{Csr};
 ghost use Rattle.cur_moves.specs.Frames.{Frame, Moves, Reframes, framed};
 

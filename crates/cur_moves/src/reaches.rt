@@ -1,12 +1,9 @@
 //! Moving to a place along a way: by a line, over cells that are printed again, or first by a line to a stop.
 ghost use Rattle.std.specs.Prelude.{◌≡◌, ◌+◌, ◌*◌, ◌<◌, ◌≤◌, ℕ, length, Some, OnOk};
 ghost use Rattle.ti_conforms.specs.Certified.{IsChecked, text_of};
-ghost use Rattle.cur_steps.specs.Inks.{CanShow};
-ghost use Rattle.cur_steps.specs.Beliefs.{moves};
-ghost use Rattle.cur_steps.specs.Gaps.{IsAlike, right};
-ghost use Rattle.cur_moves.specs.Moves.{IsFewest};
-ghost use Rattle.cur_moves.specs.Routes.{IsLeg, IsStop, IsRoute, leg_bytes, at_stop};
+ghost use Rattle.cur_steps.specs.{Inks.{CanShow}, Beliefs.{moves}, Gaps.{IsAlike, right}};
 ghost use Rattle.cur_steps.specs.Steps.{IsGoal, Keeps, KeepsFrom};
+ghost use Rattle.cur_moves.specs.{Moves.{IsFewest}, Routes.{IsLeg, IsStop, IsRoute, leg_bytes, at_stop}};
 
 use crate::moves::shortest;
 use crate::routes::{Leg, Route, Stop};

@@ -1,12 +1,9 @@
 //! A region of the screen that the terminal scrolls.
 ghost use Rattle.std.specs.Prelude.{◌≡◌, ◌+◌, ◌-◌, ◌*◌, ◌<◌, ◌≤◌, ℕ, OnOk};
 ghost use Rattle.ti_conforms.specs.Certified.{IsChecked, cell_limit};
-ghost use Rattle.cur_steps.specs.declared.beliefs.Belief.{Belief};
-ghost use Rattle.cur_steps.specs.declared.inks.Ink.{Ink};
-ghost use Rattle.cur_steps.specs.Inks.{plain_brush};
+ghost use Rattle.cur_steps.specs.{declared.beliefs.Belief.{Belief}, declared.inks.Ink.{Ink}, Inks.{plain_brush}};
 ghost use Rattle.cur_steps.specs.Steps.{Makes};
-ghost use Rattle.cur_moves.specs.Scrolls.{CanScroll, shifted};
-ghost use Rattle.cur_moves.specs.Frames.{Frame, Moves, at_edge, whole};
+ghost use Rattle.cur_moves.specs.{Scrolls.{CanScroll, shifted}, Frames.{Frame, Moves, at_edge, whole}};
 
 use crate::cells::brush_as;
 use crate::frames::{send_row, set_frame};

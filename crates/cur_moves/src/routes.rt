@@ -1,10 +1,8 @@
 //! The way to a place, chosen by its bytes: by a line, over the cells between, which are printed again, or first by a
 //! line to a stop.
 ghost use Rattle.std.specs.Prelude.{◌≡◌, ◌+◌, ◌<◌, ◌≤◌, ℕ, true, IfSome};
-ghost use Rattle.cur_steps.specs.Gaps.{IsAlike, IsGap};
-ghost use Rattle.cur_steps.specs.declared.beliefs.Place.{Place};
+ghost use Rattle.cur_steps.specs.{Gaps.{IsAlike, IsGap}, declared.beliefs.Place.{Place}, Steps.{IsGoal}};
 ghost use Rattle.cur_moves.specs.Routes.{IsLeg, IsRoute, LeadsFrom, leg_bytes};
-ghost use Rattle.cur_steps.specs.Steps.{IsGoal};
 
 use crate::moves::shortest;
 use crate::targets::Target;

@@ -1,9 +1,6 @@
 //! Characters of a line that go out in one piece.
 ghost use Rattle.std.specs.Prelude.{◌≡◌, ◌+◌, ◌<◌, ◌≤◌, ℕ, true, length, slice_index_or};
-ghost use Rattle.cur_steps.specs.Inks.{CanShow, mixed};
-ghost use Rattle.cur_steps.specs.Gaps.{IsAlike};
-ghost use Rattle.cur_steps.specs.Steps.{ActsWith};
-ghost use Rattle.cur_steps.specs.declared.inks.Ink.{Ink};
+ghost use Rattle.cur_steps.specs.{Inks.{CanShow, mixed}, Gaps.{IsAlike}, Steps.{ActsWith}, declared.inks.Ink.{Ink}};
 
 use crate::routes::is_alike;
 use crate::targets::Target;

@@ -1,8 +1,7 @@
 //! Checks of a pad.
 ghost use Rattle.std.specs.Prelude.{◌≡◌, Ok, IfOk};
 ghost use Rattle.cur_screens.specs.declared.slots.Slot.{Slot};
-ghost use Rattle.cur_windows.specs.Desks.{slot_of};
-ghost use Rattle.cur_windows.specs.Sizes.{size_in};
+ghost use Rattle.cur_windows.specs.{Desks.{slot_of}, Sizes.{size_in}};
 ghost use Rattle.cur_pads.specs.Creations.{pad_of};
 
 use cur_windows::{Desk, Refusal};

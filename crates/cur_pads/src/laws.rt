@@ -1,13 +1,10 @@
 //! Laws of the calls, each for all desks and screens.
 ghost use Rattle.std.specs.Prelude.{ℕ, ℤ};
-ghost use Rattle.cur_windows.specs.Desks.{State, IsDesk};
-ghost use Rattle.cur_windows.specs.Laws.{UnchangedIfRefused};
+ghost use Rattle.cur_windows.specs.{Desks.{State, IsDesk}, Laws.{UnchangedIfRefused}};
 ghost use Rattle.cur_screens.specs.VirtualScreen.{Screen};
-ghost use Rattle.cur_pads.specs.Laws.{BothUnchangedIfRefused, ShowsCells};
-ghost use Rattle.cur_pads.specs.Creations.{newpad, subpad};
+ghost use Rattle.cur_pads.specs.{Laws.{BothUnchangedIfRefused, ShowsCells}, Creations.{newpad, subpad}};
+ghost use Rattle.cur_pads.specs.{Refusals as causes, Displays.{pnoutrefresh}};
 ghost use Rattle.cur_drawing.specs.Refusals.{IsFirstOf};
-ghost use Rattle.cur_pads.specs.Refusals as causes;
-ghost use Rattle.cur_pads.specs.Displays.{pnoutrefresh};
 
 /// If a part of a pad is shown, the screen's places from its first row and column to its last ones
 /// have the pad's cells, and all others keep their cells.

@@ -1,7 +1,6 @@
 //! The number of cells in which two screens differ.
 ghost use Rattle.std.specs.Prelude.{◌≡◌, ◌+◌, ◌-◌, ◌<◌, ◌≤◌, true, false};
-ghost use Rattle.cur_paint.specs.Differ.{differs, span};
-ghost use Rattle.cur_paint.specs.Scenes.{IsPaintable, all_changed, scene};
+ghost use Rattle.cur_paint.specs.{Differ.{differs, span}, Scenes.{IsPaintable, all_changed, scene}};
 
 use crate::changes::{Changes, Columns};
 use crate::pieces::differs_in;

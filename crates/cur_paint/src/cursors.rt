@@ -1,7 +1,6 @@
 //! Painting the differences, and ending in the default rendition with the cursor in its mode and place.
 ghost use Rattle.std.specs.Prelude.{◌≡◌, OnOk};
-ghost use Rattle.cur_paint.specs.Limits.{IsWithin, renewal_limit, rest_limit};
-ghost use Rattle.cur_paint.specs.Modes.{move_limit};
+ghost use Rattle.cur_paint.specs.{Limits.{IsWithin, renewal_limit, rest_limit}, Modes.{move_limit}};
 ghost use Rattle.cur_paint.specs.Rests.{IsAt, IsRested};
 ghost use Rattle.cur_paint.specs.Scenes.{AreChanges, CanPaint, Ends, IsPaintable, IsSame, scene};
 ghost use Rattle.cur_steps.specs.Steps.{ActsWith, Keeps};

@@ -1,14 +1,10 @@
 //! The bytes that may go out before differences are mended: the resynchronization, `clear`, or a scroll.
 ghost use Rattle.std.specs.Prelude.{◌+◌, ◌≡◌, List, OnOk, Some, length, ℕ};
 ghost use Rattle.cur_moves.specs.Scrolls.{CanScroll};
-ghost use Rattle.cur_paint.specs.Cleared.{IsLeft};
-ghost use Rattle.cur_paint.specs.Limits.{fresh_limit, paint_limit, renewal_limit};
+ghost use Rattle.cur_paint.specs.{Cleared.{IsLeft}, Limits.{fresh_limit, paint_limit, renewal_limit}};
 ghost use Rattle.cur_paint.specs.Rests.{IsRested, IsSet};
-ghost use Rattle.cur_paint.specs.Scenes.{AreChanges, CanPaint, Ends, IsSame, ScrollSaves, scene};
-ghost use Rattle.cur_paint.specs.Update.{Anew};
-ghost use Rattle.cur_steps.specs.Beliefs.{Agrees};
-ghost use Rattle.cur_steps.specs.Inks.{blank_ink};
-ghost use Rattle.cur_steps.specs.declared.inks.Ink.{Ink};
+ghost use Rattle.cur_paint.specs.{Scenes.{AreChanges, CanPaint, Ends, IsSame, ScrollSaves, scene}, Update.{Anew}};
+ghost use Rattle.cur_steps.specs.{Beliefs.{Agrees}, Inks.{blank_ink}, declared.inks.Ink.{Ink}};
 ghost use Rattle.ti_rows.specs.declared.rows.Row.TheVariants.{Clear};
 
 use crate::changes::{Changes, Moved, Whole};

@@ -1,14 +1,9 @@
 //! Laws of the bound, and of the states in which a session begins.
 ghost use Rattle.std.specs.Prelude.{◌≡◌, ◌≤◌, ◌+◌, ◌*◌, ℕ, Option, Some};
 ghost use Rattle.ti_conforms.specs.Certified.{IsChecked, Table, cell_limit};
-ghost use Rattle.cur_steps.specs.Beliefs.{Agrees};
-ghost use Rattle.cur_steps.specs.declared.beliefs.Belief.{Belief};
-ghost use Rattle.cur_steps.specs.declared.beliefs.Place.{Place};
-ghost use Rattle.cur_steps.specs.declared.beliefs.Mode.{Mode};
-ghost use Rattle.cur_steps.specs.declared.inks.Ink.{Ink};
-ghost use Rattle.cur_paint.specs.Differ.{all_differ};
-ghost use Rattle.cur_paint.specs.Limits.{IsCursor, paint_limit};
-ghost use Rattle.cur_paint.specs.Update.{IsFresh};
+ghost use Rattle.cur_steps.specs.{Beliefs.{Agrees}, declared.beliefs.Belief.{Belief}, declared.beliefs.Place.{Place}};
+ghost use Rattle.cur_steps.specs.{declared.beliefs.Mode.{Mode}, declared.inks.Ink.{Ink}};
+ghost use Rattle.cur_paint.specs.{Differ.{all_differ}, Limits.{IsCursor, paint_limit}, Update.{IsFresh}};
 ghost use Rattle.vt_term.specs.Screen.{State, reset};
 
 /// The most that a refresh of a known terminal sends: the bytes of a cell for each cell that differs, and once more for

@@ -1,12 +1,10 @@
 //! The painter at work: mends cells, parts of lines, lines and the screen where they differ from the wanted ones.
 ghost use Rattle.std.specs.Prelude.{◌<◌, ◌≡◌, ◌≤◌, OnOk, Some, length, ℕ};
 ghost use Rattle.cur_moves.specs.Erasures.{erased, erasure_row};
-ghost use Rattle.cur_paint.specs.Blanks.{IsBlankFrom};
-ghost use Rattle.cur_paint.specs.Differ.{IsSameOutside, differs};
-ghost use Rattle.cur_paint.specs.Scenes.{AreChanges, AreInked, IsBlankPast, IsOn, IsPaintable, IsSame};
-ghost use Rattle.cur_paint.specs.Scenes.{IsSamePast, IsShort};
-ghost use Rattle.cur_paint.specs.Scenes.{MendsAll, MendsBelow, MendsCells, MendsFrom, MendsLine};
-ghost use Rattle.cur_paint.specs.Scenes.{changed_from, scene};
+ghost use Rattle.cur_paint.specs.{Blanks.{IsBlankFrom}, Differ.{IsSameOutside, differs}};
+ghost use Rattle.cur_paint.specs.Scenes.{AreChanges, AreInked, IsBlankPast, IsOn, IsPaintable, IsSame, IsSamePast};
+ghost use Rattle.cur_paint.specs.Scenes.{IsShort, MendsAll, MendsBelow, MendsCells, MendsFrom, MendsLine, changed_from};
+ghost use Rattle.cur_paint.specs.Scenes.{scene};
 ghost use Rattle.cur_steps.specs.Steps.{MakesFrom};
 ghost use Rattle.ti_conforms.specs.Certified.{cell_limit};
 ghost use Rattle.ti_rows.specs.declared.rows.Row.TheVariants.{Ed};

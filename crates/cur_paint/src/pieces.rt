@@ -1,9 +1,7 @@
 //! The characters of a line that go out in one piece.
 ghost use Rattle.std.specs.Prelude.{◌*◌, ◌+◌, ◌<◌, ◌≡◌, ◌≤◌, false, length, true, ℕ};
-ghost use Rattle.cur_paint.specs.Differ.{IsSameBy, span};
-ghost use Rattle.cur_paint.specs.Scenes.{AreInked, IsOn, IsPaintable, IsShort, scene};
-ghost use Rattle.cur_steps.specs.Gaps.{IsAlike};
-ghost use Rattle.cur_steps.specs.declared.inks.Ink.{Ink};
+ghost use Rattle.cur_paint.specs.{Differ.{IsSameBy, span}, Scenes.{AreInked, IsOn, IsPaintable, IsShort, scene}};
+ghost use Rattle.cur_steps.specs.{Gaps.{IsAlike}, declared.inks.Ink.{Ink}};
 ghost use Rattle.ti_conforms.specs.Certified.{cell_limit};
 
 use crate::screens::Screens;

@@ -1,7 +1,6 @@
 //! The runs of blanks within a line that are erased, because that takes fewer bytes than printing them.
 ghost use Rattle.std.specs.Prelude.{◌+◌, ◌<◌, ◌≡◌, ◌≤◌, IfSome, true, ℕ};
-ghost use Rattle.cur_paint.specs.Differ.{span};
-ghost use Rattle.cur_paint.specs.Scenes.{IsOn, IsPaintable, scene};
+ghost use Rattle.cur_paint.specs.{Differ.{span}, Scenes.{IsOn, IsPaintable, scene}};
 ghost use Rattle.cur_steps.specs.Inks.{blank_ink};
 ghost use Rattle.ti_conforms.specs.Certified.{IsChecked};
 

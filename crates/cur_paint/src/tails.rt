@@ -1,7 +1,6 @@
 //! The blank ends of lines and of the screen, and whether one erasure of them takes the fewest bytes.
 ghost use Rattle.std.specs.Prelude.{◌<◌, ◌≡◌, ◌≤◌, IfSome, Some, ℕ};
-ghost use Rattle.cur_paint.specs.Blanks.{IsBlankFrom};
-ghost use Rattle.cur_paint.specs.Scenes.{IsBlankPast, IsPaintable, changed_from, scene};
+ghost use Rattle.cur_paint.specs.{Blanks.{IsBlankFrom}, Scenes.{IsBlankPast, IsPaintable, changed_from, scene}};
 ghost use Rattle.cur_steps.specs.Inks.{blank_ink};
 ghost use Rattle.ti_rows.specs.declared.rows.Row.TheVariants.{Ed, El};
 

@@ -8,14 +8,10 @@
 //! Functions that weigh one way against another send nothing: `choices.rt`, and for a line `pieces.rt`, `runs.rt` and
 //! `tails.rt`.
 ghost use Rattle.std.specs.Prelude.{◌≡◌, false};
-ghost use Rattle.cur_paint.specs.Cleared.{at_start};
-ghost use Rattle.cur_paint.specs.Limits.{IsWithin};
-ghost use Rattle.cur_paint.specs.Rests.{IsRested, cursor_of, rested};
-ghost use Rattle.cur_paint.specs.Scenes.{AreChanges, CanPaint, IsSame, scene};
-ghost use Rattle.cur_paint.specs.Update.{Draws, Made, Refreshes};
+ghost use Rattle.cur_paint.specs.{Cleared.{at_start}, Limits.{IsWithin}, Rests.{IsRested, cursor_of, rested}};
+ghost use Rattle.cur_paint.specs.{Scenes.{AreChanges, CanPaint, IsSame, scene}, Update.{Draws, Made, Refreshes}};
 ghost use Rattle.cur_paint.specs.declared.updates.Status.TheVariants.{Fresh, Known};
-ghost use Rattle.cur_steps.specs.Beliefs.{CanHide};
-ghost use Rattle.cur_steps.specs.Inks.{CanShow};
+ghost use Rattle.cur_steps.specs.{Beliefs.{CanHide}, Inks.{CanShow}};
 
 use crate::changes::Changes;
 use crate::lasting::Lasting;

@@ -2,8 +2,7 @@
 ghost use Rattle.std.specs.Prelude.{◌≡◌};
 ghost use Rattle.cur_screens.specs.Marks.{Keeps};
 ghost use Rattle.cur_windows.specs.TouchedWindows.{ShowsBut};
-ghost use Rattle.cur_play.specs.Drawings.{Draws, SameSizes};
-ghost use Rattle.cur_play.specs.Groups.{showing};
+ghost use Rattle.cur_play.specs.{Drawings.{Draws, SameSizes}, Groups.{showing}};
 
 use crate::answers::{Answer, answer_of, mode_answer};
 use crate::creations::make;

@@ -1,8 +1,7 @@
 //! Runs of many calls.
 ghost use Rattle.std.specs.Prelude.{◌≡◌, ◌<◌, ◌≤◌, [], length, vec_capacity, vec_len, IfOk, OnErr, OnOk};
 ghost use Rattle.cur_wires.specs.Counted.{Counts};
-ghost use Rattle.cur_play.specs.Log.{HasRun, Ran, paced_subject_of, subject_of};
-ghost use Rattle.cur_play.specs.Runs.{HasRunOn, RanOn};
+ghost use Rattle.cur_play.specs.{Log.{HasRun, Ran, paced_subject_of, subject_of}, Runs.{HasRunOn, RanOn}};
 ghost use Rattle.cur_play.specs.Scenes.{first, scene_of};
 
 use crate::answers::Answer;

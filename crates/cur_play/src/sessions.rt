@@ -6,9 +6,7 @@ ghost use Rattle.cur_windows.specs.Desks.{on_window};
 ghost use Rattle.cur_calls.specs.declared.groups.CellCall.TheVariants.{Addch};
 ghost use Rattle.cur_calls.specs.declared.groups.NumberCall.TheVariants.{ColorSet};
 ghost use Rattle.cur_calls.specs.declared.groups.NumbersCall.TheVariants.{Move};
-ghost use Rattle.cur_play.specs.StaleMarks.{IsKnown};
-ghost use Rattle.cur_play.specs.Deliveries.{Carries};
-ghost use Rattle.cur_play.specs.Outputs.{poised};
+ghost use Rattle.cur_play.specs.{StaleMarks.{IsKnown}, Deliveries.{Carries}, Outputs.{poised}};
 ghost use Rattle.cur_play.specs.Scenes.{IsStage, first, lost_stage, scene_of};
 ghost use Rattle.cur_play.specs.Steps.{CallStep, DoesAlone, drawn, lines_shown, output_of, recolored};
 ghost use Rattle.cur_play.specs.Windows.{attributes_step, cell_step, number_step, numbers_step};
@@ -37,8 +35,7 @@ pub struct Session<C: Certificate> {
 
 impl<C: Certificate> Model for Session<C> {
     ghost use Rattle.ti_conforms.specs.Certified.{IsChecked};
-    ghost use Rattle.cur_play.specs.StaleMarks.{IsKnown};
-    ghost use Rattle.cur_play.specs.Scenes.{Stage, IsStage};
+    ghost use Rattle.cur_play.specs.{StaleMarks.{IsKnown}, Scenes.{Stage, IsStage}};
 
     ghost Value = { Stage C };
 

@@ -1,10 +1,9 @@
 //! Copying rectangles of cells between grids.
 ghost use Rattle.std.specs.Prelude.{◌≡◌, ◌<◌, ◌≤◌, ◌+◌, ◌-◌, ℕ, length, slice_index_or};
-ghost use Rattle.cur_drawing.specs.Cells.{space};
-ghost use Rattle.cur_drawing.specs.Calls.{place};
+ghost use Rattle.cur_drawing.specs.{Cells.{space}, Calls.{place}};
 ghost use Rattle.cur_drawing.specs.Grids.{Fits, copied, drawn_in, line_at, moved_to, overlaid, row_of, shape_of, taken};
-ghost use Rattle.cur_screens.specs.Marks.{AreSame, IsCopiedBut, IsSameIn, Keeps, MarksOnly};
 ghost use Rattle.cur_drawing.specs.Spans.{ArePlaces};
+ghost use Rattle.cur_screens.specs.Marks.{AreSame, IsCopiedBut, IsSameIn, Keeps, MarksOnly};
 
 use crate::differences::changed;
 use crate::marks::Marks;

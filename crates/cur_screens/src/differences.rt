@@ -1,6 +1,5 @@
 //! The places where two lists of cells differ.
-ghost use Rattle.std.specs.Prelude.{ℕ, length, slice_index_or, ◌≡◌, ◌<◌, ◌≤◌, ◌+◌, true, false};
-ghost use Rattle.std.specs.Bool.{OnTrue};
+ghost use Rattle.std.specs.{Prelude.{ℕ, length, slice_index_or, ◌≡◌, ◌<◌, ◌≤◌, ◌+◌, true, false}, Bool.{OnTrue}};
 ghost use Rattle.cur_drawing.specs.Cells.{content_of, space};
 ghost use Rattle.cur_screens.specs.Differences.{AreEqualAt, AreEqualIn, IsChanged, IsFirst, IsLast};
 

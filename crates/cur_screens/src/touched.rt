@@ -2,12 +2,11 @@
 ghost use Rattle.std.specs.Prelude.{◌≡◌, ◌≢◌, ◌⊎◌, ◌<◌, ◌≤◌, ◌+◌, ℕ, IfErr, IfOk, IfSome, None, OnOk, false, true};
 ghost use Rattle.std.specs.Prelude.{length, replicate};
 ghost use Rattle.cur_screens.specs.Marks.{JoinsMarks, none_marked};
-ghost use Rattle.cur_drawing.specs.Calls.{IsCanvas};
-ghost use Rattle.cur_drawing.specs.Windows.{IsWindow};
 ghost use Rattle.cur_screens.specs.Touched.{AreFull, ArePrinted, AreTouched, FillsAll, FitsLine, TakesMarksOff};
 ghost use Rattle.cur_screens.specs.Touched.{IsOneCell, LeavesMarks, IsTouched, LiesWithin, MarksArea, MarksCells};
 ghost use Rattle.cur_screens.specs.Touched.{MarksGrid, MarksLines, Spreads, TouchesGrid, all_marked, full_from};
 ghost use Rattle.cur_screens.specs.Touched.{grid_marks};
+ghost use Rattle.cur_drawing.specs.{Calls.{IsCanvas}, Windows.{IsWindow}};
 
 use crate::marks::Marks;
 use crate::slots::{Extent, Origin, Slot, WINDOWS};

@@ -1,10 +1,7 @@
 //! The virtual screen and its color pairs.
 ghost use Rattle.std.specs.Prelude.{ℕ, length, slice_index_or, ◌≡◌, ◌<◌, ◌≤◌, ◌+◌, IfOk, IfSome, replicate, true};
-ghost use Rattle.cur_drawing.specs.Cells.{IsCell, space};
-ghost use Rattle.cur_drawing.specs.Grids.{Fits, blank, line_at, moved_to};
-ghost use Rattle.cur_screens.specs.Marks.{AreSame, IsCopiedBut, Keeps, MarksOnly};
-ghost use Rattle.cur_drawing.specs.Spans.{ArePlaces};
-ghost use Rattle.cur_screens.specs.VirtualScreen as spec;
+ghost use Rattle.cur_drawing.specs.{Cells.{IsCell, space}, Grids.{Fits, blank, line_at, moved_to}, Spans.{ArePlaces}};
+ghost use Rattle.cur_screens.specs.{Marks.{AreSame, IsCopiedBut, Keeps, MarksOnly}, VirtualScreen as spec};
 
 use crate::copies::{AreaCopy, copy_changed, copy_marked};
 use crate::hints::{Hint, Owners, Scroll, remember};

@@ -1,8 +1,6 @@
 //! A line of a script.
 ghost use Rattle.std.specs.Prelude.{◌≡◌, ◌++◌, Some, option_map, IfErr, OnOk};
-ghost use Rattle.cur_scripts.specs.Table.{call_of};
-ghost use Rattle.cur_scripts.specs.Takers.{HandsOn};
-ghost use Rattle.cur_scripts.specs.Texts.{is_skipped, line_calls, LineFails};
+ghost use Rattle.cur_scripts.specs.{Table.{call_of}, Takers.{HandsOn}, Texts.{is_skipped, line_calls, LineFails}};
 
 use crate::faults::{ScriptFault, ScriptFaultKind};
 use crate::table::hand_on_named;

@@ -1,7 +1,6 @@
 //! Reading a whole script.
 ghost use Rattle.std.specs.Prelude.{◌≡◌, ◌∷◌, [], IfOk, IfErr, IfSome, Ok, option_map};
-ghost use Rattle.cur_scripts.specs.Cuts.{cut_at};
-ghost use Rattle.cur_scripts.specs.Texts.{FailsBy, only_call, only_line, script_of};
+ghost use Rattle.cur_scripts.specs.{Cuts.{cut_at}, Texts.{FailsBy, only_call, only_line, script_of}};
 
 use crate::cuts::{cut, first_part};
 use crate::faults::{ScriptFault, ScriptFaultKind};

@@ -40,8 +40,7 @@ pub struct Cells {
 /// A screen that can be asked for the ink of each of its places.
 pub trait Picture {
     ghost use Rattle.std.specs.Prelude.{◌+◌, ◌≤◌, length};
-    ghost use Rattle.cur_steps.specs.Inks.{byte_as, same, blank_ink};
-    ghost use Rattle.cur_steps.specs.Stretches.{AreShown, IsTextLike};
+    ghost use Rattle.cur_steps.specs.{Inks.{byte_as, same, blank_ink}, Stretches.{AreShown, IsTextLike}};
     ghost use Rattle.cur_steps.specs.declared.inks.Ink.{Ink};
 
     ghost cells: { Self → ℕ → ℕ → Ink };

@@ -1,9 +1,7 @@
 //! The lines of a certificate: whether there is one, and sending it.
 ghost use Rattle.std.specs.Prelude.{◌≡◌, ◌≤◌, ℕ, length, Some, true};
 ghost use Rattle.ti_conforms.specs.Certified.{IsChecked, has, limit_of, text_of};
-ghost use Rattle.cur_steps.specs.Beliefs.{Belief, LeadsTo, Passes, Turns};
-ghost use Rattle.cur_steps.specs.Pieces.{paints};
-ghost use Rattle.cur_steps.specs.Steps.{Acts, KeepsText};
+ghost use Rattle.cur_steps.specs.{Beliefs.{Belief, LeadsTo, Passes, Turns}, Pieces.{paints}, Steps.{Acts, KeepsText}};
 ghost use Rattle.cur_steps.specs.declared.inks.Ink.{Ink};
 
 use crate::pens::Sent;

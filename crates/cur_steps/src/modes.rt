@@ -2,8 +2,7 @@
 ghost use Rattle.std.specs.Prelude.{◌≡◌, ◌*◌, ℕ, true, false, Some, OnOk};
 ghost use Rattle.ti_conforms.specs.Certified.{IsChecked, limit_of, text_of};
 ghost use Rattle.cur_steps.specs.Beliefs.{CanHide, Normal, Prominent, changes, mode_row, mode_text, modes_limit};
-ghost use Rattle.cur_steps.specs.Beliefs.{setting_text};
-ghost use Rattle.cur_steps.specs.Steps.{KeepsBy};
+ghost use Rattle.cur_steps.specs.{Beliefs.{setting_text}, Steps.{KeepsBy}};
 
 use crate::beliefs::Mode;
 use crate::lines::send_line_of;

@@ -1,10 +1,8 @@
 //! The set that is active after a string of attributes, and whether it leads to one rendition.
-ghost use Rattle.std.specs.Prelude.{◌≡◌, IfSome, true};
-ghost use Rattle.std.specs.List.{list_all};
+ghost use Rattle.std.specs.{Prelude.{◌≡◌, IfSome, true}, List.{list_all}};
 ghost use Rattle.vt_term.specs.Parameters as parameters;
 ghost use Rattle.ti_conforms.specs.Certified.{IsChecked};
-ghost use Rattle.cur_steps.specs.Sets as spec;
-ghost use Rattle.cur_steps.specs.Sets.{FixesRendition, IsBeside, IsRendition, LeavesSet};
+ghost use Rattle.cur_steps.specs.{Sets as spec, Sets.{FixesRendition, IsBeside, IsRendition, LeavesSet}};
 
 use ti_conforms::Certificate;
 use ti_rows::Row;

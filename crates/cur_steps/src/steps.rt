@@ -1,15 +1,12 @@
 //! The single steps of a painter. Each sends at most one line or one character, but attributes may take several lines
 //! if the entry has no `sgr`.
 ghost use Rattle.std.specs.Prelude.{◌≡◌, ◌+◌, ℕ, Bool, true, false, Option, Some, None, IfSome, OnOk};
-ghost use Rattle.vt_term.specs.Color.{Color};
-ghost use Rattle.vt_term.specs.Look.{IsPrinted};
+ghost use Rattle.vt_term.specs.{Color.{Color}, Look.{IsPrinted}};
 ghost use Rattle.ti_rows.specs.declared.rows.Row.TheVariants.{Op, Sgr, Smacs};
 ghost use Rattle.ti_conforms.specs.Certified.{IsChecked, has};
-ghost use Rattle.cur_steps.specs.Inks.{put_at};
-ghost use Rattle.cur_steps.specs.Beliefs.{moves, IsNext, set_row};
+ghost use Rattle.cur_steps.specs.{Inks.{put_at}, Beliefs.{moves, IsNext, set_row}};
 ghost use Rattle.cur_steps.specs.Grounds.{color_limit, color_of, color_row, with_color};
-ghost use Rattle.cur_steps.specs.Sets.{EndsUncolored, FixesRendition};
-ghost use Rattle.cur_steps.specs.declared.inks.Brush.{Brush};
+ghost use Rattle.cur_steps.specs.{Sets.{EndsUncolored, FixesRendition}, declared.inks.Brush.{Brush}};
 ghost use Rattle.cur_steps.specs.Steps.{IsGoal, Keeps, Makes};
 
 use crate::beliefs::Place;

@@ -1,12 +1,10 @@
 //! The places where the virtual screen differs from the screen shown last.
 ghost use Rattle.std.specs.Prelude.{◌≡◌, ◌<◌, ◌≤◌, ◌+◌, ℕ, true, length, IfSome};
-ghost use Rattle.cur_screens.specs.Differences.{AreEqualIn};
-ghost use Rattle.cur_screens.specs.Marks.{AreSame};
+ghost use Rattle.cur_screens.specs.{Differences.{AreEqualIn}, Marks.{AreSame}};
 ghost use Rattle.cur_steps.specs.declared.inks.Ink.{Ink};
 ghost use Rattle.cur_drawing.specs.Cells.{IsCell};
 ghost use Rattle.cur_paint.specs.Differ.{AreSameOutside};
-ghost use Rattle.cur_update.specs.Inks.{content_at};
-ghost use Rattle.cur_update.specs.Shift.{AreAlikeOutside, AreFound, IsShift, found_at};
+ghost use Rattle.cur_update.specs.{Inks.{content_at}, Shift.{AreAlikeOutside, AreFound, IsShift, found_at}};
 
 use crate::scrolls::{found_scroll, scroll_of};
 use cur_drawing::{Cell, Span};

@@ -3,13 +3,10 @@ ghost use Rattle.std.specs.Prelude.{◌≡◌, ◌≤◌, ◌+◌, ◌*◌, ℕ,
 ghost use Rattle.cur_screens.specs.VirtualScreen.{Screen};
 ghost use Rattle.ti_conforms.specs.Certified.{Table, cell_limit};
 ghost use Rattle.vt_term.specs.Screen.{State};
-ghost use Rattle.cur_steps.specs.Beliefs.{Agrees};
-ghost use Rattle.cur_steps.specs.declared.beliefs.Belief.{Belief};
-ghost use Rattle.cur_steps.specs.declared.beliefs.Place.{Place};
+ghost use Rattle.cur_steps.specs.{Beliefs.{Agrees}, declared.beliefs.Belief.{Belief}, declared.beliefs.Place.{Place}};
 ghost use Rattle.cur_steps.specs.declared.beliefs.Mode.{Mode};
 ghost use Rattle.cur_paint.specs.Limits.{IsCursor, paint_limit};
-ghost use Rattle.cur_update.specs.Differ.{in_lines};
-ghost use Rattle.cur_update.specs.Inks.{ink_at};
+ghost use Rattle.cur_update.specs.{Differ.{in_lines}, Inks.{ink_at}};
 
 /// The most that a refresh from one virtual screen to another sends, if the terminal is known: the limit of a cell for
 /// each cell that differs, and once more for the cursor. Nothing if no cell differs, the mode is the shown one, and the

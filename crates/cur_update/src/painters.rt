@@ -1,14 +1,11 @@
 //! A painter, which makes a terminal show the virtual screen.
 ghost use Rattle.std.specs.Prelude.{◌≡◌, IfOk, OnOk, OnErr};
-ghost use Rattle.cur_screens.specs.Marks.{AreSame};
+ghost use Rattle.cur_screens.specs.{Marks.{AreSame}, VirtualScreen.{new_screen}};
 ghost use Rattle.cur_steps.specs.declared.beliefs.Mode.TheVariants.{Normal};
-ghost use Rattle.cur_paint.specs.declared.updates.Status.TheVariants.{Fresh, Lost};
-ghost use Rattle.cur_paint.specs.Finish.{Finishes};
+ghost use Rattle.cur_paint.specs.{declared.updates.Status.TheVariants.{Fresh, Lost}, Finish.{Finishes}};
 ghost use Rattle.cur_paint.specs.Update.{Refreshes};
-ghost use Rattle.cur_screens.specs.VirtualScreen.{new_screen};
 ghost use Rattle.cur_update.specs.Inks.{ink_at, means_of};
-ghost use Rattle.cur_update.specs.Painters.{IsPainter, mode_number, mode_of, set_mode, wanted_of};
-ghost use Rattle.cur_update.specs.Beep.{Rings};
+ghost use Rattle.cur_update.specs.{Painters.{IsPainter, mode_number, mode_of, set_mode, wanted_of}, Beep.{Rings}};
 
 use crate::bells::{Unsent, ring};
 use crate::changes::{Found, Shift};
@@ -56,8 +53,7 @@ struct Frame<'a> {
 
 impl<C: Certificate> Model for Painter<C> {
     ghost use Rattle.std.specs.Prelude.{◌≡◌};
-    ghost use Rattle.cur_update.specs.Inks.{means_of};
-    ghost use Rattle.cur_update.specs.Painters.{Painted, IsPainter};
+    ghost use Rattle.cur_update.specs.{Inks.{means_of}, Painters.{Painted, IsPainter}};
 
     ghost Value = { Painted C };
 

@@ -1,8 +1,7 @@
 //! The virtual screen as a painter sees it.
 ghost use Rattle.std.specs.Prelude.{◌≡◌, ◌+◌, ◌<◌, ◌≤◌, ℕ, false, true, length};
 ghost use Rattle.cur_drawing.specs.Cells.{Content, IsCell};
-ghost use Rattle.cur_steps.specs.Inks.{byte_as, same, same_brush};
-ghost use Rattle.cur_steps.specs.Stretches.{IsTextLike};
+ghost use Rattle.cur_steps.specs.{Inks.{byte_as, same, same_brush}, Stretches.{IsTextLike}};
 ghost use Rattle.cur_update.specs.Inks.{AreCellsShown, IsBare, IsLineText, content_at, ink_at_with, is_other};
 ghost use Rattle.cur_update.specs.Inks.{printed_cell};
 

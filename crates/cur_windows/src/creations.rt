@@ -1,13 +1,9 @@
 //! Making, moving and deleting windows.
 ghost use Rattle.std.specs.Prelude.{◌≡◌, ◌<◌, ◌≤◌, ◌+◌, ◌⊎◌, Ok, Err, Some, None, IfOk, OnOk, length, slice_set, false};
 ghost use Rattle.std.specs.Prelude.{slice_index_or, ◌-ℤ◌, pos};
-ghost use Rattle.cur_drawing.specs.Grids.{blank};
-ghost use Rattle.cur_drawing.specs.Windows.{fresh};
-ghost use Rattle.cur_drawing.specs.Calls.{IsCanvas};
-ghost use Rattle.cur_drawing.specs.Spans.{IsAreaWithin};
-ghost use Rattle.cur_windows.specs.Desks as spec;
+ghost use Rattle.cur_drawing.specs.{Grids.{blank}, Windows.{fresh}, Calls.{IsCanvas}, Spans.{IsAreaWithin}};
+ghost use Rattle.cur_windows.specs.{Desks as spec, Creations as make};
 ghost use Rattle.cur_screens.specs.Slots.{whole_area};
-ghost use Rattle.cur_windows.specs.Creations as make;
 
 use crate::desks::Desk;
 use cur_drawing::{Cell, Geometry, Refusal, Window, area_within, start_within};

@@ -1,13 +1,9 @@
 //! Copying some lines of a window to the virtual screen.
 ghost use Rattle.std.specs.Prelude.{◌≡◌, ◌<◌, ◌≤◌, ◌+◌, IfErr, IfOk, Ok, false};
 ghost use Rattle.cur_drawing.specs.Calls.{IsCanvas, place};
-ghost use Rattle.cur_screens.specs.Marks.{Keeps, MarksOnly};
-ghost use Rattle.cur_screens.specs.Touched.{Spreads};
-ghost use Rattle.cur_screens.specs.VirtualScreen.{shown};
+ghost use Rattle.cur_screens.specs.{Marks.{Keeps, MarksOnly}, Touched.{Spreads}, VirtualScreen.{shown}};
 ghost use Rattle.cur_screens.specs.declared.slots.Slot.{Slot};
-ghost use Rattle.cur_windows.specs.Desks as spec;
-ghost use Rattle.cur_windows.specs.Refreshes as copies;
-ghost use Rattle.cur_windows.specs.TouchedWindows.{ShowsBut};
+ghost use Rattle.cur_windows.specs.{Desks as spec, Refreshes as copies, TouchedWindows.{ShowsBut}};
 
 use crate::desks::Desk;
 use crate::refreshes::SlotLines;

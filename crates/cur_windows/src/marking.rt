@@ -1,8 +1,6 @@
 //! Marks for the places of a window that a call may change.
 ghost use Rattle.cur_drawing.specs.Calls.{IsCanvas};
-ghost use Rattle.cur_windows.specs.Desks as spec;
-ghost use Rattle.cur_windows.specs.Desks.{IsDesk};
-ghost use Rattle.cur_windows.specs.TouchedWindows.{MarksSlot, MarksWindow};
+ghost use Rattle.cur_windows.specs.{Desks as spec, Desks.{IsDesk}, TouchedWindows.{MarksSlot, MarksWindow}};
 ghost use Rattle.std.specs.Prelude.{◌<◌};
 
 use crate::desks::Desk;

@@ -1,17 +1,12 @@
 //! Copying a window to the virtual screen.
 ghost use Rattle.std.specs.Prelude.{◌≡◌, ◌<◌, ◌≤◌, ◌+◌, IfErr, IfOk, IfSome, Ok, Some, None, if◌then◌else◌, false};
 ghost use Rattle.std.specs.Prelude.{true};
-ghost use Rattle.cur_drawing.specs.Calls.{IsCanvas, place};
-ghost use Rattle.cur_screens.specs.Marks.{Keeps, MarksOnly};
-ghost use Rattle.cur_drawing.specs.Windows.{IsWindow};
-ghost use Rattle.cur_windows.specs.Desks as spec;
-ghost use Rattle.cur_windows.specs.Creations as make;
-ghost use Rattle.cur_screens.specs.Touched.{IsShownBut, LiesWithin, grid_marks};
-ghost use Rattle.cur_windows.specs.TouchedWindows.{HasAll, MarksCopied, ShowsBut};
-ghost use Rattle.cur_screens.specs.declared.slots.Slot.{Slot};
-ghost use Rattle.cur_screens.specs.VirtualScreen.{IsScreen, shown};
-ghost use Rattle.cur_windows.specs.Refreshes.{AreLinesOf, area_on_screen, cursor_on_screen, noutrefresh, part_on_screen};
-ghost use Rattle.cur_windows.specs.Refreshes.{refresh};
+ghost use Rattle.cur_drawing.specs.{Calls.{IsCanvas, place}, Windows.{IsWindow}};
+ghost use Rattle.cur_screens.specs.{Marks.{Keeps, MarksOnly}, Touched.{IsShownBut, LiesWithin, grid_marks}};
+ghost use Rattle.cur_screens.specs.{declared.slots.Slot.{Slot}, VirtualScreen.{IsScreen, shown}};
+ghost use Rattle.cur_windows.specs.{Desks as spec, Creations as make, TouchedWindows.{HasAll, MarksCopied, ShowsBut}};
+ghost use Rattle.cur_windows.specs.Refreshes.{AreLinesOf, area_on_screen, cursor_on_screen, noutrefresh};
+ghost use Rattle.cur_windows.specs.Refreshes.{part_on_screen, refresh};
 
 use crate::desks::Desk;
 use cur_drawing::{Cell, Refusal};

@@ -1,9 +1,7 @@
 //! One line of a window, borrowed for writing.
 ghost use Rattle.std.specs.Prelude.{◌≡◌, ◌<◌, ◌≤◌, ◌+◌, ◌-◌, IfOk, length, take, drop, slice_set};
 ghost use Rattle.cur_drawing.specs.Grids.{Fits, filled, line_at, one};
-ghost use Rattle.cur_windows.specs.Desks as spec;
-ghost use Rattle.cur_windows.specs.Rows.{IsLine, line_of, lent_of, place_written};
-ghost use Rattle.cur_windows.specs.Views.{cut};
+ghost use Rattle.cur_windows.specs.{Desks as spec, Rows.{IsLine, line_of, lent_of, place_written}, Views.{cut}};
 
 use crate::desks::Desk;
 use cur_drawing::{Cell, Refusal};
@@ -19,8 +17,7 @@ pub struct RowMut<'a> {
 
 impl Desk {
     ghost use Rattle.std.specs.Borrow.{sem, RestsIfErr};
-    ghost use Rattle.cur_windows.specs.Loans.{LendsPart};
-    ghost use Rattle.cur_windows.specs.contracts.desks.Desk.{the_row};
+    ghost use Rattle.cur_windows.specs.{Loans.{LendsPart}, contracts.desks.Desk.{the_row}};
 
     /// The line `y` of window `id`, for writing: each cell written through it is in the grid at its
     /// place, and nothing else changes. `Full`, `NoWindow`, `OutOfWindow` if the window has no such

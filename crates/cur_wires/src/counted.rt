@@ -1,7 +1,6 @@
 //! A wire whose bytes are counted.
 ghost use Rattle.std.specs.Prelude.{◌≡◌, ◌<◌, ◌≤◌, [], length, take, IfOk, OnErr};
-ghost use Rattle.cur_wires.specs.Wire.{Rose};
-ghost use Rattle.cur_wires.specs.Counted.{Counts};
+ghost use Rattle.cur_wires.specs.{Wire.{Rose}, Counted.{Counts}};
 
 use crate::wires::{Wire, WireFault};
 
@@ -17,8 +16,7 @@ pub struct Counted<'a, W> {
 impl<'a, W: Wire> Wire for Counted<'a, W> {
     ghost use Rattle.std.specs.Prelude.{ℕ, ◌+◌, ◌<◌, ◌≡◌, length, refl};
     ghost use Rattle.std.proofs.Common.{arith};
-    ghost use Rattle.cur_wires.specs.Wire.{Rose};
-    ghost use Rattle.cur_wires.specs.Counted.{Counts, counts_lawful};
+    ghost use Rattle.cur_wires.specs.{Wire.{Rose}, Counted.{Counts, counts_lawful}};
 
     ghost went = { λ a b x. Counts W.went a.wire b.wire a.sent b.sent x };
 

@@ -1,7 +1,6 @@
 //! A wire over memory that fails at given places.
 ghost use Rattle.std.specs.Prelude.{◌≡◌, ◌<◌, ◌≤◌, [], length, min, take, is_ok, IfOk, OnErr};
-ghost use Rattle.cur_wires.specs.Tape.{after_send, room};
-ghost use Rattle.cur_wires.specs.Fuse.{until_failure, counted_down, passed};
+ghost use Rattle.cur_wires.specs.{Tape.{after_send, room}, Fuse.{until_failure, counted_down, passed}};
 
 use crate::cuts::Cuts;
 use crate::tapes::Tape;
@@ -53,8 +52,7 @@ impl Fuse {
 }
 
 impl Wire for Fuse {
-    ghost use Rattle.cur_wires.specs.Fuse.{FuseAdds, FuseAdds-lawful};
-    ghost use Rattle.cur_wires.specs.Wire.{Rose};
+    ghost use Rattle.cur_wires.specs.{Fuse.{FuseAdds, FuseAdds-lawful}, Wire.{Rose}};
 
     ghost went = { FuseAdds };
 

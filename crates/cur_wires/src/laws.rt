@@ -1,8 +1,6 @@
 //! Laws of sending, for all wires and texts.
 ghost use Rattle.std.specs.Prelude.{◌≡◌, ℕ, List, ◌++◌, Result};
-ghost use Rattle.cur_wires.specs.Wire.{Sends};
-ghost use Rattle.cur_wires.specs.declared.wires.WireFault.{WireFault};
-ghost use Rattle.cur_wires.specs.Leads.{Meets};
+ghost use Rattle.cur_wires.specs.{Wire.{Sends}, declared.wires.WireFault.{WireFault}, Leads.{Meets}};
 
 use crate::wires::Wire;
 

@@ -1,7 +1,6 @@
 //! A wire over memory.
 ghost use Rattle.std.specs.Prelude.{◌≡◌, ◌+◌, ◌<◌, ◌≤◌, ◌++◌, [], length, min, take, is_ok, if◌then◌else◌, IfOk, OnErr};
-ghost use Rattle.cur_wires.specs.Tape.{Adds, failed_once, after_send, room};
-ghost use Rattle.cur_wires.specs.Wire.{Rose};
+ghost use Rattle.cur_wires.specs.{Tape.{Adds, failed_once, after_send, room}, Wire.{Rose}};
 
 use crate::wires::{Wire, WireFault};
 use std::alloc::{AllocError, Global};

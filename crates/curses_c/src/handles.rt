@@ -1,7 +1,6 @@
 //! A C program's handle of a session.
 ghost use Rattle.std.specs.Prelude.{◌≡◌, Option, Some, None, is_some, option_map, true};
-ghost use Rattle.curses_c.specs.Handles.{held_at, IsMarked, mark};
-ghost use Rattle.curses_c.specs.contracts.held.Held.{the_row};
+ghost use Rattle.curses_c.specs.{Handles.{held_at, IsMarked, mark}, contracts.held.Held.{the_row}};
 
 use crate::held::Held;
 use crate::loose::Loose;

@@ -1,8 +1,6 @@
 //! The line of a text of calls that has a call.
-ghost use Rattle.std.specs.Prelude.{◌≡◌, ◌==◌, ◌∷◌, ◌<◌, ◌≤◌, IfSome, length, option_map};
-ghost use Rattle.std.specs.List.{position};
-ghost use Rattle.cur_scripts.specs.Cuts.{left_size, lines_of, parts_left};
-ghost use Rattle.cur_scripts.specs.Texts.{is_skipped};
+ghost use Rattle.std.specs.{Prelude.{◌≡◌, ◌==◌, ◌∷◌, ◌<◌, ◌≤◌, IfSome, length, option_map}, List.{position}};
+ghost use Rattle.cur_scripts.specs.{Cuts.{left_size, lines_of, parts_left}, Texts.{is_skipped}};
 ghost use Rattle.curses_c.specs.Lines.{line_of};
 
 /// The line, from 1, of the call at `place`, from 0, in a text of calls; 0 if it has fewer.

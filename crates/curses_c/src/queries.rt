@@ -1,8 +1,6 @@
 //! The questions of programs about a window.
 ghost use Rattle.std.specs.Prelude.{◌≡◌, Ok};
-ghost use Rattle.cur_windows.specs.Queries.{window_of};
-ghost use Rattle.cur_windows.specs.Sizes.{window_size};
-ghost use Rattle.cur_windows.specs.Views.{seen};
+ghost use Rattle.cur_windows.specs.{Queries.{window_of}, Sizes.{window_size}, Views.{seen}};
 ghost use Rattle.curses_c.specs.Queries.{Asks, Tells, cell_seen, cursor_in};
 
 use crate::codes::{Failure, OK, failure_code, refusal_code};

@@ -1,7 +1,6 @@
 //! Calls as numbers, which include/ticurses.h fills in.
 ghost use Rattle.std.specs.Prelude.{◌≡◌};
-ghost use Rattle.cur_scripts.specs.Arguments.{default_of};
-ghost use Rattle.cur_scripts.specs.Numbers.{as_flag};
+ghost use Rattle.cur_scripts.specs.{Arguments.{default_of}, Numbers.{as_flag}};
 ghost use Rattle.curses_c.specs.Requests as spec;
 
 use crate::queries::Standing;

@@ -8,7 +8,8 @@ ghost use Rattle.cur_calls.specs.declared.groups.NumbersCall.TheVariants.{Move};
 ghost use Rattle.curses_c.specs.Entries.{IsShown};
 ghost use Rattle.curses_c.specs.Held.{CopiesLinesAs, Does, Loses, MakesAlone, RecolorsAs, Says, Styles};
 ghost use Rattle.curses_c.specs.Requests.{put_of};
-ghost use Rattle.curses_c.specs.Sessions.{Answers, Fetches, IsOpened, IsTableFor, IsUnopened, LacksChecked, Opens, closed};
+ghost use Rattle.curses_c.specs.Sessions.{Answers, Fetches, IsOpened, IsTableFor, IsUnopened, LacksChecked, Opens};
+ghost use Rattle.curses_c.specs.Sessions.{closed};
 
 use crate::codes::{Failure, OK, answer_code, failure_code};
 use crate::entries::{Described, Subject, checked_by, checked_by_own, describe};

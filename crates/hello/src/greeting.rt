@@ -1,8 +1,6 @@
 //! A greeting in a window with a border.
 ghost use Rattle.std.specs.Prelude.{◌≡◌, Ok, IfOk, OnOk};
-ghost use Rattle.hello.specs.Calls.{greeting};
-ghost use Rattle.hello.specs.Greeting.{IsGreeting};
-ghost use Rattle.hello.specs.Displays.{Greets};
+ghost use Rattle.hello.specs.{Calls.{greeting}, Greeting.{IsGreeting}, Displays.{Greets}};
 
 use anyhow::Result;
 use curses::{Certificate, Desk, Painter, Put, Refusal, Size, Virtual, Wire};

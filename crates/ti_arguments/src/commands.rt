@@ -5,11 +5,11 @@ ghost use Rattle.clap.specs.Words.{app_of, rule_of, with_rule, with_subcommand};
 ghost use Rattle.clap.specs.declared.builder.command.Command.TheViews.{out-Command};
 ghost use Rattle.ti_arguments.specs.Line.{check_rules, expand_rules, feed_rules, infocmp_rules, line, long_switch_rule};
 ghost use Rattle.ti_arguments.specs.Line.{out_rule, params_rule, play_rules, positional_rule, program, several_rule};
-ghost use Rattle.ti_arguments.specs.Line.{show_rules, survey_rules, switch_rule, tic_rules, verify_rules, with_fix_rule};
-ghost use Rattle.ti_arguments.specs.Line.{with_join_rule, with_plays, with_script_rules, with_case_rule, with_fail_rule};
-ghost use Rattle.ti_arguments.specs.Line.{with_parts_rule};
-ghost use Rattle.ti_arguments.specs.Line.{baseline_rule, with_baseline_rule, with_plain_rule, with_report_rules};
-ghost use Rattle.ti_arguments.specs.Line.{beside_rule, with_sarif_rule, with_size_rules, with_source_rules, with_verdicts};
+ghost use Rattle.ti_arguments.specs.Line.{show_rules, survey_rules, switch_rule, tic_rules, verify_rules};
+ghost use Rattle.ti_arguments.specs.Line.{with_fix_rule, with_join_rule, with_plays, with_script_rules, with_case_rule};
+ghost use Rattle.ti_arguments.specs.Line.{with_fail_rule, with_parts_rule, baseline_rule, with_baseline_rule};
+ghost use Rattle.ti_arguments.specs.Line.{with_plain_rule, with_report_rules, beside_rule, with_sarif_rule};
+ghost use Rattle.ti_arguments.specs.Line.{with_size_rules, with_source_rules, with_verdicts};
 
 use crate::help;
 use clap::{Arg, ArgAction, Command};

@@ -1,15 +1,12 @@
 //! The parser of the command line, from words to a request.
 
-ghost use Rattle.std.specs.Prelude.{◌≡◌, IfOk, IsErr, codes, map, option_map, true};
-ghost use Rattle.std.specs.Bool.{OnTrue};
+ghost use Rattle.std.specs.{Prelude.{◌≡◌, IfOk, IsErr, codes, map, option_map, true}, Bool.{OnTrue}};
 ghost use Rattle.std.specs.String.{string_bytes};
-ghost use Rattle.clap.specs.Walk.{first_of, rows_of};
-ghost use Rattle.clap.specs.Words.{found_of, kind_of, subcommand_rows_of};
+ghost use Rattle.clap.specs.{Walk.{first_of, rows_of}, Words.{found_of, kind_of, subcommand_rows_of}};
 ghost use Rattle.ti_arguments.specs.Inputs.{AnswersWithInput};
-ghost use Rattle.ti_arguments.specs.Requests.{AreOfOne, Asks, AsksFor, HasForm, IsAnswer, IsTold, Plays};
-ghost use Rattle.ti_arguments.specs.Requests.{Surveys, has_switch, is_on, lists_of, option_of, options_of, reports_of};
-ghost use Rattle.ti_arguments.specs.Requests.{word_of, words_of};
-ghost use Rattle.ti_arguments.specs.Requests as spec;
+ghost use Rattle.ti_arguments.specs.Requests.{AreOfOne, Asks, AsksFor, HasForm, IsAnswer, IsTold, Plays, Surveys};
+ghost use Rattle.ti_arguments.specs.Requests.{has_switch, is_on, lists_of, option_of, options_of, reports_of, word_of};
+ghost use Rattle.ti_arguments.specs.{Requests.{words_of}, Requests as spec};
 
 use crate::commands::command_line;
 use crate::inputs::judge_input;

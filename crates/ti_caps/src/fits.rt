@@ -1,7 +1,6 @@
 //! Tests, for callers, of whether an entry can hold given names or a given string.
 
-ghost use Rattle.std.specs.Prelude.{◌≡◌, ◌&&◌, ◌==◌, not, false, nat_le};
-ghost use Rattle.std.specs.List.{list_all};
+ghost use Rattle.std.specs.{Prelude.{◌≡◌, ◌&&◌, ◌==◌, not, false, nat_le}, List.{list_all}};
 ghost use Rattle.ti_caps.specs.Fits as Fits;
 
 use crate::types::LONGEST;

@@ -1,7 +1,6 @@
 //! The values of capabilities.
 
-ghost use Rattle.std.specs.Prelude.{◌≡◌, ◌<◌, IfOk};
-ghost use Rattle.std.specs.List.{AllByRecursion};
+ghost use Rattle.std.specs.{Prelude.{◌≡◌, ◌<◌, IfOk}, List.{AllByRecursion}};
 
 use std::alloc::{AllocError, Global};
 use std::marker::Model;

@@ -2,11 +2,8 @@
 
 ghost use Rattle.std.specs.Prelude.{◌≡◌, OnOk, IfErr, true, false};
 ghost use Rattle.ti_caps.specs.Entry.{string_at};
-ghost use Rattle.ti_conforms.specs.Conforms as conforms;
-ghost use Rattle.ti_conforms.specs.Entries as entries;
-ghost use Rattle.ti_cert.specs.Basic.{IsBasicTable};
-ghost use Rattle.ti_cert.specs.Disagreements as spec;
-ghost use Rattle.ti_cert.specs.Strings.{row_string};
+ghost use Rattle.ti_conforms.specs.{Conforms as conforms, Entries as entries};
+ghost use Rattle.ti_cert.specs.{Basic.{IsBasicTable}, Disagreements as spec, Strings.{row_string}};
 
 use crate::faults::AgreeFault;
 use crate::table::Table;

@@ -1,17 +1,11 @@
 //! Judging a certificate line by line as a reader gives it.
 
 ghost use Rattle.std.specs.Prelude.{◌≡◌, ◌<◌, ℕ, Bool, List, true, false, IfOk, IfErr, OnOk, Ok};
-ghost use Rattle.ti_conforms.specs.Judged.{IsJudged};
+ghost use Rattle.ti_conforms.specs.{Judged.{IsJudged}, Looks.{LooksStand}};
 ghost use Rattle.ti_forms.specs.Forms.{IsOfForm, standard_line};
-ghost use Rattle.ti_lines.specs.Heads.{IsSizeText};
-ghost use Rattle.ti_lines.specs.Reader.{Rose};
-ghost use Rattle.ti_cert.specs.Basic.{IsStopped, basic_text};
-ghost use Rattle.ti_cert.specs.Audits as spec;
-ghost use Rattle.ti_cert.specs.Certificates.{limit};
-ghost use Rattle.ti_conforms.specs.Looks.{LooksStand};
-ghost use Rattle.ti_cert.specs.Strings.{total};
-ghost use Rattle.ti_cert.specs.Table.{table_of};
-ghost use Rattle.ti_cert.specs.Texts.{IsTableOf, IsRefused, IsLineRead, Takes};
+ghost use Rattle.ti_lines.specs.{Heads.{IsSizeText}, Reader.{Rose}};
+ghost use Rattle.ti_cert.specs.{Basic.{IsStopped, basic_text}, Audits as spec, Certificates.{limit}, Strings.{total}};
+ghost use Rattle.ti_cert.specs.{Table.{table_of}, Texts.{IsTableOf, IsRefused, IsLineRead, Takes}};
 
 use crate::endings::conclude;
 use crate::faults::{CertFault, CertFaultKind};

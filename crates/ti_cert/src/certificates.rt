@@ -15,8 +15,7 @@ fn sets_visible(row: Row) -> bool
 }
 
 impl Certificate for Checked {
-    ghost use Rattle.ti_cert.specs.Table.{certified};
-    ghost use Rattle.ti_cert.specs.Verified.{partner_in};
+    ghost use Rattle.ti_cert.specs.{Table.{certified}, Verified.{partner_in}};
 
     ghost table = { λ c. certified c };
 

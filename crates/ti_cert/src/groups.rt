@@ -1,7 +1,6 @@
 //! The strings of one capability, one after another in the same bytes.
 
-ghost use Rattle.std.specs.Prelude.{◌≡◌, ◌++◌, [], ◌∷◌, length, OnOk, option_copied};
-ghost use Rattle.std.specs.List.{slice_get};
+ghost use Rattle.std.specs.{Prelude.{◌≡◌, ◌++◌, [], ◌∷◌, length, OnOk, option_copied}, List.{slice_get}};
 
 use std::alloc::{AllocError, Global};
 use std::marker::Model;
@@ -21,8 +20,7 @@ pub(crate) struct Group {
 }
 
 impl Model for Group {
-    ghost use Rattle.std.specs.Prelude.{List, ℕ, length, map};
-    ghost use Rattle.std.specs.List.{AllByRecursion};
+    ghost use Rattle.std.specs.{Prelude.{List, ℕ, length, map}, List.{AllByRecursion}};
     ghost use Rattle.ti_cert.specs.Groups.{IsPart, piece};
 
     ghost Value = { List (List ℕ) };

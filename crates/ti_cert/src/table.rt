@@ -1,10 +1,8 @@
 //! The table that a certificate makes.
 
 ghost use Rattle.std.specs.Prelude.{◌≡◌, option_copied};
-ghost use Rattle.ti_conforms.specs.Judged.{IsJudged};
-ghost use Rattle.ti_conforms.specs.Looks.{LooksStand};
-ghost use Rattle.ti_cert.specs.Strings.{row_string};
-ghost use Rattle.ti_cert.specs.Table as spec;
+ghost use Rattle.ti_conforms.specs.{Judged.{IsJudged}, Looks.{LooksStand}};
+ghost use Rattle.ti_cert.specs.{Strings.{row_string}, Table as spec};
 
 use crate::known::Known;
 use std::marker::Model;
@@ -22,8 +20,7 @@ pub struct Table {
 }
 
 impl Model for Table {
-    ghost use Rattle.ti_conforms.specs.Judged.{IsJudged};
-    ghost use Rattle.ti_conforms.specs.Looks.{LooksStand};
+    ghost use Rattle.ti_conforms.specs.{Judged.{IsJudged}, Looks.{LooksStand}};
     ghost use Rattle.ti_cert.specs.Table.{CheckedTable, checked_of};
 
     ghost Value = { CheckedTable };

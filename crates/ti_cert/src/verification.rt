@@ -3,16 +3,11 @@
 ghost use Rattle.std.specs.Prelude.{◌≡◌, ◌++◌, ℕ, List, IfOk, IfErr, IfSome, IfNone, OnOk, option_copied};
 ghost use Rattle.ti_lines.specs.Reader.{Rose};
 ghost use Rattle.ti_cert.specs.Texts.{IsCertLineRead, IsCertRefused, IsTableOf, Takes};
-ghost use Rattle.ti_cert.specs.Basic.{IsBasic, IsVerifyStopped, basic_text_of};
-ghost use Rattle.ti_cert.specs.Disagreements.{IsAgreeRefused};
+ghost use Rattle.ti_cert.specs.{Basic.{IsBasic, IsVerifyStopped, basic_text_of}, Disagreements.{IsAgreeRefused}};
+ghost use Rattle.ti_cert.specs.{Table.{table_of}, Verified as spec};
 ghost use Rattle.ti_caps.specs.Entry.{string_at};
-ghost use Rattle.ti_conforms.specs.Holds.{LineHolds};
-ghost use Rattle.ti_conforms.specs.Resync.{texts_of};
-ghost use Rattle.ti_conforms.specs.Table.{text_of, resync};
-ghost use Rattle.ti_conforms.specs.Conforms.{Conforms};
+ghost use Rattle.ti_conforms.specs.{Holds.{LineHolds}, Resync.{texts_of}, Table.{text_of, resync}, Conforms.{Conforms}};
 ghost use Rattle.ti_conforms.specs.Entries.{EntryAgrees, acsc};
-ghost use Rattle.ti_cert.specs.Table.{table_of};
-ghost use Rattle.ti_cert.specs.Verified as spec;
 
 use crate::agreement::agrees;
 use crate::audits::audit_from;
@@ -35,8 +30,7 @@ pub struct Checked {
 }
 
 impl Model for Checked {
-    ghost use Rattle.ti_cert.specs.Table.{CheckedTable};
-    ghost use Rattle.ti_cert.specs.Verified.{IsVerified, IsResync, can_switch};
+    ghost use Rattle.ti_cert.specs.{Table.{CheckedTable}, Verified.{IsVerified, IsResync, can_switch}};
     ghost use Rattle.std.specs.Prelude.{◌≡◌};
 
     ghost Value = { CheckedTable };

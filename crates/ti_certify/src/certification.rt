@@ -2,13 +2,10 @@
 
 ghost use Rattle.std.specs.Prelude.{◌≡◌, IfErr, IfOk};
 ghost use Rattle.ti_caps.specs.Entry.{string_at};
-ghost use Rattle.ti_cert.specs.Basic.{IsBasic};
-ghost use Rattle.ti_cert.specs.Table.{table_of};
-ghost use Rattle.ti_cert.specs.Verified.{Resyncs};
+ghost use Rattle.ti_cert.specs.{Basic.{IsBasic}, Table.{table_of}, Verified.{Resyncs}};
 ghost use Rattle.ti_certify.specs.Owned as spec;
 ghost use Rattle.ti_checker.specs.No.{IsNo};
-ghost use Rattle.ti_conforms.specs.Conforms.{Conforms};
-ghost use Rattle.ti_conforms.specs.Entries.{EntryAgrees, acsc};
+ghost use Rattle.ti_conforms.specs.{Conforms.{Conforms}, Entries.{EntryAgrees, acsc}};
 
 use std::alloc::Global;
 use ti_caps::Entry;

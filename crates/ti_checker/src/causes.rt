@@ -1,8 +1,7 @@
 //! The reasons why an entry gets no certificate.
 
 ghost use Rattle.std.specs.Prelude.{◌≡◌, []};
-ghost use Rattle.ti_rows.specs.Names.{cap_of};
-ghost use Rattle.ti_rows.specs.Params.{params};
+ghost use Rattle.ti_rows.specs.{Names.{cap_of}, Params.{params}};
 
 use crate::probes::Probe;
 use std::alloc::AllocError;

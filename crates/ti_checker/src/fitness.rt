@@ -2,8 +2,7 @@
 
 ghost use Rattle.std.specs.Prelude.{◌≡◌, [], IfErr, OnOk};
 ghost use Rattle.ti_checker.specs.No as spec;
-ghost use Rattle.ti_conforms.specs.Conforms.{IsFit};
-ghost use Rattle.ti_conforms.specs.Unfit.{cap_of_unfit};
+ghost use Rattle.ti_conforms.specs.{Conforms.{IsFit}, Unfit.{cap_of_unfit}};
 
 use crate::causes::{Cause, No};
 use ti_caps::Entry;

@@ -1,7 +1,6 @@
 //! Sequences that the terminal ignores, wholly or in part.
 
-ghost use Rattle.std.specs.List.{list_any};
-ghost use Rattle.std.specs.Prelude.{◌≡◌};
+ghost use Rattle.std.specs.{List.{list_any}, Prelude.{◌≡◌}};
 ghost use Rattle.ti_checker.specs.Ignored as spec;
 
 use vt_term::{Function, ModeKind, RenditionChange, Token};

@@ -1,12 +1,9 @@
 //! The strings of some capabilities of an entry: those that no refusal names.
 
 ghost use Rattle.std.specs.Prelude.{◌≡◌, ◌+◌, ◌<◌, ◌≤◌, IfErr, IfNone, IfOk, IfSome, OnOk, Some, false, true};
-ghost use Rattle.ti_checker.specs.Kept as spec;
-ghost use Rattle.ti_checker.specs.No.{IsFaulty};
-ghost use Rattle.ti_checker.specs.Switches.{IsSeen, IsSeenToo};
+ghost use Rattle.ti_checker.specs.{Kept as spec, No.{IsFaulty}, Switches.{IsSeen, IsSeenToo}};
 ghost use Rattle.ti_conforms.specs.Entries.{string_of};
-ghost use Rattle.ti_rows.specs.Lists.{IsFirst};
-ghost use Rattle.ti_rows.specs.Names.{capabilities, order};
+ghost use Rattle.ti_rows.specs.{Lists.{IsFirst}, Names.{capabilities, order}};
 
 use crate::causes::{Cause, No};
 use crate::switches::{Seen, change_by};

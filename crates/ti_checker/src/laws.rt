@@ -1,26 +1,18 @@
 //! Laws of the checker: sequences that the terminal ignores change nothing, and a refusal that claims something
 //! excludes a certificate.
 
-ghost use Rattle.std.specs.Option.{unwrap_or};
-ghost use Rattle.std.specs.Prelude.{◌≡◌, ◌≢◌, ℕ, Bool, List, Option, true, false};
+ghost use Rattle.std.specs.{Option.{unwrap_or}, Prelude.{◌≡◌, ◌≢◌, ℕ, Bool, List, Option, true, false}};
 ghost use Rattle.ti_caps.specs.Entry.{Content};
-ghost use Rattle.ti_checker.specs.Breakage.{ShownBreaks};
-ghost use Rattle.ti_checker.specs.Certificate.{BasicCertificate, IsCertificateOf};
+ghost use Rattle.ti_checker.specs.{Breakage.{ShownBreaks}, Certificate.{BasicCertificate, IsCertificateOf}};
 ghost use Rattle.ti_checker.specs.Doubts.{NeverElsewhere, NeverOther, NeverOtherCells, NeverOtherModes, NeverUnasked};
 ghost use Rattle.ti_checker.specs.Doubts.{NeverUntamed, OneTeaching};
 ghost use Rattle.ti_checker.specs.Ignored.{is_unknown_mode, is_unknown_rendition, is_whole_sequence};
-ghost use Rattle.ti_checker.specs.No.{ClaimsNothing, IsNo};
-ghost use Rattle.ti_checker.specs.Notes.{EntryNotes};
-ghost use Rattle.ti_checker.specs.declared.causes.Cause.TheVariants.{TooLong};
-ghost use Rattle.ti_checker.specs.declared.causes.No.{No};
+ghost use Rattle.ti_checker.specs.{No.{ClaimsNothing, IsNo}, Notes.{EntryNotes}};
+ghost use Rattle.ti_checker.specs.{declared.causes.Cause.TheVariants.{TooLong}, declared.causes.No.{No}};
 ghost use Rattle.ti_checker.specs.declared.note_list.CheckNote.{CheckNote};
 ghost use Rattle.ti_conforms.specs.Conforms.{Conforms};
-ghost use Rattle.vt_term.specs.Function.{ModeKind};
-ghost use Rattle.vt_term.specs.Look.{Rendition};
-ghost use Rattle.vt_term.specs.Screen.{Screen};
-ghost use Rattle.vt_term.specs.Rendition.{rendered};
-ghost use Rattle.vt_term.specs.Step.{mode_set};
-ghost use Rattle.vt_term.specs.Text.{IsDropped, IsSequence, IsSingle};
+ghost use Rattle.vt_term.specs.{Function.{ModeKind}, Look.{Rendition}, Screen.{Screen}, Rendition.{rendered}};
+ghost use Rattle.vt_term.specs.{Step.{mode_set}, Text.{IsDropped, IsSequence, IsSingle}};
 
 /// A whole sequence differs from the other tokens of a text: printed characters, controls and
 /// sequences that were cut off.

@@ -1,8 +1,7 @@
 //! Whole files, up to a limit.
 
 ghost use Rattle.std.specs.Prelude.{◌≡◌, ◌≤◌, IfErr, IfOk, vec_len};
-ghost use Rattle.ti_commands.specs.Failures.{IsFileFailure};
-ghost use Rattle.ti_commands.specs.Contents.{AreBytesOf, AreFirstBytesOf};
+ghost use Rattle.ti_commands.specs.{Failures.{IsFileFailure}, Contents.{AreBytesOf, AreFirstBytesOf}};
 
 use crate::failure::{Failure, file_failure};
 use crate::files::{FileFault, Files};

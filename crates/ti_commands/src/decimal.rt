@@ -1,7 +1,6 @@
 //! Numbers in the words of a command line.
 
-ghost use Rattle.std.specs.Prelude.{◌≡◌, ◌↔◌, ◌<◌, ◌^◌, IsSome, IfSome};
-ghost use Rattle.std.specs.Str.Parse.{digits_value};
+ghost use Rattle.std.specs.{Prelude.{◌≡◌, ◌↔◌, ◌<◌, ◌^◌, IsSome, IfSome}, Str.Parse.{digits_value}};
 ghost use Rattle.ti_commands.specs.Words.{IsNumberWord};
 
 /// The greatest number that a word can give.

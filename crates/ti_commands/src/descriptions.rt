@@ -1,11 +1,9 @@
 //! The commands `tic` and `infocmp`.
 
 ghost use Rattle.std.specs.Prelude.{◌≡◌, ◌⊎◌, ◌<◌, ◌++◌, [], IfErr, IfOk, OnErr, OnOk, if◌then◌else◌};
-ghost use Rattle.ti_caps.specs.Entry.{value_at};
-ghost use Rattle.ti_caps.specs.Table.{place_of_rank};
+ghost use Rattle.ti_caps.specs.{Entry.{value_at}, Table.{place_of_rank}};
 ghost use Rattle.ti_commands.specs.Listings.{comparison_text, is_listed, is_listed_at, kind_lines, name_line};
-ghost use Rattle.ti_commands.specs.Listings.{same_value};
-ghost use Rattle.ti_commands.specs.Findings.{FailsToFind, LacksEntry};
+ghost use Rattle.ti_commands.specs.{Listings.{same_value}, Findings.{FailsToFind, LacksEntry}};
 ghost use Rattle.ti_commands.specs.Replies.{GivesEntry, IsCompared, IsCompiled, IsPrinted, LacksSecond, Outcome};
 ghost use Rattle.ti_commands.specs.Replies.{Stores};
 

@@ -2,8 +2,7 @@
 
 ghost use Rattle.std.specs.Prelude.{◌≡◌, ◌<◌, ◌++◌, [], length, IfErr, IfNone, IfOk, IfSome, Ok, OnOk};
 ghost use Rattle.std.specs.List.{AllByRecursion, flat_map};
-ghost use Rattle.ti_source.specs.Raw.{IsRaw};
-ghost use Rattle.ti_source.specs.Source.{source_of};
+ghost use Rattle.ti_source.specs.{Raw.{IsRaw}, Source.{source_of}};
 ghost use Rattle.ti_commands.specs.Contents.{HasBytes, longest_file};
 ghost use Rattle.ti_commands.specs.Findings.{FailsInFile, FailsInSource, FailsToFind, Finds, FitsTo, IsOfFile};
 ghost use Rattle.ti_commands.specs.Findings.{IsOfSource, IsOfText, IsPath, IsPathAndName, ResolvesAt, ResolvesTo};

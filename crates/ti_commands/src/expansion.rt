@@ -1,10 +1,8 @@
 //! The command `expand`.
 
-ghost use Rattle.std.specs.Prelude.{◌≡◌, ◌⊎◌, IfErr, IfNone, IfOk, IfSome};
-ghost use Rattle.std.specs.String.{string_bytes};
-ghost use Rattle.ti_parm.specs.Meaning.{sent};
+ghost use Rattle.std.specs.{Prelude.{◌≡◌, ◌⊎◌, IfErr, IfNone, IfOk, IfSome}, String.{string_bytes}};
+ghost use Rattle.ti_parm.specs.{Meaning.{sent}, Value.{Value, value_of, values_of}};
 ghost use Rattle.ti_reach.specs.Reach.{IsWhole};
-ghost use Rattle.ti_parm.specs.Value.{Value, value_of, values_of};
 ghost use Rattle.ti_commands.specs.Expansions.{FailsToExpand, IsExpanded, JudgesCup, Shows, ShowsAll, ShowsCursor};
 ghost use Rattle.ti_commands.specs.Expansions.{IsParmFailure, cursor_line, escape_failure, hex_line, no_line};
 ghost use Rattle.ti_commands.specs.Failures.{IsUsageError, WrongParam, param_usage};

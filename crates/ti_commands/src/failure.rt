@@ -1,8 +1,7 @@
 //! A command's reply, why it may stop, and the exit status for that.
 
 ghost use Rattle.std.specs.Prelude.{◌≡◌, [], None};
-ghost use Rattle.ti_commands.specs.Status.{status_of};
-ghost use Rattle.ti_commands.specs.Failures.{IsFileFailure, IsUsageError};
+ghost use Rattle.ti_commands.specs.{Status.{status_of}, Failures.{IsFileFailure, IsUsageError}};
 ghost use Rattle.ti_commands.specs.declared.failure.Failure.TheVariants.{NoMemory};
 
 use std::alloc::{AllocError, AllocFailed, Global};

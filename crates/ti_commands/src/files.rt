@@ -1,8 +1,7 @@
 //! The files that a command reads and writes.
 
 ghost use Rattle.std.specs.Prelude.{◌≡◌, ◌≢◌, ℕ, List, IfOk, OnErr, OnOk};
-ghost use Rattle.ti_commands.specs.Contents.{AreBytesOf, Held, IsLeft, StoredAll, nothing_held};
-ghost use Rattle.ti_commands.specs.Words.{texts_of};
+ghost use Rattle.ti_commands.specs.{Contents.{AreBytesOf, Held, IsLeft, StoredAll, nothing_held}, Words.{texts_of}};
 
 use std::io;
 use std::io::{ErrorKind, Read};

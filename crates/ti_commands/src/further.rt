@@ -1,13 +1,9 @@
 //! The files of `--with`, and their entries behind those of a source.
 
-ghost use Rattle.std.specs.Prelude.{◌≡◌, ◌≤◌, ◌⊎◌, IfErr, IfOk, OnOk, length, string_bytes};
-ghost use Rattle.std.specs.List.{AllByRecursion};
+ghost use Rattle.std.specs.{Prelude.{◌≡◌, ◌≤◌, ◌⊎◌, IfErr, IfOk, OnOk, length, string_bytes}, List.{AllByRecursion}};
 ghost use Rattle.ti_further.specs.Files.{AreRawsOf};
 ghost use Rattle.ti_source.specs.Raw.{IsRaw};
-ghost use Rattle.ti_commands.specs.Contents.{AreBytesOf};
-ghost use Rattle.ti_commands.specs.Failures.{IsFileFailure};
-ghost use Rattle.ti_commands.specs.Further as spec;
-ghost use Rattle.ti_commands.specs.Words.{texts_of};
+ghost use Rattle.ti_commands.specs.{Contents.{AreBytesOf}, Failures.{IsFileFailure}, Further as spec, Words.{texts_of}};
 
 use crate::contents::{LONGEST_FILE, read_whole};
 use crate::failure::{CommandRefusal, Failure};
@@ -30,8 +26,7 @@ pub struct PutTogether {
 }
 
 impl PutTogether {
-    ghost use Rattle.std.specs.Prelude.{◌≡◌, ◌∷◌, ◌++◌, [], IfOk, OnOk, length};
-    ghost use Rattle.std.specs.List.{AllByRecursion};
+    ghost use Rattle.std.specs.{Prelude.{◌≡◌, ◌∷◌, ◌++◌, [], IfOk, OnOk, length}, List.{AllByRecursion}};
     ghost use Rattle.ti_source.specs.Raw.{IsRaw};
 
     /// The entries of the first file alone.

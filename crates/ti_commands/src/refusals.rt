@@ -1,7 +1,6 @@
 //! The words of a refusal.
 
-ghost use Rattle.std.specs.Prelude.{◌≡◌, ◌++◌, IfOk, OnOk, codes};
-ghost use Rattle.std.specs.Fmt.{decimal};
+ghost use Rattle.std.specs.{Prelude.{◌≡◌, ◌++◌, IfOk, OnOk, codes}, Fmt.{decimal}};
 ghost use Rattle.ti_commands.specs.Refusals as spec;
 
 use crate::failure::CommandRefusal;

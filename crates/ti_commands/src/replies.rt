@@ -1,7 +1,6 @@
 //! How a reply is written.
 
-ghost use Rattle.std.specs.Prelude.{◌≡◌, None, IfErr, OnErr, OnOk, true};
-ghost use Rattle.std.specs.Io.KnownBytes.{Appends};
+ghost use Rattle.std.specs.{Prelude.{◌≡◌, None, IfErr, OnErr, OnOk, true}, Io.KnownBytes.{Appends}};
 ghost use Rattle.ti_commands.specs.Status.{EndsAs, IsUnwritten};
 
 use crate::failure::{Failure, Reply};

@@ -2,8 +2,7 @@
 
 ghost use Rattle.std.specs.Prelude.{◌≡◌, ◌↔◌, IfErr, IfOk, IsOk};
 ghost use Rattle.vt_term.specs.Size.{IsSize};
-ghost use Rattle.ti_commands.specs.Failures.{IsUsageError, WrongNumber, number_usage};
-ghost use Rattle.ti_commands.specs.Sizes.{LacksSize, SizeGiven};
+ghost use Rattle.ti_commands.specs.{Failures.{IsUsageError, WrongNumber, number_usage}, Sizes.{LacksSize, SizeGiven}};
 ghost use Rattle.ti_commands.specs.Words.{GivesNumber};
 
 use crate::decimal::decimal_number;

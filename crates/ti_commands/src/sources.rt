@@ -1,10 +1,7 @@
 //! An entry together with its source text.
 
-ghost use Rattle.std.specs.Prelude.{◌≡◌, IfErr, IfOk, IfSome};
-ghost use Rattle.std.specs.List.{AllByRecursion};
-ghost use Rattle.ti_commands.specs.Findings.{LacksEntry};
-ghost use Rattle.ti_commands.specs.Replies.{GivesEntry};
-ghost use Rattle.ti_commands.specs.Sources.{IsSourced};
+ghost use Rattle.std.specs.{Prelude.{◌≡◌, IfErr, IfOk, IfSome}, List.{AllByRecursion}};
+ghost use Rattle.ti_commands.specs.{Findings.{LacksEntry}, Replies.{GivesEntry}, Sources.{IsSourced}};
 ghost use Rattle.ti_source.specs.Raw.{IsRaw};
 
 use crate::descriptions::entry_of;

@@ -2,8 +2,7 @@
 
 ghost use Rattle.std.specs.Prelude.{◌≡◌, IfErr, IfOk};
 ghost use Rattle.ti_commands.specs.States.{FailsToShow, FailsWith, IsBadLineFailure, Shows, ShowsForm, ShowsStates};
-ghost use Rattle.ti_commands.specs.States.{fed_of, line_text, note_of, notes_of};
-ghost use Rattle.ti_commands.specs.Feeds.{IsStuckFailure};
+ghost use Rattle.ti_commands.specs.{States.{fed_of, line_text, note_of, notes_of}, Feeds.{IsStuckFailure}};
 ghost use Rattle.vt_states.specs.Cases.{AreAnswers};
 ghost use Rattle.ti_requests.specs.declared.feeds.FeedForm.TheVariants as forms;
 

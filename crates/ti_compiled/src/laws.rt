@@ -1,7 +1,6 @@
 //! Laws of compiled files. Each is the contract of a function that does nothing.
 
-ghost use Rattle.ti_compiled.specs.Legacy.{LegacyIsRead, LegacyIsWritten};
-ghost use Rattle.ti_compiled.specs.Packed.{PackedIsRead, ReadIsPacked};
+ghost use Rattle.ti_compiled.specs.{Legacy.{LegacyIsRead, LegacyIsWritten}, Packed.{PackedIsRead, ReadIsPacked}};
 ghost use Rattle.ti_compiled.specs.Written.{WrittenIsPacked, WrittenIsRead};
 
 /// Law: a file in the layout of term(5) is read as its entry.

@@ -1,12 +1,10 @@
 //! A compiled file that was read, and its entry.
 
 ghost use Rattle.std.specs.Prelude.{List, IfSome, ◌^◌, IfOk, IsOkAnd, ◌≡◌, ◌+◌, ◌<◌, ◌≤◌, ℕ, Some, None, Ok, Err};
-ghost use Rattle.std.specs.Prelude.{slice_get, length, drop};
-ghost use Rattle.std.specs.Option.{option_copied};
+ghost use Rattle.std.specs.{Prelude.{slice_get, length, drop}, Option.{option_copied}};
 ghost use Rattle.ti_caps.specs.declared.types.Kind.TheVariants as kinds;
 ghost use Rattle.ti_caps.specs.Entry.{Content, flag_at, number_at, string_at, has_flag, number_in, string_in};
-ghost use Rattle.ti_compiled.specs.Layout.{words, longs, numbers_in};
-ghost use Rattle.ti_compiled.specs.Readings.{Is, parts_view};
+ghost use Rattle.ti_compiled.specs.{Layout.{words, longs, numbers_in}, Readings.{Is, parts_view}};
 ghost use Rattle.ti_compiled.specs.Contents.{before_nul, entry_of, value_of, read_of, fit_of, Gives};
 ghost use Rattle.ti_compiled.specs.Packed.{IsPacked};
 
@@ -25,8 +23,7 @@ pub struct Packed<'a> {
 
 impl<'a> Model for Packed<'a> {
     ghost use Rattle.ti_caps.specs.Entry.{Content};
-    ghost use Rattle.ti_compiled.specs.Readings.{parts_view};
-    ghost use Rattle.ti_compiled.specs.Contents.{entry_of};
+    ghost use Rattle.ti_compiled.specs.{Readings.{parts_view}, Contents.{entry_of}};
 
     ghost Value = { Content };
 

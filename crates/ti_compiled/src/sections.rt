@@ -1,7 +1,6 @@
 //! The header and the sections of a file, and their faults.
 
-ghost use Rattle.std.specs.Prelude.{◌≡◌, ◌*◌, ◌+◌, ◌≤◌, ℕ, length, drop};
-ghost use Rattle.std.specs.List.{list_all, list_any};
+ghost use Rattle.std.specs.{Prelude.{◌≡◌, ◌*◌, ◌+◌, ◌≤◌, ℕ, length, drop}, List.{list_all, list_any}};
 ghost use Rattle.ti_compiled.specs.Layout.{words, longs, width, numbers_in, half, is_number, is_flag, is_nul};
 ghost use Rattle.ti_compiled.specs.Layout.{ends_with_nul};
 ghost use Rattle.ti_compiled.specs.Readings.{Is, Judged, judged, word_of, form_of, sizes_fit, sizes_of, cut_at};

@@ -1,8 +1,7 @@
 //! Sets of lines, and why they aren't those of an entry.
 
 ghost use Rattle.std.specs.Prelude.{◌≡◌, None, true, false, List, Option, ℕ, option_copied};
-ghost use Rattle.ti_rows.specs.Names.{order};
-ghost use Rattle.ti_rows.specs.declared.rows.Row.{Row};
+ghost use Rattle.ti_rows.specs.{Names.{order}, declared.rows.Row.{Row}};
 ghost use Rattle.ti_conforms.specs.Agreement as spec;
 
 use ti_rows::Row;

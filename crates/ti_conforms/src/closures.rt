@@ -2,8 +2,7 @@
 
 ghost use Rattle.std.specs.Prelude.{◌≡◌, ◌⊎◌, ◌<◌, ◌+◌, IfSome, IfNone, ℕ, List, true, false, not};
 ghost use Rattle.ti_conforms.specs.Closures.{Settled, SomeLeads, LeadsOut, Leaves, StaysFrom, absent, designated_all};
-ghost use Rattle.ti_conforms.specs.Closures.{has, charset_number, or_kept};
-ghost use Rattle.ti_conforms.specs.Table.{settles};
+ghost use Rattle.ti_conforms.specs.{Closures.{has, charset_number, or_kept}, Table.{settles}};
 ghost use Rattle.vt_effects.specs.Effect.{designated, switched};
 ghost use Rattle.vt_term.specs.Screen.{Charset, is_graphic};
 

@@ -2,14 +2,12 @@
 
 ghost use Rattle.std.specs.Prelude.{◌≡◌, ◌++◌, true, ℕ, List, codes};
 ghost use Rattle.ti_conforms.specs.Charsets.{Reached, can_have, joined, reach_of};
-ghost use Rattle.vt_term.specs.Screen.{Charset};
 ghost use Rattle.ti_conforms.specs.Resync.{QuietSettles, NothingSettles, SettlingJoins, ResyncLeads, FrontsStay};
-ghost use Rattle.ti_conforms.specs.Resync.{WholesStay};
-ghost use Rattle.ti_conforms.specs.Holds.{JudgedHolds};
-ghost use Rattle.ti_caps.specs.Table.{name_at};
-ghost use Rattle.ti_conforms.specs.Conforms.{AgreedConforms, gn, hc, os, xmc};
-ghost use Rattle.ti_conforms.specs.Together.{AgreedStandTogether};
+ghost use Rattle.ti_conforms.specs.{Resync.{WholesStay}, Holds.{JudgedHolds}};
+ghost use Rattle.ti_conforms.specs.{Conforms.{AgreedConforms, gn, hc, os, xmc}, Together.{AgreedStandTogether}};
 ghost use Rattle.ti_conforms.specs.Entries.{acsc};
+ghost use Rattle.vt_term.specs.Screen.{Charset};
+ghost use Rattle.ti_caps.specs.Table.{name_at};
 
 /// A terminal that begins in its reset state and takes some of these tokens, in any order and any
 /// number of times, can have a charset exactly if each of its marks is turned on by one of them.

@@ -1,8 +1,7 @@
 //! The charsets that a terminal can have if strings are cut off anywhere.
 
 ghost use Rattle.std.specs.Prelude.{◌≡◌, if◌then◌else◌, true, false, ◌++◌, [], ◌∷◌, ℕ, List, IfErr, OnOk};
-ghost use Rattle.vt_term.specs.Scanned.{HasFault};
-ghost use Rattle.vt_term.specs.Text.{Splits};
+ghost use Rattle.vt_term.specs.{Scanned.{HasFault}, Text.{Splits}};
 ghost use Rattle.ti_conforms.specs.Charsets.{can_have, joined, makes_g0_graphic, makes_g1_graphic, reach_of};
 ghost use Rattle.ti_conforms.specs.Charsets.{shifts_out};
 

@@ -3,9 +3,7 @@
 ghost use Rattle.std.specs.Prelude.{◌≡◌, ◌≤◌, ◌<◌, ◌+◌, [], drop, length, slice_index, take, IfNone, IfSome};
 ghost use Rattle.std.specs.List.{list_all};
 ghost use Rattle.ti_entries.specs.Columns as spec;
-ghost use Rattle.ti_source.specs.Layout.{cut_of, is_white, put_field, skip_white};
-ghost use Rattle.ti_source.specs.Marks.{comma};
-ghost use Rattle.ti_source.specs.Scan.{comma_in};
+ghost use Rattle.ti_source.specs.{Layout.{cut_of, is_white, put_field, skip_white}, Marks.{comma}, Scan.{comma_in}};
 
 use ti_caps::{Cap, Opener, name};
 use ti_source::{begins_entry, is_white, skip_white};

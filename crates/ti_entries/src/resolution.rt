@@ -1,7 +1,6 @@
 //! An entry with all that it uses, if some entries of the text can't be read.
 
-ghost use Rattle.std.specs.Prelude.{◌≡◌, ◌<◌, None, Some, IfErr, IfOk, length, slice_get};
-ghost use Rattle.std.specs.List.{AllByRecursion};
+ghost use Rattle.std.specs.{Prelude.{◌≡◌, ◌<◌, None, Some, IfErr, IfOk, length, slice_get}, List.{AllByRecursion}};
 ghost use Rattle.ti_entries.specs.Resolution.{FailsApart, FaultlessAreResolved, IsResolvedApart, fault_in, first_fault};
 ghost use Rattle.ti_source.specs.Fitting.{FieldsFit, NamesFit};
 

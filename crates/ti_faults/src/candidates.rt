@@ -1,7 +1,6 @@
 //! The string that is taken in place of one at fault.
 
-ghost use Rattle.std.specs.Prelude.{◌≡◌, ◌<◌, IfSome, IsTrue};
-ghost use Rattle.std.specs.Option.{option_copied};
+ghost use Rattle.std.specs.{Prelude.{◌≡◌, ◌<◌, IfSome, IsTrue}, Option.{option_copied}};
 ghost use Rattle.ti_caps.specs.Fits.{string_fits};
 ghost use Rattle.ti_faults.specs.Candidates as spec;
 

@@ -3,8 +3,7 @@
 ghost use Rattle.std.specs.Prelude.{◌≡◌, ◌≢◌, ◌<◌, ◌++◌, ◌∷◌, [], IfNone, IfOk, IfSome, OnOk};
 ghost use Rattle.ti_checker.specs.First.{CapStands};
 ghost use Rattle.ti_faults.specs.RowFaults as spec;
-ghost use Rattle.ti_rows.specs.Lists.{IsFirst};
-ghost use Rattle.ti_rows.specs.Names.{order, capabilities};
+ghost use Rattle.ti_rows.specs.{Lists.{IsFirst}, Names.{order, capabilities}};
 
 use crate::claims::must_claim;
 use std::alloc::{AllocError, Global};

@@ -1,7 +1,6 @@
 //! The strings that the standards have for the checked capabilities.
 
-ghost use Rattle.std.specs.Prelude.{◌≡◌, ◌<◌, IfSome, IsTrue};
-ghost use Rattle.std.specs.Option.{option_copied};
+ghost use Rattle.std.specs.{Prelude.{◌≡◌, ◌<◌, IfSome, IsTrue}, Option.{option_copied}};
 ghost use Rattle.ti_caps.specs.Fits.{string_fits};
 ghost use Rattle.ti_faults.specs.Standard as spec;
 ghost use Rattle.ti_rows.specs.Names.{order};

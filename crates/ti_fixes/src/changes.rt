@@ -1,13 +1,9 @@
 //! Giving several fields of a source text their strings, all at once.
 
-ghost use Rattle.std.specs.Prelude.{◌≡◌, Ok, IfOk, IfSome, IsTrue, true};
-ghost use Rattle.std.specs.List.{AllByRecursion};
+ghost use Rattle.std.specs.{Prelude.{◌≡◌, Ok, IfOk, IfSome, IsTrue, true}, List.{AllByRecursion}};
 ghost use Rattle.ti_caps.specs.Fits.{string_fits};
-ghost use Rattle.ti_fixes.specs.Changes as spec;
-ghost use Rattle.ti_fixes.specs.Cuts.{whole};
-ghost use Rattle.ti_fixes.specs.Texts.{IsWritten};
-ghost use Rattle.ti_source.specs.Raw.{IsRaw};
-ghost use Rattle.ti_source.specs.Source.{source_of};
+ghost use Rattle.ti_fixes.specs.{Changes as spec, Cuts.{whole}, Texts.{IsWritten}};
+ghost use Rattle.ti_source.specs.{Raw.{IsRaw}, Source.{source_of}};
 
 use crate::cuts::{cut, joined};
 use crate::differences::first_difference;

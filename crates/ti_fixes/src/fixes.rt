@@ -1,11 +1,9 @@
 //! Giving a capability of an entry another string, in the text.
 
-ghost use Rattle.std.specs.Prelude.{◌≡◌, IfOk, IfSome, IsTrue, Ok};
-ghost use Rattle.std.specs.List.{AllByRecursion};
+ghost use Rattle.std.specs.{Prelude.{◌≡◌, IfOk, IfSome, IsTrue, Ok}, List.{AllByRecursion}};
 ghost use Rattle.ti_caps.specs.Fits.{string_fits};
 ghost use Rattle.ti_fixes.specs.Fixes.{Gives};
-ghost use Rattle.ti_source.specs.Raw.{IsRaw};
-ghost use Rattle.ti_source.specs.Source.{source_of};
+ghost use Rattle.ti_source.specs.{Raw.{IsRaw}, Source.{source_of}};
 
 use crate::comparisons::are_given;
 use crate::places::find_piece;

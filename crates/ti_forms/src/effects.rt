@@ -4,12 +4,9 @@ ghost use Rattle.std.specs.Prelude.{◌≡◌, ℕ, IfErr, IfOk, IfSome, List, O
 ghost use Rattle.ti_conforms.specs.Charsets.{joined, reach_of};
 ghost use Rattle.ti_forms.specs.Forms as spec;
 ghost use Rattle.ti_rows.specs.Asked.{start_of};
-ghost use Rattle.vt_effects.specs.Basic.{placed_at};
-ghost use Rattle.vt_effects.specs.Effect.{unchanged};
-ghost use Rattle.vt_effects.specs.Record.{IsRecordOf};
+ghost use Rattle.vt_effects.specs.{Basic.{placed_at}, Effect.{unchanged}, Record.{IsRecordOf}};
 ghost use Rattle.vt_effects.specs.declared.effects.Erasure.TheVariants as erasures;
-ghost use Rattle.vt_term.specs.Scanned.{HasFault};
-ghost use Rattle.vt_term.specs.Text.{Splits};
+ghost use Rattle.vt_term.specs.{Scanned.{HasFault}, Text.{Splits}};
 
 use crate::forms::is_of_form;
 use ti_conforms::Reach;

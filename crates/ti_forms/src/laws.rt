@@ -3,8 +3,7 @@
 ghost use Rattle.std.specs.Prelude.{◌≤◌, ℕ};
 ghost use Rattle.ti_conforms.specs.Sends.{Sends};
 ghost use Rattle.ti_forms.specs.Forms.{HasForm, move_string, standard_bytes, standard_string};
-ghost use Rattle.ti_rows.specs.declared.rows.Row.{Row};
-ghost use Rattle.ti_rows.specs.declared.rows.Row.TheVariants.{Cup};
+ghost use Rattle.ti_rows.specs.{declared.rows.Row.{Row}, declared.rows.Row.TheVariants.{Cup}};
 ghost use Rattle.vt_term.specs.Moves.{cursor_to};
 
 /// The standard's string for a move to a place sends exactly the bytes that move the cursor there, for each place that

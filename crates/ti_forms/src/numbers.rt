@@ -1,8 +1,7 @@
 //! Numbers in decimal, in a small buffer.
 
 ghost use Rattle.arrayvec.specs.ArrayVec.{array_vec_len};
-ghost use Rattle.std.specs.Fmt.{decimal};
-ghost use Rattle.std.specs.Prelude.{◌≡◌, ◌++◌, ◌+◌, ◌<◌, ◌≤◌};
+ghost use Rattle.std.specs.{Fmt.{decimal}, Prelude.{◌≡◌, ◌++◌, ◌+◌, ◌<◌, ◌≤◌}};
 
 use arrayvec::ArrayVec;
 

@@ -2,8 +2,7 @@
 
 ghost use Rattle.arrayvec.specs.ArrayVec.{array_vec_len};
 ghost use Rattle.hex.specs.Hex.{encode_lower};
-ghost use Rattle.std.specs.Fmt.{decimal};
-ghost use Rattle.std.specs.Prelude.{◌≡◌, ◌++◌, ◌+◌, ◌<◌, ◌≤◌, ◌∷◌, [], IfSome, length};
+ghost use Rattle.std.specs.{Fmt.{decimal}, Prelude.{◌≡◌, ◌++◌, ◌+◌, ◌<◌, ◌≤◌, ◌∷◌, [], IfSome, length}};
 ghost use Rattle.ti_forms.specs.Forms.{IsStandardLine, standard_line};
 ghost use Rattle.ti_lines.specs.RowLines.{line_text};
 ghost use Rattle.ti_rows.specs.declared.rows.Row.TheVariants.{Csr, Cub, Cud, Cuf, Cup, Cuu, Ech, Hpa, Vpa};

@@ -1,13 +1,8 @@
 //! A further file, and its entries.
 
-ghost use Rattle.std.specs.Prelude.{◌≡◌, ◌∷◌, [], IfErr, IfOk, true, false};
-ghost use Rattle.std.specs.List.{AllByRecursion};
-ghost use Rattle.ti_source.specs.Apart.{apart_of};
-ghost use Rattle.ti_source.specs.Fitting.{FieldsFit, NamesFit};
-ghost use Rattle.ti_source.specs.Raw.{IsRaw};
-ghost use Rattle.ti_source.specs.Source.{source_of};
-ghost use Rattle.ti_further.specs.Compiled as compiled;
-ghost use Rattle.ti_further.specs.Files as spec;
+ghost use Rattle.std.specs.{Prelude.{◌≡◌, ◌∷◌, [], IfErr, IfOk, true, false}, List.{AllByRecursion}};
+ghost use Rattle.ti_source.specs.{Apart.{apart_of}, Fitting.{FieldsFit, NamesFit}, Raw.{IsRaw}, Source.{source_of}};
+ghost use Rattle.ti_further.specs.{Compiled as compiled, Files as spec};
 
 use crate::compiled::raw_of;
 use std::alloc::{AllocError, AllocFailed, Global};

@@ -1,8 +1,7 @@
 //! The fields of a line of source text, for messages.
 
 ghost use Rattle.std.specs.Prelude.{◌≡◌, ◌++◌, ◌∷◌, IfNone, IfSome, None, Some, length};
-ghost use Rattle.ti_source.specs.Marks.{comma};
-ghost use Rattle.ti_source.specs.Scan.{comma_in};
+ghost use Rattle.ti_source.specs.{Marks.{comma}, Scan.{comma_in}};
 
 use ti_caps::{Kind, Opener, by_name, kind};
 use ti_entries::field_end;

@@ -1,7 +1,6 @@
 //! The fields of a line of source text, each with its place there.
 
-ghost use Rattle.std.specs.Prelude.{◌≡◌, ◌≤◌, ◌+◌, IfOk, IfSome, length};
-ghost use Rattle.std.specs.List.{AllByRecursion};
+ghost use Rattle.std.specs.{Prelude.{◌≡◌, ◌≤◌, ◌+◌, IfOk, IfSome, length}, List.{AllByRecursion}};
 ghost use Rattle.ti_entries.specs.Columns.{columns_of_part};
 ghost use Rattle.ti_hints.specs.Places as spec;
 

@@ -1,7 +1,6 @@
 //! Laws of joined texts.
 
-ghost use Rattle.ti_joins.specs.Laws.{LinesAreJoined, LinesAreKept};
-ghost use Rattle.ti_joins.specs.Places.{BytesAreKept};
+ghost use Rattle.ti_joins.specs.{Laws.{LinesAreJoined, LinesAreKept}, Places.{BytesAreKept}};
 
 /// Law: the lines of a joined text are the joined lines, and there are as many as before, so each line that isn't taken
 /// up keeps its number.

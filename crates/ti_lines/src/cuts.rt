@@ -1,8 +1,7 @@
 //! Cutting a text at the first byte of a kind.
 ghost use Rattle.std.specs.List.{position};
 ghost use Rattle.std.specs.Prelude.{◌≡◌, ◌==◌, ◌<◌, ◌+◌, ◌∷◌, [], length, take, drop, option_map, IfNone, IfSome};
-ghost use Rattle.ti_lines.specs.Cut.{cut_at};
-ghost use Rattle.ti_lines.specs.EffectReader.{parts_of};
+ghost use Rattle.ti_lines.specs.{Cut.{cut_at}, EffectReader.{parts_of}};
 
 /// The bytes before and after the first `byte` of `text`, if it has one. The first part of `text` is then
 /// the bytes before it, and the other parts are those of the bytes after it; otherwise `text` is one part.

@@ -1,8 +1,7 @@
 //! A reader over memory for tests: small pieces, and one failure.
 
 ghost use Rattle.std.specs.Prelude.{◌≡◌, ◌<◌, ◌≤◌, ◌+◌, ◌-◌, None, Some, [], length, take, drop, min, IfOk, OnErr};
-ghost use Rattle.ti_lines.specs.Drip.{Dripping, given_by, nearer};
-ghost use Rattle.ti_lines.specs.Reader.{AtEnd, Gave, Rose, last_count};
+ghost use Rattle.ti_lines.specs.{Drip.{Dripping, given_by, nearer}, Reader.{AtEnd, Gave, Rose, last_count}};
 
 use crate::readers::{ReadFault, Reader};
 use std::marker::Model;

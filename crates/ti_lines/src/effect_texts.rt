@@ -1,8 +1,6 @@
 //! The text of an effect.
-ghost use Rattle.std.specs.Prelude.{◌≡◌, ◌<◌, ◌++◌, OnOk, IfOk, length};
-ghost use Rattle.std.specs.Fmt.{decimal};
-ghost use Rattle.ti_lines.specs.EffectText as spec;
-ghost use Rattle.ti_lines.specs.EffectWriter.{with_text, with_texts};
+ghost use Rattle.std.specs.{Prelude.{◌≡◌, ◌<◌, ◌++◌, OnOk, IfOk, length}, Fmt.{decimal}};
+ghost use Rattle.ti_lines.specs.{EffectText as spec, EffectWriter.{with_text, with_texts}};
 
 use crate::letters::{are_dots, ink_letter, switch_letter};
 use crate::numbers::push_number;

@@ -1,9 +1,8 @@
 //! Laws of effects' texts, of a certificate's lines, and of how a text is cut into lines.
 
-ghost use Rattle.ti_lines.specs.EffectLaws.{OneText, ComposedPlain, RecordedPlain};
-ghost use Rattle.ti_lines.specs.Texts.{OneLine};
-ghost use Rattle.std.specs.Prelude.{ℕ, List, ◌≡◌};
+ghost use Rattle.ti_lines.specs.{EffectLaws.{OneText, ComposedPlain, RecordedPlain}, Texts.{OneLine}};
 ghost use Rattle.ti_lines.specs.Text.{IsText, cut_of};
+ghost use Rattle.std.specs.Prelude.{ℕ, List, ◌≡◌};
 
 /// No two lines about capabilities have one text.
 pub fn one_line()

@@ -1,10 +1,8 @@
 //! Lines over a buffer that is refilled from a reader, within a budget of bytes.
 
 ghost use Rattle.std.specs.Prelude.{◌≡◌, ◌<◌, ◌≤◌, ◌+◌, ◌-◌, ◌++◌, [], None, Some, length, take, drop, IfOk, IfErr};
-ghost use Rattle.std.specs.Prelude.{OnErr, OnOk, IfSome};
-ghost use Rattle.std.specs.List.{position};
-ghost use Rattle.ti_lines.specs.Reader.{AtEnd, Gave, Rose};
-ghost use Rattle.ti_lines.specs.Text.{is_feed, line_end};
+ghost use Rattle.std.specs.{Prelude.{OnErr, OnOk, IfSome}, List.{position}};
+ghost use Rattle.ti_lines.specs.{Reader.{AtEnd, Gave, Rose}, Text.{is_feed, line_end}};
 ghost use Rattle.ti_lines.specs.Lines.{Takes, IsNext, HaltsBy, next_line, next_end};
 
 use crate::readers::{ReadFault, Reader};

@@ -1,7 +1,6 @@
 //! Decimal numbers of 16 bits, without leading zeros.
 
-ghost use Rattle.std.specs.Prelude.{◌≡◌, ◌++◌, OnOk};
-ghost use Rattle.std.specs.Fmt.{decimal};
+ghost use Rattle.std.specs.{Prelude.{◌≡◌, ◌++◌, OnOk}, Fmt.{decimal}};
 ghost use Rattle.ti_lines.specs.EffectReader as spec;
 
 use itoa::Buffer;

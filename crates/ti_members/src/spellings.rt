@@ -1,11 +1,8 @@
 //! A string of an entry in two forms.
 
-ghost use Rattle.std.specs.Prelude.{◌≡◌, IfOk, IfSome, IsTrue, Ok, string_bytes};
-ghost use Rattle.std.specs.Option.{option_copied};
-ghost use Rattle.ti_caps.specs.Entry.{string_at};
-ghost use Rattle.ti_caps.specs.Fits.{string_fits};
-ghost use Rattle.ti_source.specs.Escapes.{unescaped};
-ghost use Rattle.ti_source.specs.Prints.{string_text};
+ghost use Rattle.std.specs.{Prelude.{◌≡◌, IfOk, IfSome, IsTrue, Ok, string_bytes}, Option.{option_copied}};
+ghost use Rattle.ti_caps.specs.{Entry.{string_at}, Fits.{string_fits}};
+ghost use Rattle.ti_source.specs.{Escapes.{unescaped}, Prints.{string_text}};
 ghost use Rattle.ti_members.specs.Spellings as spec;
 
 use crate::forms::Written;

@@ -1,7 +1,6 @@
 //! The text of bytes in a report.
 
-ghost use Rattle.std.specs.Prelude.{◌≡◌, ◌<◌, IfOk, string_bytes};
-ghost use Rattle.std.specs.List.{AllByRecursion};
+ghost use Rattle.std.specs.{Prelude.{◌≡◌, ◌<◌, IfOk, string_bytes}, List.{AllByRecursion}};
 ghost use Rattle.ti_words.specs.Shown.{shown};
 ghost use Rattle.ti_members.specs.Texts as spec;
 

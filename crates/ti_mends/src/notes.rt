@@ -1,7 +1,6 @@
 //! The notes on standard error about a text with suggestions taken.
 
-ghost use Rattle.std.specs.Prelude.{◌≡◌, ◌++◌, IfOk, OnOk};
-ghost use Rattle.std.specs.List.{flat_map};
+ghost use Rattle.std.specs.{Prelude.{◌≡◌, ◌++◌, IfOk, OnOk}, List.{flat_map}};
 ghost use Rattle.ti_mends.specs.Notes as spec;
 ghost use Rattle.ti_resolve.specs.Uses.{names_at};
 

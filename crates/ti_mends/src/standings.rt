@@ -1,7 +1,6 @@
 //! Whether the entries of a source text keep their yes when one field changes.
 
-ghost use Rattle.std.specs.Prelude.{◌≡◌, ◌<◌, IfOk, IfSome, MatchOption, length};
-ghost use Rattle.std.specs.Bool.{OnTrue};
+ghost use Rattle.std.specs.{Prelude.{◌≡◌, ◌<◌, IfOk, IfSome, MatchOption, length}, Bool.{OnTrue}};
 ghost use Rattle.std.specs.List.{AllByRecursion};
 ghost use Rattle.ti_caps.specs.Entry.{string_at};
 ghost use Rattle.ti_mends.specs.Right as spec;

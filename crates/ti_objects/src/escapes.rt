@@ -1,7 +1,6 @@
 //! JSON whose bytes can all be printed.
 
-ghost use Rattle.std.specs.Prelude.{◌≡◌, ◌<◌, ◌++◌, IfOk, OnOk};
-ghost use Rattle.std.specs.List.{flat_map};
+ghost use Rattle.std.specs.{Prelude.{◌≡◌, ◌<◌, ◌++◌, IfOk, OnOk}, List.{flat_map}};
 ghost use Rattle.ti_objects.specs.Escapes as spec;
 
 use std::alloc::{AllocError, Global};

@@ -1,11 +1,8 @@
 //! A finding as SARIF has it.
 
 ghost use Rattle.std.specs.Prelude.{◌≡◌, IfOk, OnOk, codes, option_map};
-ghost use Rattle.serde_json.specs.Data.{array, item, no_items, string};
-ghost use Rattle.serde_json.specs.View.{members_view, view};
-ghost use Rattle.ti_objects.specs.Members.{text_in};
-ghost use Rattle.ti_objects.specs.Messages.{level_of, message_text};
-ghost use Rattle.ti_objects.specs.Places.{location_data};
+ghost use Rattle.serde_json.specs.{Data.{array, item, no_items, string}, View.{members_view, view}};
+ghost use Rattle.ti_objects.specs.{Members.{text_in}, Messages.{level_of, message_text}, Places.{location_data}};
 ghost use Rattle.ti_objects.specs.Results as spec;
 
 use crate::escapes::printable_json;

@@ -1,8 +1,7 @@
 //! The codes of a parameter string, one at a time.
 ghost use Rattle.std.specs.Prelude.{◌≡◌, ◌<◌, ◌≤◌, IfOk, IfSome, Ok, length};
 ghost use Rattle.ti_parm.specs.Codes.{character_code, code_at, format_code, number_code, parameter_code, percent_code};
-ghost use Rattle.ti_parm.specs.Codes.{short_code, variable, variable_code};
-ghost use Rattle.ti_parm.specs.Fault.{Answers};
+ghost use Rattle.ti_parm.specs.{Codes.{short_code, variable, variable_code}, Fault.{Answers}};
 
 use crate::fault::ParmFault;
 use crate::formats::{Format, PLAIN, format_ahead};

@@ -1,6 +1,5 @@
 //! The digits of numbers.
-ghost use Rattle.std.specs.Prelude.{◌≡◌, ◌<◌, ◌≤◌, drop};
-ghost use Rattle.std.specs.Fmt.{digit_glyph, digits};
+ghost use Rattle.std.specs.{Prelude.{◌≡◌, ◌<◌, ◌≤◌, drop}, Fmt.{digit_glyph, digits}};
 
 /// Room for the digits of a number of 32 bits, in base 8 or more.
 pub const PLACES: usize = 12;

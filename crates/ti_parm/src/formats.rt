@@ -1,8 +1,7 @@
 //! Formats as a parameter string spells them.
 ghost use Rattle.std.specs.Prelude.{◌≡◌, ◌<◌, ◌≤◌, IfOk, IfSome, MatchOption, None, Some, length, min, option_map};
 ghost use Rattle.ti_parm.specs.Codes.{as_code, behind_flags, behind_precision, conversion, finished, flag_at, flags_on};
-ghost use Rattle.ti_parm.specs.Codes.{format_code, no_flags, precision_at};
-ghost use Rattle.ti_parm.specs.Fault.{Answers};
+ghost use Rattle.ti_parm.specs.{Codes.{format_code, no_flags, precision_at}, Fault.{Answers}};
 
 use crate::fault::ParmFault;
 use crate::number::number;

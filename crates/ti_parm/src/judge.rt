@@ -1,8 +1,6 @@
 //! Faults of a string's syntax.
 ghost use Rattle.std.specs.Prelude.{◌≡◌, ◌⊎◌, Ok};
-ghost use Rattle.ti_parm.specs.Fault.{FailsBy, Gives};
-ghost use Rattle.ti_parm.specs.Conditionals.{judged};
-ghost use Rattle.ti_parm.specs.Syntax.{ahead};
+ghost use Rattle.ti_parm.specs.{Fault.{FailsBy, Gives}, Conditionals.{judged}, Syntax.{ahead}};
 
 use crate::code::next_code;
 use crate::fault::ParmFault;

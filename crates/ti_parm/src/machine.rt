@@ -1,14 +1,10 @@
 //! The state of a run, and the effect of each code on it.
 ghost use Rattle.std.specs.Prelude.{◌≡◌, ◌↔◌, ℕ, List, [], ◌<◌, ◌≤◌, IfErr, IfOk, IsTrue, length, pos, slice_index_or};
 ghost use Rattle.std.specs.Prelude.{slice_set};
-ghost use Rattle.ti_parm.specs.Fault.{Answers, Extends, FailsBy, Gives};
-ghost use Rattle.ti_parm.specs.Value.{nine, values_of, value_of, zeros};
+ghost use Rattle.ti_parm.specs.{Fault.{Answers, Extends, FailsBy, Gives}, Value.{nine, values_of, value_of, zeros}};
 ghost use Rattle.ti_parm.specs.Meaning.{ReadsUnset, act, character, one_more, pop_test, start_of, writing};
-ghost use Rattle.ti_parm.specs.Formats.{shown};
-ghost use Rattle.ti_parm.specs.Machine.{state_of};
-ghost use Rattle.ti_parm.specs.Conditionals.{judged};
-ghost use Rattle.ti_parm.specs.Runs.{judged_ahead, judged_behind, run_ahead};
-ghost use Rattle.ti_parm.specs.Syntax.{HasEnd, ahead, before};
+ghost use Rattle.ti_parm.specs.{Formats.{shown}, Machine.{state_of}, Conditionals.{judged}};
+ghost use Rattle.ti_parm.specs.{Runs.{judged_ahead, judged_behind, run_ahead}, Syntax.{HasEnd, ahead, before}};
 
 use crate::code::{Action, Code, Mark, Variable, frequent_code, next_code};
 use crate::fault::ParmFault;

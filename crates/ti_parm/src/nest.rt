@@ -62,8 +62,7 @@ fn branch_behind(mark: Mark, branch: Branch) -> Result<Option<Branch>, ParmFault
 
 impl Nest {
     ghost use Rattle.std.specs.Prelude.{◌≡◌, ◌↔◌, [], ◌∷◌, IsTrue, Ok};
-    ghost use Rattle.ti_parm.specs.Fault.{Answers, Gives};
-    ghost use Rattle.ti_parm.specs.Conditionals.{judged, nest_behind, nest_behind_mark};
+    ghost use Rattle.ti_parm.specs.{Fault.{Answers, Gives}, Conditionals.{judged, nest_behind, nest_behind_mark}};
     ghost use Rattle.ti_parm.specs.Syntax.{Ends};
 
     /// The place outside of all conditionals.

@@ -1,7 +1,6 @@
 //! The results of operators.
 ghost use Rattle.std.specs.Prelude.{◌≡◌};
-ghost use Rattle.ti_parm.specs.Fault.{Answers};
-ghost use Rattle.ti_parm.specs.Operators.{byte_of, fitting, is_true, operate, truth, apply_unary};
+ghost use Rattle.ti_parm.specs.{Fault.{Answers}, Operators.{byte_of, fitting, is_true, operate, truth, apply_unary}};
 
 use crate::code::{Operator, Unary};
 use crate::fault::ParmFault;

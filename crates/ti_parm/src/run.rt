@@ -1,13 +1,9 @@
 //! Running a parameter string.
 ghost use Rattle.std.specs.Prelude.{◌≡◌, ◌↔◌, ◌++◌, ◌⊎◌, ℕ, ℤ, List, Result, IfErr, IfOk, IsTrue, OnErr, OnOk, Ok, Err};
 ghost use Rattle.std.specs.Prelude.{length, take};
-ghost use Rattle.ti_parm.specs.Delays.{HasNoOpening, strip};
-ghost use Rattle.ti_parm.specs.Fault.{Gives};
-ghost use Rattle.ti_parm.specs.Machine.{state_of};
+ghost use Rattle.ti_parm.specs.{Delays.{HasNoOpening, strip}, Fault.{Gives}, Machine.{state_of}};
 ghost use Rattle.ti_parm.specs.Meaning.{Agree, ReadsUnset, State, meaning, sent, sent_with, start_of};
-ghost use Rattle.ti_parm.specs.Runs.{judged_run};
-ghost use Rattle.ti_parm.specs.Spellings.{IsAnswer, Spells};
-ghost use Rattle.ti_parm.specs.Syntax.{IsPlain, Parts, syntax};
+ghost use Rattle.ti_parm.specs.{Runs.{judged_run}, Spellings.{IsAnswer, Spells}, Syntax.{IsPlain, Parts, syntax}};
 ghost use Rattle.ti_parm.specs.Value.{Value, values_of, zeros};
 
 use crate::delays::strip_from;

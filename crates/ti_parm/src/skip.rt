@@ -1,8 +1,6 @@
 //! Skipping the parts of a conditional that aren't run.
 ghost use Rattle.std.specs.Prelude.{◌≡◌, ◌<◌, ◌≤◌, ◌^◌, IfErr, IfOk, length};
-ghost use Rattle.ti_parm.specs.Fault.{FailsBy};
-ghost use Rattle.ti_parm.specs.Conditionals.{judged};
-ghost use Rattle.ti_parm.specs.Skips.{depth_behind, past};
+ghost use Rattle.ti_parm.specs.{Fault.{FailsBy}, Conditionals.{judged}, Skips.{depth_behind, past}};
 ghost use Rattle.ti_parm.specs.Syntax.{HasEnd, ahead};
 
 use crate::code::{Code, Mark, next_code};

@@ -24,8 +24,7 @@ impl<'a> Model for Stack<'a> {
 
 impl<'a> Stack<'a> {
     ghost use Rattle.std.specs.Prelude.{◌≡◌, [], ◌∷◌, OnOk, OnErr, Ok, MatchOption};
-    ghost use Rattle.ti_parm.specs.Fault.{Answers, Gives};
-    ghost use Rattle.ti_parm.specs.Operators.{binary, pop_number, text_length, unary};
+    ghost use Rattle.ti_parm.specs.{Fault.{Answers, Gives}, Operators.{binary, pop_number, text_length, unary}};
     ghost use Rattle.ti_parm.specs.Value.{Number, value_of};
 
     /// The empty stack.

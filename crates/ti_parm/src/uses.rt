@@ -1,7 +1,6 @@
 //! A run's first use of each static variable.
 ghost use Rattle.std.specs.Prelude.{◌≡◌, ◌↔◌, Contains, IsTrue, slice_index_or};
-ghost use Rattle.ti_parm.specs.Uses.{further, noted};
-ghost use Rattle.ti_parm.specs.declared.uses.FirstUse.TheVariants.{ReadFirst};
+ghost use Rattle.ti_parm.specs.{Uses.{further, noted}, declared.uses.FirstUse.TheVariants.{ReadFirst}};
 
 /// A run's first use of a static variable.
 #[derive(Clone, Copy, Debug, PartialEq, Eq)]

@@ -1,9 +1,7 @@
 //! The region of the part of a value that is at fault.
 
 ghost use Rattle.std.specs.Prelude.{◌≡◌, IfOk, IfSome, map};
-ghost use Rattle.ti_places.specs.Excerpts.{IsFaulty, value_in};
-ghost use Rattle.ti_places.specs.Locations as spec;
-ghost use Rattle.ti_places.specs.Spots.{file_text, put_files};
+ghost use Rattle.ti_places.specs.{Excerpts.{IsFaulty, value_in}, Locations as spec, Spots.{file_text, put_files}};
 
 use crate::excerpts::value_in;
 use crate::faulty_parts::{Judged, faulty_part};

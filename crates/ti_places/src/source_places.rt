@@ -34,8 +34,7 @@ impl<'b> SourcePlace<'_, 'b> {
     ghost use Rattle.std.specs.Prelude.{◌≡◌, ◌<◌, [], IfOk, IfSome, length, map};
     ghost use Rattle.ti_entries.specs.BadUses.{IsBadUse};
     ghost use Rattle.ti_resolve.specs.Origins.{IsOriginAt};
-    ghost use Rattle.ti_places.specs.Locations.{IsFaultyRegion};
-    ghost use Rattle.ti_places.specs.Originals.{region_among};
+    ghost use Rattle.ti_places.specs.{Locations.{IsFaultyRegion}, Originals.{region_among}};
     ghost use Rattle.ti_places.specs.Spots.{file_text, files_of, line_among, line_of, piece_among, put_files};
 
     /// The field that gives the entry its value of `cap`; `None` if it has none.
@@ -137,8 +136,7 @@ pub struct NamedSource<'a, 'b> {
 impl<'b> NamedSource<'_, 'b> {
     ghost use Rattle.std.specs.Prelude.{◌≡◌, IfOk, IfSome, map};
     ghost use Rattle.ti_resolve.specs.Origins.{IsOrigin};
-    ghost use Rattle.ti_places.specs.Locations.{IsFaultyRegion};
-    ghost use Rattle.ti_places.specs.Originals.{region_among};
+    ghost use Rattle.ti_places.specs.{Locations.{IsFaultyRegion}, Originals.{region_among}};
     ghost use Rattle.ti_places.specs.Spots.{file_text, files_of, line_among, line_of, piece_among, put_files};
 
     /// The field that gives the entry its value of `cap`; `None` if it has none.

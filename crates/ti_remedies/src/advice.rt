@@ -1,9 +1,7 @@
 //! Strings that are advised for entries.
 
-ghost use Rattle.std.specs.Prelude.{◌≡◌, Bool, List, IfOk, IsTrue};
-ghost use Rattle.std.specs.List.{AllByRecursion};
-ghost use Rattle.ti_caps.specs.Entry.{Content};
-ghost use Rattle.ti_caps.specs.Fits.{string_fits};
+ghost use Rattle.std.specs.{Prelude.{◌≡◌, Bool, List, IfOk, IsTrue}, List.{AllByRecursion}};
+ghost use Rattle.ti_caps.specs.{Entry.{Content}, Fits.{string_fits}};
 ghost use Rattle.ti_remedies.specs.declared.advice.Advice.{Advice};
 
 use std::alloc::{AllocError, Global};

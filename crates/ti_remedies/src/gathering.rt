@@ -1,7 +1,6 @@
 //! The remedies for entries of a source text.
 
-ghost use Rattle.std.specs.Prelude.{◌≡◌, ◌<◌, IfErr, IfOk, IsTrue, length};
-ghost use Rattle.std.specs.List.{AllByRecursion};
+ghost use Rattle.std.specs.{Prelude.{◌≡◌, ◌<◌, IfErr, IfOk, IsTrue, length}, List.{AllByRecursion}};
 ghost use Rattle.ti_caps.specs.Fits.{string_fits};
 ghost use Rattle.ti_remedies.specs.Remedies as spec;
 ghost use Rattle.ti_resolve.specs.Walk.{FailsBy, walk_at};

@@ -1,9 +1,7 @@
 //! Leaving the remedies by which entries would lose their yes, and those for which no place is found.
 
-ghost use Rattle.std.specs.Prelude.{◌≡◌, [], IfOk, IfSome};
-ghost use Rattle.std.specs.List.{AllByRecursion};
-ghost use Rattle.ti_remedies.specs.Among.{IsAmong};
-ghost use Rattle.ti_remedies.specs.Treated as spec;
+ghost use Rattle.std.specs.{Prelude.{◌≡◌, [], IfOk, IfSome}, List.{AllByRecursion}};
+ghost use Rattle.ti_remedies.specs.{Among.{IsAmong}, Treated as spec};
 ghost use Rattle.ti_source.specs.Raw.{IsRaw};
 
 use crate::advice::Remedy;

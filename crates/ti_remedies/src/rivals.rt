@@ -1,7 +1,6 @@
 //! Entries that want different strings in one field.
 
-ghost use Rattle.std.specs.Prelude.{◌≡◌, true, false, IfOk, MatchOption, map};
-ghost use Rattle.std.specs.List.{AllByRecursion};
+ghost use Rattle.std.specs.{Prelude.{◌≡◌, true, false, IfOk, MatchOption, map}, List.{AllByRecursion}};
 ghost use Rattle.ti_remedies.specs.Treated as spec;
 
 use crate::advice::Remedy;

@@ -1,13 +1,9 @@
 //! Taking remedies together, in rounds: if entries would lose their yes, the remedies that touch these are left.
 
-ghost use Rattle.std.specs.Prelude.{◌≡◌, [], true, IfOk, IfSome, Ok, length, map};
-ghost use Rattle.std.specs.List.{AllByRecursion};
+ghost use Rattle.std.specs.{Prelude.{◌≡◌, [], true, IfOk, IfSome, Ok, length, map}, List.{AllByRecursion}};
 ghost use Rattle.ti_fixes.specs.Changes.{GivesAll};
-ghost use Rattle.ti_remedies.specs.Remedies.{Fits};
-ghost use Rattle.ti_remedies.specs.Standings.{AreLosers, AreStandings};
-ghost use Rattle.ti_remedies.specs.Treated as spec;
-ghost use Rattle.ti_source.specs.Raw.{IsRaw};
-ghost use Rattle.ti_source.specs.Source.{source_of};
+ghost use Rattle.ti_remedies.specs.{Remedies.{Fits}, Standings.{AreLosers, AreStandings}, Treated as spec};
+ghost use Rattle.ti_source.specs.{Raw.{IsRaw}, Source.{source_of}};
 
 use crate::advice::{Adviser, Remedy};
 use crate::losses::{without_all, without_lost, without_unplaced};

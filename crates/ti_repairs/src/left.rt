@@ -1,9 +1,7 @@
 //! The lines about what is left: the faults of the entries of the new text.
 
-ghost use Rattle.std.specs.Prelude.{◌≡◌, ◌<◌, ◌++◌, IfOk, OnOk, codes, length};
-ghost use Rattle.std.specs.List.{AllByRecursion, flat_map};
-ghost use Rattle.ti_commands.specs.Findings.{ResolvesAt};
-ghost use Rattle.ti_commands.specs.Refusals.{refusal_text_of};
+ghost use Rattle.std.specs.{Prelude.{◌≡◌, ◌<◌, ◌++◌, IfOk, OnOk, codes, length}, List.{AllByRecursion, flat_map}};
+ghost use Rattle.ti_commands.specs.{Findings.{ResolvesAt}, Refusals.{refusal_text_of}};
 ghost use Rattle.ti_repairs.specs.Notes as spec;
 ghost use Rattle.ti_source.specs.Raw.{IsRaw};
 ghost use Rattle.ti_places.specs.Refusals.{no_text};

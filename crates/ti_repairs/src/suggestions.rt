@@ -1,7 +1,6 @@
 //! The strings that are suggested for an entry's faults, as advice.
 
-ghost use Rattle.std.specs.Prelude.{◌≡◌, ◌++◌, IfOk, IfSome, OnOk};
-ghost use Rattle.std.specs.List.{AllByRecursion};
+ghost use Rattle.std.specs.{Prelude.{◌≡◌, ◌++◌, IfOk, IfSome, OnOk}, List.{AllByRecursion}};
 ghost use Rattle.ti_faults.specs.AllFaults.{AreAllFaults};
 ghost use Rattle.ti_repairs.specs.Advices as spec;
 

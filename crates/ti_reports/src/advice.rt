@@ -1,8 +1,7 @@
 //! Reports of advice on an entry.
 
 ghost use Rattle.std.specs.Prelude.{IfOk};
-ghost use Rattle.ti_reports.specs.Faults as spec;
-ghost use Rattle.ti_reports.specs.Sources.{IsNowhere};
+ghost use Rattle.ti_reports.specs.{Faults as spec, Sources.{IsNowhere}};
 
 use crate::faults::{Subject, report_on};
 use crate::lines::ValuePlace;

@@ -1,8 +1,7 @@
 //! The report that an entry can't be obtained.
 
 ghost use Rattle.std.specs.Prelude.{◌≡◌, IfErr, IfNone, IfOk, IfSome, option_map};
-ghost use Rattle.ti_commands.specs.Findings.{IsPath, IsPathAndName};
-ghost use Rattle.ti_commands.specs.declared.failure.Failure.TheVariants.{NoMemory};
+ghost use Rattle.ti_commands.specs.{Findings.{IsPath, IsPathAndName}, declared.failure.Failure.TheVariants.{NoMemory}};
 ghost use Rattle.ti_reports.specs.Lacks as spec;
 
 use crate::lines::{ValuePlace, refusal_place};

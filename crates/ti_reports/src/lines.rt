@@ -4,8 +4,7 @@ ghost use Rattle.std.specs.Prelude.{◌≡◌, ◌<◌, ◌==◌, IfOk, IfSome, 
 ghost use Rattle.ti_members.specs.Names.{IsNameOf};
 ghost use Rattle.ti_reports.specs.Sources as spec;
 ghost use Rattle.ti_resolve.specs.Uses.{names_at};
-ghost use Rattle.ti_places.specs.Locations.{first_name, place_if, place_in};
-ghost use Rattle.ti_places.specs.Spots.{file_text, line_of};
+ghost use Rattle.ti_places.specs.{Locations.{first_name, place_if, place_in}, Spots.{file_text, line_of}};
 
 use std::alloc::{AllocError, Global};
 use ti_caps::Cap;

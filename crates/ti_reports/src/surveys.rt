@@ -2,9 +2,8 @@
 
 ghost use Rattle.std.specs.Prelude.{◌≡◌, IfErr, IfOk, map};
 ghost use Rattle.ti_places.specs.Spots.{file_text};
-ghost use Rattle.ti_surveys.specs.Together.{FailsToSurvey};
+ghost use Rattle.ti_surveys.specs.{Together.{FailsToSurvey}, Heard.{Hears}};
 ghost use Rattle.ti_reports.specs.Surveys as spec;
-ghost use Rattle.ti_surveys.specs.Heard.{Hears};
 
 use crate::asked::Asked;
 use std::alloc::Global;

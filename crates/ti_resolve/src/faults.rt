@@ -1,8 +1,7 @@
 //! The reasons why an entry can't be resolved.
 
 ghost use Rattle.std.specs.Prelude.{◌≡◌};
-ghost use Rattle.ti_resolve.specs.declared.faults.ResolveFault.TheVariants.{NoMemory};
-ghost use Rattle.ti_resolve.specs.Walk.{Tells};
+ghost use Rattle.ti_resolve.specs.{declared.faults.ResolveFault.TheVariants.{NoMemory}, Walk.{Tells}};
 
 use std::alloc::{AllocError, AllocFailed, Global};
 use thiserror::Error;

@@ -1,13 +1,10 @@
 //! Copying fields into an entry; the first field about a capability decides.
 
 ghost use Rattle.std.specs.Prelude.{◌≡◌, ◌<◌, Bool, false, List, ℕ, Some, IfOk, OnOk, length, replicate};
-ghost use Rattle.std.specs.Prelude.{slice_index_or, slice_set, true, IsTrue};
-ghost use Rattle.std.specs.List.{All, AllByRecursion};
-ghost use Rattle.ti_caps.specs.Entry.{FitsPlace, with_value};
-ghost use Rattle.ti_source.specs.Fitting.{FieldsFit};
-ghost use Rattle.ti_source.specs.Raw.{FitsField};
+ghost use Rattle.std.specs.{Prelude.{slice_index_or, slice_set, true, IsTrue}, List.{All, AllByRecursion}};
+ghost use Rattle.ti_caps.specs.{Entry.{FitsPlace, with_value}, Fits.{names_fit}};
+ghost use Rattle.ti_source.specs.{Fitting.{FieldsFit}, Raw.{FitsField}};
 ghost use Rattle.ti_resolve.specs.Fills.{Filled, fields_of_all, take_fields, take_field, start};
-ghost use Rattle.ti_caps.specs.Fits.{names_fit};
 
 use crate::search::fields_of;
 use std::alloc::{AllocError, Global};

@@ -1,9 +1,7 @@
 //! The field that gives a capability its value.
 
-ghost use Rattle.std.specs.Prelude.{◌≡◌};
-ghost use Rattle.std.specs.List.{position};
-ghost use Rattle.ti_resolve.specs.Origins.{field_there, first_of, giving, is_set, origin_in};
-ghost use Rattle.ti_resolve.specs.Uses.{is_about};
+ghost use Rattle.std.specs.{Prelude.{◌≡◌}, List.{position}};
+ghost use Rattle.ti_resolve.specs.{Origins.{field_there, first_of, giving, is_set, origin_in}, Uses.{is_about}};
 
 use crate::search::fields_of;
 use ti_caps::Cap;

@@ -3,10 +3,8 @@
 ghost use Rattle.std.specs.Prelude.{◌≡◌, ◌<◌, [], Some, IfOk, IsTrue, MatchResult, IsOk, length};
 ghost use Rattle.std.specs.List.{AllByRecursion};
 ghost use Rattle.ti_caps.specs.Fits.{names_fit};
-ghost use Rattle.ti_source.specs.Fitting.{FieldsFit};
-ghost use Rattle.ti_source.specs.Raw.{IsRaw};
-ghost use Rattle.ti_resolve.specs.Uses.{names_at};
-ghost use Rattle.ti_resolve.specs.Faults.{AnswersOnce, FaultsAreSo, FaultsFromAreSo, WalksResolve};
+ghost use Rattle.ti_source.specs.{Fitting.{FieldsFit}, Raw.{IsRaw}};
+ghost use Rattle.ti_resolve.specs.{Uses.{names_at}, Faults.{AnswersOnce, FaultsAreSo, FaultsFromAreSo, WalksResolve}};
 ghost use Rattle.ti_resolve.specs.Origins.{GivesValue, GivesValueAt, IsOrigin, IsOriginAt};
 ghost use Rattle.ti_resolve.specs.Resolved.{ExpandsOnce, IsResolved, IsResolvedAt, ResolvedAtOnce, ResolvedOnce};
 ghost use Rattle.ti_resolve.specs.Walk.{Gives, FailsBy, walk_at, walk_of};

@@ -1,7 +1,6 @@
 //! Laws of the table, each for all sizes, rows and texts.
 ghost use Rattle.ti_rows.specs.Right.{StartsAllowed, AskedIsWanted, RecordedIsRight, OneLooks, ActivatesFrom};
-ghost use Rattle.ti_rows.specs.Looks.{EarlierKept};
-ghost use Rattle.ti_rows.specs.Names.{NamesRise, Named, FirstsInOrder, OrdersSmall};
+ghost use Rattle.ti_rows.specs.{Looks.{EarlierKept}, Names.{NamesRise, Named, FirstsInOrder, OrdersSmall}};
 ghost use Rattle.ti_rows.specs.Lists.{FirstsInRange, NextFollows, LastIsLast, RanksBelow, OneOfRank, EachReached};
 ghost use Rattle.ti_rows.specs.Params.{FindsParams, ParamsFound, SameCount};
 

@@ -4,9 +4,7 @@ ghost use Rattle.std.specs.Prelude.{◌≡◌, ◌≢◌, ◌≤◌, ◌+◌, �
 ghost use Rattle.std.specs.List.{AllByRecursion};
 ghost use Rattle.ti_source.specs.Apart.{FaultlessIsApart, IsApart, WholeIsTogether, add_line, alone, apart_of};
 ghost use Rattle.ti_source.specs.Apart.{entry_alone, front_fault, further_of, names_on, stretch_at, stretches_from};
-ghost use Rattle.ti_source.specs.Fitting.{FieldsFit, NamesFit};
-ghost use Rattle.ti_source.specs.Fields.{new_entry};
-ghost use Rattle.ti_source.specs.Layout.{lines_of};
+ghost use Rattle.ti_source.specs.{Fitting.{FieldsFit, NamesFit}, Fields.{new_entry}, Layout.{lines_of}};
 ghost use Rattle.ti_source.specs.Source.{FailsBy};
 
 use crate::draft::{Draft, entry_on};

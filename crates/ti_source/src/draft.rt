@@ -1,12 +1,10 @@
 //! An entry while it is read.
 
-ghost use Rattle.std.specs.Prelude.{◌≡◌, ◌<◌, ◌∷◌, [], replicate, OnOk, IfOk, nat_lt};
-ghost use Rattle.std.specs.List.{list_any};
+ghost use Rattle.std.specs.{Prelude.{◌≡◌, ◌<◌, ◌∷◌, [], replicate, OnOk, IfOk, nat_lt}, List.{list_any}};
 ghost use Rattle.ti_source.specs.declared.types.NoteKind.TheVariants.{OddEscape};
 ghost use Rattle.ti_source.specs.Fields.{cap_of, is_told, repeats, note, with_notes, with_field, with_said};
 ghost use Rattle.ti_source.specs.Fields.{with_reading, add_field, add_last, add_cut, is_no_name, begins_unnamed};
-ghost use Rattle.ti_source.specs.Fields.{new_entry, named_entry, open_names, entry_on};
-ghost use Rattle.ti_source.specs.Layout.{cut_of};
+ghost use Rattle.ti_source.specs.{Fields.{new_entry, named_entry, open_names, entry_on}, Layout.{cut_of}};
 ghost use Rattle.ti_source.specs.Source.{Gives};
 
 use crate::layout::{cut_field, is_blank};

@@ -2,8 +2,7 @@
 
 ghost use Rattle.std.specs.Prelude.{◌≡◌, ◌++◌, IfOk, OnOk};
 ghost use Rattle.ti_source.specs.Hints.{has_percent_caret, hint_at, hinted, hinted_by, hinted_cap, hints_of};
-ghost use Rattle.ti_source.specs.Hints.{is_percent, line_hints, part_hints};
-ghost use Rattle.ti_source.specs.Layout.{cut_of};
+ghost use Rattle.ti_source.specs.{Hints.{is_percent, line_hints, part_hints}, Layout.{cut_of}};
 
 use crate::layout::{Mark, cut_field, cut_line, marked, skip_white};
 use crate::parts::is_skipped;

@@ -1,11 +1,9 @@
 //! Cutting a source text: into lines, a line into fields, a field into a name and a value.
 
 ghost use Rattle.std.specs.Prelude.{◌≡◌, ℕ, ◌+◌, ◌<◌, ◌≤◌, ◌==◌, [], ◌∷◌, length, take, drop, IfSome, IfNone};
-ghost use Rattle.std.specs.Prelude.{option_map};
-ghost use Rattle.std.specs.List.{list_all};
+ghost use Rattle.std.specs.{Prelude.{option_map}, List.{list_all}};
 ghost use Rattle.ti_source.specs.Layout.{lines_of, is_white, skip_white, trim_end, Cut, put_field, cut_of, mark_of};
-ghost use Rattle.ti_source.specs.Layout.{marked_with, marked_in};
-ghost use Rattle.ti_source.specs.Scan.{comma_in, feed_in, without_return};
+ghost use Rattle.ti_source.specs.{Layout.{marked_with, marked_in}, Scan.{comma_in, feed_in, without_return}};
 
 use ti_caps::Opener;
 

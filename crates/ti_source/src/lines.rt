@@ -2,8 +2,7 @@
 
 ghost use Rattle.std.specs.Prelude.{◌≡◌, ◌≤◌, ◌+◌, ◌++◌, ◌∷◌, [], Some, None, IfOk, IfSome, IfNone, OnOk, length};
 ghost use Rattle.ti_source.specs.Blocks.{AreFlags, entry_block, fields_from, further_lines, is_held, with_line};
-ghost use Rattle.ti_source.specs.Blocks.{with_lines, with_part};
-ghost use Rattle.ti_source.specs.Layout.{cut_of, lines_of};
+ghost use Rattle.ti_source.specs.{Blocks.{with_lines, with_part}, Layout.{cut_of, lines_of}};
 ghost use Rattle.ti_source.specs.Lines.{LinesAreOfFields, after_names, begins_entry, blocks_from, field_lines_of};
 ghost use Rattle.ti_source.specs.Lines.{firsts, is_further, marked_line, named_line, part_line, part_lines};
 

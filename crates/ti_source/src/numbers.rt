@@ -2,8 +2,7 @@
 
 ghost use Rattle.std.specs.Prelude.{◌≡◌, ◌<◌, ◌≤◌, option_map, IfSome, IfOk};
 ghost use Rattle.ti_source.specs.Numbers.{digit_value, digit_in, digits_from, digits_of, behind_zero, spelled_number};
-ghost use Rattle.ti_source.specs.Numbers.{capped, ranged, number_of};
-ghost use Rattle.ti_source.specs.Source.{Gives};
+ghost use Rattle.ti_source.specs.{Numbers.{capped, ranged, number_of}, Source.{Gives}};
 
 use crate::layout::trim_end;
 use crate::types::FaultKind;

@@ -3,11 +3,9 @@
 ghost use Rattle.std.specs.Prelude.{◌≡◌, ◌++◌, ◌∷◌, [], IfOk, option_map, Some};
 ghost use Rattle.ti_source.specs.Fields.{is_use, flag_reading, number_reading, string_reading, known_reading};
 ghost use Rattle.ti_source.specs.Fields.{named_reading, marked_reading, split_reading, is_skipped, trimmed_reading};
-ghost use Rattle.ti_source.specs.Fields.{reading_of, is_long, bounded_reading, ended_reading};
-ghost use Rattle.ti_source.specs.Layout.{marked_in};
+ghost use Rattle.ti_source.specs.{Fields.{reading_of, is_long, bounded_reading, ended_reading}, Layout.{marked_in}};
 ghost use Rattle.ti_source.specs.declared.parts.Reading.TheVariants.{Says};
-ghost use Rattle.ti_source.specs.declared.types.Field.TheVariants.{Include};
-ghost use Rattle.ti_source.specs.Source.{Gives};
+ghost use Rattle.ti_source.specs.{declared.types.Field.TheVariants.{Include}, Source.{Gives}};
 
 use crate::escapes::{Decoded, decode};
 use crate::layout::{Mark, marked, skip_white, trim_end};

@@ -1,15 +1,10 @@
 //! Printing an entry.
 
 ghost use Rattle.std.specs.Prelude.{◌≡◌, ◌<◌, ◌/◌, ◌%◌, ◌+◌, ◌++◌, ◌∷◌, [], Ok, IfOk, IsTrue, OnOk, decimal, ◌&&◌};
-ghost use Rattle.std.specs.Prelude.{nat_le};
-ghost use Rattle.std.specs.List.{AllByRecursion};
-ghost use Rattle.ti_caps.specs.Fits.{string_fits};
-ghost use Rattle.ti_source.specs.Escapes.{unescaped};
-ghost use Rattle.ti_caps.specs.declared.types.Kind.TheVariants as kinds;
-ghost use Rattle.ti_caps.specs.Entry.{IsEntry, value_at};
-ghost use Rattle.ti_caps.specs.Table.{name_at, place_of_rank};
-ghost use Rattle.ti_source.specs.Printed.{PrintsJust, ReadsBack, raw_of};
-ghost use Rattle.ti_source.specs.Source.{source_of};
+ghost use Rattle.std.specs.{Prelude.{nat_le}, List.{AllByRecursion}};
+ghost use Rattle.ti_caps.specs.{Fits.{string_fits}, declared.types.Kind.TheVariants as kinds};
+ghost use Rattle.ti_caps.specs.{Entry.{IsEntry, value_at}, Table.{name_at, place_of_rank}};
+ghost use Rattle.ti_source.specs.{Escapes.{unescaped}, Printed.{PrintsJust, ReadsBack, raw_of}, Source.{source_of}};
 ghost use Rattle.ti_source.specs.Prints.{letter_for, octal, spelled_with, spelled, string_text, value_text, field_text};
 ghost use Rattle.ti_source.specs.Prints.{place_text, rank_text, ranks_text, kind_text, text_of};
 

@@ -1,11 +1,9 @@
 //! Reading a whole source text.
 
-ghost use Rattle.std.specs.Prelude.{◌≡◌, ◌<◌, ◌+◌, ◌++◌, Ok, None, IfOk, IfErr, OnOk};
+ghost use Rattle.std.specs.{Prelude.{◌≡◌, ◌<◌, ◌+◌, ◌++◌, Ok, None, IfOk, IfErr, OnOk}, List.{AllByRecursion}};
 ghost use Rattle.ti_source.specs.Source.{Progress, all_of, is_comment, is_passed, begins_white, continued, begun};
-ghost use Rattle.ti_source.specs.Source.{read_line, source_of, fault_at, Gives, FailsBy};
-ghost use Rattle.ti_source.specs.Raw.{IsRaw};
+ghost use Rattle.ti_source.specs.{Source.{read_line, source_of, fault_at, Gives, FailsBy}, Raw.{IsRaw}};
 ghost use Rattle.ti_source.specs.Related.{FaultHasNone, FaultIsFirst, ReadIsRelated, RelatedIsRead};
-ghost use Rattle.std.specs.List.{AllByRecursion};
 ghost use Rattle.ti_source.specs.Views.{progress_view};
 
 use crate::draft::{Draft, entry_on};

@@ -2,8 +2,7 @@
 
 ghost use Rattle.std.specs.Prelude.{◌≡◌, ◌≤◌, IfOk, IfSome, length, true};
 ghost use Rattle.ti_parm.specs.Value.{values_of};
-ghost use Rattle.ti_stretches.specs.FaultyCodes as spec;
-ghost use Rattle.ti_stretches.specs.Stretches.{IsWithin};
+ghost use Rattle.ti_stretches.specs.{FaultyCodes as spec, Stretches.{IsWithin}};
 
 use crate::codes::codes;
 use crate::prefixes::Open;
@@ -47,8 +46,7 @@ struct Given<'a> {
 impl Given<'_> {
     ghost use Rattle.std.specs.Prelude.{All, IfOk, IfSome};
     ghost use Rattle.ti_parm.specs.Value.{values_of};
-    ghost use Rattle.ti_stretches.specs.FaultyCodes.{IsFaulty};
-    ghost use Rattle.ti_stretches.specs.Stretches.{IsWithin};
+    ghost use Rattle.ti_stretches.specs.{FaultyCodes.{IsFaulty}, Stretches.{IsWithin}};
 
     /// `code`, if the front of the string up to its end, where the conditionals `nest` are open, has this fault.
     fn if_faulty(

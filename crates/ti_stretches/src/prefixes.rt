@@ -1,7 +1,6 @@
 //! The front of a parameter string as a string of its own.
 
-ghost use Rattle.std.specs.Prelude.{◌≡◌, ◌≤◌, ◌++◌, Bool, List, IfOk, OnOk, length, take};
-ghost use Rattle.std.specs.List.{flat_map};
+ghost use Rattle.std.specs.{Prelude.{◌≡◌, ◌≤◌, ◌++◌, Bool, List, IfOk, OnOk, length, take}, List.{flat_map}};
 ghost use Rattle.ti_stretches.specs.Prefixes as spec;
 
 use std::alloc::{AllocError, Global};

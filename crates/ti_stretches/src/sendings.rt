@@ -1,11 +1,8 @@
 //! The stretch of a parameter string that sends given bytes.
 
 ghost use Rattle.std.specs.Prelude.{◌≡◌, ◌≤◌, ◌⊎◌, All, Some, IfNone, IfOk, IfSome, List, ℕ, Bool, Ok, length, take};
-ghost use Rattle.ti_parm.specs.Meaning.{sent};
-ghost use Rattle.ti_parm.specs.Value.{values_of};
-ghost use Rattle.ti_stretches.specs.Prefixes.{closed_front};
-ghost use Rattle.ti_stretches.specs.Sendings as spec;
-ghost use Rattle.ti_stretches.specs.Stretches.{IsWithin};
+ghost use Rattle.ti_parm.specs.{Meaning.{sent}, Value.{values_of}};
+ghost use Rattle.ti_stretches.specs.{Prefixes.{closed_front}, Sendings as spec, Stretches.{IsWithin}};
 
 use crate::codes::codes;
 use crate::prefixes::Open;

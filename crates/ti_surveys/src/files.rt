@@ -1,16 +1,12 @@
 //! The statements about the entries of a file, one after another.
 
-ghost use Rattle.std.specs.Prelude.{◌≡◌, ◌≢◌, ◌<◌, ◌≤◌, ◌⊎◌, IfErr, IfOk, IfSome, OnOk, Some, false, length};
-ghost use Rattle.std.specs.Prelude.{List, None, option_map, slice_get, true};
-ghost use Rattle.std.specs.List.{AllByRecursion, range_with_len};
+ghost use Rattle.std.specs.Prelude.{◌≡◌, ◌≢◌, ◌<◌, ◌≤◌, ◌⊎◌, IfErr, IfOk, IfSome, OnOk, Some, false, length, List};
+ghost use Rattle.std.specs.{Prelude.{None, option_map, slice_get, true}, List.{AllByRecursion, range_with_len}};
 ghost use Rattle.ti_further.specs.declared.files.FurtherFile.{FurtherFile};
 ghost use Rattle.ti_source.specs.Fitting.{FieldsFit, NamesFit};
-ghost use Rattle.ti_surveys.specs.Heard.{Hears};
-ghost use Rattle.ti_surveys.specs.Lines as spec;
-ghost use Rattle.ti_places.specs.Locations.{place_if};
-ghost use Rattle.ti_places.specs.Spots.{put_files};
-ghost use Rattle.ti_surveys.specs.Together.{FailsApartly, all_in};
+ghost use Rattle.ti_surveys.specs.{Heard.{Hears}, Lines as spec, Together.{FailsApartly, all_in}};
 ghost use Rattle.ti_surveys.specs.Told.{IsToldOfEach, told_of};
+ghost use Rattle.ti_places.specs.{Locations.{place_if}, Spots.{put_files}};
 
 use crate::said::Said;
 use crate::speakers::{FileEntry, Lacking, Speaker};

@@ -1,9 +1,8 @@
 //! Speakers, which report the results about entries.
 
 ghost use Rattle.std.specs.Prelude.{◌<◌, IfOk, IfSome, length, option_map};
-ghost use Rattle.ti_surveys.specs.Lines.{Leaving, Refusing, Saying};
+ghost use Rattle.ti_surveys.specs.{Lines.{Leaving, Refusing, Saying}, Told.{told_of}};
 ghost use Rattle.ti_places.specs.Locations.{place_if};
-ghost use Rattle.ti_surveys.specs.Told.{told_of};
 
 use crate::said::Said;
 use std::alloc::{AllocError, Global};

@@ -1,7 +1,6 @@
 //! The failure of a survey that fails if an entry isn't right.
 
-ghost use Rattle.std.specs.Prelude.{◌≡◌, IfOk, Some};
-ghost use Rattle.std.specs.List.{list_all};
+ghost use Rattle.std.specs.{Prelude.{◌≡◌, IfOk, Some}, List.{list_all}};
 ghost use Rattle.ti_surveys.specs.Strict as spec;
 
 use std::alloc::{AllocError, Global};

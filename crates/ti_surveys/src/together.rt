@@ -1,7 +1,6 @@
 //! The entries of a source and, behind them, those of the files of `--with`, each read by itself.
 
-ghost use Rattle.std.specs.Prelude.{◌≡◌, ◌⊎◌, IfErr, IfOk, length};
-ghost use Rattle.std.specs.List.{AllByRecursion};
+ghost use Rattle.std.specs.{Prelude.{◌≡◌, ◌⊎◌, IfErr, IfOk, length}, List.{AllByRecursion}};
 ghost use Rattle.ti_further.specs.Files.{AreApartOf};
 ghost use Rattle.ti_source.specs.Fitting.{FieldsFit, NamesFit};
 ghost use Rattle.ti_surveys.specs.Together as spec;

@@ -1,11 +1,8 @@
 //! The answers about entries, and the number of answers of each kind.
 
-ghost use Rattle.std.specs.Prelude.{◌≡◌, ◌++◌, IfOk, OnOk, map};
-ghost use Rattle.std.specs.List.{flat_map};
+ghost use Rattle.std.specs.{Prelude.{◌≡◌, ◌++◌, IfOk, OnOk, map}, List.{flat_map}};
 ghost use Rattle.ti_commands.specs.Words.{texts_of};
-ghost use Rattle.ti_verdicts.specs.Counts as spec;
-ghost use Rattle.ti_verdicts.specs.FaultAnswers.{fault_answer};
-ghost use Rattle.ti_verdicts.specs.AnswerNames.{answer_name};
+ghost use Rattle.ti_verdicts.specs.{Counts as spec, FaultAnswers.{fault_answer}, AnswerNames.{answer_name}};
 
 use std::alloc::{AllocError, Global};
 use ti_checker::{Cause, No};

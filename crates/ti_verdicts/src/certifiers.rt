@@ -2,8 +2,7 @@
 
 ghost use Rattle.std.specs.Prelude.{ℕ, List, IfErr, IfOk};
 ghost use Rattle.ti_caps.specs.Entry.{Content};
-ghost use Rattle.ti_checker.specs.declared.causes.No.{No};
-ghost use Rattle.ti_checker.specs.No.{IsNo};
+ghost use Rattle.ti_checker.specs.{declared.causes.No.{No}, No.{IsNo}};
 ghost use Rattle.ti_verdicts.specs.Checks.{IsCertified};
 
 use std::alloc::Global;

@@ -1,7 +1,6 @@
 //! Indented lines, which are printed below another one.
 
-ghost use Rattle.std.specs.Prelude.{◌≡◌, ◌++◌, IfOk, OnOk, map};
-ghost use Rattle.std.specs.List.{flat_map};
+ghost use Rattle.std.specs.{Prelude.{◌≡◌, ◌++◌, IfOk, OnOk, map}, List.{flat_map}};
 ghost use Rattle.ti_verdicts.specs.FaultLists as spec;
 
 use std::alloc::{AllocError, Global};

@@ -2,8 +2,7 @@
 
 ghost use Rattle.std.specs.Prelude.{◌≡◌, IfOk, option_map};
 ghost use Rattle.ti_verdicts.specs.Starts as spec;
-ghost use Rattle.ti_words.specs.Runs.{IsRunText};
-ghost use Rattle.ti_words.specs.Starts.{start_text};
+ghost use Rattle.ti_words.specs.{Runs.{IsRunText}, Starts.{start_text}};
 
 use std::alloc::{AllocError, Global};
 use ti_checker::Probe;

@@ -1,7 +1,6 @@
 //! Numbers as messages print them.
 
-ghost use Rattle.std.specs.Prelude.{◌≡◌, ◌++◌, ◌∷◌, OnOk};
-ghost use Rattle.std.specs.Fmt.{decimal};
+ghost use Rattle.std.specs.{Prelude.{◌≡◌, ◌++◌, ◌∷◌, OnOk}, Fmt.{decimal}};
 ghost use Rattle.ti_words.specs.Numbers.{numbers_text};
 
 use std::alloc::{AllocError, Global};

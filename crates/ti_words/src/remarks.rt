@@ -23,8 +23,7 @@ pub struct Remarks {
 }
 
 impl Model for Remarks {
-    ghost use Rattle.std.specs.Prelude.{List, map, ℕ};
-    ghost use Rattle.std.specs.List.{AllByRecursion};
+    ghost use Rattle.std.specs.{Prelude.{List, map, ℕ}, List.{AllByRecursion}};
     ghost use Rattle.ti_words.specs.Remarks.{IsRemark};
 
     ghost Value = { List (List ℕ) };

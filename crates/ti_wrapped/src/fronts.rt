@@ -1,8 +1,6 @@
 //! The first bytes of a file: all of them, if they are no more than a source may have.
 
-ghost use Rattle.std.specs.Prelude.{◌≡◌, ◌++◌, IfOk, OnOk};
-ghost use Rattle.std.specs.Bool.{OnFalse};
-ghost use Rattle.std.specs.Io.KnownBytes.{IsAtEnd};
+ghost use Rattle.std.specs.{Prelude.{◌≡◌, ◌++◌, IfOk, OnOk}, Bool.{OnFalse}, Io.KnownBytes.{IsAtEnd}};
 ghost use Rattle.ti_commands.specs.Contents.{longest_file};
 ghost use Rattle.ti_wrapped.specs.Fronts.{IsFront, ReadsMore};
 

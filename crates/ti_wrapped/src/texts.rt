@@ -1,7 +1,6 @@
 //! The text that the bytes of a file are read as.
 
-ghost use Rattle.std.specs.Prelude.{◌≡◌, IfOk};
-ghost use Rattle.std.specs.Bool.{OnTrue};
+ghost use Rattle.std.specs.{Prelude.{◌≡◌, IfOk}, Bool.{OnTrue}};
 ghost use Rattle.ti_wrapped.specs.Wrapped as spec;
 
 use std::alloc::{AllocError, Global};

@@ -1,9 +1,7 @@
 //! Laws of records, each for all sizes, starts and texts.
 ghost use Rattle.std.specs.Prelude.{ℕ, ◌<◌};
-ghost use Rattle.vt_term.specs.Size.{IsSize};
-ghost use Rattle.vt_effects.specs.declared.starts.Start.{Start};
-ghost use Rattle.vt_term.specs.Moves.{cursor_to};
-ghost use Rattle.vt_effects.specs.Settings.{RecordsTellSettings};
+ghost use Rattle.vt_term.specs.{Size.{IsSize}, Moves.{cursor_to}};
+ghost use Rattle.vt_effects.specs.{declared.starts.Start.{Start}, Settings.{RecordsTellSettings}};
 ghost use Rattle.vt_effects.specs.Basic.{HasRecord, home_text, clear_text, el_text, sgr0_text, placed_at, cleared};
 ghost use Rattle.vt_effects.specs.Basic.{tail_erased, made_plain};
 

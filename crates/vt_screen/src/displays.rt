@@ -1,11 +1,8 @@
 //! `Display`: the cells, the cursor and the modes, and each function's effect on them.
 
 ghost use Rattle.std.specs.Prelude.{◌≡◌, ◌==◌, ◌+◌, ◌-◌, ◌^◌, ◌<◌, ◌≤◌, min, max, nat_le, ◌&&◌, if◌then◌else◌, length};
-ghost use Rattle.std.specs.Prelude.{take, IfOk};
-ghost use Rattle.std.specs.List.{AllByRecursion, prefix_len};
-ghost use Rattle.vt_screen.specs.Grid.{look_at};
-ghost use Rattle.vt_screen.specs.Step as spec;
-ghost use Rattle.vt_screen.specs.Look.{IsPrinted, is_printed};
+ghost use Rattle.std.specs.{Prelude.{take, IfOk}, List.{AllByRecursion, prefix_len}};
+ghost use Rattle.vt_screen.specs.{Grid.{look_at}, Step as spec, Look.{IsPrinted, is_printed}};
 
 use crate::cells::Cell;
 use crate::functions::{CodeElement, EraseExtent, Function, ModeKind};
@@ -88,8 +85,7 @@ impl Model for Display {
 }
 
 impl Display {
-    ghost use Rattle.vt_screen.specs.Screen.{reset_screen, IsScreen};
-    ghost use Rattle.vt_screen.specs.Printed.{screen_text};
+    ghost use Rattle.vt_screen.specs.{Screen.{reset_screen, IsScreen}, Printed.{screen_text}};
     ghost use Rattle.vt_screen.specs.Settings.{settings_of, with_settings};
 
     /// A display of this `size` in the reset state. Fails only when out of memory.

@@ -15,8 +15,7 @@ pub(crate) struct Pen {
 }
 
 impl Model for Pen {
-    ghost use Rattle.vt_screen.specs.declared.renditions.Rendition.{Rendition};
-    ghost use Rattle.vt_screen.specs.Look.{IsPenOf};
+    ghost use Rattle.vt_screen.specs.{declared.renditions.Rendition.{Rendition}, Look.{IsPenOf}};
 
     ghost Value = { Rendition };
 

@@ -1,6 +1,5 @@
 //! The screen as a text.
-ghost use Rattle.std.specs.Prelude.{◌≡◌, ◌<◌, ◌+◌, ◌^◌, ◌++◌, length, OnOk, map};
-ghost use Rattle.std.specs.List.{flat_map};
+ghost use Rattle.std.specs.{Prelude.{◌≡◌, ◌<◌, ◌+◌, ◌^◌, ◌++◌, length, OnOk, map}, List.{flat_map}};
 ghost use Rattle.vt_screen.specs.Printed as spec;
 
 use crate::cells::Cell;

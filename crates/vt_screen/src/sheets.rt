@@ -3,9 +3,8 @@
 ghost use Rattle.std.specs.Prelude.{◌≡◌, ◌<◌, ◌≤◌, ◌+◌, ◌++◌, true, length, slice_set, IfOk};
 ghost use Rattle.vt_screen.specs.Grid.{line_at, look_at, put, uniform, scrolled_up, scrolled_down, written};
 ghost use Rattle.vt_screen.specs.Grid.{part_filled, cells_inserted, cells_deleted, line_changed, lines_filled};
-ghost use Rattle.vt_screen.specs.Grid.{HasEvenLines};
+ghost use Rattle.vt_screen.specs.{Grid.{HasEvenLines}, Sheets.{ring_place, ring_next}};
 ghost use Rattle.grids.specs.Grids.{rotated_up};
-ghost use Rattle.vt_screen.specs.Sheets.{ring_place, ring_next};
 
 use crate::cells::Cell;
 use crate::pens::Ink;

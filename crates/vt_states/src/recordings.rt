@@ -1,7 +1,6 @@
 //! Recordings of today's programs, reduced to characters and sequences that T has.
 
-ghost use Rattle.std.specs.Prelude.{◌≡◌, ℕ, ◌+◌, ◌<◌, ◌≤◌, ◌++◌, ◌==◌, length, take, IfOk, OnOk};
-ghost use Rattle.std.specs.List.{flat_map};
+ghost use Rattle.std.specs.{Prelude.{◌≡◌, ℕ, ◌+◌, ◌<◌, ◌≤◌, ◌++◌, ◌==◌, length, take, IfOk, OnOk}, List.{flat_map}};
 ghost use Rattle.vt_states.specs.Recordings as spec;
 
 use std::alloc::{AllocError, Global};

@@ -1,9 +1,7 @@
 //! The parts of its state that `Terminal` doesn't return: autowrap, insertion, and the open sequence.
 
 ghost use Rattle.std.specs.Prelude.{◌≡◌, ◌≤◌, ℕ, ◌∷◌, ◌++◌, [], List, drop, length, IfOk};
-ghost use Rattle.vt_term.specs.Screen.{State, reset};
-ghost use Rattle.vt_term.specs.Text.{Splits};
-ghost use Rattle.vt_term.specs.Run.{Runs};
+ghost use Rattle.vt_term.specs.{Screen.{State, reset}, Text.{Splits}, Run.{Runs}};
 ghost use Rattle.vt_states.specs.Watches.{IsWatch, all_switched, switched, switches_after, switches_of};
 
 use std::alloc::{AllocError, Global};

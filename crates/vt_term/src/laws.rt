@@ -1,11 +1,7 @@
 //! Laws of splitting and running, each for all states and texts.
 ghost use Rattle.std.specs.Prelude.{◌≡◌, ℕ, ◌+◌, List, [], ◌∷◌, ◌++◌, length};
-ghost use Rattle.vt_term.specs.Function.{Function};
-ghost use Rattle.vt_term.specs.Screen.{Screen, State, IsOfSize};
-ghost use Rattle.vt_term.specs.Text.{IsOpen, Splits, IsSplit};
-ghost use Rattle.vt_term.specs.Fronts.{GoesOn};
-ghost use Rattle.vt_term.specs.Charsets.{charset_after};
-ghost use Rattle.vt_term.specs.Step.{act, steps};
+ghost use Rattle.vt_term.specs.{Function.{Function}, Screen.{Screen, State, IsOfSize}, Text.{IsOpen, Splits, IsSplit}};
+ghost use Rattle.vt_term.specs.{Fronts.{GoesOn}, Charsets.{charset_after}, Step.{act, steps}};
 ghost use Rattle.vt_term.specs.Run.{Runs, RunsCut, Sticks};
 
 /// A text splits into tokens and an open rest in at most one way.

@@ -1,7 +1,6 @@
 //! The bytes of an open sequence, as proofs see them.
 
-ghost use Rattle.std.specs.Prelude.{◌≡◌, ℕ, List, [], ◌∷◌, ◌++◌};
-ghost use Rattle.std.specs.Borrow.{ftrue};
+ghost use Rattle.std.specs.{Prelude.{◌≡◌, ℕ, List, [], ◌∷◌, ◌++◌}, Borrow.{ftrue}};
 
 use std::marker::Model;
 

@@ -1,14 +1,10 @@
 //! The parser: the effect of each byte on an open sequence, and the function that a finished one names.
 
 ghost use Rattle.std.specs.Prelude.{◌≡◌, ℕ, ◌+◌, ◌-◌, ◌*◌, ◌<◌, ◌≤◌, min, true, false, List, [], ◌∷◌, ◌++◌, length};
-ghost use Rattle.std.specs.Prelude.{IfOk, Option, vec_capacity};
-ghost use Rattle.std.specs.Option.{unwrap_or};
-ghost use Rattle.vt_term.specs.Parameters as spec;
-ghost use Rattle.vt_term.specs.Text.{IsOpen, IsWhole, Cuts};
-ghost use Rattle.vt_term.specs.Function.{function_of};
+ghost use Rattle.std.specs.{Prelude.{IfOk, Option, vec_capacity}, Option.{unwrap_or}};
+ghost use Rattle.vt_term.specs.{Parameters as spec, Text.{IsOpen, IsWhole, Cuts}, Function.{function_of}};
 ghost use Rattle.vt_term.specs.Fault.{IsTransition, IsOutsideTransition, IsIntroducerTransition, IsEscapeTransition};
-ghost use Rattle.vt_term.specs.Fault.{IsInsideTransition};
-ghost use Rattle.vt_term.specs.ParserStates.{IsAt, NamesNothing};
+ghost use Rattle.vt_term.specs.{Fault.{IsInsideTransition}, ParserStates.{IsAt, NamesNothing}};
 
 use crate::functions::{designation, escape_final, of_numbers, of_private_numbers, single};
 use crate::open_bytes::OpenBytes;

@@ -2,9 +2,7 @@
 
 ghost use Rattle.std.specs.Prelude.{◌≡◌, ◌++◌, ◌∷◌, ◌-◌, ◌<◌, ◌≤◌, [], drop, length, take, IfErr, IfOk, IfSome, List};
 ghost use Rattle.std.specs.Prelude.{None, Some, ◌+◌, ℕ};
-ghost use Rattle.vt_term.specs.Function.{function_of};
-ghost use Rattle.vt_term.specs.ParserStates.{IsTold};
-ghost use Rattle.vt_term.specs.Text.{IsOpen};
+ghost use Rattle.vt_term.specs.{Function.{function_of}, ParserStates.{IsTold}, Text.{IsOpen}};
 ghost use Rattle.vt_term.specs.Scanned.{Begins, HasFault, HasFaultFrom, IsRead, IsTokenAt};
 
 use crate::parser::{Parser, ParserState, Transition};

@@ -26,8 +26,7 @@ pub struct Terminal {
 }
 
 impl Model for Terminal {
-    ghost use Rattle.vt_term.specs.Screen.{State};
-    ghost use Rattle.vt_term.specs.Text.{IsOpen};
+    ghost use Rattle.vt_term.specs.{Screen.{State}, Text.{IsOpen}};
 
     ghost Value = { State };
 
@@ -37,8 +36,7 @@ impl Model for Terminal {
 }
 
 impl Terminal {
-    ghost use Rattle.vt_term.specs.Screen.{reset, IsState};
-    ghost use Rattle.vt_term.specs.Run.{Runs, Sticks, Accepts};
+    ghost use Rattle.vt_term.specs.{Screen.{reset, IsState}, Run.{Runs, Sticks, Accepts}};
     ghost use Rattle.vt_screen.specs.Printed.{screen_text};
 
     /// A terminal of this `size` in the reset state. Fails only when out of memory.

@@ -1,11 +1,8 @@
 //! Splitting a text into its tokens.
 
 ghost use Rattle.std.specs.Prelude.{◌≡◌, [], ◌∷◌, ◌++◌, IfOk, IfErr, OnOk, IfSome, ℕ, List};
-ghost use Rattle.vt_term.specs.Scanned.{HasFault};
-ghost use Rattle.vt_term.specs.Text.{Splits};
-ghost use Rattle.vt_term.specs.Function.{function_of};
-ghost use Rattle.vt_term.specs.Run.{place_of, LeadsTo, Reaches};
-ghost use Rattle.vt_term.specs.Fault.{TellsFault};
+ghost use Rattle.vt_term.specs.{Scanned.{HasFault}, Text.{Splits}, Function.{function_of}};
+ghost use Rattle.vt_term.specs.{Run.{place_of, LeadsTo, Reaches}, Fault.{TellsFault}};
 
 use crate::parser::{ParserState, ended};
 use crate::scanners::{Scanner, TextFault, TextFaultKind};

@@ -1,8 +1,7 @@
 //! Reading a whole control sequence at once, if it has only parameters.
 
 ghost use Rattle.std.specs.Prelude.{◌≡◌, ◌+◌, ◌<◌, ◌≤◌, length, take, IfSome};
-ghost use Rattle.vt_term.specs.ParserStates.{ReadsTo};
-ghost use Rattle.vt_term.specs.Text.{sequence_limit};
+ghost use Rattle.vt_term.specs.{ParserStates.{ReadsTo}, Text.{sequence_limit}};
 
 use crate::parser::{SEQUENCE_LIMIT, with_digit};
 
