@@ -1,6 +1,7 @@
 //! Laws of the calls on one window, each for all grids and windows.
 ghost use Rattle.std.specs.Prelude.{◌≡◌, ℕ, ◌+◌, ◌<◌, List, ℤ, pos, negsuc};
-ghost use Rattle.cur_drawing.specs.{Cells.{restyled}, Grids.{Grid}, Windows.{content, as_is}, Calls as calls};
+ghost use Rattle.cur_drawing.specs.{Cells.{restyled}, Grids.{Grid}, Windows.{content, as_is}};
+ghost use Rattle.cur_drawing.specs.Calls as calls;
 ghost use Rattle.cur_drawing.specs.Laws.{IsLocal, ChangesNothingIfRefused, ChangesNothingIfRefusedButNoScroll, cell_of};
 ghost use Rattle.cur_drawing.specs.Laws.{went_up, went_down, LeavesCells, cell_inserted, cell_deleted, line_inserted};
 ghost use Rattle.cur_drawing.specs.Laws.{line_deleted};

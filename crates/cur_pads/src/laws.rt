@@ -3,7 +3,8 @@ ghost use Rattle.std.specs.Prelude.{ℕ, ℤ};
 ghost use Rattle.cur_windows.specs.{Desks.{State, IsDesk}, Laws.{UnchangedIfRefused}};
 ghost use Rattle.cur_screens.specs.VirtualScreen.{Screen};
 ghost use Rattle.cur_pads.specs.{Laws.{BothUnchangedIfRefused, ShowsCells}, Creations.{newpad, subpad}};
-ghost use Rattle.cur_pads.specs.{Refusals as causes, Displays.{pnoutrefresh}};
+ghost use Rattle.cur_pads.specs.Displays.{pnoutrefresh};
+ghost use Rattle.cur_pads.specs.Refusals as causes;
 ghost use Rattle.cur_drawing.specs.Refusals.{IsFirstOf};
 
 /// If a part of a pad is shown, the screen's places from its first row and column to its last ones

@@ -1,6 +1,7 @@
 //! Lines and columns from a first one to a last one.
 ghost use Rattle.std.specs.Prelude.{◌≡◌, ◌+◌, ◌<◌, ◌≤◌, ◌≤ℤ◌, IfSome, pos};
-ghost use Rattle.cur_pads.specs.{Ranges.{between, from}, Displays as show};
+ghost use Rattle.cur_pads.specs.Ranges.{between, from};
+ghost use Rattle.cur_pads.specs.Displays as show;
 
 use cur_drawing::Span;
 

@@ -1,5 +1,6 @@
 //! The calls that make windows.
-ghost use Rattle.cur_play.specs.{Groups.{Makes, making}, Windows as spec};
+ghost use Rattle.cur_play.specs.Groups.{Makes, making};
+ghost use Rattle.cur_play.specs.Windows as spec;
 
 use cur_calls::{Call, PartCall};
 use cur_pads::{newpad, subpad};

@@ -1,7 +1,8 @@
 //! The bytes that calls send.
 ghost use Rattle.std.specs.Prelude.{◌≡◌, ℕ, List};
 ghost use Rattle.cur_screens.specs.{Marks.{AreSame}, VirtualScreen.{Screen}};
-ghost use Rattle.cur_play.specs.{Outputs.{Puts}, Sends.{Delivers}, Steps as spec};
+ghost use Rattle.cur_play.specs.{Outputs.{Puts}, Sends.{Delivers}};
+ghost use Rattle.cur_play.specs.Steps as spec;
 
 use crate::answers::Answer;
 use cur_calls::{Call, PadCall, ScreenCall, ShowCall};

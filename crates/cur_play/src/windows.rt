@@ -1,7 +1,9 @@
 //! The calls that change windows, or delete one.
 ghost use Rattle.std.specs.Prelude.{◌≡◌};
-ghost use Rattle.cur_windows.specs.{Copies.{common_part}, Desks as desks, TouchedWindows.{KeepsShown}};
-ghost use Rattle.cur_play.specs.{Groups.{Does, changing, shaping}, Windows as spec};
+ghost use Rattle.cur_windows.specs.{Copies.{common_part}, TouchedWindows.{KeepsShown}};
+ghost use Rattle.cur_windows.specs.Desks as desks;
+ghost use Rattle.cur_play.specs.Groups.{Does, changing, shaping};
+ghost use Rattle.cur_play.specs.Windows as spec;
 
 use cur_calls::{
     Attrs, AttrsCall, Call, CellCall, FlagCall, LayCall, LineCall, NumberCall, NumbersCall,

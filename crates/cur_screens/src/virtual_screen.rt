@@ -1,7 +1,8 @@
 //! The virtual screen and its color pairs.
 ghost use Rattle.std.specs.Prelude.{ℕ, length, slice_index_or, ◌≡◌, ◌<◌, ◌≤◌, ◌+◌, IfOk, IfSome, replicate, true};
 ghost use Rattle.cur_drawing.specs.{Cells.{IsCell, space}, Grids.{Fits, blank, line_at, moved_to}, Spans.{ArePlaces}};
-ghost use Rattle.cur_screens.specs.{Marks.{AreSame, IsCopiedBut, Keeps, MarksOnly}, VirtualScreen as spec};
+ghost use Rattle.cur_screens.specs.Marks.{AreSame, IsCopiedBut, Keeps, MarksOnly};
+ghost use Rattle.cur_screens.specs.VirtualScreen as spec;
 
 use crate::copies::{AreaCopy, copy_changed, copy_marked};
 use crate::hints::{Hint, Owners, Scroll, remember};

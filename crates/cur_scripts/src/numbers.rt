@@ -1,6 +1,7 @@
 //! Numbers in decimal.
 ghost use Rattle.std.specs.Prelude.{◌≡◌, ◌<◌, ◌≤◌, length, option_map, IfSome, Some};
-ghost use Rattle.cur_scripts.specs.{Numbers as spec, Words.{front_word, past_front_word}, Numbers.{window_in}};
+ghost use Rattle.cur_scripts.specs.{Words.{front_word, past_front_word}, Numbers.{window_in}};
+ghost use Rattle.cur_scripts.specs.Numbers as spec;
 
 // The least number of nine digits: with one more digit, a number from here on may be out of range.
 const NINE_DIGITS: u32 = 100_000_000;

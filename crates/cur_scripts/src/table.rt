@@ -1,6 +1,7 @@
 //! The table of calls: the name of each, and the function that reads its arguments. For some
 //! letters each, a function has the names that begin with them.
-ghost use Rattle.cur_scripts.specs.{Table as spec, Takers.{HandsOn}};
+ghost use Rattle.cur_scripts.specs.Takers.{HandsOn};
+ghost use Rattle.cur_scripts.specs.Table as spec;
 
 use crate::arguments::{
     addstr, attributes, bare, beep, cell, copywin, curs_set, draw_border, draw_box, dupwin, flag,

@@ -1,6 +1,7 @@
 //! The words of a line, one after another.
 ghost use Rattle.std.specs.Prelude.{◌≡◌, ◌∷◌, ◌≤◌, [], bytes_eq, false, length, option_map, IfNone, IfSome, Some};
-ghost use Rattle.cur_scripts.specs.{Words as spec, Cuts.{words_of}, Numbers.{number_in, window_in, flag_in, zero_in}};
+ghost use Rattle.cur_scripts.specs.{Cuts.{words_of}, Numbers.{number_in, window_in, flag_in, zero_in}};
+ghost use Rattle.cur_scripts.specs.Words as spec;
 ghost use Rattle.cur_scripts.specs.Cells.{cell_in, cell_or, attrs_in};
 
 use crate::cells::{attrs_in, cell_in, cell_or};

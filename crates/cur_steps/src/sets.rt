@@ -2,7 +2,8 @@
 ghost use Rattle.std.specs.{Prelude.{◌≡◌, IfSome, true}, List.{list_all}};
 ghost use Rattle.vt_term.specs.Parameters as parameters;
 ghost use Rattle.ti_conforms.specs.Certified.{IsChecked};
-ghost use Rattle.cur_steps.specs.{Sets as spec, Sets.{FixesRendition, IsBeside, IsRendition, LeavesSet}};
+ghost use Rattle.cur_steps.specs.Sets.{FixesRendition, IsBeside, IsRendition, LeavesSet};
+ghost use Rattle.cur_steps.specs.Sets as spec;
 
 use ti_conforms::Certificate;
 use ti_rows::Row;

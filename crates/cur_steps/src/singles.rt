@@ -2,7 +2,8 @@
 ghost use Rattle.std.specs.Prelude.{◌≡◌, ◌<◌, ℕ, false, Option, Some, None, OnOk, length};
 ghost use Rattle.ti_rows.specs.declared.rows.Row.TheVariants.{Sgr, Sgr0};
 ghost use Rattle.ti_conforms.specs.Certified.{IsChecked, has, text_of, lengths};
-ghost use Rattle.cur_steps.specs.{Inks.{no_attributes, plain_brush}, Singles as spec, declared.inks.Brush.{Brush}};
+ghost use Rattle.cur_steps.specs.{Inks.{no_attributes, plain_brush}, declared.inks.Brush.{Brush}};
+ghost use Rattle.cur_steps.specs.Singles as spec;
 ghost use Rattle.cur_steps.specs.Steps.{Keeps};
 
 use crate::inks::Brush;

@@ -1,7 +1,8 @@
 //! Short cuts, which decide by a cell's own numbers how it is printed, without making its ink.
 ghost use Rattle.std.specs.Prelude.{◌≡◌, ◌<◌, ◌≤◌, ℕ, false, length, not, slice_index_or, true};
 ghost use Rattle.cur_drawing.specs.Cells.{space};
-ghost use Rattle.cur_update.specs.{Inks as spec, declared.inks.Means.{Means}};
+ghost use Rattle.cur_update.specs.declared.inks.Means.{Means};
+ghost use Rattle.cur_update.specs.Inks as spec;
 
 use cur_drawing::{Attrs, Cell};
 

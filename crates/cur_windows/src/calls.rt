@@ -2,7 +2,8 @@
 ghost use Rattle.std.specs.Prelude.{◌≡◌, bit_and, bit_or, ◌-◌, IfOk, length, option_map};
 ghost use Rattle.cur_windows.specs.Desks as spec;
 ghost use Rattle.cur_windows.specs.TouchedWindows.{KeepsShown, MarksAdded, MarksCellsAlone, MarksWritten};
-ghost use Rattle.cur_drawing.specs.{Calls as call, Windows as window};
+ghost use Rattle.cur_drawing.specs.Calls as call;
+ghost use Rattle.cur_drawing.specs.Windows as window;
 ghost use Rattle.cur_screens.specs.Touched.{FitsLine};
 
 use crate::desks::Desk;

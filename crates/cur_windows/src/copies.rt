@@ -1,7 +1,8 @@
 //! Copying between windows: overlay, overwrite and copywin.
 ghost use Rattle.std.specs.Prelude.{◌≡◌, ◌<◌, ◌≤ℤ◌, OnOk, [], true, false, length, slice_index_or, slice_set};
 ghost use Rattle.cur_drawing.specs.{Grids.{Fits, overlaid, moved_to}, Calls.{IsCanvas}, Spans.{IsWithin}};
-ghost use Rattle.cur_windows.specs.{Desks as spec, Copies.{common_part, copywin, in_order, spans_copied}};
+ghost use Rattle.cur_windows.specs.Copies.{common_part, copywin, in_order, spans_copied};
+ghost use Rattle.cur_windows.specs.Desks as spec;
 
 use crate::creations::in_range;
 use crate::desks::Desk;

@@ -2,7 +2,8 @@
 ghost use Rattle.std.specs.Prelude.{◌≡◌, ◌<◌, ◌≤◌, ◌+◌, ◌⊎◌, Ok, Err, Some, None, IfOk, OnOk, length, slice_set, false};
 ghost use Rattle.std.specs.Prelude.{slice_index_or, ◌-ℤ◌, pos};
 ghost use Rattle.cur_drawing.specs.{Grids.{blank}, Windows.{fresh}, Calls.{IsCanvas}, Spans.{IsAreaWithin}};
-ghost use Rattle.cur_windows.specs.{Desks as spec, Creations as make};
+ghost use Rattle.cur_windows.specs.Desks as spec;
+ghost use Rattle.cur_windows.specs.Creations as make;
 ghost use Rattle.cur_screens.specs.Slots.{whole_area};
 
 use crate::desks::Desk;

@@ -1,7 +1,8 @@
 //! The desk: grids, and the windows that are rectangles of them.
 ghost use Rattle.std.specs.Prelude.{◌≡◌, ◌<◌, ◌≤◌, Some, None, Ok, Err, IfErr, IfOk, [], replicate, false};
 ghost use Rattle.cur_drawing.specs.Grids.{blank};
-ghost use Rattle.cur_windows.specs.{Desks as spec, Desks.{IsPlaced, IsDesk}};
+ghost use Rattle.cur_windows.specs.Desks.{IsPlaced, IsDesk};
+ghost use Rattle.cur_windows.specs.Desks as spec;
 
 use cur_drawing::{Cell, Refusal, Window};
 use cur_screens::{Origin, Scroll, Slot, WINDOWS, blank_grid, whole_area};

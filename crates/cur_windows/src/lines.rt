@@ -3,7 +3,9 @@ ghost use Rattle.std.specs.Prelude.{◌≡◌, ◌<◌, ◌≤◌, ◌+◌, IfEr
 ghost use Rattle.cur_drawing.specs.Calls.{IsCanvas, place};
 ghost use Rattle.cur_screens.specs.{Marks.{Keeps, MarksOnly}, Touched.{Spreads}, VirtualScreen.{shown}};
 ghost use Rattle.cur_screens.specs.declared.slots.Slot.{Slot};
-ghost use Rattle.cur_windows.specs.{Desks as spec, Refreshes as copies, TouchedWindows.{ShowsBut}};
+ghost use Rattle.cur_windows.specs.TouchedWindows.{ShowsBut};
+ghost use Rattle.cur_windows.specs.Desks as spec;
+ghost use Rattle.cur_windows.specs.Refreshes as copies;
 
 use crate::desks::Desk;
 use crate::refreshes::SlotLines;

@@ -1,6 +1,7 @@
 //! Marks for the places of a window that a call may change.
 ghost use Rattle.cur_drawing.specs.Calls.{IsCanvas};
-ghost use Rattle.cur_windows.specs.{Desks as spec, Desks.{IsDesk}, TouchedWindows.{MarksSlot, MarksWindow}};
+ghost use Rattle.cur_windows.specs.{Desks.{IsDesk}, TouchedWindows.{MarksSlot, MarksWindow}};
+ghost use Rattle.cur_windows.specs.Desks as spec;
 ghost use Rattle.std.specs.Prelude.{◌<◌};
 
 use crate::desks::Desk;

@@ -1,7 +1,9 @@
 //! The calls that the crate of pads uses.
 ghost use Rattle.std.specs.Prelude.{◌≡◌, ◌<◌, ◌≤◌, ◌+◌, None, IfOk, IsOk, MatchResult};
 ghost use Rattle.cur_drawing.specs.Spans.{IsAreaWithin};
-ghost use Rattle.cur_windows.specs.{Desks as spec, Creations as make, Pads.{is_pad, pad_added, part_shown}};
+ghost use Rattle.cur_windows.specs.Pads.{is_pad, pad_added, part_shown};
+ghost use Rattle.cur_windows.specs.Desks as spec;
+ghost use Rattle.cur_windows.specs.Creations as make;
 
 use crate::desks::Desk;
 use cur_drawing::{Refusal, Window, cursor_in_part};

@@ -4,7 +4,9 @@ ghost use Rattle.std.specs.Prelude.{true};
 ghost use Rattle.cur_drawing.specs.{Calls.{IsCanvas, place}, Windows.{IsWindow}};
 ghost use Rattle.cur_screens.specs.{Marks.{Keeps, MarksOnly}, Touched.{IsShownBut, LiesWithin, grid_marks}};
 ghost use Rattle.cur_screens.specs.{declared.slots.Slot.{Slot}, VirtualScreen.{IsScreen, shown}};
-ghost use Rattle.cur_windows.specs.{Desks as spec, Creations as make, TouchedWindows.{HasAll, MarksCopied, ShowsBut}};
+ghost use Rattle.cur_windows.specs.TouchedWindows.{HasAll, MarksCopied, ShowsBut};
+ghost use Rattle.cur_windows.specs.Desks as spec;
+ghost use Rattle.cur_windows.specs.Creations as make;
 ghost use Rattle.cur_windows.specs.Refreshes.{AreLinesOf, area_on_screen, cursor_on_screen, noutrefresh};
 ghost use Rattle.cur_windows.specs.Refreshes.{part_on_screen, refresh};
 

@@ -1,7 +1,8 @@
 //! One line of a window, borrowed for writing.
 ghost use Rattle.std.specs.Prelude.{◌≡◌, ◌<◌, ◌≤◌, ◌+◌, ◌-◌, IfOk, length, take, drop, slice_set};
 ghost use Rattle.cur_drawing.specs.Grids.{Fits, filled, line_at, one};
-ghost use Rattle.cur_windows.specs.{Desks as spec, Rows.{IsLine, line_of, lent_of, place_written}, Views.{cut}};
+ghost use Rattle.cur_windows.specs.{Rows.{IsLine, line_of, lent_of, place_written}, Views.{cut}};
+ghost use Rattle.cur_windows.specs.Desks as spec;
 
 use crate::desks::Desk;
 use cur_drawing::{Cell, Refusal};

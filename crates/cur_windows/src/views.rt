@@ -1,7 +1,8 @@
 //! A window's cells, for reading.
 ghost use Rattle.std.specs.Prelude.{◌≡◌, ◌<◌, ◌≤◌, ◌+◌, ℕ, length};
 ghost use Rattle.cur_drawing.specs.Grids.{Grid, line_at};
-ghost use Rattle.cur_windows.specs.{Desks as spec, Views.{IsSeen, seen, window_cells}};
+ghost use Rattle.cur_windows.specs.Views.{IsSeen, seen, window_cells};
+ghost use Rattle.cur_windows.specs.Desks as spec;
 
 use crate::desks::Desk;
 use cur_drawing::{Cell, Refusal};

@@ -1,7 +1,9 @@
 //! The capabilities of an entry, by name.
 ghost use Rattle.std.specs.Prelude.{◌≡◌, None, Some, IfErr, IfOk};
-ghost use Rattle.ti_caps.specs.{Entry.{number_at, string_at, flag_at}, declared.types.Kind.TheVariants as kinds};
-ghost use Rattle.curses_c.specs.{Capabilities as spec, Verdicts.{Answers, Delivers}};
+ghost use Rattle.ti_caps.specs.Entry.{number_at, string_at, flag_at};
+ghost use Rattle.ti_caps.specs.declared.types.Kind.TheVariants as kinds;
+ghost use Rattle.curses_c.specs.Verdicts.{Answers, Delivers};
+ghost use Rattle.curses_c.specs.Capabilities as spec;
 
 use crate::codes::{Failure, OK, failure_code};
 use crate::entries::source_entry;

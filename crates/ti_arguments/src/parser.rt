@@ -6,7 +6,8 @@ ghost use Rattle.clap.specs.{Walk.{first_of, rows_of}, Words.{found_of, kind_of,
 ghost use Rattle.ti_arguments.specs.Inputs.{AnswersWithInput};
 ghost use Rattle.ti_arguments.specs.Requests.{AreOfOne, Asks, AsksFor, HasForm, IsAnswer, IsTold, Plays, Surveys};
 ghost use Rattle.ti_arguments.specs.Requests.{has_switch, is_on, lists_of, option_of, options_of, reports_of, word_of};
-ghost use Rattle.ti_arguments.specs.{Requests.{words_of}, Requests as spec};
+ghost use Rattle.ti_arguments.specs.Requests.{words_of};
+ghost use Rattle.ti_arguments.specs.Requests as spec;
 
 use crate::commands::command_line;
 use crate::inputs::judge_input;

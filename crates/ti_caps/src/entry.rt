@@ -2,7 +2,8 @@
 
 ghost use Rattle.std.specs.Prelude.{◌≡◌, ◌<◌, ◌^◌, ℕ, IsTrue, Some, None, IfOk, OnOk, OnErr, replicate};
 ghost use Rattle.std.specs.Option.{option_copied};
-ghost use Rattle.ti_caps.specs.{declared.types.Kind.TheVariants as kinds, declared.value.Value.TheVariants as values};
+ghost use Rattle.ti_caps.specs.declared.types.Kind.TheVariants as kinds;
+ghost use Rattle.ti_caps.specs.declared.value.Value.TheVariants as values;
 ghost use Rattle.ti_caps.specs.{Table.{kind_of}, Fits.{names_fit, string_fits}};
 ghost use Rattle.ti_caps.specs.Entry.{value_at, with_value, bare_entry, flag_at, number_at, string_at, FitsPlace};
 ghost use Rattle.ti_caps.specs.Entry.{HasBytes, IsEntry, SetsOnly};

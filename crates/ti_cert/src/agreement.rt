@@ -2,8 +2,10 @@
 
 ghost use Rattle.std.specs.Prelude.{◌≡◌, OnOk, IfErr, true, false};
 ghost use Rattle.ti_caps.specs.Entry.{string_at};
-ghost use Rattle.ti_conforms.specs.{Conforms as conforms, Entries as entries};
-ghost use Rattle.ti_cert.specs.{Basic.{IsBasicTable}, Disagreements as spec, Strings.{row_string}};
+ghost use Rattle.ti_conforms.specs.Conforms as conforms;
+ghost use Rattle.ti_conforms.specs.Entries as entries;
+ghost use Rattle.ti_cert.specs.{Basic.{IsBasicTable}, Strings.{row_string}};
+ghost use Rattle.ti_cert.specs.Disagreements as spec;
 
 use crate::faults::AgreeFault;
 use crate::table::Table;

@@ -4,7 +4,8 @@ ghost use Rattle.std.specs.Prelude.{◌≡◌, ◌<◌, ℕ, Bool, List, true, f
 ghost use Rattle.ti_conforms.specs.{Judged.{IsJudged}, Looks.{LooksStand}};
 ghost use Rattle.ti_forms.specs.Forms.{IsOfForm, standard_line};
 ghost use Rattle.ti_lines.specs.{Heads.{IsSizeText}, Reader.{Rose}};
-ghost use Rattle.ti_cert.specs.{Basic.{IsStopped, basic_text}, Audits as spec, Certificates.{limit}, Strings.{total}};
+ghost use Rattle.ti_cert.specs.{Basic.{IsStopped, basic_text}, Certificates.{limit}, Strings.{total}};
+ghost use Rattle.ti_cert.specs.Audits as spec;
 ghost use Rattle.ti_cert.specs.{Table.{table_of}, Texts.{IsTableOf, IsRefused, IsLineRead, Takes}};
 
 use crate::endings::conclude;

@@ -2,11 +2,13 @@
 
 ghost use Rattle.std.specs.Prelude.{◌≡◌, ◌+◌, ◌<◌, IfOk, OnOk};
 ghost use Rattle.ti_caps.specs.Entry.{string_at};
-ghost use Rattle.ti_conforms.specs.{Conforms.{Conforms, IsFit}, Entries as entries, Judged.{IsJudged}};
+ghost use Rattle.ti_conforms.specs.{Conforms.{Conforms, IsFit}, Judged.{IsJudged}};
+ghost use Rattle.ti_conforms.specs.Entries as entries;
 ghost use Rattle.ti_conforms.specs.Looks.{LooksStand};
 ghost use Rattle.ti_forms.specs.Forms.{IsOfForm};
 ghost use Rattle.ti_rows.specs.{Lists.{IsFirst}, Names.{capabilities, order}};
-ghost use Rattle.ti_cert.specs.{Certificates.{limit}, Certification as spec, Strings.{row_string, total}};
+ghost use Rattle.ti_cert.specs.{Certificates.{limit}, Strings.{row_string, total}};
+ghost use Rattle.ti_cert.specs.Certification as spec;
 ghost use Rattle.ti_cert.specs.{Table.{table_of}, Verified.{Resyncs}};
 
 use crate::audits::Progress;

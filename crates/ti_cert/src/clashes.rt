@@ -2,8 +2,10 @@
 //! that strings leave, and about the bytes that lead a terminal out of an unknown state.
 
 ghost use Rattle.std.specs.Prelude.{◌≡◌, ◌&&◌, IfErr, IfNone, IfOk, IfSome, OnOk, Some, false, is_some, true};
-ghost use Rattle.ti_cert.specs.{Clashes as clashes, Seen as spec};
-ghost use Rattle.ti_conforms.specs.{Closures as closing, Table.{Table}};
+ghost use Rattle.ti_cert.specs.Clashes as clashes;
+ghost use Rattle.ti_cert.specs.Seen as spec;
+ghost use Rattle.ti_conforms.specs.Table.{Table};
+ghost use Rattle.ti_conforms.specs.Closures as closing;
 ghost use Rattle.vt_term.specs.Screen.{Charset};
 
 use ti_conforms::{Charsets, KEPT, Reach, or_kept};

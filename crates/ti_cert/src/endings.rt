@@ -1,8 +1,10 @@
 //! The judgement at the end of a certificate: charsets, and the strings that lead out of any state.
 
 ghost use Rattle.std.specs.Prelude.{◌≡◌, ◌-◌, IfOk, IfErr, OnOk, Some, true, false, is_some};
-ghost use Rattle.ti_cert.specs.{Audits.{LacksRecord, LacksNeeded, IsConcluded, ConcludesBy}, Clashes as clashes};
-ghost use Rattle.ti_cert.specs.{Known.{Holds}, Strings.{has_group, row_string}, Table as spec};
+ghost use Rattle.ti_cert.specs.Audits.{LacksRecord, LacksNeeded, IsConcluded, ConcludesBy};
+ghost use Rattle.ti_cert.specs.Clashes as clashes;
+ghost use Rattle.ti_cert.specs.{Known.{Holds}, Strings.{has_group, row_string}};
+ghost use Rattle.ti_cert.specs.Table as spec;
 ghost use Rattle.ti_conforms.specs.Resync.{texts_of};
 ghost use Rattle.ti_rows.specs.declared.rows.Row.TheVariants as rows;
 

@@ -4,8 +4,10 @@ ghost use Rattle.std.specs.Prelude.{◌≡◌, [], length, replicate, IfOk, IfEr
 ghost use Rattle.ti_forms.specs.Forms.{IsOfForm};
 ghost use Rattle.ti_rows.specs.{Lists.{rank}, Names.{order, capabilities}};
 ghost use Rattle.ti_conforms.specs.{Table.{settles}, Looks.{no_looks}};
-ghost use Rattle.ti_cert.specs.{Strings.{Adds, allows, group_at}, Certificates as certificates};
-ghost use Rattle.ti_cert.specs.{Audits.{IsTokenFault, Misshows}, Known as spec};
+ghost use Rattle.ti_cert.specs.Strings.{Adds, allows, group_at};
+ghost use Rattle.ti_cert.specs.Certificates as certificates;
+ghost use Rattle.ti_cert.specs.Audits.{IsTokenFault, Misshows};
+ghost use Rattle.ti_cert.specs.Known as spec;
 
 use crate::faults::CertFaultKind;
 use crate::strings::Strings;

@@ -1,7 +1,8 @@
 //! The order of the lines about capabilities.
 
 ghost use Rattle.std.specs.Prelude.{◌≡◌, ◌<◌, OnOk, IfErr, None, Some, length, option_and_then, true};
-ghost use Rattle.ti_cert.specs.{Places as spec, Strings.{allows, group_at}};
+ghost use Rattle.ti_cert.specs.Strings.{allows, group_at};
+ghost use Rattle.ti_cert.specs.Places as spec;
 ghost use Rattle.ti_rows.specs.{Lists.{rank}, Names.{order, capabilities}};
 
 use crate::faults::CertFaultKind;

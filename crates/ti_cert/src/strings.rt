@@ -2,7 +2,8 @@
 
 ghost use Rattle.std.specs.Prelude.{◌≡◌, ◌<◌, ◌++◌, [], ◌∷◌, length, OnOk, IfOk, IsTrue, option_copied, replicate};
 ghost use Rattle.std.specs.{Prelude.{true, false, None}, List.{slice_get}};
-ghost use Rattle.ti_rows.specs.{Lists.{IsInRange, rank}, Names.{order, capabilities}, declared.rows.Row as rows};
+ghost use Rattle.ti_rows.specs.{Lists.{IsInRange, rank}, Names.{order, capabilities}};
+ghost use Rattle.ti_rows.specs.declared.rows.Row as rows;
 ghost use Rattle.ti_conforms.specs.Agreement.{SomeLine};
 ghost use Rattle.ti_cert.specs.Strings as spec;
 

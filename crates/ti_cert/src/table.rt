@@ -2,7 +2,8 @@
 
 ghost use Rattle.std.specs.Prelude.{◌≡◌, option_copied};
 ghost use Rattle.ti_conforms.specs.{Judged.{IsJudged}, Looks.{LooksStand}};
-ghost use Rattle.ti_cert.specs.{Strings.{row_string}, Table as spec};
+ghost use Rattle.ti_cert.specs.Strings.{row_string};
+ghost use Rattle.ti_cert.specs.Table as spec;
 
 use crate::known::Known;
 use std::marker::Model;

@@ -4,7 +4,8 @@ ghost use Rattle.std.specs.Prelude.{◌≡◌, ◌++◌, ℕ, List, IfOk, IfErr,
 ghost use Rattle.ti_lines.specs.Reader.{Rose};
 ghost use Rattle.ti_cert.specs.Texts.{IsCertLineRead, IsCertRefused, IsTableOf, Takes};
 ghost use Rattle.ti_cert.specs.{Basic.{IsBasic, IsVerifyStopped, basic_text_of}, Disagreements.{IsAgreeRefused}};
-ghost use Rattle.ti_cert.specs.{Table.{table_of}, Verified as spec};
+ghost use Rattle.ti_cert.specs.Table.{table_of};
+ghost use Rattle.ti_cert.specs.Verified as spec;
 ghost use Rattle.ti_caps.specs.Entry.{string_at};
 ghost use Rattle.ti_conforms.specs.{Holds.{LineHolds}, Resync.{texts_of}, Table.{text_of, resync}, Conforms.{Conforms}};
 ghost use Rattle.ti_conforms.specs.Entries.{EntryAgrees, acsc};

@@ -1,7 +1,8 @@
 //! Whether an effect leads to an end that a row doesn't want.
 
 ghost use Rattle.std.specs.Prelude.{◌≡◌, IsTrue, false, if◌then◌else◌};
-ghost use Rattle.ti_checker.specs.{Alone.{is_several}, Breakage as spec, Probes.{CanShow, screen_of}};
+ghost use Rattle.ti_checker.specs.{Alone.{is_several}, Probes.{CanShow, screen_of}};
+ghost use Rattle.ti_checker.specs.Breakage as spec;
 ghost use Rattle.ti_checker.specs.Trials.{EndSo, EndsAsWanted};
 ghost use Rattle.ti_rows.specs.Starts.{Starts};
 ghost use Rattle.vt_effects.specs.Effect.{bottom_of, designated, inked, moved, switched, top_of};

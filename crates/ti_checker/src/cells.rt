@@ -1,7 +1,8 @@
 //! The cells that two effects leave different.
 
 ghost use Rattle.std.specs.Prelude.{◌≡◌, ◌<◌, ℕ, IsTrue, false};
-ghost use Rattle.ti_checker.specs.{Cells as spec, Probes.{CanShow, screen_of}};
+ghost use Rattle.ti_checker.specs.Probes.{CanShow, screen_of};
+ghost use Rattle.ti_checker.specs.Cells as spec;
 
 use crate::probes::Probe;
 use vt_effects::{Effect, Erasure, Scroll};

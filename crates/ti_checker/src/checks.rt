@@ -2,7 +2,8 @@
 
 ghost use Rattle.std.specs.Prelude.{◌≡◌, IfErr, IfOk};
 ghost use Rattle.ti_cert.specs.Basic.{IsBasic, basic_text_of};
-ghost use Rattle.ti_checker.specs.{Certificate.{IsCertificateOf}, No as spec};
+ghost use Rattle.ti_checker.specs.Certificate.{IsCertificateOf};
+ghost use Rattle.ti_checker.specs.No as spec;
 ghost use Rattle.ti_conforms.specs.Conforms.{Conforms};
 
 use crate::causes::{Cause, No};

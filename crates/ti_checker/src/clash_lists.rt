@@ -1,7 +1,8 @@
 //! Listing the clashes of those strings of an entry that are right by themselves: all that is wrong with them together.
 
 ghost use Rattle.std.specs.Prelude.{IfOk, OnOk};
-ghost use Rattle.ti_checker.specs.{Clashes as spec, Kept.{IsStanding, unnamed}};
+ghost use Rattle.ti_checker.specs.Kept.{IsStanding, unnamed};
+ghost use Rattle.ti_checker.specs.Clashes as spec;
 
 use crate::causes::{Cause, No};
 use crate::kept::seen_but;

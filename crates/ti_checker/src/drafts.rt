@@ -3,12 +3,15 @@
 ghost use Rattle.std.specs.Prelude.{◌≡◌, ◌<◌, ◌≤◌, ◌+◌, ◌++◌, ◌∷◌, ℕ, List, [], length, IfErr, IfOk, OnOk};
 ghost use Rattle.ti_caps.specs.Entry.{string_at};
 ghost use Rattle.ti_cert.specs.{Basic.{IsBasic}, Known.{with_change}};
-ghost use Rattle.ti_checker.specs.{First as told, Kept.{every}, Limit.{AddsLine, IsFullText, most}, No as spec};
+ghost use Rattle.ti_checker.specs.{Kept.{every}, Limit.{AddsLine, IsFullText, most}};
+ghost use Rattle.ti_checker.specs.First as told;
+ghost use Rattle.ti_checker.specs.No as spec;
 ghost use Rattle.ti_checker.specs.{Switches.{IsSeen, IsSeenToo}, Taught.{IsTaught}};
 ghost use Rattle.ti_lines.specs.{Heads.{acsc_text, end_text, size_text}, RowLines.{line_text}};
 ghost use Rattle.ti_lines.specs.Texts.{acsc_lines, ended};
 ghost use Rattle.ti_rows.specs.{Lists.{Follows, IsFirst, IsInRange}, Names.{order, capabilities}};
-ghost use Rattle.ti_conforms.specs.{Conforms.{IsFit}, Charsets.{joined, reach_of}, Entries as entries, Table.{settles}};
+ghost use Rattle.ti_conforms.specs.{Conforms.{IsFit}, Charsets.{joined, reach_of}, Table.{settles}};
+ghost use Rattle.ti_conforms.specs.Entries as entries;
 ghost use Rattle.vt_effects.specs.Effect.{unchanged};
 ghost use Rattle.vt_term.specs.Text.{Splits};
 

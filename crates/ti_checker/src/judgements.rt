@@ -1,7 +1,8 @@
 //! Judging a string for a row.
 
 ghost use Rattle.std.specs.Prelude.{◌≡◌, ℕ, List, [], IfErr, IfOk, OnOk, Some};
-ghost use Rattle.ti_checker.specs.{First.{SendsAsked}, Limit.{IsLineFor}, No as spec, Taught.{IsAskedOf, IsTaught}};
+ghost use Rattle.ti_checker.specs.{First.{SendsAsked}, Limit.{IsLineFor}, Taught.{IsAskedOf, IsTaught}};
+ghost use Rattle.ti_checker.specs.No as spec;
 ghost use Rattle.ti_conforms.specs.Charsets.{joined, reach_of};
 ghost use Rattle.ti_rows.specs.{Asked.{start_of}, Lists.{Follows, IsInRange}};
 ghost use Rattle.vt_effects.specs.Record.{IsRecordOf, record_of};

@@ -1,7 +1,8 @@
 //! The strings of some capabilities of an entry: those that no refusal names.
 
 ghost use Rattle.std.specs.Prelude.{◌≡◌, ◌+◌, ◌<◌, ◌≤◌, IfErr, IfNone, IfOk, IfSome, OnOk, Some, false, true};
-ghost use Rattle.ti_checker.specs.{Kept as spec, No.{IsFaulty}, Switches.{IsSeen, IsSeenToo}};
+ghost use Rattle.ti_checker.specs.{No.{IsFaulty}, Switches.{IsSeen, IsSeenToo}};
+ghost use Rattle.ti_checker.specs.Kept as spec;
 ghost use Rattle.ti_conforms.specs.Entries.{string_of};
 ghost use Rattle.ti_rows.specs.{Lists.{IsFirst}, Names.{capabilities, order}};
 

@@ -1,7 +1,8 @@
 //! The sequences of an entry's strings that the terminal ignores.
 
 ghost use Rattle.std.specs.Prelude.{◌≡◌, ◌++◌, ◌∷◌, [], IfErr, IfOk, OnOk, true};
-ghost use Rattle.ti_checker.specs.{No.{HasFaulty}, Notes as spec};
+ghost use Rattle.ti_checker.specs.No.{HasFaulty};
+ghost use Rattle.ti_checker.specs.Notes as spec;
 ghost use Rattle.ti_rows.specs.Names.{cap_of};
 
 use crate::causes::{Cause, No};

@@ -2,7 +2,8 @@
 
 ghost use Rattle.std.specs.Prelude.{◌≡◌, ◌∷◌, ℕ, List, IfOk, false, true};
 ghost use Rattle.ti_cert.specs.Clashes.{BeginsOpen};
-ghost use Rattle.ti_checker.specs.{Kept as keeping, Resync as spec};
+ghost use Rattle.ti_checker.specs.Kept as keeping;
+ghost use Rattle.ti_checker.specs.Resync as spec;
 ghost use Rattle.ti_rows.specs.Lists.{IsInRange};
 
 use crate::causes::No;

@@ -2,7 +2,8 @@
 
 ghost use Rattle.std.specs.Prelude.{◌≡◌, IfErr, IfNone, IfOk, IfSome, OnOk, Some, false, true};
 ghost use Rattle.ti_checker.specs.No as spec;
-ghost use Rattle.ti_conforms.specs.{Entries as entries, Sends as sends};
+ghost use Rattle.ti_conforms.specs.Entries as entries;
+ghost use Rattle.ti_conforms.specs.Sends as sends;
 
 use crate::causes::Cause;
 use std::alloc::Global;

@@ -3,11 +3,15 @@
 ghost use Rattle.std.specs.Prelude.{◌≡◌, [], IfErr, IfOk, OnOk, is_some};
 ghost use Rattle.ti_caps.specs.Entry.{string_at};
 ghost use Rattle.ti_cert.specs.{Clashes.{AreClashes}, Known.{with_change}, Seen.{IsFound}};
-ghost use Rattle.ti_checker.specs.{First.{EachWritten}, Kept as keeping, No.{GoTogether, IsFaulty, IsNo, IsToldAs}};
-ghost use Rattle.ti_checker.specs.{Probes.{screen_of}, Switches as spec};
-ghost use Rattle.ti_conforms.specs.{Charsets.{reach_of}, Conforms.{Conforms, IsFit}, Entries as entries};
+ghost use Rattle.ti_checker.specs.{First.{EachWritten}, No.{GoTogether, IsFaulty, IsNo, IsToldAs}};
+ghost use Rattle.ti_checker.specs.Kept as keeping;
+ghost use Rattle.ti_checker.specs.Probes.{screen_of};
+ghost use Rattle.ti_checker.specs.Switches as spec;
+ghost use Rattle.ti_conforms.specs.{Charsets.{reach_of}, Conforms.{Conforms, IsFit}};
+ghost use Rattle.ti_conforms.specs.Entries as entries;
 ghost use Rattle.ti_conforms.specs.Table as checked;
-ghost use Rattle.ti_rows.specs.{Lists.{IsInRange}, Starts.{IsFree}, declared.rows.Row.TheVariants as rows};
+ghost use Rattle.ti_rows.specs.{Lists.{IsInRange}, Starts.{IsFree}};
+ghost use Rattle.ti_rows.specs.declared.rows.Row.TheVariants as rows;
 ghost use Rattle.ti_rows.specs.Names.{capabilities};
 
 use crate::causes::{Cause, No};

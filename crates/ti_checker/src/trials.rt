@@ -1,7 +1,8 @@
 //! Looking for a probe.
 
 ghost use Rattle.std.specs.Prelude.{◌≡◌, IfNone, IfSome};
-ghost use Rattle.ti_checker.specs.{Breakage.{IsShown}, Strays.{IsAlwaysWanted, IsRecorded}, Trials as spec};
+ghost use Rattle.ti_checker.specs.{Breakage.{IsShown}, Strays.{IsAlwaysWanted, IsRecorded}};
+ghost use Rattle.ti_checker.specs.Trials as spec;
 ghost use Rattle.ti_rows.specs.{Asked.{start_of}, Lists.{IsInRange}};
 
 use crate::breakage::breaks;

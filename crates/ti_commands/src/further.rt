@@ -3,7 +3,8 @@
 ghost use Rattle.std.specs.{Prelude.{◌≡◌, ◌≤◌, ◌⊎◌, IfErr, IfOk, OnOk, length, string_bytes}, List.{AllByRecursion}};
 ghost use Rattle.ti_further.specs.Files.{AreRawsOf};
 ghost use Rattle.ti_source.specs.Raw.{IsRaw};
-ghost use Rattle.ti_commands.specs.{Contents.{AreBytesOf}, Failures.{IsFileFailure}, Further as spec, Words.{texts_of}};
+ghost use Rattle.ti_commands.specs.{Contents.{AreBytesOf}, Failures.{IsFileFailure}, Words.{texts_of}};
+ghost use Rattle.ti_commands.specs.Further as spec;
 
 use crate::contents::{LONGEST_FILE, read_whole};
 use crate::failure::{CommandRefusal, Failure};

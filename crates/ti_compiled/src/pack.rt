@@ -3,7 +3,8 @@
 ghost use Rattle.std.specs.Prelude.{◌≡◌, ◌+◌, ◌*◌, ◌++◌, ◌<◌, ◌≤◌, ℕ, [], ◌∷◌, Bool, true, false, None, Some, IfOk};
 ghost use Rattle.std.specs.Prelude.{IfSome, OnOk, slice_index_or, length, ◌==◌, is_some, flat_map, take, replicate};
 ghost use Rattle.std.specs.{Prelude.{if◌then◌else◌}, Int.{from_bool}, List.{list_any}, Option.{option_copied}};
-ghost use Rattle.ti_caps.specs.{declared.types.Kind.TheVariants as kinds, Entry.{IsEntry}, Table.{count_of}};
+ghost use Rattle.ti_caps.specs.{Entry.{IsEntry}, Table.{count_of}};
+ghost use Rattle.ti_caps.specs.declared.types.Kind.TheVariants as kinds;
 ghost use Rattle.ti_compiled.specs.{Layout.{half, width}, Contents.{Gives}, Packed.{word, long, magic, number_bytes}};
 ghost use Rattle.ti_compiled.specs.Written.{flags_of, numbers_of, strings_of, trimmed, itself, number_cell};
 ghost use Rattle.ti_compiled.specs.Written.{offsets_from, table_of, string_cell, is_wide, form_for, limit, IsPlan};

@@ -2,7 +2,8 @@
 
 ghost use Rattle.std.specs.Prelude.{◌≡◌, ◌+◌, ◌<◌, ◌≤◌, ℕ, Bool, true, false, None, OnOk, slice_index_or, length};
 ghost use Rattle.std.specs.{Prelude.{IsTrue, IfOk}, List.{list_any}};
-ghost use Rattle.ti_caps.specs.{declared.types.Kind.TheVariants as kinds, Entry.{bare_entry}};
+ghost use Rattle.ti_caps.specs.Entry.{bare_entry};
+ghost use Rattle.ti_caps.specs.declared.types.Kind.TheVariants as kinds;
 ghost use Rattle.ti_caps.specs.{Table.{kind_of, count_of, first_of}, Fits.{names_fit}};
 ghost use Rattle.ti_compiled.specs.Readings.{parts_view};
 ghost use Rattle.ti_compiled.specs.Contents.{before_nul, entry_of, value_of, fit_of, filled, string_values, is_long};

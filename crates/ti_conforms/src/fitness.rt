@@ -2,7 +2,8 @@
 
 ghost use Rattle.std.specs.Prelude.{◌≡◌, ◌<◌, ℕ, List, IfNone, IfSome, true, false, Some, None};
 ghost use Rattle.ti_caps.specs.Entry.{flag_at, number_at, string_at};
-ghost use Rattle.ti_conforms.specs.{Alternates.{is_misfit}, Conforms.{IsFit, gn, hc, os, xmc}, Entries as entries};
+ghost use Rattle.ti_conforms.specs.{Alternates.{is_misfit}, Conforms.{IsFit, gn, hc, os, xmc}};
+ghost use Rattle.ti_conforms.specs.Entries as entries;
 ghost use Rattle.ti_conforms.specs.Unfit as spec;
 ghost use Rattle.ti_rows.specs.declared.rows.Row.TheVariants as rows;
 

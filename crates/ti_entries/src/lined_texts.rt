@@ -2,7 +2,8 @@
 
 ghost use Rattle.std.specs.{Prelude.{◌≡◌, ◌≤◌, ◌+◌, IfOk, length, map, slice_get}, List.{AllByRecursion}};
 ghost use Rattle.ti_source.specs.{Layout.{lines_of}, Lines.{field_lines_of}};
-ghost use Rattle.ti_entries.specs.{Columns.{columns_of, line_in, or_empty, piece_of}, LinedTexts as spec};
+ghost use Rattle.ti_entries.specs.Columns.{columns_of, line_in, or_empty, piece_of};
+ghost use Rattle.ti_entries.specs.LinedTexts as spec;
 
 use crate::columns::{Columns, columns_on, piece_on};
 use std::alloc::{AllocError, Global};

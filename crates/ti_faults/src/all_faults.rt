@@ -2,7 +2,8 @@
 
 ghost use Rattle.std.specs.Prelude.{◌≡◌, ◌≢◌, ◌++◌, IfOk, OnOk};
 ghost use Rattle.ti_checker.specs.{Clashes.{AreClashes}, No.{IsNo}};
-ghost use Rattle.ti_faults.specs.{AllFaults as spec, RowFaults.{OfCaps}};
+ghost use Rattle.ti_faults.specs.RowFaults.{OfCaps};
+ghost use Rattle.ti_faults.specs.AllFaults as spec;
 ghost use Rattle.ti_rows.specs.Names.{capabilities};
 
 use crate::claims::must_claim;

@@ -1,7 +1,8 @@
 //! The row of a capability.
 
 ghost use Rattle.std.specs.Prelude.{◌≡◌, ◌≢◌, ◌<◌, IfNone, IfSome};
-ghost use Rattle.ti_rows.specs.{Names.{cap_of, order, capabilities}, declared.rows.Row as rows};
+ghost use Rattle.ti_rows.specs.Names.{cap_of, order, capabilities};
+ghost use Rattle.ti_rows.specs.declared.rows.Row as rows;
 
 use ti_caps::Cap;
 use ti_rows::{CAPABILITIES, Row};

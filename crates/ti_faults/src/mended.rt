@@ -3,8 +3,10 @@
 ghost use Rattle.std.specs.Prelude.{◌≡◌, ◌<◌, IfOk, IsTrue, ◌≢◌};
 ghost use Rattle.ti_caps.specs.{Entry.{with_value}, Fits.{string_fits}};
 ghost use Rattle.ti_conforms.specs.Entries.{acsc};
-ghost use Rattle.ti_faults.specs.{Candidates.{choice_of}, Mended as spec};
-ghost use Rattle.ti_rows.specs.{Names.{cap_of}, declared.rows.Row as rows};
+ghost use Rattle.ti_faults.specs.Candidates.{choice_of};
+ghost use Rattle.ti_faults.specs.Mended as spec;
+ghost use Rattle.ti_rows.specs.Names.{cap_of};
+ghost use Rattle.ti_rows.specs.declared.rows.Row as rows;
 
 use crate::all_faults::faults;
 use crate::candidates::{Choice, singles};

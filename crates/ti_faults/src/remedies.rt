@@ -4,7 +4,8 @@ ghost use Rattle.std.specs.{Prelude.{◌≡◌, IfOk, IfSome, IsTrue, Some, true
 ghost use Rattle.std.specs.Option.{option_copied};
 ghost use Rattle.ti_caps.specs.Fits.{string_fits};
 ghost use Rattle.ti_conforms.specs.Entries.{string_of};
-ghost use Rattle.ti_faults.specs.{Remedies as spec, Standard as standards};
+ghost use Rattle.ti_faults.specs.Remedies as spec;
+ghost use Rattle.ti_faults.specs.Standard as standards;
 
 use crate::capabilities::row_of;
 use crate::mended::Mended;

@@ -2,7 +2,8 @@
 
 ghost use Rattle.std.specs.Prelude.{◌≡◌, ◌++◌, None, OnOk, IfOk, true};
 ghost use Rattle.ti_caps.specs.declared.value.Value.TheVariants as values;
-ghost use Rattle.ti_fixes.specs.{Changes as spec, Given.{with_given}};
+ghost use Rattle.ti_fixes.specs.Given.{with_given};
+ghost use Rattle.ti_fixes.specs.Changes as spec;
 ghost use Rattle.ti_resolve.specs.Uses.{is_about};
 ghost use Rattle.ti_source.specs.declared.types.Field.TheVariants as fields;
 

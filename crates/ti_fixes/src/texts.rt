@@ -1,7 +1,8 @@
 //! Writing a field into a text.
 
 ghost use Rattle.std.specs.{Prelude.{◌≡◌, ◌==◌, ◌++◌, [], ◌∷◌, IfOk, IfSome, IsTrue, not}, List.{list_all}};
-ghost use Rattle.ti_caps.specs.{Fits.{is_one_field, string_fits}, declared.fits.Opener.TheVariants as opener};
+ghost use Rattle.ti_caps.specs.Fits.{is_one_field, string_fits};
+ghost use Rattle.ti_caps.specs.declared.fits.Opener.TheVariants as opener;
 ghost use Rattle.ti_fixes.specs.Texts.{IsWritten, field_text};
 
 use crate::places::Piece;

@@ -1,7 +1,8 @@
 //! Whether lines are those that an entry sends, where strings of the standard's form aren't run.
 
 ghost use Rattle.std.specs.Prelude.{◌≡◌, IfErr, OnOk};
-ghost use Rattle.ti_conforms.specs.{Agreement as spec, Entries as entries};
+ghost use Rattle.ti_conforms.specs.Agreement as spec;
+ghost use Rattle.ti_conforms.specs.Entries as entries;
 ghost use Rattle.ti_rows.specs.{Lists.{IsFirst, IsInRange}, Names.{order}};
 
 use crate::sends::send_into;

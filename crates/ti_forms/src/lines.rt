@@ -2,7 +2,8 @@
 
 ghost use Rattle.std.specs.Prelude.{◌≡◌, ◌++◌, ◌<◌, IfOk, IfSome, IsTrue, OnOk, Some};
 ghost use Rattle.ti_forms.specs.Forms as forms;
-ghost use Rattle.ti_lines.specs.{RowLines as spec, declared.row_lines.RowLine as declared};
+ghost use Rattle.ti_lines.specs.RowLines as spec;
+ghost use Rattle.ti_lines.specs.declared.row_lines.RowLine as declared;
 
 use crate::effects::standard_effect;
 use crate::forms::{Form, form_of, is_of_form, is_standard};

@@ -2,7 +2,8 @@
 
 ghost use Rattle.std.specs.{Prelude.{◌≡◌, ◌∷◌, [], IfErr, IfOk, true, false}, List.{AllByRecursion}};
 ghost use Rattle.ti_source.specs.{Apart.{apart_of}, Fitting.{FieldsFit, NamesFit}, Raw.{IsRaw}, Source.{source_of}};
-ghost use Rattle.ti_further.specs.{Compiled as compiled, Files as spec};
+ghost use Rattle.ti_further.specs.Compiled as compiled;
+ghost use Rattle.ti_further.specs.Files as spec;
 
 use crate::compiled::raw_of;
 use std::alloc::{AllocError, AllocFailed, Global};

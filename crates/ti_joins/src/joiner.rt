@@ -1,7 +1,8 @@
 //! Joining the lines of a source text.
 
 ghost use Rattle.std.specs.{Prelude.{◌≡◌, [], ◌∷◌, IfOk}, List.{flat_map}};
-ghost use Rattle.ti_joins.specs.{Joins as joins, Steps as spec};
+ghost use Rattle.ti_joins.specs.Joins as joins;
+ghost use Rattle.ti_joins.specs.Steps as spec;
 ghost use Rattle.ti_source.specs.Layout.{lines_of};
 
 use crate::line_ends::push_ended;

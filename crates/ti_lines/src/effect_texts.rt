@@ -1,6 +1,7 @@
 //! The text of an effect.
 ghost use Rattle.std.specs.{Prelude.{◌≡◌, ◌<◌, ◌++◌, OnOk, IfOk, length}, Fmt.{decimal}};
-ghost use Rattle.ti_lines.specs.{EffectText as spec, EffectWriter.{with_text, with_texts}};
+ghost use Rattle.ti_lines.specs.EffectWriter.{with_text, with_texts};
+ghost use Rattle.ti_lines.specs.EffectText as spec;
 
 use crate::letters::{are_dots, ink_letter, switch_letter};
 use crate::numbers::push_number;

@@ -1,7 +1,8 @@
 //! Reading an effect's text.
 ghost use Rattle.std.specs.Prelude.{◌≡◌, ◌<◌, Some, IfSome, option_map};
 ghost use Rattle.vt_effects.specs.declared.effects.Effect as declared;
-ghost use Rattle.ti_lines.specs.{EffectText.{spelled, IsPlain}, EffectReader as spec};
+ghost use Rattle.ti_lines.specs.EffectText.{spelled, IsPlain};
+ghost use Rattle.ti_lines.specs.EffectReader as spec;
 
 use crate::cuts::cut;
 use crate::letters::{are_dots, ink_at, switch_at};

@@ -2,7 +2,8 @@
 
 ghost use Rattle.std.specs.Prelude.{◌≡◌, ◌<◌, ◌≤◌, ◌+◌, ◌-◌, ℕ, List, length, take, drop, IfOk, IfErr, OnErr, OnOk};
 ghost use Rattle.ti_lines.specs.Judgements.{Rules, Refuses, FailsBy, Closes, Gives, GivesOr, Reports, AtLine, Judged};
-ghost use Rattle.ti_lines.specs.{Judgements as spec, Reader.{Rose}};
+ghost use Rattle.ti_lines.specs.Reader.{Rose};
+ghost use Rattle.ti_lines.specs.Judgements as spec;
 
 use crate::lines::{Halt, Lines, Next};
 use crate::readers::Reader;

@@ -1,7 +1,8 @@
 //! The letters for switches and colors.
 
 ghost use Rattle.std.specs.{Prelude.{◌≡◌}, List.{list_all}};
-ghost use Rattle.ti_lines.specs.{EffectText as texts, EffectReader as spec};
+ghost use Rattle.ti_lines.specs.EffectText as texts;
+ghost use Rattle.ti_lines.specs.EffectReader as spec;
 
 use vt_effects::{Ink, Switch};
 use vt_term::color_of;

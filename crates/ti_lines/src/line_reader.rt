@@ -1,6 +1,7 @@
 //! Reading a line about a checked capability.
 ghost use Rattle.std.specs.Prelude.{◌≡◌, ◌≤◌, [], Some, length, IfOk, IfSome, IfNone, option_map};
-ghost use Rattle.ti_lines.specs.{declared.row_lines.RowLine as declared, RowLines as spec};
+ghost use Rattle.ti_lines.specs.declared.row_lines.RowLine as declared;
+ghost use Rattle.ti_lines.specs.RowLines as spec;
 
 use crate::cuts::cut;
 use crate::effects::read_effect;

@@ -1,7 +1,8 @@
 //! The text of a line about a checked capability.
 ghost use Rattle.std.specs.{Prelude.{◌≡◌, ◌++◌, ◌∷◌, [], OnOk}, Fmt.{decimal}};
 ghost use Rattle.hex.specs.Hex.{encode_lower};
-ghost use Rattle.ti_lines.specs.{Hex.{hex_text}, RowLines as spec};
+ghost use Rattle.ti_lines.specs.Hex.{hex_text};
+ghost use Rattle.ti_lines.specs.RowLines as spec;
 
 use crate::effect_texts::push_effect;
 use crate::numbers::push_number;

@@ -1,7 +1,8 @@
 //! A run in words, as the lines for people have them.
 
 ghost use Rattle.std.specs.Prelude.{◌≡◌, IfOk, None, string_bytes};
-ghost use Rattle.ti_members.specs.{Explanations as spec, Texts.{IsShownAs}};
+ghost use Rattle.ti_members.specs.Texts.{IsShownAs};
+ghost use Rattle.ti_members.specs.Explanations as spec;
 ghost use Rattle.ti_words.specs.Wanted as told;
 
 use crate::ran::{Telling, ran_text};

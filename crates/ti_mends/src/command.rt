@@ -1,7 +1,8 @@
 //! The command `check --fix`.
 
 ghost use Rattle.std.specs.Prelude.{◌≡◌, codes, IfErr, IfOk, OnErr};
-ghost use Rattle.ti_mends.specs.{Replies as spec, Taken.{IsCurrent, TakesAll, aim_of}, Texts.{ArePut, sheets}};
+ghost use Rattle.ti_mends.specs.{Taken.{IsCurrent, TakesAll, aim_of}, Texts.{ArePut, sheets}};
+ghost use Rattle.ti_mends.specs.Replies as spec;
 ghost use Rattle.ti_resolve.specs.Resolved.{IsResolved};
 ghost use Rattle.ti_places.specs.Refusals.{IsVerdict};
 

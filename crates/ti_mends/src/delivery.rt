@@ -1,7 +1,8 @@
 //! The end of `check --fix`: a text that is printed or stored, or several that are stored.
 
 ghost use Rattle.std.specs.{Prelude.{◌≡◌, ◌++◌, ◌∷◌, [], IfOk, OnErr, string_bytes}, List.{AllZip}};
-ghost use Rattle.ti_mends.specs.{Delivery as spec, Texts.{sheet_of, sheets}};
+ghost use Rattle.ti_mends.specs.Texts.{sheet_of, sheets};
+ghost use Rattle.ti_mends.specs.Delivery as spec;
 ghost use Rattle.ti_verdicts.specs.Checks.{StoresText};
 
 use crate::mendings::{MendedTexts, Text};

@@ -3,7 +3,8 @@
 ghost use Rattle.std.specs.{Prelude.{◌≡◌, ◌++◌, IfOk, OnOk, map, not, option_map, string_bytes}, List.{list_any}};
 ghost use Rattle.std.specs.Str.{bytes_eq};
 ghost use Rattle.serde_json.specs.View.{view};
-ghost use Rattle.ti_objects.specs.{Baselines as spec, Lines.{lines_of}};
+ghost use Rattle.ti_objects.specs.Lines.{lines_of};
+ghost use Rattle.ti_objects.specs.Baselines as spec;
 
 use crate::kinds::{Kind, kind_of};
 use crate::lines::cut_line;
@@ -80,7 +81,8 @@ fn key_of(alloc: Global, line: &str) -> Result<Option<String>, AllocError>
 impl Baseline {
     ghost use Rattle.std.specs.Prelude.{◌≡◌, ◌++◌, [], IfOk, OnOk, option_map, string_bytes};
     ghost use Rattle.std.specs.List.{cons_option, list_any};
-    ghost use Rattle.ti_objects.specs.{Baselines as spec, Lines.{lines_of}};
+    ghost use Rattle.ti_objects.specs.Lines.{lines_of};
+    ghost use Rattle.ti_objects.specs.Baselines as spec;
 
     /// The statements of the lines of `reports`.
     ///

@@ -2,7 +2,8 @@
 
 ghost use Rattle.std.specs.Prelude.{◌≡◌, ◌++◌, IfOk, OnOk, option_map, string_bytes};
 ghost use Rattle.serde_json.specs.View.{items_view, view};
-ghost use Rattle.ti_objects.specs.{Members as members, Messages as spec};
+ghost use Rattle.ti_objects.specs.Members as members;
+ghost use Rattle.ti_objects.specs.Messages as spec;
 
 use crate::kinds::Kind;
 use crate::members::{items_in, text_if, text_in};

@@ -1,7 +1,8 @@
 //! A file of SARIF 2.1.0, in which code hosts show findings at their lines.
 
 ghost use Rattle.std.specs.Prelude.{◌≡◌, ◌++◌, false, IfOk, OnOk};
-ghost use Rattle.ti_objects.specs.{Lines.{lines_of}, Results.{result_of}, Sarif as spec};
+ghost use Rattle.ti_objects.specs.{Lines.{lines_of}, Results.{result_of}};
+ghost use Rattle.ti_objects.specs.Sarif as spec;
 
 use crate::lines::cut_line;
 use crate::results::result_of;
@@ -50,7 +51,8 @@ pub(crate) struct Results {
 
 impl Results {
     ghost use Rattle.std.specs.Prelude.{Some, OnOk};
-    ghost use Rattle.ti_objects.specs.{Results.{result_of}, Sarif as spec};
+    ghost use Rattle.ti_objects.specs.Results.{result_of};
+    ghost use Rattle.ti_objects.specs.Sarif as spec;
 
     /// Adds a result, with a comma between it and the one before.
     fn push(&mut self, own: &[u8]) -> Result<(), AllocError>

@@ -1,7 +1,8 @@
 //! The region of the part of a value that is at fault.
 
 ghost use Rattle.std.specs.Prelude.{◌≡◌, IfOk, IfSome, map};
-ghost use Rattle.ti_places.specs.{Excerpts.{IsFaulty, value_in}, Locations as spec, Spots.{file_text, put_files}};
+ghost use Rattle.ti_places.specs.{Excerpts.{IsFaulty, value_in}, Spots.{file_text, put_files}};
+ghost use Rattle.ti_places.specs.Locations as spec;
 
 use crate::excerpts::value_in;
 use crate::faulty_parts::{Judged, faulty_part};

@@ -3,7 +3,8 @@
 ghost use Rattle.std.specs.Prelude.{◌≡◌, ◌<◌, ◌==◌, ◌++◌, ◌∷◌, IfOk, IfSome, Option, Some, codes, length, map};
 ghost use Rattle.std.specs.List as List;
 ghost use Rattle.ti_resolve.specs.Uses.{names_at};
-ghost use Rattle.ti_places.specs.{Locations as spec, Excerpts.{IsFaulty, value_in}, Locations.{excerpt_text, value_at}};
+ghost use Rattle.ti_places.specs.{Excerpts.{IsFaulty, value_in}, Locations.{excerpt_text, value_at}};
+ghost use Rattle.ti_places.specs.Locations as spec;
 ghost use Rattle.ti_places.specs.{Refusals.{no_text}, Spots.{file_text, line_of, piece_among, put_files}};
 ghost use Rattle.ti_stretches.specs.declared.stretches.Stretch.{Stretch};
 ghost use Rattle.ti_words.specs.Shown.{shown};

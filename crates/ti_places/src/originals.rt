@@ -1,7 +1,8 @@
 //! The places in a file of what was read from it, where lines of it may have been joined.
 
 ghost use Rattle.std.specs.Prelude.{◌≡◌, map, option_map};
-ghost use Rattle.ti_places.specs.{Originals as spec, Spots.{file_text, line_of, put_files}};
+ghost use Rattle.ti_places.specs.Spots.{file_text, line_of, put_files};
+ghost use Rattle.ti_places.specs.Originals as spec;
 
 use crate::spots::{FieldPlace, LinedFile, LinedFiles};
 use ti_caps::Cap;

@@ -1,7 +1,8 @@
 //! A field that may go over several lines of its text, and below it marks under a part of it.
 
 ghost use Rattle.std.specs.Prelude.{◌≡◌, ◌-◌, ◌++◌, IfOk, OnOk};
-ghost use Rattle.ti_places.specs.{Excerpts.{deeper}, Rows as spec};
+ghost use Rattle.ti_places.specs.Excerpts.{deeper};
+ghost use Rattle.ti_places.specs.Rows as spec;
 ghost use Rattle.ti_words.specs.Shown.{shown};
 
 use crate::excerpts::{shown_bytes, underlined};

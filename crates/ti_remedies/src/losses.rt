@@ -1,7 +1,8 @@
 //! Leaving the remedies by which entries would lose their yes, and those for which no place is found.
 
 ghost use Rattle.std.specs.{Prelude.{◌≡◌, [], IfOk, IfSome}, List.{AllByRecursion}};
-ghost use Rattle.ti_remedies.specs.{Among.{IsAmong}, Treated as spec};
+ghost use Rattle.ti_remedies.specs.Among.{IsAmong};
+ghost use Rattle.ti_remedies.specs.Treated as spec;
 ghost use Rattle.ti_source.specs.Raw.{IsRaw};
 
 use crate::advice::Remedy;

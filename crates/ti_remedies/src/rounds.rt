@@ -2,7 +2,8 @@
 
 ghost use Rattle.std.specs.{Prelude.{◌≡◌, [], true, IfOk, IfSome, Ok, length, map}, List.{AllByRecursion}};
 ghost use Rattle.ti_fixes.specs.Changes.{GivesAll};
-ghost use Rattle.ti_remedies.specs.{Remedies.{Fits}, Standings.{AreLosers, AreStandings}, Treated as spec};
+ghost use Rattle.ti_remedies.specs.{Remedies.{Fits}, Standings.{AreLosers, AreStandings}};
+ghost use Rattle.ti_remedies.specs.Treated as spec;
 ghost use Rattle.ti_source.specs.{Raw.{IsRaw}, Source.{source_of}};
 
 use crate::advice::{Adviser, Remedy};

@@ -3,7 +3,8 @@
 ghost use Rattle.std.specs.{Prelude.{◌≡◌, [], Ok, codes, IfErr, IfOk, OnErr}, List.{AllByRecursion}};
 ghost use Rattle.ti_commands.specs.Findings.{IsSourceFailure};
 ghost use Rattle.ti_remedies.specs.Remedies.{AreAdvised, Fits};
-ghost use Rattle.ti_repairs.specs.{Advices.{Advises}, Repairs as spec};
+ghost use Rattle.ti_repairs.specs.Advices.{Advises};
+ghost use Rattle.ti_repairs.specs.Repairs as spec;
 ghost use Rattle.ti_source.specs.{Raw.{IsRaw}, Source.{source_of}};
 ghost use Rattle.ti_places.specs.Refusals.{IsVerdict};
 

@@ -1,7 +1,8 @@
 //! Reports of advice on an entry.
 
 ghost use Rattle.std.specs.Prelude.{IfOk};
-ghost use Rattle.ti_reports.specs.{Faults as spec, Sources.{IsNowhere}};
+ghost use Rattle.ti_reports.specs.Sources.{IsNowhere};
+ghost use Rattle.ti_reports.specs.Faults as spec;
 
 use crate::faults::{Subject, report_on};
 use crate::lines::ValuePlace;

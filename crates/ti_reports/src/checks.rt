@@ -1,7 +1,8 @@
 //! The command `check --json`.
 
 ghost use Rattle.std.specs.Prelude.{◌≡◌, IfErr, IfOk, Some, map};
-ghost use Rattle.ti_reports.specs.{Checks as spec, Lacks.{is_alone}, Sources.{IsThere, by_name, whereabouts_of}};
+ghost use Rattle.ti_reports.specs.{Lacks.{is_alone}, Sources.{IsThere, by_name, whereabouts_of}};
+ghost use Rattle.ti_reports.specs.Checks as spec;
 ghost use Rattle.ti_commands.specs.Sizes.{LacksSize};
 ghost use Rattle.ti_places.specs.Spots.{file_text};
 

@@ -1,7 +1,8 @@
 //! The reports on the entries of a file.
 
 ghost use Rattle.std.specs.Prelude.{◌≡◌, ◌<◌, [], IfOk, IfSome, length, map};
-ghost use Rattle.ti_reports.specs.{Sources.{IsThere, whereabouts_of}, Surveys as spec};
+ghost use Rattle.ti_reports.specs.Sources.{IsThere, whereabouts_of};
+ghost use Rattle.ti_reports.specs.Surveys as spec;
 ghost use Rattle.ti_places.specs.{Locations.{place_if}, Spots.{file_text}};
 
 use crate::asked::Asked;

@@ -2,7 +2,8 @@
 
 ghost use Rattle.std.specs.Prelude.{IfOk, string_bytes};
 ghost use Rattle.ti_caps.specs.Table.{name_at};
-ghost use Rattle.ti_reports.specs.{Faults as spec, Sources.{IsThere, whereabouts_of}};
+ghost use Rattle.ti_reports.specs.Sources.{IsThere, whereabouts_of};
+ghost use Rattle.ti_reports.specs.Faults as spec;
 ghost use Rattle.ti_members.specs.Texts.{IsShownAs};
 ghost use Rattle.ti_verdicts.specs.Parts.{HasParts};
 ghost use Rattle.ti_places.specs.Refusals.{cause_name};

@@ -2,7 +2,8 @@
 
 ghost use Rattle.std.specs.{Prelude.{◌≡◌, IfOk, OnOk, map, option_map}, List.{AllByRecursion}};
 ghost use Rattle.ti_hints.specs.Places.{IsHintOf};
-ghost use Rattle.ti_reports.specs.{Faults as spec, Hints.{IsHintPlace, hint_text, line_hinted, region_hinted, text_in}};
+ghost use Rattle.ti_reports.specs.Hints.{IsHintPlace, hint_text, line_hinted, region_hinted, text_in};
+ghost use Rattle.ti_reports.specs.Faults as spec;
 ghost use Rattle.ti_reports.specs.Sources.{whereabouts_of};
 ghost use Rattle.ti_source.specs.Layout.{lines_of};
 ghost use Rattle.ti_places.specs.{Locations.{place_in}, Spots.{file_text, files_of, line_of, put_files}};

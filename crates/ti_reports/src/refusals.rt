@@ -1,7 +1,8 @@
 //! Reports on entries and files that can't be obtained.
 
 ghost use Rattle.std.specs.Prelude.{◌≡◌, ◌<◌, IfOk, IfSome, length, option_map};
-ghost use Rattle.ti_reports.specs.{Reports.{IsBare}, Sources.{fault_file}, Surveys as spec};
+ghost use Rattle.ti_reports.specs.{Reports.{IsBare}, Sources.{fault_file}};
+ghost use Rattle.ti_reports.specs.Surveys as spec;
 ghost use Rattle.ti_places.specs.Locations.{place_if};
 
 use crate::lines::{ValuePlace, refusal_place};

@@ -99,7 +99,8 @@ pub struct Finding {
 
 impl Finding {
     ghost use Rattle.std.specs.Prelude.{◌≡◌, IfOk};
-    ghost use Rattle.ti_reports.specs.{Faults.{SaysWords}, Reports as spec};
+    ghost use Rattle.ti_reports.specs.Faults.{SaysWords};
+    ghost use Rattle.ti_reports.specs.Reports as spec;
 
     /// A finding without a fault: these `words` about the `capability` at `place`.
     pub fn of_words(

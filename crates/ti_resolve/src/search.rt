@@ -1,6 +1,7 @@
 //! Finding entries by their names and places.
 
-ghost use Rattle.std.specs.{Prelude.{◌≡◌, ◌==◌, ◌<◌, [], ◌∷◌, length, IfNone, IfOk, IfSome, OnOk}, List as List};
+ghost use Rattle.std.specs.Prelude.{◌≡◌, ◌==◌, ◌<◌, [], ◌∷◌, length, IfNone, IfOk, IfSome, OnOk};
+ghost use Rattle.std.specs.List as List;
 ghost use Rattle.std.specs.Str.{bytes_eq};
 ghost use Rattle.ti_caps.specs.Fits.{names_in};
 ghost use Rattle.ti_resolve.specs.{Index.{Adds, IsIndexOf}, Uses.{is_name_in, place_named, fields_at, names_at}};

@@ -1,6 +1,7 @@
 //! Whether tokens have the effect that the table asks for.
 ghost use Rattle.std.specs.Prelude.{◌≡◌, ℕ, List, [], IsTrue, Some};
-ghost use Rattle.ti_rows.specs.{Asked as spec, Right.{IsRight}};
+ghost use Rattle.ti_rows.specs.Right.{IsRight};
+ghost use Rattle.ti_rows.specs.Asked as spec;
 ghost use Rattle.vt_effects.specs.Record.{record_of};
 ghost use Rattle.vt_term.specs.Text.{Splits};
 

@@ -1,6 +1,8 @@
 //! The parameter lists of each capability, in ascending order.
 ghost use Rattle.std.specs.Prelude.{◌≡◌, ◌+◌, ◌-◌, ◌<◌, ◌≤◌, ◌↔◌, IsTrue};
-ghost use Rattle.ti_rows.specs.{Bits as bits, Lists as spec, Rows as rows};
+ghost use Rattle.ti_rows.specs.Bits as bits;
+ghost use Rattle.ti_rows.specs.Lists as spec;
+ghost use Rattle.ti_rows.specs.Rows as rows;
 ghost use Rattle.vt_term.specs.Color as colors;
 
 use crate::rows::{Attributes, Row};

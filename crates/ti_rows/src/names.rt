@@ -1,6 +1,7 @@
 //! The checked capabilities by name and in order.
 ghost use Rattle.std.specs.Prelude.{◌≡◌, ◌≢◌, ◌+◌, ◌<◌, Some, IfSome, IfNone};
-ghost use Rattle.ti_rows.specs.{Names as spec, Rows as rows};
+ghost use Rattle.ti_rows.specs.Names as spec;
+ghost use Rattle.ti_rows.specs.Rows as rows;
 
 use crate::rows::{NO_ATTRIBUTES, Row};
 use ti_caps::{Cap, Kind, at, name};

@@ -1,7 +1,8 @@
 //! The parameters of a row as numbers, and back.
 ghost use Rattle.std.specs.Prelude.{◌≡◌, ◌<◌, ◌++◌, [], ◌∷◌, length, IfSome, IfNone};
 ghost use Rattle.arrayvec.specs.ArrayVec.{array_vec_len};
-ghost use Rattle.ti_rows.specs.{Params as spec, Rows as rows};
+ghost use Rattle.ti_rows.specs.Params as spec;
+ghost use Rattle.ti_rows.specs.Rows as rows;
 
 use crate::rows::{Attributes, Row};
 use arrayvec::ArrayVec;

@@ -1,6 +1,7 @@
 //! The effect that the table asks for, row by row.
 ghost use Rattle.std.specs.Prelude.{◌≡◌, ◌&&◌, ◌||◌};
-ghost use Rattle.ti_rows.specs.{Asked as spec, Looks as looks};
+ghost use Rattle.ti_rows.specs.Asked as spec;
+ghost use Rattle.ti_rows.specs.Looks as looks;
 
 use crate::rows::{Attributes, Looks, Marks, NO_MARKS, Row};
 use vt_effects::{Effect, Erasure, Ink, Move, Region, Rendering, Scroll, Switch};

@@ -2,7 +2,8 @@
 
 ghost use Rattle.std.specs.Prelude.{◌≡◌, ◌<◌, ◌/◌, ◌%◌, ◌+◌, ◌++◌, ◌∷◌, [], Ok, IfOk, IsTrue, OnOk, decimal, ◌&&◌};
 ghost use Rattle.std.specs.{Prelude.{nat_le}, List.{AllByRecursion}};
-ghost use Rattle.ti_caps.specs.{Fits.{string_fits}, declared.types.Kind.TheVariants as kinds};
+ghost use Rattle.ti_caps.specs.Fits.{string_fits};
+ghost use Rattle.ti_caps.specs.declared.types.Kind.TheVariants as kinds;
 ghost use Rattle.ti_caps.specs.{Entry.{IsEntry, value_at}, Table.{name_at, place_of_rank}};
 ghost use Rattle.ti_source.specs.{Escapes.{unescaped}, Printed.{PrintsJust, ReadsBack, raw_of}, Source.{source_of}};
 ghost use Rattle.ti_source.specs.Prints.{letter_for, octal, spelled_with, spelled, string_text, value_text, field_text};

@@ -2,7 +2,8 @@
 
 ghost use Rattle.std.specs.Prelude.{◌≡◌, ◌≤◌, IfOk, IfSome, length, true};
 ghost use Rattle.ti_parm.specs.Value.{values_of};
-ghost use Rattle.ti_stretches.specs.{FaultyCodes as spec, Stretches.{IsWithin}};
+ghost use Rattle.ti_stretches.specs.Stretches.{IsWithin};
+ghost use Rattle.ti_stretches.specs.FaultyCodes as spec;
 
 use crate::codes::codes;
 use crate::prefixes::Open;

@@ -2,7 +2,8 @@
 
 ghost use Rattle.std.specs.Prelude.{◌≡◌, ◌≤◌, ◌⊎◌, All, Some, IfNone, IfOk, IfSome, List, ℕ, Bool, Ok, length, take};
 ghost use Rattle.ti_parm.specs.{Meaning.{sent}, Value.{values_of}};
-ghost use Rattle.ti_stretches.specs.{Prefixes.{closed_front}, Sendings as spec, Stretches.{IsWithin}};
+ghost use Rattle.ti_stretches.specs.{Prefixes.{closed_front}, Stretches.{IsWithin}};
+ghost use Rattle.ti_stretches.specs.Sendings as spec;
 
 use crate::codes::codes;
 use crate::prefixes::Open;

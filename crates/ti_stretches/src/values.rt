@@ -2,7 +2,8 @@
 
 ghost use Rattle.std.specs.Prelude.{◌≡◌, ◌≤◌, ℕ, IfNone, IfOk, IfSome, Ok, false, length, true};
 ghost use Rattle.ti_source.specs.Escapes.{unescaped};
-ghost use Rattle.ti_stretches.specs.{Stretches.{IsWithin}, Values as spec};
+ghost use Rattle.ti_stretches.specs.Stretches.{IsWithin};
+ghost use Rattle.ti_stretches.specs.Values as spec;
 
 use crate::stretches::Stretch;
 use std::alloc::{AllocError, Global};

@@ -4,7 +4,8 @@ ghost use Rattle.std.specs.Prelude.{◌≡◌, ◌≢◌, ◌<◌, ◌≤◌, �
 ghost use Rattle.std.specs.{Prelude.{None, option_map, slice_get, true}, List.{AllByRecursion, range_with_len}};
 ghost use Rattle.ti_further.specs.declared.files.FurtherFile.{FurtherFile};
 ghost use Rattle.ti_source.specs.Fitting.{FieldsFit, NamesFit};
-ghost use Rattle.ti_surveys.specs.{Heard.{Hears}, Lines as spec, Together.{FailsApartly, all_in}};
+ghost use Rattle.ti_surveys.specs.{Heard.{Hears}, Together.{FailsApartly, all_in}};
+ghost use Rattle.ti_surveys.specs.Lines as spec;
 ghost use Rattle.ti_surveys.specs.Told.{IsToldOfEach, told_of};
 ghost use Rattle.ti_places.specs.{Locations.{place_if}, Spots.{put_files}};
 

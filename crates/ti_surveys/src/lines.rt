@@ -2,7 +2,8 @@
 
 ghost use Rattle.std.specs.Prelude.{◌≡◌, ◌≢◌, ◌<◌, ◌++◌, IfOk, IfSome, OnOk, codes, length, map, option_map};
 ghost use Rattle.std.specs.List.{flat_map};
-ghost use Rattle.ti_surveys.specs.{Answers as spec, Told.{told_of}};
+ghost use Rattle.ti_surveys.specs.Told.{told_of};
+ghost use Rattle.ti_surveys.specs.Answers as spec;
 ghost use Rattle.ti_verdicts.specs.Parts.{HasParts};
 ghost use Rattle.ti_places.specs.{Locations.{IsPlaced, place_if, placed_if, placed_in}, Refusals.{no_text}};
 ghost use Rattle.ti_places.specs.Spots.{file_text};

@@ -3,7 +3,8 @@
 ghost use Rattle.std.specs.Prelude.{◌≡◌, ◌++◌, ◌⊎◌, IfErr, IfOk, OnOk, map};
 ghost use Rattle.ti_commands.specs.Words.{texts_of};
 ghost use Rattle.ti_places.specs.Spots.{file_text};
-ghost use Rattle.ti_surveys.specs.{Heard.{Hears}, Lines.{AreLines}, Surveys as spec};
+ghost use Rattle.ti_surveys.specs.{Heard.{Hears}, Lines.{AreLines}};
+ghost use Rattle.ti_surveys.specs.Surveys as spec;
 ghost use Rattle.ti_surveys.specs.Together.{FailsApartly, FailsBeside, FailsToSurvey};
 ghost use Rattle.ti_surveys.specs.Told.{IsEither, IsToldOrLeft, followed_by, left_if, told_of};
 

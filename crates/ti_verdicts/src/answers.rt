@@ -2,7 +2,8 @@
 
 ghost use Rattle.std.specs.{Prelude.{◌≡◌, ◌++◌, IfOk, OnOk, map}, List.{flat_map}};
 ghost use Rattle.ti_commands.specs.Words.{texts_of};
-ghost use Rattle.ti_verdicts.specs.{Counts as spec, FaultAnswers.{fault_answer}, AnswerNames.{answer_name}};
+ghost use Rattle.ti_verdicts.specs.{FaultAnswers.{fault_answer}, AnswerNames.{answer_name}};
+ghost use Rattle.ti_verdicts.specs.Counts as spec;
 
 use std::alloc::{AllocError, Global};
 use ti_checker::{Cause, No};

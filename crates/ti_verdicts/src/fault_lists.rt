@@ -1,7 +1,8 @@
 //! The command `check --all`.
 
 ghost use Rattle.std.specs.Prelude.{◌≡◌, IfErr, IfOk, Some, map};
-ghost use Rattle.ti_verdicts.specs.{Checks.{FailsForEntry}, FaultLists as spec, Parts.{HasParts}};
+ghost use Rattle.ti_verdicts.specs.{Checks.{FailsForEntry}, Parts.{HasParts}};
+ghost use Rattle.ti_verdicts.specs.FaultLists as spec;
 ghost use Rattle.ti_places.specs.{Locations.{source_if}, Spots.{file_text}};
 
 use crate::answers::{answers_line, fault_answers};

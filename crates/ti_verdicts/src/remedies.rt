@@ -3,7 +3,8 @@
 ghost use Rattle.std.specs.{Prelude.{◌≡◌, IfOk, IfSome, IsTrue, Some}, Option.{option_copied}};
 ghost use Rattle.ti_caps.specs.Fits.{string_fits};
 ghost use Rattle.ti_faults.specs.Remedies as remedies;
-ghost use Rattle.ti_verdicts.specs.{Parts.{HasParts}, Remedies as spec};
+ghost use Rattle.ti_verdicts.specs.Parts.{HasParts};
+ghost use Rattle.ti_verdicts.specs.Remedies as spec;
 
 use std::alloc::{AllocError, Global};
 use ti_caps::{Cap, Entry, name};

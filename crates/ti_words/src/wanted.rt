@@ -1,7 +1,8 @@
 //! The results that programs want from each checked string, in words.
 
 ghost use Rattle.std.specs.{Prelude.{◌≡◌, ◌++◌, IfOk, OnOk, codes}, Fmt.{decimal}};
-ghost use Rattle.ti_words.specs.{Starts.{if_so}, Wanted as spec};
+ghost use Rattle.ti_words.specs.Starts.{if_so};
+ghost use Rattle.ti_words.specs.Wanted as spec;
 
 use crate::starts::push_if;
 use std::alloc::{AllocError, Global};

@@ -1,6 +1,7 @@
 //! Effect records and their parts.
 ghost use Rattle.std.specs.Prelude.{◌≡◌};
-ghost use Rattle.vt_effects.specs.{Effect as spec, Record as records};
+ghost use Rattle.vt_effects.specs.Effect as spec;
+ghost use Rattle.vt_effects.specs.Record as records;
 
 use vt_term::Color;
 

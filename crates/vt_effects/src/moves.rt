@@ -1,6 +1,8 @@
 //! Moves of the cursor by rows or columns, one after another.
 ghost use Rattle.std.specs.Prelude.{◌≡◌, ◌+◌, ◌-◌, ◌<◌, ◌≤◌, ◌^◌};
-ghost use Rattle.vt_effects.specs.{Effect as meaning, Fits.{BackFits, ForwardFits}, Record as spec};
+ghost use Rattle.vt_effects.specs.Fits.{BackFits, ForwardFits};
+ghost use Rattle.vt_effects.specs.Effect as meaning;
+ghost use Rattle.vt_effects.specs.Record as spec;
 
 use crate::effects::Move;
 

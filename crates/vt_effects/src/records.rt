@@ -1,5 +1,6 @@
 //! The effect of tokens from every state that a start allows.
-ghost use Rattle.vt_effects.specs.{Sound.{StepsAs, RunsAs, RunsTextAs}, Record as spec};
+ghost use Rattle.vt_effects.specs.Sound.{StepsAs, RunsAs, RunsTextAs};
+ghost use Rattle.vt_effects.specs.Record as spec;
 ghost use Rattle.std.specs.Prelude.{◌≡◌, IfErr, IfOk, IfSome, option_and_then, ◌<◌, ◌≤◌, ◌-◌, min};
 ghost use Rattle.vt_term.specs.Scanned.{HasFault};
 

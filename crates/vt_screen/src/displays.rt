@@ -2,7 +2,8 @@
 
 ghost use Rattle.std.specs.Prelude.{◌≡◌, ◌==◌, ◌+◌, ◌-◌, ◌^◌, ◌<◌, ◌≤◌, min, max, nat_le, ◌&&◌, if◌then◌else◌, length};
 ghost use Rattle.std.specs.{Prelude.{take, IfOk}, List.{AllByRecursion, prefix_len}};
-ghost use Rattle.vt_screen.specs.{Grid.{look_at}, Step as spec, Look.{IsPrinted, is_printed}};
+ghost use Rattle.vt_screen.specs.{Grid.{look_at}, Look.{IsPrinted, is_printed}};
+ghost use Rattle.vt_screen.specs.Step as spec;
 
 use crate::cells::Cell;
 use crate::functions::{CodeElement, EraseExtent, Function, ModeKind};

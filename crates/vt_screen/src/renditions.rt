@@ -1,7 +1,8 @@
 //! Colors, and the rendition of characters.
 
 ghost use Rattle.std.specs.Prelude.{◌≡◌, ◌<◌};
-ghost use Rattle.vt_screen.specs.{Color.{color}, Rendition as spec};
+ghost use Rattle.vt_screen.specs.Color.{color};
+ghost use Rattle.vt_screen.specs.Rendition as spec;
 
 /// One of the eight colors of ECMA-48's SGR 30 to 37 and 40 to 47, in their order.
 #[derive(Clone, Copy, Debug, PartialEq, Eq)]

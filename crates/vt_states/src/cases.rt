@@ -3,7 +3,8 @@
 ghost use Rattle.std.specs.Prelude.{◌≡◌, ◌<◌, ◌≤◌, ◌/◌, ◌==◌, ◌++◌, ◌∷◌, [], ℕ, List, length, nat_le, ◌&&◌, Some, None};
 ghost use Rattle.std.specs.{Prelude.{option_map, IfErr, IfOk, IfSome, OnOk, if◌then◌else◌}, List.{position}};
 ghost use Rattle.hex.specs.Hex.{decode_of};
-ghost use Rattle.vt_states.specs.{Cases as spec, declared.cases.CaseFault.TheVariants.{NoMemory}};
+ghost use Rattle.vt_states.specs.declared.cases.CaseFault.TheVariants.{NoMemory};
+ghost use Rattle.vt_states.specs.Cases as spec;
 
 use crate::json::case_members;
 use crate::snapshots::Snapshot;

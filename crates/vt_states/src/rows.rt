@@ -1,7 +1,8 @@
 //! The cells of a terminal, row by row, as items of JSON lists.
 
 ghost use Rattle.std.specs.{Prelude.{◌≡◌, ◌<◌, ◌++◌, [], length, IfOk, OnOk}, List.{flat_map}};
-ghost use Rattle.vt_term.specs.{Grid.{line_at}, Printed as shown};
+ghost use Rattle.vt_term.specs.Grid.{line_at};
+ghost use Rattle.vt_term.specs.Printed as shown;
 ghost use Rattle.vt_states.specs.Json as spec;
 
 use std::alloc::{AllocError, Global};

@@ -2,7 +2,8 @@
 
 ghost use Rattle.std.specs.Prelude.{◌≡◌, ℕ, ◌+◌, ◌-◌, ◌*◌, ◌<◌, ◌≤◌, min, true, false, List, [], ◌∷◌, ◌++◌, length};
 ghost use Rattle.std.specs.{Prelude.{IfOk, Option, vec_capacity}, Option.{unwrap_or}};
-ghost use Rattle.vt_term.specs.{Parameters as spec, Text.{IsOpen, IsWhole, Cuts}, Function.{function_of}};
+ghost use Rattle.vt_term.specs.{Text.{IsOpen, IsWhole, Cuts}, Function.{function_of}};
+ghost use Rattle.vt_term.specs.Parameters as spec;
 ghost use Rattle.vt_term.specs.Fault.{IsTransition, IsOutsideTransition, IsIntroducerTransition, IsEscapeTransition};
 ghost use Rattle.vt_term.specs.{Fault.{IsInsideTransition}, ParserStates.{IsAt, NamesNothing}};
 

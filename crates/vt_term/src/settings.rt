@@ -6,7 +6,8 @@ use crate::terminals::Terminal;
 use vt_screen::{Function, Settings};
 
 impl Terminal {
-    ghost use Rattle.vt_term.specs.{Screen.{settings_of, with_settings}, Step as spec};
+    ghost use Rattle.vt_term.specs.Screen.{settings_of, with_settings};
+    ghost use Rattle.vt_term.specs.Step as spec;
 
     /// Does what `function` asks for; an open sequence stays open. A character must be one of 32 to 126.
     pub fn act(&mut self, function: Function<'_>)
