@@ -18,7 +18,7 @@ use ti_caps::Entry;
 use ti_compiled::{PackFault, Packed, decode};
 use ti_hints::{explain_packed, explain_resolving, explain_source};
 use ti_resolve::{ResolveFault, resolve, resolve_at};
-use ti_source::{FaultKind, Note, NoteKind, RawEntry, read};
+use ti_source::{Note, NoteKind, RawEntry, read};
 use ti_words::Remarks;
 
 /// The most bytes of a compiled file.
@@ -124,13 +124,11 @@ fn own_entries(
 {
     match read(alloc, text) {
         Ok(raws) => Ok(raws),
-        Err(fault) => match fault.kind {
-            FaultKind::NoMemory => Err(Failure::NoMemory),
-            _ => {
-                explain_source(alloc, path, text, fault, remarks);
-                Err(Failure::Refused(CommandRefusal::Source(fault)))
-            }
-        },
+        Err(fault) => {
+            fault.kind.must_claim()?;
+            explain_source(alloc, path, text, fault, remarks);
+            Err(Failure::Refused(CommandRefusal::Source(fault)))
+        }
     }
 }
 

@@ -3,10 +3,10 @@
 ghost use Rattle.std.specs.Prelude.{◌≡◌, ◌≤◌, ◌<◌, ◌+◌, [], drop, length, slice_index, take, IfNone, IfSome};
 ghost use Rattle.std.specs.List.{list_all};
 ghost use Rattle.ti_entries.specs.Columns as spec;
-ghost use Rattle.ti_source.specs.{Layout.{cut_of, is_white, put_field, skip_white}, Marks.{comma}, Scan.{comma_in}};
+ghost use Rattle.ti_source.specs.Layout.{cut_of, is_white, skip_white};
 
-use ti_caps::{Cap, Opener, name};
-use ti_source::{begins_entry, is_white, skip_white};
+use ti_caps::{Cap, name};
+use ti_source::{begins_entry, cut_field, is_white, skip_white};
 
 /// The columns of a field, in bytes from 1.
 #[derive(Clone, Copy, Debug, PartialEq, Eq)]
@@ -15,39 +15,6 @@ pub struct Columns {
     pub start: usize,
     /// The column behind its last byte, which is that of the comma.
     pub end: usize,
-}
-
-/// The place of the comma that ends the first field of `line`, a part of a line of source text; `None` if no comma ends it.
-/// A backslash takes the byte behind it, a comma too; a caret takes a backslash behind it (terminfo(5)).
-#[tactic(auto, unfolding(ti_source::specs::Scan::comma_in))]
-pub fn field_end(line: &[u8]) -> Option<usize>
-    ensures place { result ≡ comma_in line.now }
-    ensures range { IfSome result (λ at. at < length line.now) }
-    ensures mark { IfSome result (λ at. slice_index line.now at ≡ comma) }
-{
-    let mut opener = Opener::Nothing;
-    let mut at = 0;
-    for byte in line {
-        if opener.ends_field(*byte) {
-            return Some(at);
-        }
-        opener = opener.after(*byte);
-        at += 1;
-    }
-    None
-}
-
-/// The first field of `line` that a comma ends, and the text after the comma; `None` if there is no such field.
-#[tactic(auto, using(std::proofs::lemmas::List::take_rest, ti_source::proofs::Layouts::field_cut, ti_source::proofs::Layouts::field_whole))]
-fn cut_field(line: &[u8]) -> Option<(&[u8], &[u8])>
-    ensures found { IfSome result (λ x. cut_of line.now ≡ put_field x.0.now (cut_of x.1.now)) }
-    ensures whole { IfSome result (λ x. length x.0.now + length x.1.now + 1 ≡ length line.now) }
-    ensures none { IfNone result (cut_of line.now ≡ record { ended = []; last = line.now }) }
-{
-    match field_end(line) {
-        None => None,
-        Some(at) => Some((&line[..at], &line[at + 1..])),
-    }
 }
 
 /// Whether all bytes are white space.

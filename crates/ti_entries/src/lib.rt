@@ -9,7 +9,7 @@ mod names;
 mod resolution;
 
 pub use bad_uses::bad_use;
-pub use columns::{Columns, columns_of_part, field_end};
+pub use columns::{Columns, columns_of_part};
 pub use lined_texts::{LinedText, line_at, text_lines};
 pub use names::place_named;
 pub use resolution::{ApartFault, faultless_are_resolved, resolve_apart};

@@ -10,7 +10,7 @@ use crate::places::find_piece;
 use crate::texts::written;
 use std::alloc::{AllocError, Global};
 use ti_caps::Cap;
-use ti_source::{FaultKind, RawEntry, read};
+use ti_source::{RawEntry, read};
 
 /// A source text in which a field was given another string.
 #[derive(Debug, Drop)]
@@ -28,10 +28,10 @@ pub fn entries_of(alloc: Global, text: &[u8]) -> Result<Option<Vec<RawEntry>>, A
 {
     match read(alloc, text) {
         Ok(raws) => Ok(Some(raws)),
-        Err(fault) => match fault.kind {
-            FaultKind::NoMemory => Err(AllocError),
-            _ => Ok(None),
-        },
+        Err(fault) => {
+            fault.kind.must_claim()?;
+            Ok(None)
+        }
     }
 }
 

@@ -10,4 +10,4 @@ mod places;
 mod texts;
 
 pub use changes::{Change, ChangeFault, give_all};
-pub use fixes::{Fixed, give};
+pub use fixes::{Fixed, entries_of, give};

@@ -9,7 +9,7 @@ use crate::compiled::raw_of;
 use std::alloc::{AllocError, AllocFailed, Global};
 use ti_caps::Entry;
 use ti_compiled::{PackFault, decode};
-use ti_source::{Apart, FaultKind, RawEntry, SourceFault, read, read_apart};
+use ti_source::{Apart, RawEntry, SourceFault, read, read_apart};
 
 /// A file beside that of an entry: a source, or a compiled file, as its first two bytes show.
 #[derive(Debug, Drop)]
@@ -83,15 +83,9 @@ fn is_compiled(bytes: &[u8]) -> bool
 fn source_fault(fault: SourceFault) -> FurtherFault
     ensures { spec.TellsSource fault result }
 {
-    match fault.kind {
-        FaultKind::NoMemory => FurtherFault::NoMemory,
-        FaultKind::NoName
-        | FaultKind::WrongKind
-        | FaultKind::BadNumber
-        | FaultKind::NumberRange
-        | FaultKind::OpenField
-        | FaultKind::BadEscape
-        | FaultKind::TooLong => FurtherFault::Source(fault),
+    match fault.kind.must_claim() {
+        Ok(()) => FurtherFault::Source(fault),
+        Err(AllocError) => FurtherFault::NoMemory,
     }
 }
 

@@ -1,1 +1,2 @@
+pub mod Carets
 pub mod Places

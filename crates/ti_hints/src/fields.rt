@@ -4,8 +4,7 @@ ghost use Rattle.std.specs.Prelude.{◌≡◌, ◌++◌, ◌∷◌, IfNone, IfSo
 ghost use Rattle.ti_source.specs.{Marks.{comma}, Scan.{comma_in}};
 
 use ti_caps::{Kind, Opener, by_name, kind};
-use ti_entries::field_end;
-use ti_source::FaultKind;
+use ti_source::{FaultKind, field_end};
 
 /// A field as a line has it.
 #[derive(Clone, Copy)]

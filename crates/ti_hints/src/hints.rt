@@ -4,12 +4,13 @@ ghost use Rattle.std.specs.Prelude.{◌≡◌, ◌<◌, ◌≤◌, ◌+◌, IfOk
 ghost use Rattle.std.specs.List.{AllByRecursion};
 ghost use Rattle.ti_hints.specs.Places as spec;
 
+use crate::carets::percent_carets;
 use crate::fields::FieldText;
 use crate::places::{PlacedField, placed_fields};
 use std::alloc::{AllocError, Global};
 use ti_caps::{CAPABILITIES, Cap, by_name, name};
 use ti_entries::{Columns, line_at};
-use ti_source::{RawEntry, percent_carets};
+use ti_source::RawEntry;
 
 /// The kind of a hint.
 #[derive(Clone, Copy, Debug, PartialEq, Eq)]

@@ -3,6 +3,7 @@
 #![tactic(auto)]
 
 mod advice;
+mod carets;
 mod counts;
 mod fields;
 mod functions;

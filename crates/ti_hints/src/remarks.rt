@@ -1,10 +1,11 @@
 //! Hints about fields of a source text as further lines of a message.
 
+use crate::carets::percent_carets;
 use crate::hints::{FieldHint, caret_words, entry_hints};
 use crate::uses::used_places;
 use std::alloc::{AllocError, Global};
 use ti_entries::text_lines;
-use ti_source::{RawEntry, percent_carets};
+use ti_source::RawEntry;
 use ti_words::Remarks;
 
 /// Adds the hints of `entry_hints`, as far as there is memory, for the entry `entry` among `raws`, and for the entries

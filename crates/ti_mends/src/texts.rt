@@ -13,21 +13,7 @@ use ti_caps::Cap;
 use ti_commands::SourceText;
 use ti_fixes::give;
 use ti_further::{FurtherFault, FurtherFile, raws_of, spot_of};
-use ti_source::{FaultKind, RawEntry, read};
-
-/// The entries of a source text; `None` if it can't be read.
-fn source_entries(alloc: Global, text: &[u8]) -> Result<Option<Vec<RawEntry>>, AllocError>
-    ensures reads { IfOk result (λ found. IfSome found (λ raws. spec.IsReadBy true text.now raws.items)) }
-    ensures fit { IfOk result (λ found. IfSome found (λ raws. AllByRecursion IsRaw raws.items)) }
-{
-    match read(alloc, text) {
-        Ok(raws) => Ok(Some(raws)),
-        Err(fault) => match fault.kind {
-            FaultKind::NoMemory => Err(AllocError),
-            _ => Ok(None),
-        },
-    }
-}
+use ti_source::RawEntry;
 
 /// The entries of a file that isn't read as a source; `None` if it can't be read.
 fn further_entries(alloc: Global, bytes: &[u8]) -> Result<Option<Vec<RawEntry>>, AllocError>
@@ -48,7 +34,7 @@ fn entries_of(alloc: Global, file: &Text) -> Result<Option<Vec<RawEntry>>, Alloc
     ensures fit { IfOk result (λ found. IfSome found (λ raws. AllByRecursion IsRaw raws.items)) }
 {
     if file.is_source {
-        source_entries(alloc, file.bytes.as_slice())
+        ti_fixes::entries_of(alloc, file.bytes.as_slice())
     } else {
         further_entries(alloc, file.bytes.as_slice())
     }
@@ -175,7 +161,7 @@ fn given(
         return Ok(None);
     }
     let text = file.bytes.as_slice();
-    let Some(raws) = source_entries(alloc, text)? else {
+    let Some(raws) = ti_fixes::entries_of(alloc, text)? else {
         return Ok(None);
     };
     match give(alloc, text, raws.as_slice(), place, cap, string)? {

@@ -19,7 +19,7 @@ use ti_hints::explain_source;
 use ti_mends::store_text;
 use ti_remedies::{Remedy, all_remedies, take_all};
 use ti_resolve::Index;
-use ti_source::{FaultKind, RawEntry, read};
+use ti_source::{RawEntry, read};
 use ti_words::Remarks;
 use vt_term::Size;
 
@@ -39,16 +39,10 @@ fn entries_of(alloc: Global, text: &[u8]) -> Result<Vec<RawEntry>, Failure>
 {
     match read(alloc, text) {
         Ok(raws) => Ok(raws),
-        Err(fault) => match fault.kind {
-            FaultKind::NoMemory => Err(Failure::NoMemory),
-            FaultKind::NoName
-            | FaultKind::WrongKind
-            | FaultKind::BadNumber
-            | FaultKind::NumberRange
-            | FaultKind::OpenField
-            | FaultKind::BadEscape
-            | FaultKind::TooLong => Err(Failure::Refused(CommandRefusal::Source(fault))),
-        },
+        Err(fault) => {
+            fault.kind.must_claim()?;
+            Err(Failure::Refused(CommandRefusal::Source(fault)))
+        }
     }
 }
 

@@ -124,22 +124,6 @@ fn unread(alloc: Global, number: u32, line: &[u8]) -> Result<RawEntry, AllocErro
     Ok(draft.into_entry())
 }
 
-/// Fails if `kind` is `NoMemory`, which says nothing of the text.
-fn must_tell(kind: FaultKind) -> Result<(), AllocError>
-    ensures { OnOk result (kind ≢ FaultKind.NoMemory) }
-{
-    match kind {
-        FaultKind::NoMemory => Err(AllocError),
-        FaultKind::NoName
-        | FaultKind::WrongKind
-        | FaultKind::BadNumber
-        | FaultKind::NumberRange
-        | FaultKind::OpenField
-        | FaultKind::BadEscape
-        | FaultKind::TooLong => Ok(()),
-    }
-}
-
 impl Apart {
     fn push(&mut self, raw: RawEntry, fault: Option<SourceFault>) -> Result<(), AllocError>
         ensures raws { OnOk result (self.new.raws.items ≡ self.old.raws.items ++ raw ∷ []) }
@@ -167,7 +151,7 @@ impl Apart {
         match entry_alone(alloc, number, line, behind) {
             Ok(raw) => self.push(raw, None),
             Err(fault) => {
-                must_tell(fault.kind)?;
+                fault.kind.must_claim()?;
                 let raw = unread(alloc, number, line)?;
                 self.push(raw, Some(fault))
             }

@@ -1,17 +1,21 @@
 //! Cutting a source text: into lines, a line into fields, a field into a name and a value.
 
 ghost use Rattle.std.specs.Prelude.{◌≡◌, ℕ, ◌+◌, ◌<◌, ◌≤◌, ◌==◌, [], ◌∷◌, length, take, drop, IfSome, IfNone};
-ghost use Rattle.std.specs.{Prelude.{option_map}, List.{list_all}};
+ghost use Rattle.std.specs.{Prelude.{option_map, slice_index}, List.{list_all}};
 ghost use Rattle.ti_source.specs.Layout.{lines_of, is_white, skip_white, trim_end, Cut, put_field, cut_of, mark_of};
-ghost use Rattle.ti_source.specs.{Layout.{marked_with, marked_in}, Scan.{comma_in, feed_in, without_return}};
+ghost use Rattle.ti_source.specs.{Layout.{marked_with, marked_in}, Marks.{comma}};
+ghost use Rattle.ti_source.specs.Scan.{comma_in, feed_in, without_return};
 
 use ti_caps::Opener;
 
 /// The mark between a name and a value.
-#[derive(Clone, Copy, PartialEq, Eq)]
-pub(crate) enum Mark {
+#[derive(Clone, Copy, Debug, PartialEq, Eq)]
+pub enum Mark {
+    /// `@`, which takes a capability back.
     At,
+    /// `#`, before a number.
     Hash,
+    /// `=`, before a string.
     Equals,
 }
 
@@ -101,11 +105,13 @@ pub(crate) fn trim_end(bytes: &[u8]) -> &[u8]
     rest
 }
 
-/// The place of the first comma that ends a field.
+/// The place of the comma that ends the first field of `line`, a part of a line of source text; `None` if no comma ends it.
+/// A backslash takes the byte behind it, a comma too; a caret takes a backslash behind it (terminfo(5)).
 #[tactic(auto, unfolding(crate::specs::Scan::comma_in))]
-fn field_end(line: &[u8]) -> Option<usize>
+pub fn field_end(line: &[u8]) -> Option<usize>
     ensures place { result ≡ comma_in line.now }
     ensures range { IfSome result (λ at. at < length line.now) }
+    ensures mark { IfSome result (λ at. slice_index line.now at ≡ comma) }
 {
     let mut opener = Opener::Nothing;
     let mut at = 0;
@@ -121,9 +127,9 @@ fn field_end(line: &[u8]) -> Option<usize>
 
 /// The first field of `line` that a comma ends, and the text after the comma; `None` if there is no such field.
 #[tactic(auto, using(std::proofs::lemmas::List::take_rest, crate::proofs::Layouts::field_cut, crate::proofs::Layouts::field_whole))]
-pub(crate) fn cut_field(line: &[u8]) -> Option<(&[u8], &[u8])>
+pub fn cut_field(line: &[u8]) -> Option<(&[u8], &[u8])>
     ensures found { IfSome result (λ x. cut_of line.now ≡ put_field x.0.now (cut_of x.1.now)) }
-    ensures shorter { IfSome result (λ x. length x.1.now < length line.now) }
+    ensures whole { IfSome result (λ x. length x.0.now + length x.1.now + 1 ≡ length line.now) }
     ensures none { IfNone result (cut_of line.now ≡ record { ended = []; last = line.now }) }
 {
     match field_end(line) {
@@ -144,7 +150,7 @@ fn mark_of(byte: u8) -> Option<Mark>
 }
 
 /// The name in `field`, its first mark, and the value after the mark; `None` if it has no mark.
-pub(crate) fn marked(field: &[u8]) -> Option<(&[u8], Mark, &[u8])>
+pub fn marked(field: &[u8]) -> Option<(&[u8], Mark, &[u8])>
     ensures { option_map (λ m. marked_with m.0.now m.1 m.2.now) result ≡ marked_in field.now }
 {
     let mut at = 0;

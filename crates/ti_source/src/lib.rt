@@ -4,7 +4,6 @@
 mod apart;
 mod draft;
 mod escapes;
-mod hints;
 mod layout;
 mod lines;
 mod numbers;
@@ -15,10 +14,10 @@ mod types;
 
 pub use apart::{Apart, read_apart, whole_is_together};
 pub use escapes::{EscapeFault, unescape};
-pub use hints::{Hint, percent_carets};
-pub use layout::{cut_line, is_white, skip_white};
+pub use layout::{Mark, cut_field, cut_line, field_end, is_white, marked, skip_white};
 pub use lines::{FieldLine, begins_entry, field_lines, field_lines_are_of_fields, is_further};
+pub use parts::is_skipped;
 pub use printer::{escape, letter_for, octal, print, printing_reads_back};
-pub use source::{is_comment, read, reading_is_the_relation};
+pub use source::{begins_white, is_comment, is_passed, read, reading_is_the_relation};
 pub use std::alloc::AllocError as NoMemory;
 pub use types::{FaultKind, Field, Fields, Items, Note, NoteKind, Notes, RawEntry, SourceFault};

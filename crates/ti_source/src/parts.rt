@@ -126,7 +126,8 @@ fn split_reading(alloc: Global, field: &[u8]) -> Result<Reading, FaultKind>
     }
 }
 
-pub(crate) fn is_skipped(field: &[u8]) -> bool
+/// Whether `field` is empty or begins with a period, so that it isn't read.
+pub fn is_skipped(field: &[u8]) -> bool
     ensures { result ≡ is_skipped field.now }
 {
     match field {

@@ -31,13 +31,15 @@ pub fn is_comment(line: &[u8]) -> bool
     }
 }
 
-pub(crate) fn is_passed(line: &[u8]) -> bool
+/// Whether `line` has no field: it is blank, or a comment.
+pub fn is_passed(line: &[u8]) -> bool
     ensures { result ≡ is_passed line.now }
 {
     is_blank(line) || is_comment(line)
 }
 
-pub(crate) fn begins_white(line: &[u8]) -> bool
+/// Whether `line` begins with white space.
+pub fn begins_white(line: &[u8]) -> bool
     ensures { result ≡ begins_white line.now }
 {
     match line {

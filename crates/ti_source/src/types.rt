@@ -1,6 +1,6 @@
 //! Results of reading a source text: raw entries with notes, or a fault with its line.
 
-ghost use Rattle.std.specs.Prelude.{◌≡◌, ◌++◌, [], ◌∷◌, OnOk, OnErr};
+ghost use Rattle.std.specs.Prelude.{◌≡◌, ◌≢◌, ◌++◌, [], ◌∷◌, OnOk, OnErr};
 
 use std::alloc::{AllocError, AllocFailed, Global};
 use std::marker::Model;
@@ -34,6 +34,25 @@ pub enum FaultKind {
     /// Out of memory.
     #[error("NoMemory")]
     NoMemory,
+}
+
+impl FaultKind {
+    /// Nothing, if the fault claims something of the text, and out of memory if it is that.
+    pub fn must_claim(self) -> Result<(), AllocError>
+        ensures claims { OnOk result (self ≢ FaultKind.NoMemory) }
+        ensures memory { OnErr result (self ≡ FaultKind.NoMemory) }
+    {
+        match self {
+            FaultKind::NoMemory => Err(AllocError),
+            FaultKind::NoName
+            | FaultKind::WrongKind
+            | FaultKind::BadNumber
+            | FaultKind::NumberRange
+            | FaultKind::OpenField
+            | FaultKind::BadEscape
+            | FaultKind::TooLong => Ok(()),
+        }
+    }
 }
 
 /// The first fault of a source text. Lines count from 1.

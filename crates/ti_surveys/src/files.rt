@@ -22,7 +22,7 @@ use ti_further::FurtherFile;
 use ti_hints::hint_entries;
 use ti_places::{LinedFiles, SourcePlace, first_name, lined_files};
 use ti_resolve::{Index, ResolveFault, entered_from};
-use ti_source::{FaultKind, RawEntry, SourceFault, read_apart};
+use ti_source::{RawEntry, SourceFault, read_apart};
 use ti_words::Remarks;
 
 /// A survey: the speaker that reports, and the files of `--with`.
@@ -160,7 +160,7 @@ fn all_read<S: Speaker>(
             Ok(Ok(all_apart(alloc, apart, survey.further, remarks)?))
         }
         Err(fault) => {
-            must_claim(fault.kind)?;
+            fault.kind.must_claim()?;
             Ok(Err(fault))
         }
     }
@@ -180,22 +180,6 @@ fn unread_lines<S: Speaker, W: Watcher>(
     let said = file_lack(alloc, speaker, path, refusal)?;
     pass_on(watcher, &said);
     Ok(said)
-}
-
-/// Fails if `kind`, a fault of a source, is that memory ran out, which claims nothing about the source.
-fn must_claim(kind: FaultKind) -> Result<(), AllocError>
-    ensures { OnOk result (kind ≢ FaultKind.NoMemory) }
-{
-    match kind {
-        FaultKind::NoMemory => Err(AllocError),
-        FaultKind::NoName
-        | FaultKind::WrongKind
-        | FaultKind::BadNumber
-        | FaultKind::NumberRange
-        | FaultKind::OpenField
-        | FaultKind::BadEscape
-        | FaultKind::TooLong => Ok(()),
-    }
 }
 
 /// A source text whose entries were read one by one, with those of further files behind them.

@@ -6,7 +6,7 @@ use Rattle.ti_caps.specs.declared.fits.Opener.TheVariants.{Nothing, Backslash, C
 use Rattle.ti_caps.specs.declared.types.Kind.TheVariants as kinds
 use Rattle.ti_caps.specs.Fits.{opener_after}
 use Rattle.ti_caps.specs.Table.{kind_of, place_in}
-use Rattle.ti_source.specs.declared.hints.Hint.{Hint}
+use Rattle.ti_hints.specs.declared.carets.PercentCaret.{PercentCaret}
 use Rattle.ti_source.specs.declared.layout.Mark.{Mark}
 use Rattle.ti_source.specs.declared.layout.Mark.TheVariants.{At, Hash, Equals}
 use Rattle.ti_source.specs.Fields.{is_skipped}
@@ -51,28 +51,28 @@ hinted_field field = if is_skipped field then None else hinted_in (marked_in fie
 unfoldable pub hinted : List ℕ → Option ℕ
 hinted part = hinted_field (skip_white part)
 
-abbrev pub hint_at : ℕ → Option ℕ → List Hint
+abbrev pub hint_at : ℕ → Option ℕ → List PercentCaret
 hint_at line None = []
 hint_at line (Some cap) = record { line = line; cap = cap } ∷ []
 
-abbrev pub part_hints : ℕ → List (List ℕ) → List Hint
+abbrev pub part_hints : ℕ → List (List ℕ) → List PercentCaret
 part_hints line [] = []
 part_hints line (part ∷ parts) = hint_at line (hinted part) ++ part_hints line parts
 
 -- the first field of an entry is its names
-abbrev pub hints_after : ℕ → List (List ℕ) → List Hint
+abbrev pub hints_after : ℕ → List (List ℕ) → List PercentCaret
 hints_after line [] = []
 hints_after line (names ∷ parts) = part_hints line parts
 
-unfoldable pub line_hints : ℕ → List ℕ → List Hint
+unfoldable pub line_hints : ℕ → List ℕ → List PercentCaret
 line_hints number line =
     if is_passed line then []
     else (if begins_white line then part_hints number (cut_of line).ended else hints_after number (cut_of line).ended)
 
-abbrev pub lines_hints : ℕ → List (List ℕ) → List Hint
+abbrev pub lines_hints : ℕ → List (List ℕ) → List PercentCaret
 lines_hints number [] = []
 lines_hints number (line ∷ lines) = line_hints number line ++ lines_hints (number + 1) lines
 
 -- the string capabilities of a text whose values have `%^`, each with its line, in their order
-unfoldable pub hints_of : List ℕ → List Hint
+unfoldable pub hints_of : List ℕ → List PercentCaret
 hints_of text = lines_hints 1 (lines_of text)

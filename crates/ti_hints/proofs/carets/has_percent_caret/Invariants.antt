@@ -1,6 +1,6 @@
 use Rattle.std.proofs.Common.{◌≡◌, drop}
-use Rattle.ti_source.specs.Hints.{has_caret, has_percent_caret}
-use Rattle.ti_source.proofs.hints.has_percent_caret.Given as goal
+use Rattle.ti_hints.specs.Carets.{has_caret, has_percent_caret}
+use Rattle.ti_hints.proofs.carets.has_percent_caret.Given as goal
 
 abbrev pub invariant-loop-byte : goal.invariant-loop-byte
 invariant-loop-byte l = has_caret l.opener l.percent (drop l.byte-index l.value) ≡ has_percent_caret l.value

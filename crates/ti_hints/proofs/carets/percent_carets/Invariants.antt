@@ -1,7 +1,7 @@
 use Rattle.std.proofs.Common.{◌≡◌, ◌++◌, ◌+◌, ◌≤◌, length}
-use Rattle.ti_source.specs.Hints.{hints_of, lines_hints}
+use Rattle.ti_hints.specs.Carets.{hints_of, lines_hints}
 use Rattle.ti_source.specs.Layout.{lines_of}
-use Rattle.ti_source.proofs.hints.percent_carets.Given as goal
+use Rattle.ti_hints.proofs.carets.percent_carets.Given as goal
 
 abbrev pub invariant-loop-line : goal.invariant-loop-line
 invariant-loop-line l = record {

@@ -1,22 +1,21 @@
 //! The places of `%^` in a source text.
 
 ghost use Rattle.std.specs.Prelude.{◌≡◌, ◌++◌, IfOk, OnOk};
-ghost use Rattle.ti_source.specs.Hints.{has_percent_caret, hint_at, hinted, hinted_by, hinted_cap, hints_of};
-ghost use Rattle.ti_source.specs.{Hints.{is_percent, line_hints, part_hints}, Layout.{cut_of}};
+ghost use Rattle.ti_hints.specs.Carets.{has_percent_caret, hint_at, hinted, hinted_by, hinted_cap, hints_of};
+ghost use Rattle.ti_hints.specs.Carets.{is_percent, line_hints, part_hints};
+ghost use Rattle.ti_source.specs.Layout.{cut_of};
 
-use crate::layout::{Mark, cut_field, cut_line, marked, skip_white};
-use crate::parts::is_skipped;
-use crate::source::{begins_white, is_passed};
 use std::alloc::{AllocError, Global};
 use ti_caps::{Cap, Kind, Opener, by_name, is_kind};
+use ti_source::{Mark, begins_white, cut_field, cut_line, is_passed, is_skipped, marked, skip_white};
 
 /// A string capability whose value in a source text has `%^`.
 #[derive(Clone, Copy, Debug, PartialEq, Eq)]
-pub struct Hint {
+pub(crate) struct PercentCaret {
     /// The line of the text, from 1.
-    pub line: usize,
+    pub(crate) line: usize,
     /// The capability.
-    pub cap: Cap,
+    pub(crate) cap: Cap,
 }
 
 /// Whether `byte` is a `%` that isn't taken by a backslash or caret before it.
@@ -30,7 +29,7 @@ fn is_percent(opener: Opener, byte: u8) -> bool
 }
 
 /// Whether `value` has a caret right after a `%` that no backslash or caret takes.
-#[tactic(auto, unfolding(crate::specs::Hints::has_percent_caret))]
+#[tactic(auto, unfolding(crate::specs::Carets::has_percent_caret))]
 fn has_percent_caret(value: &[u8]) -> bool
     ensures { result ≡ has_percent_caret value.now }
 {
@@ -63,12 +62,12 @@ fn hinted_by(mark: Mark, found: Option<Cap>, value: &[u8]) -> Option<Cap>
 {
     match (mark, found) {
         (Mark::Equals, Some(cap)) => hinted_cap(cap, value),
-        _ => None,
+        (Mark::Equals, None) | (Mark::At | Mark::Hash, _) => None,
     }
 }
 
 /// The capability of the field `part`, if it is a string whose value has `%^`.
-#[tactic(auto, unfolding(crate::specs::Hints::hinted))]
+#[tactic(auto, unfolding(crate::specs::Carets::hinted))]
 fn hinted(part: &[u8]) -> Option<Cap>
     ensures { result ≡ hinted part.now }
 {
@@ -83,20 +82,20 @@ fn hinted(part: &[u8]) -> Option<Cap>
 }
 
 /// Adds the hint on one field, if it has one.
-fn add_part(hints: &mut Vec<Hint>, line: usize, part: &[u8]) -> Result<(), AllocError>
+fn add_part(hints: &mut Vec<PercentCaret>, line: usize, part: &[u8]) -> Result<(), AllocError>
     ensures { OnOk result (hints.new.items ≡ hints.old.items ++ hint_at line (hinted part.now)) }
 {
     match hinted(part) {
         None => Ok(()),
         Some(cap) => {
-            hints.push(Hint { line, cap })?;
+            hints.push(PercentCaret { line, cap })?;
             Ok(())
         }
     }
 }
 
 /// Adds the hints on the fields that commas end.
-fn add_parts(hints: &mut Vec<Hint>, line: usize, text: &[u8]) -> Result<(), AllocError>
+fn add_parts(hints: &mut Vec<PercentCaret>, line: usize, text: &[u8]) -> Result<(), AllocError>
     ensures { OnOk result (hints.new.items ≡ hints.old.items ++ part_hints line (cut_of text.now).ended) }
 {
     let mut rest = text;
@@ -108,8 +107,8 @@ fn add_parts(hints: &mut Vec<Hint>, line: usize, text: &[u8]) -> Result<(), Allo
 }
 
 /// Adds the hints on a line.
-#[tactic(auto, unfolding(crate::specs::Hints::line_hints))]
-fn add_line(hints: &mut Vec<Hint>, number: usize, line: &[u8]) -> Result<(), AllocError>
+#[tactic(auto, unfolding(crate::specs::Carets::line_hints))]
+fn add_line(hints: &mut Vec<PercentCaret>, number: usize, line: &[u8]) -> Result<(), AllocError>
     ensures { OnOk result (hints.new.items ≡ hints.old.items ++ line_hints number line.now) }
 {
     if is_passed(line) {
@@ -131,8 +130,8 @@ fn add_line(hints: &mut Vec<Hint>, number: usize, line: &[u8]) -> Result<(), All
 /// field that a comma ends counts, even one that `read` notes as a duplicate.
 ///
 /// Fails only when out of memory.
-#[tactic(auto, unfolding(crate::specs::Hints::hints_of))]
-pub fn percent_carets(alloc: Global, text: &[u8]) -> Result<Vec<Hint>, AllocError>
+#[tactic(auto, unfolding(crate::specs::Carets::hints_of))]
+pub(crate) fn percent_carets(alloc: Global, text: &[u8]) -> Result<Vec<PercentCaret>, AllocError>
     ensures { IfOk result (λ hints. hints.items ≡ hints_of text.now) }
 {
     let mut hints = Vec::new(alloc);
