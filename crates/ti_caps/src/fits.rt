@@ -43,8 +43,8 @@ impl Opener {
     }
 }
 
-/// Whether no comma in `field` ends it, and a comma after it does.
-fn is_one_field(field: &[u8]) -> bool
+/// Whether `field`, in a source text, is one field: no comma within it ends it, and a comma after it does.
+pub fn is_one_field(field: &[u8]) -> bool
     ensures { result ≡ Fits.is_one_field Opener.Nothing field.now }
 {
     let mut opener = Opener::Nothing;

@@ -9,7 +9,7 @@ mod types;
 mod value;
 
 pub use entry::Entry;
-pub use fits::{Opener, names_fit, string_fits};
+pub use fits::{Opener, is_one_field, names_fit, string_fits};
 pub use lookup::{
     at, at_rank, by_name, is_kind, kind, name, names_are_standard, position, ranks_order_names,
 };

@@ -1,13 +1,12 @@
 //! Writing a field into a text.
 
 ghost use Rattle.std.specs.{Prelude.{◌≡◌, ◌==◌, ◌++◌, [], ◌∷◌, IfOk, IfSome, IsTrue, not}, List.{list_all}};
-ghost use Rattle.ti_caps.specs.Fits.{is_one_field, string_fits};
-ghost use Rattle.ti_caps.specs.declared.fits.Opener.TheVariants as opener;
+ghost use Rattle.ti_caps.specs.Fits.{string_fits};
 ghost use Rattle.ti_fixes.specs.Texts.{IsWritten, field_text};
 
 use crate::places::Piece;
 use std::alloc::{AllocError, Global};
-use ti_caps::{Cap, Opener, name};
+use ti_caps::{Cap, is_one_field, name};
 use ti_source::escape;
 
 /// A text in three parts.
@@ -49,20 +48,6 @@ fn has_no_feed(bytes: &[u8]) -> bool
     ensures { result ≡ list_all (λ b. not (b == 10)) bytes.now }
 {
     bytes.iter().all(|byte| *byte != b'\n')
-}
-
-/// Whether no comma ends a field among the bytes, and a comma after them does.
-fn is_one_field(field: &[u8]) -> bool
-    ensures { result ≡ is_one_field opener.Nothing field.now }
-{
-    let mut opener = Opener::Nothing;
-    for byte in field {
-        if opener.ends_field(*byte) {
-            return false;
-        }
-        opener = opener.after(*byte);
-    }
-    opener.ends_at_comma()
 }
 
 /// The field with a space before it and a comma after it.

@@ -109,17 +109,7 @@ is_byte None = true
 is_byte (Some p) = nat_le p 255
 
 abbrev pub format_of : Flags → ℕ → Option ℕ → Conversion → Format
-format_of f width precision kind =
-    record {
-      left = f.left;
-      plus = f.plus;
-      alternate = f.alternate;
-      zero = f.zero;
-      space = f.space;
-      width = width;
-      precision = precision;
-      conversion = kind;
-    }
+format_of f width precision kind = record { flags = f; width = width; precision = precision; conversion = kind }
 
 abbrev pub finished : Flags → ℕ → Option ℕ → Conversion → Option Format
 finished f width precision kind =

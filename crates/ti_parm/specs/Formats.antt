@@ -54,17 +54,17 @@ begins_with_zero (b ∷ rest) = b == 48
 
 abbrev pub sign_of : Format → ℤ → List ℕ
 sign_of f (negsuc n) = 45 ∷ []
-sign_of f (pos n) = cond f.plus (43 ∷ []) (cond f.space (32 ∷ []) [])
+sign_of f (pos n) = cond f.flags.plus (43 ∷ []) (cond f.flags.space (32 ∷ []) [])
 
 -- the bytes before the digits: a sign, or under `#` a `0` unless the first digit is one, or `0x` or `0X` unless the
 -- value is 0
 abbrev pub prefix_of : Conversion → Format → ℤ → List ℕ
 prefix_of Decimal f n = sign_of f n
 prefix_of Octal f n =
-    cond (f.alternate && not (begins_with_zero
+    cond (f.flags.alternate && not (begins_with_zero
     (replicate (zeros_shown f (cast_unsigned w32 n)) 48 ++ digits_shown f (cast_unsigned w32 n)))) (48 ∷ []) []
-prefix_of LowerHex f n = cond (f.alternate && not (cast_unsigned w32 n == 0)) (48 ∷ 120 ∷ []) []
-prefix_of UpperHex f n = cond (f.alternate && not (cast_unsigned w32 n == 0)) (48 ∷ 88 ∷ []) []
+prefix_of LowerHex f n = cond (f.flags.alternate && not (cast_unsigned w32 n == 0)) (48 ∷ 120 ∷ []) []
+prefix_of UpperHex f n = cond (f.flags.alternate && not (cast_unsigned w32 n == 0)) (48 ∷ 88 ∷ []) []
 prefix_of TextConversion f n = []
 
 -- spaces, a prefix, zeros, a text, spaces
@@ -77,8 +77,8 @@ laid_out before prefix zeros text behind =
 abbrev pub padded : Format → List ℕ → ℕ → List ℕ → List ℕ
 padded f prefix zeros text =
     let room = f.width - (length prefix + zeros + length text) in
-    cond f.left (laid_out 0 prefix zeros text room)
-    (cond (f.zero && has_none f.precision) (laid_out 0 prefix (zeros + room) text 0)
+    cond f.flags.left (laid_out 0 prefix zeros text room)
+    (cond (f.flags.zero && has_none f.precision) (laid_out 0 prefix (zeros + room) text 0)
     (laid_out room prefix zeros text 0))
 
 -- a number in a format
@@ -97,7 +97,7 @@ unfoldable pub text_shown : Format → List ℕ → List ℕ
 text_shown f text =
     let shown = cut f.precision text in
     let room = f.width - length shown in
-    cond f.left (laid_out 0 [] 0 shown room) (laid_out room [] 0 shown 0)
+    cond f.flags.left (laid_out 0 [] 0 shown room) (laid_out room [] 0 shown 0)
 
 abbrev pub shows_text : Conversion → Bool
 shows_text TextConversion = true

@@ -24,21 +24,6 @@ pub enum Conversion {
 /// The flags of a format.
 #[derive(Clone, Copy, Debug, PartialEq, Eq)]
 pub struct Flags {
-    /// `-`
-    pub left: bool,
-    /// `+`
-    pub plus: bool,
-    /// `#`
-    pub alternate: bool,
-    /// `0`
-    pub zero: bool,
-    /// A space
-    pub space: bool,
-}
-
-/// A format.
-#[derive(Clone, Copy, Debug, PartialEq, Eq)]
-pub struct Format {
     /// `-`: pads on the right.
     pub left: bool,
     /// `+`: shows a sign even before a number that isn't negative.
@@ -49,6 +34,22 @@ pub struct Format {
     pub zero: bool,
     /// A space: shows a space before a number that isn't negative.
     pub space: bool,
+}
+
+/// No flag.
+const NO_FLAGS: Flags = Flags {
+    left: false,
+    plus: false,
+    alternate: false,
+    zero: false,
+    space: false,
+};
+
+/// A format.
+#[derive(Clone, Copy, Debug, PartialEq, Eq)]
+pub struct Format {
+    /// The flags.
+    pub flags: Flags,
     /// The least number of bytes to show.
     pub width: u8,
     /// The least number of digits or, for a text, the greatest number of bytes.
@@ -59,11 +60,7 @@ pub struct Format {
 
 /// The format of `%d`: the number as it is.
 pub const PLAIN: Format = Format {
-    left: false,
-    plus: false,
-    alternate: false,
-    zero: false,
-    space: false,
+    flags: NO_FLAGS,
     width: 0,
     precision: None,
     conversion: Conversion::Decimal,
@@ -110,13 +107,7 @@ fn flags_ahead(text: &[u8]) -> (Flags, &[u8])
     ensures rest { result.1.now ≡ behind_flags text.now }
     ensures within { length result.1.now ≤ length text.now }
 {
-    let mut flags = Flags {
-        left: false,
-        plus: false,
-        alternate: false,
-        zero: false,
-        space: false,
-    };
+    let mut flags = NO_FLAGS;
     let mut rest = text;
     while let Some((more, behind)) = flag_ahead(flags, rest) {
         flags = more;
@@ -172,11 +163,7 @@ fn finished(
         Some(_) => return None,
     };
     Some(Format {
-        left: flags.left,
-        plus: flags.plus,
-        alternate: flags.alternate,
-        zero: flags.zero,
-        space: flags.space,
+        flags,
         width: width as u8,
         precision,
         conversion,

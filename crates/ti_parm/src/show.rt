@@ -52,9 +52,9 @@ fn write_padded(
 {
     let shown = prefix.len() + zeros + digits.len();
     let room = usize::from(format.width).saturating_sub(shown);
-    if format.left {
+    if format.flags.left {
         write_parts(out, 0, prefix, zeros, digits, room)
-    } else if format.zero && format.precision.is_none() {
+    } else if format.flags.zero && format.precision.is_none() {
         write_parts(out, 0, prefix, zeros + room, digits, 0)
     } else {
         write_parts(out, room, prefix, zeros, digits, 0)
@@ -68,9 +68,9 @@ fn sign_of(format: &Format, number: i32) -> &'static [u8]
 {
     if number < 0 {
         b"-"
-    } else if format.plus {
+    } else if format.flags.plus {
         b"+"
-    } else if format.space {
+    } else if format.flags.space {
         b" "
     } else {
         b""
@@ -147,9 +147,9 @@ fn prefix_of(format: &Format, number: i32, zeros: usize, digits: &[u8]) -> &'sta
 {
     match format.conversion {
         Conversion::Decimal => sign_of(format, number),
-        Conversion::Octal if format.alternate && !begins_with_zero(zeros, digits) => b"0",
-        Conversion::LowerHex if format.alternate && number != 0 => b"0x",
-        Conversion::UpperHex if format.alternate && number != 0 => b"0X",
+        Conversion::Octal if format.flags.alternate && !begins_with_zero(zeros, digits) => b"0",
+        Conversion::LowerHex if format.flags.alternate && number != 0 => b"0x",
+        Conversion::UpperHex if format.flags.alternate && number != 0 => b"0X",
         _ => b"",
     }
 }
@@ -187,7 +187,7 @@ pub fn write_text(format: &Format, text: &[u8], out: &mut Vec<u8>) -> Result<(),
 {
     let shown = cut(format, text);
     let room = usize::from(format.width).saturating_sub(shown.len());
-    if format.left {
+    if format.flags.left {
         write_parts(out, 0, &[], 0, shown, room)
     } else {
         write_parts(out, room, &[], 0, shown, 0)
