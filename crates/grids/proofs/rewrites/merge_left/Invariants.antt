@@ -5,7 +5,7 @@ use Rattle.grids.proofs.rewrites.merge_left.Given as goal
 abbrev pub invariant-loop-k : goal.invariant-loop-k
 invariant-loop-k g l = record {
   len : length l.cells ≡ length l.fn.cells;
-  inside : (j : ℕ) (d : _) → l.to ≤ j → j < l.to + l.k → get_or l.cells j d ≡ g.R.Merge.merged l.rule (get_or l.fn.cells j d) (get_or l.fn.cells (l.from + (j - l.to)) d);
-  before : (j : ℕ) (d : _) → j < l.to → get_or l.cells j d ≡ get_or l.fn.cells j d;
-  behind : (j : ℕ) (d : _) → l.to + l.k ≤ j → get_or l.cells j d ≡ get_or l.fn.cells j d;
+  inside : (j : ℕ) (d : _) → l.pass.to ≤ j → j < l.pass.to + l.k → get_or l.cells j d ≡ g.R.Merge.merged l.rule (get_or l.fn.cells j d) (get_or l.fn.cells (l.pass.from + (j - l.pass.to)) d);
+  before : (j : ℕ) (d : _) → j < l.pass.to → get_or l.cells j d ≡ get_or l.fn.cells j d;
+  behind : (j : ℕ) (d : _) → l.pass.to + l.k ≤ j → get_or l.cells j d ≡ get_or l.fn.cells j d;
 }

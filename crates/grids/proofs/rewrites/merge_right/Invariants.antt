@@ -5,7 +5,7 @@ use Rattle.grids.proofs.rewrites.merge_right.Given as goal
 abbrev pub invariant-loop-k : goal.invariant-loop-k
 invariant-loop-k g l = record {
   len : length l.cells ≡ length l.fn.cells;
-  inside : (j : ℕ) (d : _) → l.to + (l.n - l.k) ≤ j → j < l.to + l.n → get_or l.cells j d ≡ g.R.Merge.merged l.rule (get_or l.fn.cells j d) (get_or l.fn.cells (l.from + (j - l.to)) d);
-  before : (j : ℕ) (d : _) → j < l.to + (l.n - l.k) → get_or l.cells j d ≡ get_or l.fn.cells j d;
-  behind : (j : ℕ) (d : _) → l.to + l.n ≤ j → get_or l.cells j d ≡ get_or l.fn.cells j d;
+  inside : (j : ℕ) (d : _) → l.pass.to + (l.pass.count - l.k) ≤ j → j < l.pass.to + l.pass.count → get_or l.cells j d ≡ g.R.Merge.merged l.rule (get_or l.fn.cells j d) (get_or l.fn.cells (l.pass.from + (j - l.pass.to)) d);
+  before : (j : ℕ) (d : _) → j < l.pass.to + (l.pass.count - l.k) → get_or l.cells j d ≡ get_or l.fn.cells j d;
+  behind : (j : ℕ) (d : _) → l.pass.to + l.pass.count ≤ j → get_or l.cells j d ≡ get_or l.fn.cells j d;
 }

@@ -1,8 +1,8 @@
+use Rattle.std.proofs.Common.{◌∙◌, sym}
 use Rattle.grids.proofs.Parts.{merged_is_drawn}
 use Rattle.grids.proofs.rewrites.merge_within.Goals as goal
 
-pub returns-then-to-from-clause-drawn : goal.returns-then-to-from-clause-drawn
-returns-then-to-from-clause-drawn g c = (let did = c.merge_left.ensures in merged_is_drawn c.args.to c.args.n c.args.from (g.R.Merge.merged c.args.rule.now) c.args.cells.now c.args.cells.now c.merge_left.new.cells did.len did.inside did.before did.behind c.requires.from)
-
-pub returns-else-to-from-clause-drawn : goal.returns-else-to-from-clause-drawn
-returns-else-to-from-clause-drawn g c = (let did = c.merge_right.ensures in merged_is_drawn c.args.to c.args.n c.args.from (g.R.Merge.merged c.args.rule.now) c.args.cells.now c.args.cells.now c.merge_right.new.cells did.len did.inside did.before did.behind c.requires.from)
+pub returns-then-replaces-clause-drawn : goal.returns-then-replaces-clause-drawn
+returns-then-replaces-clause-drawn g c = (let did = c.shift_part.ensures in
+    merged_is_drawn c.args.pass.to c.args.pass.count c.args.pass.from (g.R.Merge.merged c.args.rule.now) c.args.cells.now c.args.cells.now c.shift_part.new.cells did.len
+    (λ k d h l. did.inside k d h l ∙ sym (c.replaces.ensures c.if-replaces.true _ _)) did.before did.behind c.requires.from)

@@ -9,7 +9,7 @@ pub returns-clause-value : goal.returns-clause-value
 returns-clause-value g c =
     let same : length c.self.inside.lines.items ≡ length c.args.self.now = ap length c.self.view_is in
     let there = c.requires.target.rows in
-    rw (← c.self.view_is, with_items_is c.self.inside.lines c.merge_line.new.lines (c.merge_line.ensures.len ∙ c.deref_mut.ensures.len), c.merge_line.ensures.value, c.deref_mut.ensures.value)
+    rw (← c.self.view_is, with_items_is c.self.inside.lines c.merge_line.new.lines (c.merge_line.ensures.len ∙ c.deref_mut.ensures.len), c.merge_line.ensures.value, c.row_pass.ensures.to, c.row_pass.ensures.from, c.row_pass.ensures.count, c.deref_mut.ensures.value)
     (row_combined c.args.area c.args.from c.args.k (g.R.Merge.merged c.args.rule.now) c.self.inside.lines.items c.self.inside.lines.items (omega arith))
 
 pub returns-clause-shape : goal.returns-clause-shape
