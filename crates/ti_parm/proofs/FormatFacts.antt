@@ -6,37 +6,27 @@ use Rattle.ti_parm.specs.declared.formats.Flags.{Flags}
 use Rattle.ti_parm.specs.declared.formats.Format.{Format}
 use Rattle.ti_parm.specs.Formats.{digits_shown, least_digits, magnitude, number_shown, padded, prefix_of, zeros_shown}
 use Rattle.ti_parm.specs.Codes.{behind_flags, finished, flag_at, flags_on, format_of, is_byte, is_flag, with_flag}
-use Rattle.ti_parm.proofs.Numbers.{le_or_ge}
-
-either-flag : (d : Bool) (f g : Flags) (rest more : List ℕ) → cond {A = Option (Flags × List ℕ)} d (Some (f, rest)) None ≡ Some (g, more) → (d ≡ true) × (f ≡ g) × (rest ≡ more)
-either-flag true f g rest more e =
-    let p : ◌≡◌ {A = Flags × List ℕ} (f, rest) (g, more) = cc in
-    (refl, ap (λ x. x.0) p, ap (λ x. x.1) p)
-either-flag false f g rest more e = cc
-
-either-none : (d : Bool) (f : Flags) (rest : List ℕ) → cond {A = Option (Flags × List ℕ)} d (Some (f, rest)) None ≡ None → d ≡ false
-either-none true f rest e = cc
-either-none false f rest e = refl
+use Rattle.ti_parm.proofs.Numbers.{either-none, either-some, le_or_ge}
 
 pub flags_on-flag : (f g : Flags) (text more : List ℕ) → flag_at f text ≡ Some (g, more) → flags_on f text ≡ flags_on g more
 flags_on-flag f g [] more e = cc
 flags_on-flag f g (b ∷ rest) more e =
-    let p = either-flag (is_flag b) (with_flag b f) g rest more e in
+    let p = either-some (is_flag b) (with_flag b f) g rest more e in
     ap (λ d. cond d (flags_on (with_flag b f) rest) f) p.0 ∙ ap (λ h. flags_on h rest) p.1 ∙ ap (flags_on g) p.2
 
 pub behind_flags-flag : (f g : Flags) (text more : List ℕ) → flag_at f text ≡ Some (g, more) → behind_flags text ≡ behind_flags more
 behind_flags-flag f g [] more e = cc
 behind_flags-flag f g (b ∷ rest) more e =
-    let p = either-flag (is_flag b) (with_flag b f) g rest more e in
+    let p = either-some (is_flag b) (with_flag b f) g rest more e in
     ap (λ d. cond d (behind_flags rest) (b ∷ rest)) p.0 ∙ ap behind_flags p.2
 
 pub flags_on-none : (f : Flags) (text : List ℕ) → flag_at f text ≡ None → flags_on f text ≡ f
 flags_on-none f [] e = refl
-flags_on-none f (b ∷ rest) e = ap (λ d. cond d (flags_on (with_flag b f) rest) f) (either-none (is_flag b) (with_flag b f) rest e)
+flags_on-none f (b ∷ rest) e = ap (λ d. cond d (flags_on (with_flag b f) rest) f) (either-none (is_flag b) (with_flag b f, rest) e)
 
 pub behind_flags-none : (f : Flags) (text : List ℕ) → flag_at f text ≡ None → behind_flags text ≡ text
 behind_flags-none f [] e = refl
-behind_flags-none f (b ∷ rest) e = ap (λ d. cond d (behind_flags rest) (b ∷ rest)) (either-none (is_flag b) (with_flag b f) rest e)
+behind_flags-none f (b ∷ rest) e = ap (λ d. cond d (behind_flags rest) (b ∷ rest)) (either-none (is_flag b) (with_flag b f, rest) e)
 
 too_large : (n : ℕ) → 255 < n → nat_le n 255 ≡ false
 too_large n h = grind arith
