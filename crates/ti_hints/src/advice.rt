@@ -1,11 +1,12 @@
 //! Advice about an entry that has a certificate: facts that a certificate allows and users of the entry would want to
 //! know.
 
+use crate::trials::push_definition;
 use std::alloc::{AllocError, Global};
-use ti_caps::{Cap, Entry, by_name, name};
+use ti_caps::{Cap, Entry, by_name};
 use ti_conforms::{NO_LOOKS, is_checked, send};
 use ti_rows::{NO_ATTRIBUTES, Row};
-use ti_words::{Remarks, push_spelled};
+use ti_words::Remarks;
 use vt_effects::{Effect, Rendering, Switch, effect_of};
 use vt_term::{Size, tokens};
 
@@ -194,9 +195,7 @@ fn has_mark(rendition: &Rendering) -> bool {
 /// The words that the string `cap` of the attribute `word` shows it and `sgr` doesn't.
 fn look_words(alloc: Global, entry: &Entry, cap: Cap, word: &[u8]) -> Result<Vec<u8>, AllocError> {
     let mut words = Vec::from_slice(alloc, b"sgr: ")?;
-    words.extend_from_slice(name(cap))?;
-    words.extend_from_slice(b"=")?;
-    push_spelled(&mut words, entry.get_string(cap).unwrap_or(&[]))?;
+    push_definition(&mut words, entry, cap)?;
     words.extend_from_slice(b" shows ")?;
     words.extend_from_slice(word)?;
     words.extend_from_slice(b", sgr never does")?;

@@ -7,7 +7,9 @@ ghost use Rattle.ti_source.specs.Layout.{cut_of};
 
 use std::alloc::{AllocError, Global};
 use ti_caps::{Cap, Kind, Opener, by_name, is_kind};
-use ti_source::{Mark, begins_white, cut_field, cut_line, is_passed, is_skipped, marked, skip_white};
+use ti_source::{
+    Mark, begins_white, cut_field, cut_line, is_passed, is_skipped, marked, skip_white,
+};
 
 /// A string capability whose value in a source text has `%^`.
 #[derive(Clone, Copy, Debug, PartialEq, Eq)]

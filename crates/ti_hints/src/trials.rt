@@ -323,12 +323,21 @@ fn is_same(one: &Option<Left>, other: &Option<Left>) -> bool {
     }
 }
 
+/// Adds to `words` the capability `cap` with its string in `entry`, `NAME=STRING`.
+pub(crate) fn push_definition(
+    words: &mut Vec<u8>,
+    entry: &Entry,
+    cap: Cap,
+) -> Result<(), AllocError> {
+    words.extend_from_slice(name(cap))?;
+    words.extend_from_slice(b"=")?;
+    push_spelled(words, entry.get_string(cap).unwrap_or(&[]))
+}
+
 /// The words that the string `cap` of `entry` doesn't do what `deed` says.
 fn wrong_words(alloc: Global, entry: &Entry, cap: Cap, deed: &[u8]) -> Result<Vec<u8>, AllocError> {
     let mut words = joined(alloc, name(cap), b": ")?;
-    words.extend_from_slice(name(cap))?;
-    words.extend_from_slice(b"=")?;
-    push_spelled(&mut words, entry.get_string(cap).unwrap_or(&[]))?;
+    push_definition(&mut words, entry, cap)?;
     words.extend_from_slice(b" doesn't ")?;
     words.extend_from_slice(deed)?;
     words.extend_from_slice(b" on T")?;

@@ -277,22 +277,17 @@ whole_is_together text =
 one_read : (one : Alone) → one.fault ≡ None → one ≡ was_read one.raw
 one_read one e = ap (λ (f : Option SourceFault). record { raw = one.raw; fault = f }) e
 
-some_raws : Result (List RawEntry) SourceFault → List RawEntry
-some_raws (Ok raws) = raws
-some_raws (Err fault) = []
-
-same_raws : (r : Result (List RawEntry) SourceFault) (one other : List RawEntry) → r ≡ Ok one → r ≡ Ok other → one ≡ other
-unfolding some_raws
-same_raws r one other e f = sym (ap some_raws e) ∙ ap some_raws f
+pub same_ok : {A E : Type 0} (one other : A) → ◌≡◌ {A = Result A E} (Ok one) (Ok other) → one ≡ other
+same_ok one other e = cc
 
 read_by : (one : Alone) (others : List Alone) (raws : List RawEntry) (fault : Option SourceFault) (rest : Result (List RawEntry) SourceFault) → one.fault ≡ fault → together others ≡ rest → ((later : List RawEntry) → together others ≡ Ok later → others ≡ map was_read later) → with_alone one.raw fault rest ≡ Ok raws → one ∷ others ≡ map was_read raws
 read_by one others raws (Some fault) rest e f all is = cc
 read_by one others raws None (Err fault) e f all is = cc
 read_by one others raws None (Ok later) e f all is =
-    ap (λ first. first ∷ others) (one_read one e) ∙ (ap (λ more. was_read one.raw ∷ more) (all later f) ∙ ap (map was_read) (same_raws (Ok (one.raw ∷ later)) (one.raw ∷ later) raws refl is))
+    ap (λ first. first ∷ others) (one_read one e) ∙ (ap (λ more. was_read one.raw ∷ more) (all later f) ∙ ap (map was_read) (same_ok (one.raw ∷ later) raws is))
 
 all_read : (ones : List Alone) (raws : List RawEntry) → together ones ≡ Ok raws → ones ≡ map was_read raws
-all_read [] raws e = ap (map was_read) (same_raws (Ok []) [] raws refl e)
+all_read [] raws e = ap (map was_read) (same_ok [] raws e)
 all_read (one ∷ others) raws e = read_by one others raws one.fault (together others) refl refl (all_read others) e
 
 apart_read : (apart : Result (List Alone) SourceFault) (raws : List RawEntry) → all_together apart ≡ Ok raws → apart ≡ Ok (map was_read raws)

@@ -74,20 +74,6 @@ fn behind(innermost: Conditional, code: &[u8], is_sought: bool) -> Conditional {
     }
 }
 
-/// The stretch of `string` from the `start` of a conditional to the `end` of a code; `None` if it isn't within the string.
-fn from_to(string: &[u8], start: Stretch, end: Stretch) -> Option<Stretch>
-    ensures { IfSome result (IsWithin string.now) }
-{
-    if start.from < end.to && end.to <= string.len() {
-        Some(Stretch {
-            from: start.from,
-            to: end.to,
-        })
-    } else {
-        None
-    }
-}
-
 /// The first conditional of `string` to end that has `%p` and `digit` in a condition of its own, from its `%?` to its `%;`.
 ///
 /// # Errors
@@ -110,7 +96,7 @@ pub fn conditional_on(
         if let Some(conditional) = ended
             && conditional.tests
         {
-            return Ok(from_to(string, conditional.start, *code));
+            return Ok(Stretch::within(string, conditional.start.from, code.to));
         }
     }
     Ok(None)
@@ -132,7 +118,11 @@ pub fn open_conditional(alloc: Global, string: &[u8]) -> Result<Option<Stretch>,
         nest.pass(*code, &string[code.from..code.to])?;
     }
     match nest.conditionals.pop() {
-        Some(conditional) => Ok(from_to(string, conditional.start, conditional.start)),
+        Some(conditional) => Ok(Stretch::within(
+            string,
+            conditional.start.from,
+            conditional.start.to,
+        )),
         None => Ok(None),
     }
 }

@@ -138,7 +138,8 @@ impl Sender<'_> {
                 before = start;
                 start = Some(*cut);
             } else if bytes.to <= cut.count {
-                return stretch_of(first_of(self.string, before, start?), *cut, self.string);
+                let first = first_of(self.string, before, start?);
+                return Stretch::within(self.string, first.place, cut.place);
             }
         }
         None
@@ -163,22 +164,6 @@ fn is_push(string: &[u8], cut: Cut, start: Cut) -> bool {
     }
     let (front, rest) = string.split_at(start.place);
     matches!((&front[cut.place..], rest), ([b'%', b'p', _], [b'%', ..]))
-}
-
-/// The stretch of `string` between two cuts; `None` if it is empty or ends outside.
-fn stretch_of(start: Cut, end: Cut, string: &[u8]) -> Option<Stretch>
-    ensures within { IfSome result (IsWithin string.now) }
-    ensures from { IfSome result (λ found. found.from ≡ start.place) }
-    ensures to { IfSome result (λ found. found.to ≡ end.place) }
-{
-    if start.place < end.place && end.place <= string.len() {
-        Some(Stretch {
-            from: start.place,
-            to: end.place,
-        })
-    } else {
-        None
-    }
 }
 
 /// The stretch of the sender's string that sends this stretch of its `bytes`. `None` if no stretch is found, as where

@@ -10,7 +10,7 @@ use Rattle.ti_entries.proofs.Faultless.{faultless_are_resolved}
 use Rattle.ti_source.specs.Apart.{Alone, apart_of, was_read}
 use Rattle.ti_source.specs.declared.types.RawEntry.{RawEntry}
 use Rattle.ti_source.specs.declared.types.SourceFault.{SourceFault}
-use Rattle.ti_source.proofs.Stretching.{faultless_is_apart}
+use Rattle.ti_source.proofs.Stretching.{faultless_is_apart, same_ok}
 use Rattle.ti_surveys.specs.Faultless.{FaultlessIsWhole}
 use Rattle.ti_surveys.specs.Lines.{ResolvesApart}
 
@@ -21,14 +21,6 @@ raws_back (raw ∷ raws) = ap (λ rest. raw ∷ rest) (raws_back raws)
 faults_back : (raws : List RawEntry) → map (λ (one : Alone). one.fault) (map was_read raws) ≡ no_faults raws
 faults_back [] = refl
 faults_back (raw ∷ raws) = ap (λ rest. None ∷ rest) (faults_back raws)
-
-some_ones : Result (List Alone) SourceFault → List Alone
-some_ones (Ok ones) = ones
-some_ones (Err fault) = []
-
-same_ones : (r : Result (List Alone) SourceFault) (one other : List Alone) → r ≡ Ok one → r ≡ Ok other → one ≡ other
-unfolding some_ones
-same_ones r one other e f = sym (ap some_ones e) ∙ ap some_ones f
 
 as_whole : (raws : List RawEntry) (place : ℕ) (entry : Result Content CommandRefusal) → ResolvesApart raws (no_faults raws) place entry → ResolvesAt raws place entry
 as_whole raws place (Ok entry) there = there.resolved
@@ -44,7 +36,7 @@ as_whole raws place (Err (refusals.Verdict words)) none = none
 
 pub faultless_is_whole : FaultlessIsWhole
 faultless_is_whole text whole raws faults read apart =
-    let ones : apart.ones ≡ map was_read whole = same_ones (apart_of text) apart.ones (map was_read whole) apart.reads (faultless_is_apart text whole read) in
+    let ones : apart.ones ≡ map was_read whole = same_ok apart.ones (map was_read whole) (sym apart.reads ∙ faultless_is_apart text whole read) in
     let same : raws ≡ whole = apart.raws_are ∙ (ap (map (λ (one : Alone). one.raw)) ones ∙ raws_back whole) in
     let none : faults ≡ no_faults whole = apart.faults_are ∙ (ap (map (λ (one : Alone). one.fault)) ones ∙ faults_back whole) in
     record {
