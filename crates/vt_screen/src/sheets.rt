@@ -114,6 +114,7 @@ impl Sheet {
     }
 
     /// Sets every cell of the lines `from..to` to `cell`. The lines must be in the sheet.
+    #[tactic(auto, using(crate::proofs::Rings::rotated_up_none, crate::proofs::Rings::first_within))]
     pub fn fill_lines(&mut self, from: usize, to: usize, cell: Cell)
         requires ordered { from ≤ to }
         requires within { to ≤ length self.old }
@@ -162,6 +163,7 @@ impl Sheet {
     }
 
     /// Like `scroll_up`, with the lines themselves.
+    #[tactic(auto, using(crate::proofs::Rings::rotated_up_none, crate::proofs::Rings::first_within))]
     fn scroll_part_up(&mut self, top: usize, bottom: usize, n: usize, cell: Cell)
         requires ordered { top ≤ bottom }
         requires within { bottom < length self.old }
@@ -175,6 +177,7 @@ impl Sheet {
 
     /// Moves the lines from `top` to `bottom`, both included, down by `n`; the first `n` of them are filled with
     /// `cell`. The lines must be in the sheet, and all lines must have one length.
+    #[tactic(auto, using(crate::proofs::Rings::rotated_up_none, crate::proofs::Rings::first_within))]
     pub fn scroll_down(&mut self, top: usize, bottom: usize, n: usize, cell: Cell)
         requires ordered { top ≤ bottom }
         requires within { bottom < length self.old }
