@@ -117,18 +117,22 @@ pub record Applies (e : Effect) (s : Screen) : Type 0 where
   pub col : StaysIn e.col s.col s.cols
   pub margins : IsLegal e.margins s.rows
 
+-- the same switch for every mark, and the same ink for both colors
+abbrev pub all_rendered : Switch → Ink → Rendering
+all_rendered mark color = record {
+  bold = mark;
+  faint = mark;
+  underline = mark;
+  blink = mark;
+  negative = mark;
+  concealed = mark;
+  foreground = color;
+  background = color;
+}
+
 -- everything stays
 abbrev pub nothing_rendered : Rendering
-nothing_rendered = record {
-  bold = switches.Kept;
-  faint = switches.Kept;
-  underline = switches.Kept;
-  blink = switches.Kept;
-  negative = switches.Kept;
-  concealed = switches.Kept;
-  foreground = inks.Kept;
-  background = inks.Kept;
-}
+nothing_rendered = all_rendered switches.Kept inks.Kept
 
 abbrev pub unchanged : Effect
 unchanged = record {

@@ -30,7 +30,7 @@ use Rattle.vt_effects.specs.declared.effects.Effect.{Effect}
 use Rattle.vt_effects.specs.declared.starts.Start.{Start}
 use Rattle.vt_effects.specs.declared.starts.Margins.{Margins}
 use Rattle.vt_effects.specs.declared.starts.Margins.TheVariants as margins
-use Rattle.vt_effects.specs.Effect.{moved, unchanged}
+use Rattle.vt_effects.specs.Effect.{moved, unchanged, all_rendered}
 
 -- tests on parts of an effect
 abbrev pub is_kept : Move → Bool
@@ -182,16 +182,7 @@ display_erased functions.Whole e = screen_erased e
 
 -- all marks off, and the default colors
 abbrev pub all_off : Rendering
-all_off = record {
-  bold = switches.Off;
-  faint = switches.Off;
-  underline = switches.Off;
-  blink = switches.Off;
-  negative = switches.Off;
-  concealed = switches.Off;
-  foreground = inks.Default;
-  background = inks.Default;
-}
+all_off = all_rendered switches.Off inks.Default
 
 abbrev pub ink_of : Option Color → Ink
 ink_of None = inks.Default

@@ -117,31 +117,29 @@ impl Rendering {
     pub fn kept() -> Rendering
         ensures { result ≡ spec.nothing_rendered }
     {
-        Rendering {
-            bold: Switch::Kept,
-            faint: Switch::Kept,
-            underline: Switch::Kept,
-            blink: Switch::Kept,
-            negative: Switch::Kept,
-            concealed: Switch::Kept,
-            foreground: Ink::Kept,
-            background: Ink::Kept,
-        }
+        Rendering::all(Switch::Kept, Ink::Kept)
     }
 
     /// The rendering that turns all marks off and sets the default colors.
     pub fn all_off() -> Rendering
         ensures { result ≡ records.all_off }
     {
+        Rendering::all(Switch::Off, Ink::Default)
+    }
+
+    /// The rendering with one switch for every mark, and one ink for both colors.
+    fn all(mark: Switch, color: Ink) -> Rendering
+        ensures { result ≡ spec.all_rendered mark color }
+    {
         Rendering {
-            bold: Switch::Off,
-            faint: Switch::Off,
-            underline: Switch::Off,
-            blink: Switch::Off,
-            negative: Switch::Off,
-            concealed: Switch::Off,
-            foreground: Ink::Default,
-            background: Ink::Default,
+            bold: mark,
+            faint: mark,
+            underline: mark,
+            blink: mark,
+            negative: mark,
+            concealed: mark,
+            foreground: color,
+            background: color,
         }
     }
 }
