@@ -1,5 +1,5 @@
 -- Each line of a basic certificate, by itself: its tokens, its effect and its text.
-use Rattle.std.proofs.Common.{◌≡◌, ◌<◌, ◌≤◌, ◌+◌, ◌^◌, ℕ, zero, suc, Bool, List, [], ◌∷◌, ◌++◌, length, Some, inl, inr, refl, sym, ap, subst, ◌∙◌, arith, append-nil, length-append, lit<}
+use Rattle.std.proofs.Common.{◌≡◌, ◌<◌, ◌≤◌, ◌+◌, ◌^◌, ℕ, zero, suc, Bool, List, [], ◌∷◌, ◌++◌, length, Some, inl, inr, refl, sym, ap, subst, ◌∙◌, arith, length-append, lit<}
 use Rattle.std.specs.Prelude.{codes}
 use Rattle.std.specs.Fmt.{decimal}
 use Rattle.std.specs.List.{AllByRecursion}
@@ -7,16 +7,16 @@ use Rattle.std.proofs.lemmas.Fmt.{decimal_digit, length-decimal-le}
 use Rattle.hex.specs.Hex.{IsBytes, encode_lower, encode_with, lower_digits}
 use Rattle.hex.proofs.HexLemmas.{length-encode_with}
 use Rattle.vt_term.specs.Size.{IsSize}
-use Rattle.vt_term.specs.Text.{Splits, IsWhole, IsParameter}
+use Rattle.vt_term.specs.Text.{Splits, IsParameter}
 use Rattle.vt_term.specs.Function.{Function, function_of}
 use Rattle.vt_term.specs.Moves.{cursor_to}
 use Rattle.vt_term.specs.Screen.{Charset}
-use Rattle.vt_term.proofs.Sequences.{empty_open, all_weaker}
+use Rattle.vt_term.proofs.Sequences.{all_weaker}
 use Rattle.vt_term.proofs.Decimals.{all_append}
 use Rattle.vt_term.proofs.Moves.{move_function, move_token, move_short, spells}
 use Rattle.vt_effects.specs.Basic.{home_text, clear_text, el_text, sgr0_text}
 use Rattle.vt_effects.specs.Record.{record_of}
-use Rattle.vt_effects.proofs.Basics.{clear_record, cup_record, sgr0_record, home_record, el_record}
+use Rattle.vt_effects.proofs.Basics.{clear_record, cup_record, sgr0_record, home_record, el_record, erase, home_token, el_token, sgr0_token, one_token, clear_splits}
 use Rattle.ti_lines.specs.EffectText.{spelled, row_name, col_name}
 use Rattle.ti_conforms.specs.Charsets.{IsAmong, charset_after}
 use Rattle.ti_rows.specs.declared.rows.Row.{Row}
@@ -32,25 +32,6 @@ use Rattle.ti_cert.proofs.BasicOrder.{Kind, IsClear, IsCup, IsEl, IsHome, IsSgr0
 
 -- ---- tokens and effects
 
-erase : List ℕ
-erase = 27 ∷ 91 ∷ 50 ∷ 74 ∷ []
-
-home_token : IsWhole home_text
-home_token = inr (inl (record { parameters = []; intermediates = []; final = 72; spelled = refl; each_parameter = tt; each_intermediate = tt; ends = (omega arith, omega arith); short = omega arith }))
-
-el_token : IsWhole el_text
-el_token = inr (inl (record { parameters = []; intermediates = []; final = 75; spelled = refl; each_parameter = tt; each_intermediate = tt; ends = (omega arith, omega arith); short = omega arith }))
-
-sgr0_token : IsWhole sgr0_text
-sgr0_token = inr (inl (record { parameters = []; intermediates = []; final = 109; spelled = refl; each_parameter = tt; each_intermediate = tt; ends = (omega arith, omega arith); short = omega arith }))
-
-erase_token : IsWhole erase
-unfolding erase
-erase_token = inr (inl (record { parameters = 50 ∷ []; intermediates = []; final = 74; spelled = refl; each_parameter = ((omega arith, omega arith), tt); each_intermediate = tt; ends = (omega arith, omega arith); short = omega arith }))
-
-one_token : (token : List ℕ) → IsWhole token → Splits token (token ∷ []) []
-one_token token w = ([], sym (append-nil token), inl w, (refl, empty_open))
-
 pub tokens_of : Row → List (List ℕ)
 tokens_of Clear = home_text ∷ erase ∷ []
 tokens_of row = basic_bytes row ∷ []
@@ -60,10 +41,6 @@ pub record HasTokens (rows cols : ℕ) (row : Row) : Type 0 where
   pub splits : Splits (basic_bytes row) (tokens_of row) []
   pub recorded : record_of rows cols (start_of rows cols row) (tokens_of row) ≡ Some (basic_effect row)
   pub keeps_sets : (token : List ℕ) → IsAmong (tokens_of row) token → (c : Charset) → charset_after (function_of token) c ≡ c
-
-clear_splits : Splits clear_text (home_text ∷ erase ∷ []) []
-unfolding erase
-clear_splits = (erase, refl, inl home_token, ([], refl, inl erase_token, (refl, empty_open)))
 
 clear_tokens : (rows cols : ℕ) → IsSize rows cols → HasTokens rows cols Clear
 unfolding tokens_of erase
@@ -115,22 +92,23 @@ sgr0_tokens rows cols = record { splits = one_token sgr0_text sgr0_token; record
     keeps token (inl e) c = rw e refl
     keeps token (inr a) c = absurd a
 
+-- a row of one of these kinds has what the rows of each kind have
+by_kind : (P : Row → Type 0) (rows cols : ℕ) (home el : Bool) (row : Row) → P Clear → ((r c : ℕ) → r < rows → c < cols → P (Cup r c)) → P Home → P El → P Sgr0 → Kind rows cols home el row → P row
+by_kind P rows cols home el row at_clear at_cup at_home at_el at_sgr0 (IsClear e) = subst P (sym e) at_clear
+by_kind P rows cols home el row at_clear at_cup at_home at_el at_sgr0 (IsCup r c e h k) = subst P (sym e) (at_cup r c h k)
+by_kind P rows cols home el row at_clear at_cup at_home at_el at_sgr0 (IsHome there e) = subst P (sym e) at_home
+by_kind P rows cols home el row at_clear at_cup at_home at_el at_sgr0 (IsEl there e) = subst P (sym e) at_el
+by_kind P rows cols home el row at_clear at_cup at_home at_el at_sgr0 (IsSgr0 e) = subst P (sym e) at_sgr0
+
 pub has_tokens : (rows cols : ℕ) (home el : Bool) (row : Row) → IsSize rows cols → Kind rows cols home el row → HasTokens rows cols row
-has_tokens rows cols home el row size (IsClear e) = subst (λ (r : Row). HasTokens rows cols r) (sym e) (clear_tokens rows cols size)
-has_tokens rows cols home el row size (IsCup r c e h k) = subst (λ (r : Row). HasTokens rows cols r) (sym e) (cup_tokens rows cols r c size h k)
-has_tokens rows cols home el row size (IsHome there e) = subst (λ (r : Row). HasTokens rows cols r) (sym e) (home_tokens rows cols size)
-has_tokens rows cols home el row size (IsEl there e) = subst (λ (r : Row). HasTokens rows cols r) (sym e) (el_tokens rows cols)
-has_tokens rows cols home el row size (IsSgr0 e) = subst (λ (r : Row). HasTokens rows cols r) (sym e) (sgr0_tokens rows cols)
+has_tokens rows cols home el row size kind =
+    by_kind (HasTokens rows cols) rows cols home el row (clear_tokens rows cols size) (λ r c h k. cup_tokens rows cols r c size h k) (home_tokens rows cols size) (el_tokens rows cols) (sgr0_tokens rows cols) kind
 
 pub has_effect : (rows cols : ℕ) (row : Row) → HasTokens rows cols row → HasEffect rows cols (basic_line row) (basic_effect row)
 has_effect rows cols row h = record { tokens = tokens_of row; splits = h.splits; recorded = h.recorded }
 
 pub is_asked_for : (rows cols : ℕ) (home el : Bool) (before : List RowLine) (row : Row) → Kind rows cols home el row → IsAskedFor before (basic_line row)
-is_asked_for rows cols home el before row (IsClear e) = subst (λ (r : Row). IsAskedFor before (basic_line r)) (sym e) refl
-is_asked_for rows cols home el before row (IsCup r c e h k) = subst (λ (r : Row). IsAskedFor before (basic_line r)) (sym e) refl
-is_asked_for rows cols home el before row (IsHome there e) = subst (λ (r : Row). IsAskedFor before (basic_line r)) (sym e) refl
-is_asked_for rows cols home el before row (IsEl there e) = subst (λ (r : Row). IsAskedFor before (basic_line r)) (sym e) refl
-is_asked_for rows cols home el before row (IsSgr0 e) = subst (λ (r : Row). IsAskedFor before (basic_line r)) (sym e) refl
+is_asked_for rows cols home el before row kind = by_kind (λ r. IsAskedFor before (basic_line r)) rows cols home el row refl (λ r c h k. refl) refl refl refl kind
 
 -- ---- texts
 
@@ -235,11 +213,8 @@ cup_has row col h k = record {
 }
 
 pub has_text : (rows cols : ℕ) (home el : Bool) (row : Row) → IsSize rows cols → Kind rows cols home el row → HasText row
-has_text rows cols home el row size (IsClear e) = subst HasText (sym e) clear_has
-has_text rows cols home el row size (IsCup r c e h k) = subst HasText (sym e) (cup_has r c (omega (arith, h, size.1)) (omega (arith, k, size.3)))
-has_text rows cols home el row size (IsHome there e) = subst HasText (sym e) home_has
-has_text rows cols home el row size (IsEl there e) = subst HasText (sym e) el_has
-has_text rows cols home el row size (IsSgr0 e) = subst HasText (sym e) sgr0_has
+has_text rows cols home el row size kind =
+    by_kind HasText rows cols home el row clear_has (λ r c h k. cup_has r c (omega (arith, h, size.1)) (omega (arith, k, size.3))) home_has el_has sgr0_has kind
 
 -- the first line
 pub size_is : (rows cols : ℕ) → IsSize rows cols → IsSizeText (size_text rows cols) rows cols

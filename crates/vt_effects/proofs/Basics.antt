@@ -14,27 +14,27 @@ use Rattle.vt_term.specs.Moves.{cursor_to}
 use Rattle.vt_effects.specs.Basic.{HasRecord, home_text, clear_text, el_text, sgr0_text, placed_at, cleared, tail_erased, made_plain}
 use Rattle.vt_term.proofs.Moves.{move_function, move_token}
 
-erase : List ℕ
+unfoldable pub erase : List ℕ
 erase = 27 ∷ 91 ∷ 50 ∷ 74 ∷ []
 
-home_token : IsWhole home_text
+pub home_token : IsWhole home_text
 home_token = inr (inl (record { parameters = []; intermediates = []; final = 72; spelled = refl; each_parameter = tt; each_intermediate = tt; ends = (omega arith, omega arith); short = omega arith }))
 
-el_token : IsWhole el_text
+pub el_token : IsWhole el_text
 el_token = inr (inl (record { parameters = []; intermediates = []; final = 75; spelled = refl; each_parameter = tt; each_intermediate = tt; ends = (omega arith, omega arith); short = omega arith }))
 
-sgr0_token : IsWhole sgr0_text
+pub sgr0_token : IsWhole sgr0_text
 sgr0_token = inr (inl (record { parameters = []; intermediates = []; final = 109; spelled = refl; each_parameter = tt; each_intermediate = tt; ends = (omega arith, omega arith); short = omega arith }))
 
-erase_token : IsWhole erase
+pub erase_token : IsWhole erase
 unfolding erase
 erase_token = inr (inl (record { parameters = 50 ∷ []; intermediates = []; final = 74; spelled = refl; each_parameter = ((omega arith, omega arith), tt); each_intermediate = tt; ends = (omega arith, omega arith); short = omega arith }))
 
 -- a text of one token, and of two
-one_token : (token : List ℕ) → IsWhole token → Splits token (token ∷ []) []
+pub one_token : (token : List ℕ) → IsWhole token → Splits token (token ∷ []) []
 one_token token w = ([], sym (append-nil token), inl w, (refl, empty_open))
 
-clear_splits : Splits clear_text (home_text ∷ erase ∷ []) []
+pub clear_splits : Splits clear_text (home_text ∷ erase ∷ []) []
 unfolding erase
 clear_splits = (erase, refl, inl home_token, ([], refl, inl erase_token, (refl, empty_open)))
 
