@@ -138,146 +138,59 @@ became : (rows cols : ℕ) (row other x : Row) → x ≡ other → Follows rows 
 became rows cols row other x e f = subst (λ (o : Row). Follows rows cols row o) e f
 
 pub next_follows : NextFollows
-next_follows rows cols Clear other z g h = no_row other h
 next_follows rows cols (Cup row col) other z g h = if_some (nat_lt (col + 1) cols) (Cup row (col + 1)) other _ h
     (λ t same. became rows cols (Cup row col) other _ same (record { range = (g.0, ltb-true (col + 1) cols t); rank_next = omega arith; same_order = refl; same_count = refl; ascends = less_later row (col ∷ []) ((col + 1) ∷ []) (less_here col (col + 1) [] [] (omega arith)) }))
     (λ f k. if_some (nat_lt (row + 1) rows) (Cup (row + 1) 0) other None k
     (λ t same. became rows cols (Cup row col) other _ same (record { range = (ltb-true (row + 1) rows t, omega (arith, g.1)); rank_next = next_line row col cols g.1 (ltb-false (col + 1) cols f); same_order = refl; same_count = refl; ascends = less_here row (row + 1) (col ∷ []) (0 ∷ []) (omega arith) }))
     (λ e none. no_row other none))
-next_follows rows cols Home other z g h = no_row other h
-next_follows rows cols Cr other z g h = no_row other h
 next_follows rows cols (Hpa col) other z g h = if_some (nat_lt (col + 1) cols) (Hpa (col + 1)) other None h (λ t same. became rows cols (Hpa col) other _ same (record { range = ltb-true (col + 1) cols t; rank_next = omega arith; same_order = refl; same_count = refl; ascends = less_here col (col + 1) [] [] (omega arith) })) (λ f none. no_row other none)
 next_follows rows cols (Vpa row) other z g h = if_some (nat_lt (row + 1) rows) (Vpa (row + 1)) other None h (λ t same. became rows cols (Vpa row) other _ same (record { range = ltb-true (row + 1) rows t; rank_next = omega arith; same_order = refl; same_count = refl; ascends = less_here row (row + 1) [] [] (omega arith) })) (λ f none. no_row other none)
-next_follows rows cols Cub1 other z g h = no_row other h
-next_follows rows cols Cuf1 other z g h = no_row other h
-next_follows rows cols Cuu1 other z g h = no_row other h
-next_follows rows cols Cud1 other z g h = no_row other h
 next_follows rows cols (Cub n) other z g h = if_some (nat_lt (n + 1) cols) (Cub (n + 1)) other None h (λ t same. became rows cols (Cub n) other _ same (record { range = (omega arith, ltb-true (n + 1) cols t); rank_next = omega (arith, g.0); same_order = refl; same_count = refl; ascends = less_here n (n + 1) [] [] (omega arith) })) (λ f none. no_row other none)
 next_follows rows cols (Cuf n) other z g h = if_some (nat_lt (n + 1) cols) (Cuf (n + 1)) other None h (λ t same. became rows cols (Cuf n) other _ same (record { range = (omega arith, ltb-true (n + 1) cols t); rank_next = omega (arith, g.0); same_order = refl; same_count = refl; ascends = less_here n (n + 1) [] [] (omega arith) })) (λ f none. no_row other none)
 next_follows rows cols (Cuu n) other z g h = if_some (nat_lt (n + 1) rows) (Cuu (n + 1)) other None h (λ t same. became rows cols (Cuu n) other _ same (record { range = (omega arith, ltb-true (n + 1) rows t); rank_next = omega (arith, g.0); same_order = refl; same_count = refl; ascends = less_here n (n + 1) [] [] (omega arith) })) (λ f none. no_row other none)
 next_follows rows cols (Cud n) other z g h = if_some (nat_lt (n + 1) rows) (Cud (n + 1)) other None h (λ t same. became rows cols (Cud n) other _ same (record { range = (omega arith, ltb-true (n + 1) rows t); rank_next = omega (arith, g.0); same_order = refl; same_count = refl; ascends = less_here n (n + 1) [] [] (omega arith) })) (λ f none. no_row other none)
-next_follows rows cols El other z g h = no_row other h
-next_follows rows cols El1 other z g h = no_row other h
-next_follows rows cols Ed other z g h = no_row other h
 next_follows rows cols (Ech n) other z g h = if_some (nat_lt n cols) (Ech (n + 1)) other None h (λ t same. became rows cols (Ech n) other _ same (record { range = (omega arith, omega (arith, ltb-true n cols t)); rank_next = omega (arith, g.0); same_order = refl; same_count = refl; ascends = less_here n (n + 1) [] [] (omega arith) })) (λ f none. no_row other none)
 next_follows rows cols (Sgr a) other z g h = if_some (nat_lt (number_of a) 127) _ other None h (λ t same. became rows cols (Sgr a) other _ same (record { range = tt; rank_next = number_back (number_of a + 1) (let lt : number_of a < 127 = ltb-true _ 127 t in omega (arith, lt)); same_order = refl; same_count = refl; ascends = bits_rise a (ltb-true _ 127 t) })) (λ f none. no_row other none)
-next_follows rows cols Sgr0 other z g h = no_row other h
 next_follows rows cols (Setaf c) other z g h = if_some (nat_lt (color_number c) 7) _ other None h (λ t same. became rows cols (Setaf c) other _ same (record { range = tt; rank_next = next_color c t; same_order = refl; same_count = refl; ascends = less_here (color_number c) _ [] [] (let e = next_color c t in omega (arith, e)) })) (λ f none. no_row other none)
 next_follows rows cols (Setab c) other z g h = if_some (nat_lt (color_number c) 7) _ other None h (λ t same. became rows cols (Setab c) other _ same (record { range = tt; rank_next = next_color c t; same_order = refl; same_count = refl; ascends = less_here (color_number c) _ [] [] (let e = next_color c t in omega (arith, e)) })) (λ f none. no_row other none)
-next_follows rows cols Op other z g h = no_row other h
-next_follows rows cols Smul other z g h = no_row other h
-next_follows rows cols Rev other z g h = no_row other h
-next_follows rows cols Blink other z g h = no_row other h
-next_follows rows cols Dim other z g h = no_row other h
-next_follows rows cols Bold other z g h = no_row other h
-next_follows rows cols Invis other z g h = no_row other h
-next_follows rows cols Smso other z g h = no_row other h
-next_follows rows cols Enacs other z g h = no_row other h
-next_follows rows cols Smacs other z g h = no_row other h
-next_follows rows cols Rmacs other z g h = no_row other h
 next_follows rows cols (Csr top bottom) other z g h = if_some (nat_lt (bottom + 1) rows) (Csr top (bottom + 1)) other _ h
     (λ t same. became rows cols (Csr top bottom) other _ same (record { range = (omega (arith, g.0), ltb-true (bottom + 1) rows t); rank_next = omega (arith, g.0); same_order = refl; same_count = refl; ascends = less_later top (bottom ∷ []) ((bottom + 1) ∷ []) (less_here bottom (bottom + 1) [] [] (omega arith)) }))
     (λ f k. if_some (nat_lt (top + 2) rows) (Csr (top + 1) (top + 2)) other None k
     (λ t same. became rows cols (Csr top bottom) other _ same (record { range = (omega arith, ltb-true (top + 2) rows t); rank_next = omega (arith, above_next rows top, g.0, g.1, ltb-false (bottom + 1) rows f); same_order = refl; same_count = refl; ascends = less_here top (top + 1) (bottom ∷ []) ((top + 2) ∷ []) (omega arith) }))
     (λ e none. no_row other none))
-next_follows rows cols Ind other z g h = no_row other h
-next_follows rows cols Ri other z g h = no_row other h
-next_follows rows cols Civis other z g h = no_row other h
-next_follows rows cols Cnorm other z g h = no_row other h
-next_follows rows cols Cvvis other z g h = no_row other h
-next_follows rows cols Smcup other z g h = no_row other h
-next_follows rows cols Rmcup other z g h = no_row other h
-next_follows rows cols Bel other z g h = no_row other h
+next_follows rows cols row other z g h = no_row other h
 
 pub ranks_below : RanksBelow
-ranks_below rows cols Clear z g = omega arith
 ranks_below rows cols (Cup row col) z g = line_before row rows col cols g.0 g.1
-ranks_below rows cols Home z g = omega arith
-ranks_below rows cols Cr z g = omega arith
 ranks_below rows cols (Hpa col) z g = g
 ranks_below rows cols (Vpa row) z g = g
-ranks_below rows cols Cub1 z g = omega arith
-ranks_below rows cols Cuf1 z g = omega arith
-ranks_below rows cols Cuu1 z g = omega arith
-ranks_below rows cols Cud1 z g = omega arith
 ranks_below rows cols (Cub n) z g = omega (arith, g.0, g.1)
 ranks_below rows cols (Cuf n) z g = omega (arith, g.0, g.1)
 ranks_below rows cols (Cuu n) z g = omega (arith, g.0, g.1)
 ranks_below rows cols (Cud n) z g = omega (arith, g.0, g.1)
-ranks_below rows cols El z g = omega arith
-ranks_below rows cols El1 z g = omega arith
-ranks_below rows cols Ed z g = omega arith
 ranks_below rows cols (Ech n) z g = omega (arith, g.0, g.1)
 ranks_below rows cols (Sgr a) z g = omega (arith, bit_small a.standout, bit_small a.underline, bit_small a.reverse, bit_small a.blink, bit_small a.dim, bit_small a.bold, bit_small a.invisible)
-ranks_below rows cols Sgr0 z g = omega arith
 ranks_below rows cols (Setaf c) z g = color_small c
 ranks_below rows cols (Setab c) z g = color_small c
-ranks_below rows cols Op z g = omega arith
-ranks_below rows cols Smul z g = omega arith
-ranks_below rows cols Rev z g = omega arith
-ranks_below rows cols Blink z g = omega arith
-ranks_below rows cols Dim z g = omega arith
-ranks_below rows cols Bold z g = omega arith
-ranks_below rows cols Invis z g = omega arith
-ranks_below rows cols Smso z g = omega arith
-ranks_below rows cols Enacs z g = omega arith
-ranks_below rows cols Smacs z g = omega arith
-ranks_below rows cols Rmacs z g = omega arith
 ranks_below rows cols (Csr top bottom) z g = list_before rows top bottom (rows - 1) g.0 g.1 (omega (arith, g.0, g.1))
-ranks_below rows cols Ind z g = omega arith
-ranks_below rows cols Ri z g = omega arith
-ranks_below rows cols Civis z g = omega arith
-ranks_below rows cols Cnorm z g = omega arith
-ranks_below rows cols Cvvis z g = omega arith
-ranks_below rows cols Smcup z g = omega arith
-ranks_below rows cols Rmcup z g = omega arith
-ranks_below rows cols Bel z g = omega arith
+ranks_below rows cols row z g = omega arith
 
 pub last_is_last : LastIsLast
-last_is_last rows cols Clear z g h = refl
 last_is_last rows cols (Cup row col) z g h = if_none (nat_lt (col + 1) cols) (Cup row (col + 1)) _ h (λ f k. if_none (nat_lt (row + 1) rows) (Cup (row + 1) 0) None k
     (λ e none. let last : row + 1 ≡ rows = omega (arith, ltb-false (row + 1) rows e, g.0) in omega (arith, add-mul row 1 cols, ltb-false (col + 1) cols f, g.1, ap (λ (n : ℕ). n * cols) last)))
-last_is_last rows cols Home z g h = refl
-last_is_last rows cols Cr z g h = refl
 last_is_last rows cols (Hpa col) z g h = if_none (nat_lt (col + 1) cols) (Hpa (col + 1)) None h (λ f none. omega (arith, ltb-false (col + 1) cols f, g))
 last_is_last rows cols (Vpa row) z g h = if_none (nat_lt (row + 1) rows) (Vpa (row + 1)) None h (λ f none. omega (arith, ltb-false (row + 1) rows f, g))
-last_is_last rows cols Cub1 z g h = refl
-last_is_last rows cols Cuf1 z g h = refl
-last_is_last rows cols Cuu1 z g h = refl
-last_is_last rows cols Cud1 z g h = refl
 last_is_last rows cols (Cub n) z g h = if_none (nat_lt (n + 1) cols) (Cub (n + 1)) None h (λ f none. omega (arith, ltb-false (n + 1) cols f, g.0, g.1))
 last_is_last rows cols (Cuf n) z g h = if_none (nat_lt (n + 1) cols) (Cuf (n + 1)) None h (λ f none. omega (arith, ltb-false (n + 1) cols f, g.0, g.1))
 last_is_last rows cols (Cuu n) z g h = if_none (nat_lt (n + 1) rows) (Cuu (n + 1)) None h (λ f none. omega (arith, ltb-false (n + 1) rows f, g.0, g.1))
 last_is_last rows cols (Cud n) z g h = if_none (nat_lt (n + 1) rows) (Cud (n + 1)) None h (λ f none. omega (arith, ltb-false (n + 1) rows f, g.0, g.1))
-last_is_last rows cols El z g h = refl
-last_is_last rows cols El1 z g h = refl
-last_is_last rows cols Ed z g h = refl
 last_is_last rows cols (Ech n) z g h = if_none (nat_lt (n) cols) (Ech (n + 1)) None h (λ f none. omega (arith, ltb-false (n) cols f, g.0, g.1))
 last_is_last rows cols (Sgr a) z g h = if_none (nat_lt (number_of a) 127) _ None h (λ f none. omega (arith, ltb-false (number_of a) 127 f, ranks_below rows cols (Sgr a) z tt))
-last_is_last rows cols Sgr0 z g h = refl
 last_is_last rows cols (Setaf c) z g h = if_none (nat_lt (color_number c) 7) (Setaf (color (color_number c + 1))) None h (λ f none. omega (arith, ltb-false (color_number c) 7 f, color_small c))
 last_is_last rows cols (Setab c) z g h = if_none (nat_lt (color_number c) 7) (Setab (color (color_number c + 1))) None h (λ f none. omega (arith, ltb-false (color_number c) 7 f, color_small c))
-last_is_last rows cols Op z g h = refl
-last_is_last rows cols Smul z g h = refl
-last_is_last rows cols Rev z g h = refl
-last_is_last rows cols Blink z g h = refl
-last_is_last rows cols Dim z g h = refl
-last_is_last rows cols Bold z g h = refl
-last_is_last rows cols Invis z g h = refl
-last_is_last rows cols Smso z g h = refl
-last_is_last rows cols Enacs z g h = refl
-last_is_last rows cols Smacs z g h = refl
-last_is_last rows cols Rmacs z g h = refl
 last_is_last rows cols (Csr top bottom) z g h = if_none (nat_lt (bottom + 1) rows) (Csr top (bottom + 1)) _ h (λ f k. if_none (nat_lt (top + 2) rows) (Csr (top + 1) (top + 2)) None k
     (λ e none. omega (arith, last_list rows top (omega (arith, ltb-false (bottom + 1) rows f, ltb-false (top + 2) rows e, g.0, g.1)), ltb-false (bottom + 1) rows f, ltb-false (top + 2) rows e, g.0, g.1)))
-last_is_last rows cols Ind z g h = refl
-last_is_last rows cols Ri z g h = refl
-last_is_last rows cols Civis z g h = refl
-last_is_last rows cols Cnorm z g h = refl
-last_is_last rows cols Cvvis z g h = refl
-last_is_last rows cols Smcup z g h = refl
-last_is_last rows cols Rmcup z g h = refl
-last_is_last rows cols Bel z g h = refl
+last_is_last rows cols row z g h = refl
 
 -- each place is reached
 reach_next : (rows cols k : ℕ) (row : Row) (o : Option Row) (r : HasRank rows cols row k) → IsSize rows cols → next rows cols r.other ≡ o → k + 1 < count rows cols row → HasRank rows cols row (k + 1)
@@ -391,48 +304,19 @@ above_product rows top lt = ap (λ (n : ℕ). n / 2) (sym (doubled rows top lt))
 -- the first lists
 first_of : (rows cols : ℕ) (row : Row) → IsSize rows cols → first_in_order (order row) ≡ Some row → IsFirst rows cols row
 unfolding first_in_order
-first_of rows cols Clear z h = record { range = tt; rank_zero = refl }
 first_of rows cols (Cup row col) z h = subst (λ (r : Row). IsFirst rows cols r) (same_Some (Cup 0 0) (Cup row col) h) (record { range = (omega (arith, z), omega (arith, z)); rank_zero = omega arith })
-first_of rows cols Home z h = record { range = tt; rank_zero = refl }
-first_of rows cols Cr z h = record { range = tt; rank_zero = refl }
 first_of rows cols (Hpa col) z h = subst (λ (r : Row). IsFirst rows cols r) (same_Some (Hpa 0) (Hpa col) h) (record { range = omega (arith, z); rank_zero = refl })
 first_of rows cols (Vpa row) z h = subst (λ (r : Row). IsFirst rows cols r) (same_Some (Vpa 0) (Vpa row) h) (record { range = omega (arith, z); rank_zero = refl })
-first_of rows cols Cub1 z h = record { range = tt; rank_zero = refl }
-first_of rows cols Cuf1 z h = record { range = tt; rank_zero = refl }
-first_of rows cols Cuu1 z h = record { range = tt; rank_zero = refl }
-first_of rows cols Cud1 z h = record { range = tt; rank_zero = refl }
 first_of rows cols (Cub n) z h = subst (λ (r : Row). IsFirst rows cols r) (same_Some (Cub 1) (Cub n) h) (record { range = (omega arith, omega (arith, z)); rank_zero = refl })
 first_of rows cols (Cuf n) z h = subst (λ (r : Row). IsFirst rows cols r) (same_Some (Cuf 1) (Cuf n) h) (record { range = (omega arith, omega (arith, z)); rank_zero = refl })
 first_of rows cols (Cuu n) z h = subst (λ (r : Row). IsFirst rows cols r) (same_Some (Cuu 1) (Cuu n) h) (record { range = (omega arith, omega (arith, z)); rank_zero = refl })
 first_of rows cols (Cud n) z h = subst (λ (r : Row). IsFirst rows cols r) (same_Some (Cud 1) (Cud n) h) (record { range = (omega arith, omega (arith, z)); rank_zero = refl })
-first_of rows cols El z h = record { range = tt; rank_zero = refl }
-first_of rows cols El1 z h = record { range = tt; rank_zero = refl }
-first_of rows cols Ed z h = record { range = tt; rank_zero = refl }
 first_of rows cols (Ech n) z h = subst (λ (r : Row). IsFirst rows cols r) (same_Some (Ech 1) (Ech n) h) (record { range = (omega arith, omega (arith, z)); rank_zero = refl })
 first_of rows cols (Sgr a) z h = subst (λ (r : Row). IsFirst rows cols r) (same_Some (Sgr no_attributes) (Sgr a) h) (record { range = tt; rank_zero = refl })
-first_of rows cols Sgr0 z h = record { range = tt; rank_zero = refl }
 first_of rows cols (Setaf c) z h = subst (λ (r : Row). IsFirst rows cols r) (same_Some (Setaf Black) (Setaf c) h) (record { range = tt; rank_zero = refl })
 first_of rows cols (Setab c) z h = subst (λ (r : Row). IsFirst rows cols r) (same_Some (Setab Black) (Setab c) h) (record { range = tt; rank_zero = refl })
-first_of rows cols Op z h = record { range = tt; rank_zero = refl }
-first_of rows cols Smul z h = record { range = tt; rank_zero = refl }
-first_of rows cols Rev z h = record { range = tt; rank_zero = refl }
-first_of rows cols Blink z h = record { range = tt; rank_zero = refl }
-first_of rows cols Dim z h = record { range = tt; rank_zero = refl }
-first_of rows cols Bold z h = record { range = tt; rank_zero = refl }
-first_of rows cols Invis z h = record { range = tt; rank_zero = refl }
-first_of rows cols Smso z h = record { range = tt; rank_zero = refl }
-first_of rows cols Enacs z h = record { range = tt; rank_zero = refl }
-first_of rows cols Smacs z h = record { range = tt; rank_zero = refl }
-first_of rows cols Rmacs z h = record { range = tt; rank_zero = refl }
 first_of rows cols (Csr top bottom) z h = subst (λ (r : Row). IsFirst rows cols r) (same_Some (Csr 0 1) (Csr top bottom) h) (record { range = (omega arith, omega (arith, z)); rank_zero = refl })
-first_of rows cols Ind z h = record { range = tt; rank_zero = refl }
-first_of rows cols Ri z h = record { range = tt; rank_zero = refl }
-first_of rows cols Civis z h = record { range = tt; rank_zero = refl }
-first_of rows cols Cnorm z h = record { range = tt; rank_zero = refl }
-first_of rows cols Cvvis z h = record { range = tt; rank_zero = refl }
-first_of rows cols Smcup z h = record { range = tt; rank_zero = refl }
-first_of rows cols Rmcup z h = record { range = tt; rank_zero = refl }
-first_of rows cols Bel z h = record { range = tt; rank_zero = refl }
+first_of rows cols row z h = record { range = tt; rank_zero = refl }
 
 below_42 : (n : ℕ) (row : Row) → first_in_order n ≡ Some row → n < capabilities
 unfolding first_in_order

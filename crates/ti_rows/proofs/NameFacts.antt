@@ -11,7 +11,7 @@ use Rattle.std.proofs.lemmas.Slice.Eq.{bytes_eq-Decides}
 use Rattle.std.proofs.lemmas.Option.{same_Some, none-some}
 use Rattle.ti_caps.specs.Table.{name_at, row_at, place_from}
 use Rattle.ti_caps.specs.declared.types.Kind.TheVariants.{String}
-use Rattle.ti_rows.specs.Rows.{Row, Clear, Cup, Home, Cr, Hpa, Vpa, Cub1, Cuf1, Cuu1, Cud1, Cub, Cuf, Cuu, Cud, El, El1, Ed, Ech, Sgr, Sgr0, Setaf, Setab, Op, Smul, Rev, Blink, Dim, Bold, Invis, Smso, Enacs, Smacs, Rmacs, Csr, Ind, Ri, Civis, Cnorm, Cvvis, Smcup, Rmcup, Bel}
+use Rattle.ti_rows.specs.Rows.{Row, Clear}
 use Rattle.ti_rows.specs.Names.{order, name_in_order, string_in_order, first_in_order, name_of, NamesRise, Named, HasFirst, FirstsInOrder, OrdersSmall, capabilities}
 
 -- the test passes at each place
@@ -86,47 +86,7 @@ firsts_in_order n less = ordered_row n (first_in_order n) refl (each_at is_order
 
 pub orders_small : OrdersSmall
 orders_small Clear = omega arith
-orders_small (Cup row col) = omega arith
-orders_small Home = omega arith
-orders_small Cr = omega arith
-orders_small (Hpa col) = omega arith
-orders_small (Vpa row) = omega arith
-orders_small Cub1 = omega arith
-orders_small Cuf1 = omega arith
-orders_small Cuu1 = omega arith
-orders_small Cud1 = omega arith
-orders_small (Cub n) = omega arith
-orders_small (Cuf n) = omega arith
-orders_small (Cuu n) = omega arith
-orders_small (Cud n) = omega arith
-orders_small El = omega arith
-orders_small El1 = omega arith
-orders_small Ed = omega arith
-orders_small (Ech n) = omega arith
-orders_small (Sgr a) = omega arith
-orders_small Sgr0 = omega arith
-orders_small (Setaf c) = omega arith
-orders_small (Setab c) = omega arith
-orders_small Op = omega arith
-orders_small Smul = omega arith
-orders_small Rev = omega arith
-orders_small Blink = omega arith
-orders_small Dim = omega arith
-orders_small Bold = omega arith
-orders_small Invis = omega arith
-orders_small Smso = omega arith
-orders_small Enacs = omega arith
-orders_small Smacs = omega arith
-orders_small Rmacs = omega arith
-orders_small (Csr top bottom) = omega arith
-orders_small Ind = omega arith
-orders_small Ri = omega arith
-orders_small Civis = omega arith
-orders_small Cnorm = omega arith
-orders_small Cvvis = omega arith
-orders_small Smcup = omega arith
-orders_small Rmcup = omega arith
-orders_small Bel = omega arith
+orders_small row = omega arith
 
 -- the place found for a string's position is that position's
 pub placed : (position place : ℕ) → position < 414 → Some place ≡ place_from String position → place ≡ 83 + position

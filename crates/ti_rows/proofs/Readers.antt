@@ -3,11 +3,11 @@ use Rattle.std.proofs.Common.{◌≡◌, ℕ, ◌<◌, ◌==◌, ◌&&◌, nat_l
 use Rattle.std.specs.Option.{option_map, option_and_then}
 use Rattle.std.proofs.lemmas.Option.{same_Some, none-some}
 use Rattle.std.proofs.lemmas.Bool.{and_parts, ltb-true, leb-true, eqb-true}
-use Rattle.vt_term.specs.Color.{Color, color, color_number, Black, Red, Green, Yellow, Blue, Magenta, Cyan, White}
+use Rattle.vt_term.specs.Color.{Color, color, color_number, Black}
 use Rattle.ti_rows.specs.Bits.{bit}
 use Rattle.ti_rows.specs.Names.{order, first_in_order}
 use Rattle.ti_rows.specs.Params.{params, without_numbers, only_number, two_numbers, only_color, are_bits, ends_bits, nine_bits, with_params, HasParams, FindsParams, ParamsFound, SameCount}
-use Rattle.ti_rows.specs.Rows.{Attributes, Row, Clear, Cup, Home, Cr, Hpa, Vpa, Cub1, Cuf1, Cuu1, Cud1, Cub, Cuf, Cuu, Cud, El, El1, Ed, Ech, Sgr, Sgr0, Setaf, Setab, Op, Smul, Rev, Blink, Dim, Bold, Invis, Smso, Enacs, Smacs, Rmacs, Csr, Ind, Ri, Civis, Cnorm, Cvvis, Smcup, Rmcup, Bel}
+use Rattle.ti_rows.specs.Rows.{Attributes, Row, Clear, Cup, Hpa, Vpa, Cub, Cuf, Cuu, Cud, Ech, Sgr, Setaf, Setab, Csr}
 
 -- the one shape of list that each reader takes
 map_some : {A : Type 0} (make : A → Row) (o : Option A) (other : Row) → option_map make o ≡ Some other → (x : A) × (o ≡ Some x) × (make x ≡ other)
@@ -38,25 +38,13 @@ if_there false x y h = no_number _ y h
 
 pub color_back : (c : Color) → color (color_number c) ≡ c
 color_back Black = refl
-color_back Red = refl
-color_back Green = refl
-color_back Yellow = refl
-color_back Blue = refl
-color_back Magenta = refl
-color_back Cyan = refl
-color_back White = refl
+color_back c = refl
 
 pub color_small : (c : Color) → color_number c < 8
 color_small Black = omega arith
-color_small Red = omega arith
-color_small Green = omega arith
-color_small Yellow = omega arith
-color_small Blue = omega arith
-color_small Magenta = omega arith
-color_small Cyan = omega arith
-color_small White = omega arith
+color_small c = omega arith
 
-number_back : (n : ℕ) → n < 8 → color_number (color n) ≡ n
+pub number_back : (n : ℕ) → n < 8 → color_number (color n) ≡ n
 number_back zero lt = refl
 number_back (suc zero) lt = refl
 number_back (suc (suc zero)) lt = refl
@@ -122,48 +110,19 @@ found : (row other made : Row) (numbers : List ℕ) → made ≡ other → order
 found row other made numbers e o p = subst (λ (x : Row). HasParams row x numbers) e (record { same_order = o; has = p })
 
 pub finds_params : FindsParams
-finds_params Clear other numbers h = let p = none_shape Clear other numbers h in found Clear other Clear numbers p.0 refl p.1
 finds_params (Cup row col) other numbers h = let p = map_some (λ (p : ℕ × ℕ). Cup p.0 p.1) (two_numbers numbers) other h in found (Cup row col) other (Cup p.0.0 p.0.1) numbers p.2 refl (two_shape numbers p.0 p.1)
-finds_params Home other numbers h = let p = none_shape Home other numbers h in found Home other Home numbers p.0 refl p.1
-finds_params Cr other numbers h = let p = none_shape Cr other numbers h in found Cr other Cr numbers p.0 refl p.1
 finds_params (Hpa col) other numbers h = let p = map_some (λ (n : ℕ). Hpa n) (only_number numbers) other h in found (Hpa col) other (Hpa p.0) numbers p.2 refl (one_shape numbers p.0 p.1)
 finds_params (Vpa row) other numbers h = let p = map_some (λ (n : ℕ). Vpa n) (only_number numbers) other h in found (Vpa row) other (Vpa p.0) numbers p.2 refl (one_shape numbers p.0 p.1)
-finds_params Cub1 other numbers h = let p = none_shape Cub1 other numbers h in found Cub1 other Cub1 numbers p.0 refl p.1
-finds_params Cuf1 other numbers h = let p = none_shape Cuf1 other numbers h in found Cuf1 other Cuf1 numbers p.0 refl p.1
-finds_params Cuu1 other numbers h = let p = none_shape Cuu1 other numbers h in found Cuu1 other Cuu1 numbers p.0 refl p.1
-finds_params Cud1 other numbers h = let p = none_shape Cud1 other numbers h in found Cud1 other Cud1 numbers p.0 refl p.1
 finds_params (Cub n) other numbers h = let p = map_some (λ (n : ℕ). Cub n) (only_number numbers) other h in found (Cub n) other (Cub p.0) numbers p.2 refl (one_shape numbers p.0 p.1)
 finds_params (Cuf n) other numbers h = let p = map_some (λ (n : ℕ). Cuf n) (only_number numbers) other h in found (Cuf n) other (Cuf p.0) numbers p.2 refl (one_shape numbers p.0 p.1)
 finds_params (Cuu n) other numbers h = let p = map_some (λ (n : ℕ). Cuu n) (only_number numbers) other h in found (Cuu n) other (Cuu p.0) numbers p.2 refl (one_shape numbers p.0 p.1)
 finds_params (Cud n) other numbers h = let p = map_some (λ (n : ℕ). Cud n) (only_number numbers) other h in found (Cud n) other (Cud p.0) numbers p.2 refl (one_shape numbers p.0 p.1)
-finds_params El other numbers h = let p = none_shape El other numbers h in found El other El numbers p.0 refl p.1
-finds_params El1 other numbers h = let p = none_shape El1 other numbers h in found El1 other El1 numbers p.0 refl p.1
-finds_params Ed other numbers h = let p = none_shape Ed other numbers h in found Ed other Ed numbers p.0 refl p.1
 finds_params (Ech n) other numbers h = let p = map_some (λ (n : ℕ). Ech n) (only_number numbers) other h in found (Ech n) other (Ech p.0) numbers p.2 refl (one_shape numbers p.0 p.1)
 finds_params (Sgr a) other numbers h = let p = map_some (λ (a : Attributes). Sgr a) (nine_bits numbers) other h in found (Sgr a) other (Sgr p.0) numbers p.2 refl (bits_shape numbers p.0 p.1)
-finds_params Sgr0 other numbers h = let p = none_shape Sgr0 other numbers h in found Sgr0 other Sgr0 numbers p.0 refl p.1
 finds_params (Setaf c) other numbers h = let p = map_some (λ (c : Color). Setaf c) (only_color numbers) other h in found (Setaf c) other (Setaf p.0) numbers p.2 refl (color_shape numbers p.0 p.1)
 finds_params (Setab c) other numbers h = let p = map_some (λ (c : Color). Setab c) (only_color numbers) other h in found (Setab c) other (Setab p.0) numbers p.2 refl (color_shape numbers p.0 p.1)
-finds_params Op other numbers h = let p = none_shape Op other numbers h in found Op other Op numbers p.0 refl p.1
-finds_params Smul other numbers h = let p = none_shape Smul other numbers h in found Smul other Smul numbers p.0 refl p.1
-finds_params Rev other numbers h = let p = none_shape Rev other numbers h in found Rev other Rev numbers p.0 refl p.1
-finds_params Blink other numbers h = let p = none_shape Blink other numbers h in found Blink other Blink numbers p.0 refl p.1
-finds_params Dim other numbers h = let p = none_shape Dim other numbers h in found Dim other Dim numbers p.0 refl p.1
-finds_params Bold other numbers h = let p = none_shape Bold other numbers h in found Bold other Bold numbers p.0 refl p.1
-finds_params Invis other numbers h = let p = none_shape Invis other numbers h in found Invis other Invis numbers p.0 refl p.1
-finds_params Smso other numbers h = let p = none_shape Smso other numbers h in found Smso other Smso numbers p.0 refl p.1
-finds_params Enacs other numbers h = let p = none_shape Enacs other numbers h in found Enacs other Enacs numbers p.0 refl p.1
-finds_params Smacs other numbers h = let p = none_shape Smacs other numbers h in found Smacs other Smacs numbers p.0 refl p.1
-finds_params Rmacs other numbers h = let p = none_shape Rmacs other numbers h in found Rmacs other Rmacs numbers p.0 refl p.1
 finds_params (Csr top bottom) other numbers h = let p = map_some (λ (p : ℕ × ℕ). Csr p.0 p.1) (two_numbers numbers) other h in found (Csr top bottom) other (Csr p.0.0 p.0.1) numbers p.2 refl (two_shape numbers p.0 p.1)
-finds_params Ind other numbers h = let p = none_shape Ind other numbers h in found Ind other Ind numbers p.0 refl p.1
-finds_params Ri other numbers h = let p = none_shape Ri other numbers h in found Ri other Ri numbers p.0 refl p.1
-finds_params Civis other numbers h = let p = none_shape Civis other numbers h in found Civis other Civis numbers p.0 refl p.1
-finds_params Cnorm other numbers h = let p = none_shape Cnorm other numbers h in found Cnorm other Cnorm numbers p.0 refl p.1
-finds_params Cvvis other numbers h = let p = none_shape Cvvis other numbers h in found Cvvis other Cvvis numbers p.0 refl p.1
-finds_params Smcup other numbers h = let p = none_shape Smcup other numbers h in found Smcup other Smcup numbers p.0 refl p.1
-finds_params Rmcup other numbers h = let p = none_shape Rmcup other numbers h in found Rmcup other Rmcup numbers p.0 refl p.1
-finds_params Bel other numbers h = let p = none_shape Bel other numbers h in found Bel other Bel numbers p.0 refl p.1
+finds_params row other numbers h = let p = none_shape row other numbers h in found row other row numbers p.0 refl p.1
 
 -- a row is found again by its own parameters
 bits_back : (a : Attributes) → nine_bits (params (Sgr a)) ≡ Some a
@@ -171,57 +130,13 @@ bits_back a = simp (bit_small, bit_back)
 
 color_read : (make : Color → Row) (c : Color) → option_map make (only_color (color_number c ∷ [])) ≡ Some (make c)
 color_read make Black = refl
-color_read make Red = refl
-color_read make Green = refl
-color_read make Yellow = refl
-color_read make Blue = refl
-color_read make Magenta = refl
-color_read make Cyan = refl
-color_read make White = refl
+color_read make c = refl
 
 own_params : (row : Row) → with_params row (params row) ≡ Some row
-own_params Clear = refl
-own_params (Cup row col) = refl
-own_params Home = refl
-own_params Cr = refl
-own_params (Hpa col) = refl
-own_params (Vpa row) = refl
-own_params Cub1 = refl
-own_params Cuf1 = refl
-own_params Cuu1 = refl
-own_params Cud1 = refl
-own_params (Cub n) = refl
-own_params (Cuf n) = refl
-own_params (Cuu n) = refl
-own_params (Cud n) = refl
-own_params El = refl
-own_params El1 = refl
-own_params Ed = refl
-own_params (Ech n) = refl
 own_params (Sgr a) = ap (λ (o : Option Attributes). option_map (λ b. Sgr b) o) (bits_back a)
-own_params Sgr0 = refl
 own_params (Setaf c) = color_read (λ x. Setaf x) c
 own_params (Setab c) = color_read (λ x. Setab x) c
-own_params Op = refl
-own_params Smul = refl
-own_params Rev = refl
-own_params Blink = refl
-own_params Dim = refl
-own_params Bold = refl
-own_params Invis = refl
-own_params Smso = refl
-own_params Enacs = refl
-own_params Smacs = refl
-own_params Rmacs = refl
-own_params (Csr top bottom) = refl
-own_params Ind = refl
-own_params Ri = refl
-own_params Civis = refl
-own_params Cnorm = refl
-own_params Cvvis = refl
-own_params Smcup = refl
-own_params Rmcup = refl
-own_params Bel = refl
+own_params row = refl
 
 -- a reader depends on the capability alone
 abbrev with_first : ℕ → List ℕ → Option Row
@@ -230,47 +145,7 @@ with_first n numbers = option_and_then (λ row. with_params row numbers) (first_
 by_first : (row : Row) (numbers : List ℕ) → with_params row numbers ≡ with_first (order row) numbers
 unfolding first_in_order
 by_first Clear numbers = refl
-by_first (Cup row col) numbers = refl
-by_first Home numbers = refl
-by_first Cr numbers = refl
-by_first (Hpa col) numbers = refl
-by_first (Vpa row) numbers = refl
-by_first Cub1 numbers = refl
-by_first Cuf1 numbers = refl
-by_first Cuu1 numbers = refl
-by_first Cud1 numbers = refl
-by_first (Cub n) numbers = refl
-by_first (Cuf n) numbers = refl
-by_first (Cuu n) numbers = refl
-by_first (Cud n) numbers = refl
-by_first El numbers = refl
-by_first El1 numbers = refl
-by_first Ed numbers = refl
-by_first (Ech n) numbers = refl
-by_first (Sgr a) numbers = refl
-by_first Sgr0 numbers = refl
-by_first (Setaf c) numbers = refl
-by_first (Setab c) numbers = refl
-by_first Op numbers = refl
-by_first Smul numbers = refl
-by_first Rev numbers = refl
-by_first Blink numbers = refl
-by_first Dim numbers = refl
-by_first Bold numbers = refl
-by_first Invis numbers = refl
-by_first Smso numbers = refl
-by_first Enacs numbers = refl
-by_first Smacs numbers = refl
-by_first Rmacs numbers = refl
-by_first (Csr top bottom) numbers = refl
-by_first Ind numbers = refl
-by_first Ri numbers = refl
-by_first Civis numbers = refl
-by_first Cnorm numbers = refl
-by_first Cvvis numbers = refl
-by_first Smcup numbers = refl
-by_first Rmcup numbers = refl
-by_first Bel numbers = refl
+by_first row numbers = refl
 
 pub params_found : ParamsFound
 params_found row other same = by_first row (params other) ∙ ap (λ (n : ℕ). with_first n (params other)) same ∙ sym (by_first other (params other)) ∙ own_params other
@@ -283,47 +158,7 @@ first_count (Some row) = length (params row)
 count_by_first : (row : Row) → length (params row) ≡ first_count (first_in_order (order row))
 unfolding first_in_order
 count_by_first Clear = refl
-count_by_first (Cup row col) = refl
-count_by_first Home = refl
-count_by_first Cr = refl
-count_by_first (Hpa col) = refl
-count_by_first (Vpa row) = refl
-count_by_first Cub1 = refl
-count_by_first Cuf1 = refl
-count_by_first Cuu1 = refl
-count_by_first Cud1 = refl
-count_by_first (Cub n) = refl
-count_by_first (Cuf n) = refl
-count_by_first (Cuu n) = refl
-count_by_first (Cud n) = refl
-count_by_first El = refl
-count_by_first El1 = refl
-count_by_first Ed = refl
-count_by_first (Ech n) = refl
-count_by_first (Sgr a) = refl
-count_by_first Sgr0 = refl
-count_by_first (Setaf c) = refl
-count_by_first (Setab c) = refl
-count_by_first Op = refl
-count_by_first Smul = refl
-count_by_first Rev = refl
-count_by_first Blink = refl
-count_by_first Dim = refl
-count_by_first Bold = refl
-count_by_first Invis = refl
-count_by_first Smso = refl
-count_by_first Enacs = refl
-count_by_first Smacs = refl
-count_by_first Rmacs = refl
-count_by_first (Csr top bottom) = refl
-count_by_first Ind = refl
-count_by_first Ri = refl
-count_by_first Civis = refl
-count_by_first Cnorm = refl
-count_by_first Cvvis = refl
-count_by_first Smcup = refl
-count_by_first Rmcup = refl
-count_by_first Bel = refl
+count_by_first row = refl
 
 pub same_count : SameCount
 same_count row other same = count_by_first row ∙ ap (λ (n : ℕ). first_count (first_in_order n)) same ∙ sym (count_by_first other)

@@ -8,7 +8,7 @@ use Rattle.vt_effects.specs.Effect.{applied}
 use Rattle.vt_effects.specs.Settings.{TellsSettings}
 use Rattle.vt_effects.proofs.Sounds.{runs_right}
 use Rattle.vt_effects.proofs.Sayings.{records_tell}
-use Rattle.ti_rows.specs.Rows.{Looks, Row, Clear, Cup, Home, Cr, Hpa, Vpa, Cub1, Cuf1, Cuu1, Cud1, Cub, Cuf, Cuu, Cud, El, El1, Ed, Ech, Sgr, Sgr0, Setaf, Setab, Op, Smul, Rev, Blink, Dim, Bold, Invis, Smso, Enacs, Smacs, Rmacs, Csr, Ind, Ri, Civis, Cnorm, Cvvis, Smcup, Rmcup, Bel}
+use Rattle.ti_rows.specs.Rows.{Looks, Row, Csr, Civis, Cnorm, Cvvis}
 use Rattle.ti_rows.specs.Asked.{start_of, asked}
 use Rattle.ti_rows.specs.Right.{sets_margins, sets_visible, RecordedIsRight, ActivatesFrom}
 use Rattle.ti_rows.proofs.StartFacts.{never, starts_allowed}
@@ -20,48 +20,11 @@ record Keeps (l : Looks) (row : Row) (e : Effect) : Type 0 where
   visible : sets_visible row ≡ false → (asked l row e).visible ≡ switches.Kept
 
 asked_keeps : (l : Looks) (row : Row) (e : Effect) → Keeps l row e
-asked_keeps l Clear e = record { margins = λ h. refl; visible = λ h. refl }
-asked_keeps l (Cup row col) e = record { margins = λ h. refl; visible = λ h. refl }
-asked_keeps l Home e = record { margins = λ h. refl; visible = λ h. refl }
-asked_keeps l Cr e = record { margins = λ h. refl; visible = λ h. refl }
-asked_keeps l (Hpa col) e = record { margins = λ h. refl; visible = λ h. refl }
-asked_keeps l (Vpa row) e = record { margins = λ h. refl; visible = λ h. refl }
-asked_keeps l Cub1 e = record { margins = λ h. refl; visible = λ h. refl }
-asked_keeps l Cuf1 e = record { margins = λ h. refl; visible = λ h. refl }
-asked_keeps l Cuu1 e = record { margins = λ h. refl; visible = λ h. refl }
-asked_keeps l Cud1 e = record { margins = λ h. refl; visible = λ h. refl }
-asked_keeps l (Cub n) e = record { margins = λ h. refl; visible = λ h. refl }
-asked_keeps l (Cuf n) e = record { margins = λ h. refl; visible = λ h. refl }
-asked_keeps l (Cuu n) e = record { margins = λ h. refl; visible = λ h. refl }
-asked_keeps l (Cud n) e = record { margins = λ h. refl; visible = λ h. refl }
-asked_keeps l El e = record { margins = λ h. refl; visible = λ h. refl }
-asked_keeps l El1 e = record { margins = λ h. refl; visible = λ h. refl }
-asked_keeps l Ed e = record { margins = λ h. refl; visible = λ h. refl }
-asked_keeps l (Ech n) e = record { margins = λ h. refl; visible = λ h. refl }
-asked_keeps l (Sgr a) e = record { margins = λ h. refl; visible = λ h. refl }
-asked_keeps l Sgr0 e = record { margins = λ h. refl; visible = λ h. refl }
-asked_keeps l (Setaf c) e = record { margins = λ h. refl; visible = λ h. refl }
-asked_keeps l (Setab c) e = record { margins = λ h. refl; visible = λ h. refl }
-asked_keeps l Op e = record { margins = λ h. refl; visible = λ h. refl }
-asked_keeps l Smul e = record { margins = λ h. refl; visible = λ h. refl }
-asked_keeps l Rev e = record { margins = λ h. refl; visible = λ h. refl }
-asked_keeps l Blink e = record { margins = λ h. refl; visible = λ h. refl }
-asked_keeps l Dim e = record { margins = λ h. refl; visible = λ h. refl }
-asked_keeps l Bold e = record { margins = λ h. refl; visible = λ h. refl }
-asked_keeps l Invis e = record { margins = λ h. refl; visible = λ h. refl }
-asked_keeps l Smso e = record { margins = λ h. refl; visible = λ h. refl }
-asked_keeps l Enacs e = record { margins = λ h. refl; visible = λ h. refl }
-asked_keeps l Smacs e = record { margins = λ h. refl; visible = λ h. refl }
-asked_keeps l Rmacs e = record { margins = λ h. refl; visible = λ h. refl }
 asked_keeps l (Csr top bottom) e = record { margins = λ h. never h; visible = λ h. refl }
-asked_keeps l Ind e = record { margins = λ h. refl; visible = λ h. refl }
-asked_keeps l Ri e = record { margins = λ h. refl; visible = λ h. refl }
 asked_keeps l Civis e = record { margins = λ h. refl; visible = λ h. never h }
 asked_keeps l Cnorm e = record { margins = λ h. refl; visible = λ h. never h }
 asked_keeps l Cvvis e = record { margins = λ h. refl; visible = λ h. never h }
-asked_keeps l Smcup e = record { margins = λ h. refl; visible = λ h. refl }
-asked_keeps l Rmcup e = record { margins = λ h. refl; visible = λ h. refl }
-asked_keeps l Bel e = record { margins = λ h. refl; visible = λ h. refl }
+asked_keeps l row e = record { margins = λ h. refl; visible = λ h. refl }
 
 pub recorded_is_right : RecordedIsRight
 recorded_is_right rows cols l row bytes tokens e split h same = let told : TellsSettings rows tokens e = records_tell rows cols (start_of rows cols row) tokens e h in record {

@@ -5,7 +5,7 @@ use Rattle.vt_term.specs.Screen.{Screen}
 use Rattle.vt_effects.specs.declared.starts.Margins.{Margins}
 use Rattle.vt_effects.specs.declared.starts.Margins.TheVariants as margins
 use Rattle.vt_effects.specs.Start.{Allows, HasMargins}
-use Rattle.ti_rows.specs.Rows.{Row, Clear, Cup, Home, Cr, Hpa, Vpa, Cub1, Cuf1, Cuu1, Cud1, Cub, Cuf, Cuu, Cud, El, El1, Ed, Ech, Sgr, Sgr0, Setaf, Setab, Op, Smul, Rev, Blink, Dim, Bold, Invis, Smso, Enacs, Smacs, Rmacs, Csr, Ind, Ri, Civis, Cnorm, Cvvis, Smcup, Rmcup, Bel}
+use Rattle.ti_rows.specs.Rows.{Row, Cup, Cub1, Cuf1, Cuu1, Cud1, Cub, Cuf, Cuu, Cud, El, El1, Ed, Ech, Csr, Ind, Ri}
 use Rattle.ti_rows.specs.Starts.{IsAny, IsFree, IsCalm, Starts}
 use Rattle.ti_rows.specs.Asked.{starting, start_of}
 
@@ -49,12 +49,7 @@ calm_allows : (rows cols : ℕ) (s : Screen) → IsCalm rows cols s → Allows r
 calm_allows rows cols s h = any_allows rows cols margins.Whole false s h.free.any (λ e. h.pending) (h.free.top, h.free.bottom)
 
 pub starts_allowed : (rows cols : ℕ) (row : Row) (s : Screen) → Starts rows cols row s → Allows rows cols (start_of rows cols row) s
-starts_allowed rows cols Clear s h = free_allows rows cols s h
 starts_allowed rows cols (Cup row col) s h = any_allows rows cols margins.Legal true s h never tt
-starts_allowed rows cols Home s h = free_allows rows cols s h
-starts_allowed rows cols Cr s h = free_allows rows cols s h
-starts_allowed rows cols (Hpa col) s h = free_allows rows cols s h
-starts_allowed rows cols (Vpa row) s h = free_allows rows cols s h
 starts_allowed rows cols Cub1 s h = calm_within rows cols 0 (rows - 1) 1 (cols - 1) s h.0 (omega arith) (to_row rows cols s h.0.free.any) h.1 (to_col rows cols s h.0.free.any)
 starts_allowed rows cols Cuf1 s h = calm_within rows cols 0 (rows - 1) 0 (cols - 1 - 1) s h.0 (omega arith) (to_row rows cols s h.0.free.any) (omega arith) (omega (arith, h.1))
 starts_allowed rows cols Cuu1 s h = calm_within rows cols 1 (rows - 1) 0 (cols - 1) s h.0 h.1 (to_row rows cols s h.0.free.any) (omega arith) (to_col rows cols s h.0.free.any)
@@ -67,27 +62,7 @@ starts_allowed rows cols El s h = calm_allows rows cols s h
 starts_allowed rows cols El1 s h = calm_allows rows cols s h
 starts_allowed rows cols Ed s h = calm_allows rows cols s h
 starts_allowed rows cols (Ech n) s h = calm_allows rows cols s h
-starts_allowed rows cols (Sgr a) s h = free_allows rows cols s h
-starts_allowed rows cols Sgr0 s h = free_allows rows cols s h
-starts_allowed rows cols (Setaf c) s h = free_allows rows cols s h
-starts_allowed rows cols (Setab c) s h = free_allows rows cols s h
-starts_allowed rows cols Op s h = free_allows rows cols s h
-starts_allowed rows cols Smul s h = free_allows rows cols s h
-starts_allowed rows cols Rev s h = free_allows rows cols s h
-starts_allowed rows cols Blink s h = free_allows rows cols s h
-starts_allowed rows cols Dim s h = free_allows rows cols s h
-starts_allowed rows cols Bold s h = free_allows rows cols s h
-starts_allowed rows cols Invis s h = free_allows rows cols s h
-starts_allowed rows cols Smso s h = free_allows rows cols s h
-starts_allowed rows cols Enacs s h = free_allows rows cols s h
-starts_allowed rows cols Smacs s h = free_allows rows cols s h
-starts_allowed rows cols Rmacs s h = free_allows rows cols s h
 starts_allowed rows cols (Csr top bottom) s h = any_allows rows cols margins.Legal true s h never tt
 starts_allowed rows cols Ind s h = within rows cols 1 (rows - 1) 0 (cols - 1) margins.OnBottom false s h.0.any (λ e. h.0.pending) h.1 (omega (arith, h.1, h.0.any.screen.region)) (to_row rows cols s h.0.any) (omega arith) (to_col rows cols s h.0.any)
 starts_allowed rows cols Ri s h = within rows cols 0 (rows - 1 - 1) 0 (cols - 1) margins.OnTop false s h.0.any (λ e. h.0.pending) h.1 (omega arith) (omega (arith, h.1, h.0.any.screen.region, h.0.any.screen.bottom, h.0.any.rows_are)) (omega arith) (to_col rows cols s h.0.any)
-starts_allowed rows cols Civis s h = free_allows rows cols s h
-starts_allowed rows cols Cnorm s h = free_allows rows cols s h
-starts_allowed rows cols Cvvis s h = free_allows rows cols s h
-starts_allowed rows cols Smcup s h = free_allows rows cols s h
-starts_allowed rows cols Rmcup s h = free_allows rows cols s h
-starts_allowed rows cols Bel s h = free_allows rows cols s h
+starts_allowed rows cols row s h = free_allows rows cols s h

@@ -9,7 +9,7 @@ use Rattle.vt_effects.specs.declared.effects.Erasure.{Erasure}
 use Rattle.vt_effects.specs.declared.effects.Erasure.TheVariants as erasures
 use Rattle.vt_effects.specs.Effect.{applied, switched, inked, rendered, erased}
 use Rattle.vt_effects.specs.Record.{switch_of}
-use Rattle.ti_rows.specs.Rows.{Marks, Looks, Row, Clear, Cup, Home, Cr, Hpa, Vpa, Cub1, Cuf1, Cuu1, Cud1, Cub, Cuf, Cuu, Cud, El, El1, Ed, Ech, Sgr, Sgr0, Setaf, Setab, Op, Smul, Rev, Blink, Dim, Bold, Invis, Smso, Enacs, Smacs, Rmacs, Csr, Ind, Ri, Civis, Cnorm, Cvvis, Smcup, Rmcup, Bel}
+use Rattle.ti_rows.specs.Rows.{Marks, Looks, Row, Cub1, Cuf1, Cuu1, Cud1, Cub, Cuf, Cuu, Cud, El, El1, Ed, Ech, Sgr, Smso, Csr, Ind, Ri, Cvvis, Smcup, Rmcup}
 use Rattle.ti_rows.specs.Looks.{shown}
 use Rattle.ti_rows.specs.Starts.{Starts}
 use Rattle.ti_rows.specs.Wants.{Wants, Appears, HasJust, ErasesOnce, Nothing, Everything, ToLineEnd, FromLineStart, ToScreenEnd, NextCells, StaysOrEnds, Bounds, Enters, marked, adding}
@@ -27,7 +27,7 @@ mark_on_or_kept : (b x : Bool) → switched (on_or_kept b) x ≡ (b || x)
 mark_on_or_kept true x = refl
 mark_on_or_kept false x = refl
 
-same_marks : (a b c d e f a' b' c' d' e' f' : Bool) (x y : Option Color) → a ≡ a' → b ≡ b' → c ≡ c' → d ≡ d' → e ≡ e' → f ≡ f' →
+pub same_marks : (a b c d e f a' b' c' d' e' f' : Bool) (x y : Option Color) → a ≡ a' → b ≡ b' → c ≡ c' → d ≡ d' → e ≡ e' → f ≡ f' →
     marked (record { bold = a; faint = b; underline = c; blink = d; negative = e; concealed = f }) x y ≡ marked (record { bold = a'; faint = b'; underline = c'; blink = d'; negative = e'; concealed = f' }) x y
 same_marks a b c d e f a' b' c' d' e' f' x y p q r s t u =
     ap (λ (z : Bool). marked (record { bold = z; faint = b; underline = c; blink = d; negative = e; concealed = f }) x y) p
@@ -77,12 +77,6 @@ enters : (e : Effect) (s : Screen) → Enters s (applied (entering e) s)
 enters e s = record { others = refl; cells = erases_once e.erasure s; pending = stays_or_ends e.ends_pending s.pending }
 
 asked_wanted : (rows cols : ℕ) (l : Looks) (row : Row) (e : Effect) (s : Screen) → Starts rows cols row s → Wants l row s (applied (asked l row e) s)
-asked_wanted rows cols l Clear e s h = refl
-asked_wanted rows cols l (Cup row col) e s h = refl
-asked_wanted rows cols l Home e s h = refl
-asked_wanted rows cols l Cr e s h = refl
-asked_wanted rows cols l (Hpa col) e s h = refl
-asked_wanted rows cols l (Vpa row) e s h = refl
 asked_wanted rows cols l Cub1 e s h = ap (λ (p : Bool). record s { col = (applied (asked l Cub1 e) s).col; pending = p }) (ends_calm e.ends_pending s.pending h.0.pending)
 asked_wanted rows cols l Cuf1 e s h = ap (λ (p : Bool). record s { col = (applied (asked l Cuf1 e) s).col; pending = p }) (ends_calm e.ends_pending s.pending h.0.pending)
 asked_wanted rows cols l Cuu1 e s h = ap (λ (p : Bool). record s { row = (applied (asked l Cuu1 e) s).row; pending = p }) (ends_calm e.ends_pending s.pending h.0.pending)
@@ -96,29 +90,14 @@ asked_wanted rows cols l El1 e s h = ap (λ (p : Bool). record s { grid = (appli
 asked_wanted rows cols l Ed e s h = ap (λ (p : Bool). record s { grid = (applied (asked l Ed e) s).grid; pending = p }) (ends_calm e.ends_pending s.pending h.pending)
 asked_wanted rows cols l (Ech n) e s h = ap (λ (p : Bool). record s { grid = (applied (asked l (Ech n) e) s).grid; pending = p }) (ends_calm e.ends_pending s.pending h.pending)
 asked_wanted rows cols l (Sgr a) e s h = shows_inks (shown l a) (defaults_both_inks e.rendition) e s
-asked_wanted rows cols l Sgr0 e s h = refl
-asked_wanted rows cols l (Setaf c) e s h = refl
-asked_wanted rows cols l (Setab c) e s h = refl
-asked_wanted rows cols l Op e s h = refl
-asked_wanted rows cols l Smul e s h = refl
-asked_wanted rows cols l Rev e s h = refl
-asked_wanted rows cols l Blink e s h = refl
-asked_wanted rows cols l Dim e s h = refl
-asked_wanted rows cols l Bold e s h = refl
-asked_wanted rows cols l Invis e s h = refl
 asked_wanted rows cols l Smso e s h = rendition_set (with_marks_on l.standout) _ e s (marks_added l.standout s.rendition)
-asked_wanted rows cols l Enacs e s h = refl
-asked_wanted rows cols l Smacs e s h = refl
-asked_wanted rows cols l Rmacs e s h = refl
 asked_wanted rows cols l (Csr top bottom) e s h = bounds top bottom e s
 asked_wanted rows cols l Ind e s h = ap (λ (p : Bool). record s { grid = (applied (asked l Ind e) s).grid; pending = p }) (ends_calm e.ends_pending s.pending h.0.pending)
 asked_wanted rows cols l Ri e s h = ap (λ (p : Bool). record s { grid = (applied (asked l Ri e) s).grid; pending = p }) (ends_calm e.ends_pending s.pending h.0.pending)
-asked_wanted rows cols l Civis e s h = refl
-asked_wanted rows cols l Cnorm e s h = refl
 asked_wanted rows cols l Cvvis e s h = appears (is_on e.visible) s
 asked_wanted rows cols l Smcup e s h = enters e s
 asked_wanted rows cols l Rmcup e s h = enters e s
-asked_wanted rows cols l Bel e s h = refl
+asked_wanted rows cols l row e s h = refl
 
 pub asked_is_wanted : (rows cols : ℕ) (l : Looks) (row : Row) (e : Effect) → e ≡ asked l row e → (s : Screen) → Starts rows cols row s → Wants l row s (applied e s)
 asked_is_wanted rows cols l row e met s h = subst (λ (f : Effect). Wants l row s (applied f s)) (sym met) (asked_wanted rows cols l row e s h)

@@ -52,6 +52,7 @@ pub fn places()
 
 /// `with_params` finds a row of the same capability with just those parameters, wherever there is
 /// one; and all rows of a capability have the same number of parameters.
+#[tactic(auto, using(crate::proofs::Readers::params_found, crate::proofs::Readers::same_count))]
 pub fn params_read_back()
     ensures finds { FindsParams }
     ensures found { ParamsFound }
@@ -74,6 +75,7 @@ pub fn last_is_last()
 {}
 
 /// Each list has one of its capability's places, no two lists have one, and each place is a list's.
+#[tactic(auto, using(crate::proofs::ListFacts::ranks_below, crate::proofs::ListFacts::one_of_rank, crate::proofs::ListFacts::each_reached))]
 pub fn places_of_lists()
     ensures below { RanksBelow }
     ensures one { OneOfRank }
