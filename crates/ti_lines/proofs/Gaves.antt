@@ -1,9 +1,9 @@
 -- The bytes that a reader gave, piece after piece.
-use Rattle.std.proofs.Common.{◌≡◌, ℕ, ◌+◌, ◌<◌, ◌≤◌, ◌⊎◌, List, [], ◌++◌, None, length, refl, sym, ap, subst, ◌∙◌, inl, inr, arith, append_assoc}
+use Rattle.std.proofs.Common.{◌≡◌, ℕ, ◌+◌, ◌<◌, ◌≤◌, ◌⊎◌, List, [], ◌++◌, None, length, refl, sym, ap, subst, ◌∙◌, inl, inr, arith, append_assoc, ⊎_elim}
 use Rattle.std.proofs.Math.Nat.{le_refl, le_trans}
 use Rattle.std.proofs.lemmas.List.{append-nil}
 use Rattle.std.proofs.lemmas.Bool.{cases_lt}
-use Rattle.ti_lines.specs.Reader.{Gave, Rose, last_count, piece_limit}
+use Rattle.ti_lines.specs.Reader.{Gave, Rose, piece_limit}
 use Rattle.ti_lines.specs.Text.{line_end}
 use Rattle.ti_lines.specs.Lines.{Reading, Takes, Refills, NotAtAll, InPieces, HaltsBy}
 use Rattle.ti_lines.specs.declared.lines.Halt.{Halt}
@@ -21,14 +21,14 @@ gave_joins left failures a b c x y p q = record {
   counts = le_trans p.counts q.counts;
 }
 
-rose_at_last : (a b c : ℕ) → a ≤ b → b ≡ last_count → c ≡ last_count → (a < b) ⊎ (b ≤ a) → Rose a c
-rose_at_last a b c le e f (inl lt) = inl (omega arith)
-rose_at_last a b c le e f (inr ge) = let same : a ≡ b = omega arith in inr (same ∙ e, f)
-
 -- a new failure is one since any earlier count
 pub rose_later : (a b c : ℕ) → a ≤ b → Rose b c → Rose a c
 rose_later a b c le (inl lt) = inl (omega arith)
-rose_later a b c le (inr last) = rose_at_last a b c le last.0 last.1 (cases_lt a b)
+rose_later a b c le (inr last) =
+    ⊎_elim
+    (λ lt. inl (omega (arith, lt, last.0, last.1)))
+    (λ ge. let same : a ≡ b = omega (arith, le, ge) in inr (same ∙ last.0, last.1))
+    (cases_lt a b)
 
 pub halts_later : (a b c : ℕ) (h : Halt) → a ≤ b → HaltsBy b c h → HaltsBy a c h
 halts_later a b c ReadFailed le r = rose_later a b c le r

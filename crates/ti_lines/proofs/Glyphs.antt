@@ -1,5 +1,5 @@
 -- Letters are read as they are written.
-use Rattle.std.proofs.Common.{◌≡◌, ℕ, ◌+◌, ◌-◌, ◌<◌, ◌≤◌, zero, suc, Bool, true, false, ◌&&◌, List, [], ◌∷◌, ◌++◌, length, Option, Some, None, MatchOption, Bor, nat_eq, take, drop, refl, sym, ap, ◌∙◌, arith}
+use Rattle.std.proofs.Common.{◌≡◌, ℕ, ◌+◌, ◌-◌, ◌<◌, ◌≤◌, Bool, true, false, ◌&&◌, List, [], ◌∷◌, ◌++◌, length, Option, Some, None, MatchOption, Bor, nat_eq, take, drop, refl, sym, ap, ◌∙◌, arith}
 use Rattle.std.specs.Prelude.{if◌then◌else◌, ◌==◌, nat_le}
 use Rattle.std.specs.Option.{option_map, option_or, option_and_then}
 use Rattle.std.specs.List.{list_all}
@@ -7,7 +7,8 @@ use Rattle.std.specs.Cmp.Lexicographic.{pointwise}
 use Rattle.std.proofs.lemmas.Bool.{and_parts, cond-true, cond-false}
 use Rattle.std.proofs.lemmas.Bool.Decides.{nat_tests}
 use Rattle.std.proofs.lemmas.Option.{option_and_then_some, same_Some}
-use Rattle.vt_term.specs.Color.{color, color_number}
+use Rattle.vt_term.specs.Color.{color}
+use Rattle.ti_rows.proofs.Readers.{number_back}
 use Rattle.vt_term.specs.Color.{Black, Red, Green, Yellow, Blue, Magenta, Cyan, White}
 use Rattle.vt_effects.specs.declared.effects.Switch.{Switch}
 use Rattle.vt_effects.specs.declared.effects.Switch.TheVariants as switches
@@ -83,24 +84,13 @@ switch_written on off b s h =
     (λ h. branch (b ≡ switch_letter on off s) (b == 46) (Some switches.Kept) None s
     (λ t e. equal b 46 t ∙ ap (switch_letter on off) (same_Some switches.Kept s e)) (λ e. absurd (cc)) h) h) h
 
-numbered : (n : ℕ) → n < 8 → color_number (color n) ≡ n
-numbered zero h = refl
-numbered (suc zero) h = refl
-numbered (suc (suc zero)) h = refl
-numbered (suc (suc (suc zero))) h = refl
-numbered (suc (suc (suc (suc zero)))) h = refl
-numbered (suc (suc (suc (suc (suc zero))))) h = refl
-numbered (suc (suc (suc (suc (suc (suc zero)))))) h = refl
-numbered (suc (suc (suc (suc (suc (suc (suc zero))))))) h = refl
-numbered (suc (suc (suc (suc (suc (suc (suc (suc n)))))))) h = absurd (omega arith)
-
 color_written : (b : ℕ) → (nat_le 48 b && nat_le b 55) ≡ true → b ≡ ink_letter (inks.Color (color (b - 48)))
 color_written b t =
     let p = and_parts (nat_le 48 b) (nat_le b 55) t in
     let low : 48 ≤ b = grind (arith, nat_tests) in
     let high : b ≤ 55 = grind (arith, nat_tests) in
     let e : b ≡ 48 + (b - 48) = omega arith in
-    e ∙ ap (λ (n : ℕ). 48 + n) (sym (numbered (b - 48) (omega arith)))
+    e ∙ ap (λ (n : ℕ). 48 + n) (sym (number_back (b - 48) (omega arith)))
 
 pub ink_written : (b : ℕ) (i : Ink) → ink_at b ≡ Some i → b ≡ ink_letter i
 ink_written b i h =

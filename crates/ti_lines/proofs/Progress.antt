@@ -1,10 +1,10 @@
 -- Judging line after line: the state between two lines, and the end.
 use Rattle.std.proofs.Common.{◌≡◌, ℕ, suc, ◌+◌, ◌-◌, ◌<◌, ◌≤◌, inl, inr, List, [], ◌∷◌, ◌++◌, None, Some, Result, Ok, Err, IfErr, length, take, drop, refl, sym, ap, subst, ◌∙◌, arith, append_assoc, length-append, length-take}
 use Rattle.std.proofs.lemmas.List.{append-nil, length-drop}
-use Rattle.ti_lines.specs.Reader.{Gave}
+use Rattle.ti_lines.specs.Reader.{AtEnd, Gave, Rose}
 use Rattle.ti_lines.specs.Text.{Cut, cut_of, line_end}
 use Rattle.ti_lines.specs.Lines.{Reading, Takes, Refills, NotAtAll, InPieces, IsNext, HaltsBy}
-use Rattle.ti_lines.specs.Judgements.{Rules, fault_at, AtLine, JudgedFrom, Judged, FailsBy, Gives, Whole, Early, Cuts, LastCall, Reports, Closes, halted, Progress}
+use Rattle.ti_lines.specs.Judgements.{Rules, fault_at, AtLine, JudgedFrom, Judged, FailsBy, Gives, Outcome, Whole, Early, Cuts, LastCall, Reports, Closes, halted, Progress}
 use Rattle.ti_lines.specs.declared.judgements.LineFault.{LineFault}
 use Rattle.ti_lines.specs.declared.lines.Next.{Next}
 use Rattle.ti_lines.specs.declared.lines.Next.TheVariants.{Line, End, Unended, Long}
@@ -156,6 +156,17 @@ exit_line {R} {X} {T} {F} rules limit start new left failures old a r number t n
           fails);
     }
 
+-- what was read up to here is what was given
+given_so_far : {R X T F : Type 0} (rules : Rules T F) (limit : ℕ) (start new : T) (left : R → List ℕ → Type 0) (failures : R → ℕ) (old a : R) (r : Reading) (number : ℕ) (t : T) (answer : Result X (LineFault F)) (p : Progress rules limit start left failures old a r number t)
+    → IfErr answer (λ e. e.line ≡ number) → Outcome rules limit start new (AtEnd left a) (Rose (failures old) (failures a)) (p.passed ++ r.unread) answer → Reports rules limit start new left failures old a answer
+given_so_far rules limit start new left failures old a r number t answer p same outcome = record {
+  given = p.passed ++ r.unread;
+  gave = p.gave;
+  few = few_given rules limit start left failures old a r number t p;
+  last = called_last answer (p.passed ++ r.unread) number p.last same;
+  outcome = outcome;
+}
+
 -- there is no line
 pub exit_closed : {R X T F : Type 0} (rules : Rules T F) (limit : ℕ) (start new : T) (left : R → List ℕ → Type 0) (failures : R → ℕ) (old a : R) (r : Reading) (number : ℕ) (t : T) (next : Next) (answer : Result X (LineFault F))
     → Progress rules limit start left failures old a r number t → IsNext left r a next → ((n : ℕ) → next ≡ Line n → ⊥) → Closes rules next number t new answer → IfErr answer (λ e. e.line ≡ number) → Reports rules limit start new left failures old a answer
@@ -163,26 +174,8 @@ exit_closed rules limit start new left failures old a r number t (Line n) answer
 exit_closed {R} {X} {T} {F} rules limit start new left failures old a r number t End answer p is not_line closes same =
     let ends : (x : Result T (LineFault F)) → AtLine number (rules.end t) x → Judged rules limit start (p.passed ++ r.unread) x =
     λ x h. let Q : List ℕ → Type 0 = λ l. JudgedFrom rules r.budget number t l x in p.rest r.unread x (subst Q (sym is.0) (judge_end rules r.budget number t x h)) in
-    record {
-      given = p.passed ++ r.unread;
-      gave = p.gave;
-      few = few_given rules limit start left failures old a r number t p;
-      last = called_last answer (p.passed ++ r.unread) number p.last same;
-      outcome = Whole is.1 (gives_passes rules new answer (AtLine number (rules.end t)) (Judged rules limit start (p.passed ++ r.unread)) ends closes);
-    }
+    given_so_far rules limit start new left failures old a r number t answer p same (Whole is.1 (gives_passes rules new answer (AtLine number (rules.end t)) (Judged rules limit start (p.passed ++ r.unread)) ends closes))
 exit_closed rules limit start new left failures old a r number t Unended answer p is not_line closes same =
-    record {
-      given = p.passed ++ r.unread;
-      gave = p.gave;
-      few = few_given rules limit start left failures old a r number t p;
-      last = called_last answer (p.passed ++ r.unread) number p.last same;
-      outcome = Whole is.2 (rw closes (inl (p.rest r.unread (Err (fault_at number rules.no_line)) (judge_unended rules r.budget number t r.unread is.1 is.0))));
-    }
+    given_so_far rules limit start new left failures old a r number t answer p same (Whole is.2 (rw closes (inl (p.rest r.unread (Err (fault_at number rules.no_line)) (judge_unended rules r.budget number t r.unread is.1 is.0)))))
 exit_closed rules limit start new left failures old a r number t Long answer p is not_line closes same =
-    record {
-      given = p.passed ++ r.unread;
-      gave = p.gave;
-      few = few_given rules limit start left failures old a r number t p;
-      last = called_last answer (p.passed ++ r.unread) number p.last same;
-      outcome = Early (λ back. rw closes (inl (whole_from rules limit start left failures old a r number t p back (Err (fault_at number rules.no_line)) (judge_long rules r.budget number t r.unread back is))));
-    }
+    given_so_far rules limit start new left failures old a r number t answer p same (Early (λ back. rw closes (inl (whole_from rules limit start left failures old a r number t p back (Err (fault_at number rules.no_line)) (judge_long rules r.budget number t r.unread back is)))))

@@ -2,10 +2,12 @@
 use Rattle.std.proofs.Common.{◌≡◌, ℕ, ◌+◌, ◌<◌, ◌≤◌, List, [], ◌∷◌, ◌++◌, Some, None, Bool, true, false, not, cond, refl, sym, ◌∙◌, ap, length, take, drop, arith, ◌==◌, ⊎_elim}
 use Rattle.std.specs.Prelude.{nat_lt}
 use Rattle.std.specs.List.{position, position_or_len, slice_split, onto_first, list_all, join_with_byte}
-use Rattle.std.proofs.lemmas.Bool.{ltb-true, ltb-false, cases_Bool, cond-true, cond-false, not_from_false, not_from_true, and_parts, not-true}
+use Rattle.std.proofs.lemmas.Bool.{ltb-true, ltb-false, and_parts, not-true}
 use Rattle.std.proofs.lemmas.Bool.Decides.{nat_tests}
 use Rattle.std.proofs.lemmas.Option.{cond_some}
-use Rattle.std.proofs.lemmas.List.Splits.{slice_split_first, slice_split-cons_no, slice_split-cons_yes, join_with_byte-slice_split, length-slice_split}
+use Rattle.std.proofs.lemmas.List.Elements.{All-from_get_or}
+use Rattle.std.proofs.lemmas.List.Sums.{fails_before_first}
+use Rattle.std.proofs.lemmas.List.Splits.{slice_split_first, slice_split_none, slice_split-cons_no, slice_split-cons_yes, join_with_byte-slice_split, length-slice_split}
 use Rattle.ti_lines.specs.EffectReader.{parts_of}
 
 pub cut_found : (c : ℕ) (text : List ℕ) (at : ℕ) → Some at ≡ position (λ b. b == c) text → parts_of c text ≡ take at text ∷ parts_of c (drop (at + 1) text)
@@ -15,14 +17,7 @@ cut_found c text at is =
     rw (← parts.1) (slice_split_first (λ b. b == c) text 0 (ltb-true _ _ parts.0))
 
 all_fail : (test : ℕ → Bool) (xs : List ℕ) → length xs ≤ position_or_len test xs → slice_split test xs ≡ xs ∷ []
-all_fail test [] past = refl
-all_fail test (x ∷ xs) past =
-    ⊎_elim
-    (λ t. let first : position_or_len test (x ∷ xs) ≡ 0 = cond-false (not (test x)) _ _ (not_from_true (test x) t) in absurd (omega arith))
-    (λ f.
-    let more : position_or_len test (x ∷ xs) ≡ 1 + position_or_len test xs = cond-true (not (test x)) _ _ (not_from_false (test x) f) in
-    slice_split-cons_no test x xs f ∙ ap (onto_first x) (all_fail test xs (omega arith)))
-    (cases_Bool (test x))
+all_fail test xs past = slice_split_none test xs (All-from_get_or (λ x. test x ≡ false) xs 0 (λ i less. fails_before_first test xs i 0 (omega (arith, less, past))))
 
 none_from_cond : (b : Bool) (x : ℕ) → None ≡ cond b (Some x) None → b ≡ false
 none_from_cond true x is = cc

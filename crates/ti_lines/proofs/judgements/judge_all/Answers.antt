@@ -12,11 +12,9 @@ loop-next-init g c = rw c.new-lines.ensures (progress_start g.J.Judge.rules c.ar
 pub returns-in-Err : goal.returns-in-Err
 returns-in-Err g c =
     let rules = g.J.Judge.rules in
-    let L = g.R.Reader.left in
-    let F = g.R.Reader.failures in
-    let p = progress_takes rules c.args.limit c.args.judge.now L F c.args.reader.now c.loop-next.reader c.next.new.reader c.loop-next.lines c.next.new.self c.loop-next.line c.loop-next.judge c.loop-next.invariant c.in-Err.ensures.takes in
+    let p = progress_takes rules c.args.limit c.args.judge.now g.R.Reader.left g.R.Reader.failures c.args.reader.now c.loop-next.reader c.next.new.reader c.loop-next.lines c.next.new.self c.loop-next.line c.loop-next.judge c.loop-next.invariant c.in-Err.ensures.takes in
     rw c.halted.ensures
-    (exit_halted rules c.args.limit c.args.judge.now c.loop-next.judge L F c.args.reader.now c.loop-next.reader c.next.new.reader c.next.new.self c.loop-next.line c.loop-next.judge c.in-Err.halt p
+    (exit_halted rules c.args.limit c.args.judge.now c.loop-next.judge g.R.Reader.left g.R.Reader.failures c.args.reader.now c.loop-next.reader c.next.new.reader c.next.new.self c.loop-next.line c.loop-next.judge c.in-Err.halt p
     c.loop-next.invariant.gave.counts c.in-Err.ensures.halts c.in-Err.ensures.within)
 
 pub judge_line-requires-clause-taken : goal.judge_line-requires-clause-taken
@@ -27,30 +25,24 @@ judge_line-requires-clause-taken g c =
 pub returns-in_err-judge_line-in-Line : goal.returns-in_err-judge_line-in-Line
 returns-in_err-judge_line-in-Line g c =
     let rules = g.J.Judge.rules in
-    let L = g.R.Reader.left in
-    let F = g.R.Reader.failures in
-    let p = progress_takes rules c.args.limit c.args.judge.now L F c.args.reader.now c.loop-next.reader c.next.new.reader c.loop-next.lines c.next.new.self c.loop-next.line c.loop-next.judge c.loop-next.invariant c.in-Ok.ensures.takes in
-    let is = subst (λ n. IsNext L c.next.new.self c.next.new.reader n) c.in-Line.is c.in-Ok.ensures.next in
+    let p = progress_takes rules c.args.limit c.args.judge.now g.R.Reader.left g.R.Reader.failures c.args.reader.now c.loop-next.reader c.next.new.reader c.loop-next.lines c.next.new.self c.loop-next.line c.loop-next.judge c.loop-next.invariant c.in-Ok.ensures.takes in
+    let is = subst (λ n. IsNext g.R.Reader.left c.next.new.self c.next.new.reader n) c.in-Line.is c.in-Ok.ensures.next in
     let e = err_from_is_err_and c.from_residual.result c.from_residual.ensures.1 in
-    rw (e.1, e.2) (exit_line rules c.args.limit c.args.judge.now c.judge_line.new.judge L F c.args.reader.now c.next.new.reader c.next.new.self c.loop-next.line c.loop-next.judge c.in-Line.count _ p is.0 is.1
+    rw (e.1, e.2) (exit_line rules c.args.limit c.args.judge.now c.judge_line.new.judge g.R.Reader.left g.R.Reader.failures c.args.reader.now c.next.new.reader c.next.new.self c.loop-next.line c.loop-next.judge c.in-Line.count _ p is.0 is.1
     c.in_err-judge_line-in-Line.ensures.fails c.in_err-judge_line-in-Line.ensures.number)
 
 pub returns-in_default : goal.returns-in_default
 returns-in_default g c =
     let rules = g.J.Judge.rules in
-    let L = g.R.Reader.left in
-    let F = g.R.Reader.failures in
-    let p = progress_takes rules c.args.limit c.args.judge.now L F c.args.reader.now c.loop-next.reader c.next.new.reader c.loop-next.lines c.next.new.self c.loop-next.line c.loop-next.judge c.loop-next.invariant c.in-Ok.ensures.takes in
-    exit_closed rules c.args.limit c.args.judge.now c.close.new.judge L F c.args.reader.now c.next.new.reader c.next.new.self c.loop-next.line c.loop-next.judge c.in-Ok.next c.close.result p c.in-Ok.ensures.next
+    let p = progress_takes rules c.args.limit c.args.judge.now g.R.Reader.left g.R.Reader.failures c.args.reader.now c.loop-next.reader c.next.new.reader c.loop-next.lines c.next.new.self c.loop-next.line c.loop-next.judge c.loop-next.invariant c.in-Ok.ensures.takes in
+    exit_closed rules c.args.limit c.args.judge.now c.close.new.judge g.R.Reader.left g.R.Reader.failures c.args.reader.now c.next.new.reader c.next.new.self c.loop-next.line c.loop-next.judge c.in-Ok.next c.close.result p c.in-Ok.ensures.next
     (λ n e. c.in_default.not-Line n e) c.close.ensures.closes c.close.ensures.number
 
 pub loop-next-preserved : goal.loop-next-preserved
 loop-next-preserved g c =
     let rules = g.J.Judge.rules in
-    let L = g.R.Reader.left in
-    let F = g.R.Reader.failures in
-    let p = progress_takes rules c.args.limit c.args.judge.now L F c.args.reader.now c.loop-next.reader c.next.new.reader c.loop-next.lines c.next.new.self c.loop-next.line c.loop-next.judge c.loop-next.invariant c.in-Ok.ensures.takes in
-    let is = subst (λ n. IsNext L c.next.new.self c.next.new.reader n) c.in-Line.is c.in-Ok.ensures.next in
+    let p = progress_takes rules c.args.limit c.args.judge.now g.R.Reader.left g.R.Reader.failures c.args.reader.now c.loop-next.reader c.next.new.reader c.loop-next.lines c.next.new.self c.loop-next.line c.loop-next.judge c.loop-next.invariant c.in-Ok.ensures.takes in
+    let is = subst (λ n. IsNext g.R.Reader.left c.next.new.self c.next.new.reader n) c.in-Line.is c.in-Ok.ensures.next in
     rw c.in_ok-judge_line-in-Line.ensures.passes
-    (progress_line rules c.args.limit c.args.judge.now L F c.args.reader.now c.next.new.reader c.next.new.self c.loop-next.line c.loop-next.judge c.judge_line.new.judge c.in-Line.count p is.0 is.1
+    (progress_line rules c.args.limit c.args.judge.now g.R.Reader.left g.R.Reader.failures c.args.reader.now c.next.new.reader c.next.new.self c.loop-next.line c.loop-next.judge c.judge_line.new.judge c.in-Line.count p is.0 is.1
     c.in_ok-judge_line-in-Line.ensures.judges)
