@@ -5,7 +5,7 @@ use Rattle.vt_term.specs.Screen.{State, Charset, IsOfSize}
 use Rattle.vt_term.specs.Run.{Runs}
 use Rattle.vt_term.specs.Text.{Splits, IsOpen}
 use Rattle.vt_term.specs.Step.{steps}
-use Rattle.vt_term.proofs.Runs.{runs_append, runs_nothing, runs_once, text_runs}
+use Rattle.vt_term.proofs.Runs.{runs_append, runs_nothing, runs_once, text_runs, escape_drops}
 use Rattle.vt_term.proofs.Sequences.{empty_open}
 use Rattle.vt_term.proofs.Splits.{Compared, Longer, Shorter, compare}
 use Rattle.ti_conforms.specs.Charsets.{charset_over}
@@ -16,7 +16,6 @@ use Rattle.vt_term.specs.Ends.{Ends}
 use Rattle.ti_conforms.specs.Lost as lost
 use Rattle.ti_conforms.specs.Lines.{MayBeCut}
 use Rattle.ti_conforms.specs.Resync.{IsLostAndClosed}
-use Rattle.ti_conforms.proofs.Drops.{escape_drops}
 use Rattle.ti_conforms.proofs.Fronts.{fronts_stay, wholes_stay}
 use Rattle.ti_conforms.specs.Table.{Table, has, or_nothing, text_of, widening, resync, resync_front, IsLost, resync_of}
 use Rattle.ti_conforms.specs.Judged.{IsJudged}

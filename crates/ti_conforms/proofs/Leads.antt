@@ -6,7 +6,7 @@ use Rattle.grids.proofs.Drawings.{cell_at-drawn}
 use Rattle.vt_term.specs.Screen.{State, Screen, IsScreen, IsOfSize, Charset, is_graphic}
 use Rattle.vt_term.specs.Step.{steps}
 use Rattle.vt_term.specs.Run.{Runs}
-use Rattle.vt_term.proofs.Runs.{text_runs, runs_append, runs_nothing, run_keeps}
+use Rattle.vt_term.proofs.Runs.{text_runs, runs_append, runs_nothing, run_keeps, escape_drops}
 use Rattle.vt_term.proofs.Sequences.{empty_open}
 use Rattle.vt_effects.specs.declared.effects.Effect.{Effect}
 use Rattle.vt_effects.specs.declared.effects.Erasure.{Erasure}
@@ -26,7 +26,6 @@ use Rattle.vt_term.specs.Ends.{Ends}
 use Rattle.ti_conforms.specs.Lines.{HasLine, free_start, IsQuiet, Clears, MayWiden, Absent, Present}
 use Rattle.ti_conforms.specs.Resync.{Settled, Settles, ResyncLeads}
 use Rattle.vt_effects.proofs.Sayings.{records_tell}
-use Rattle.ti_conforms.proofs.Drops.{escape_drops}
 
 after_line : State → List (List ℕ) → State
 after_line s tokens = record { screen = steps tokens s.screen; rest = [] }

@@ -4,7 +4,6 @@ pub mod Pairs
 pub mod Reaches
 pub mod Settlements
 pub mod Texts
-pub mod Drops
 pub mod Leads
 pub mod Fronts
 pub mod Judgements

@@ -5,7 +5,7 @@ use Rattle.std.proofs.Common.{Bor}
 use Rattle.std.proofs.lemmas.Bool.{false≢true}
 use Rattle.ti_caps.specs.Entry.{Content, string_at}
 use Rattle.ti_rows.specs.declared.rows.Row.{Row}
-use Rattle.ti_rows.specs.declared.rows.Row.TheVariants.{Setaf, Setab, Op, Smul, Rev, Blink, Dim, Bold, Invis, Smso, Smacs, Rmacs}
+use Rattle.ti_rows.specs.declared.rows.Row.TheVariants.{Setaf}
 use Rattle.ti_rows.specs.Names.{order, string_in_order}
 use Rattle.ti_conforms.specs.declared.entries.Group.{Group}
 use Rattle.ti_conforms.specs.declared.entries.Group.TheVariants.{Colors, Single, Sets, Alone}
@@ -33,17 +33,6 @@ group_at n =
 grouped : (row : Row) → group_of row ≡ group_at (order row)
 unfolding group_at
 grouped (Setaf c) = refl
-grouped (Setab c) = refl
-grouped Op = refl
-grouped Smul = refl
-grouped Rev = refl
-grouped Blink = refl
-grouped Dim = refl
-grouped Bold = refl
-grouped Invis = refl
-grouped Smso = refl
-grouped Smacs = refl
-grouped Rmacs = refl
 grouped _ = refl
 
 same_group : (row other : Row) → order row ≡ order other → group_of row ≡ group_of other

@@ -2,7 +2,7 @@
 use Rattle.std.proofs.Common.{◌≡◌, ◌<◌, ◌+◌, ◌-◌, ◌*◌, ◌==◌, ℕ, List, Option, None, if◌then◌else◌, refl, sym, ap, subst, ◌∙◌, arith, below_more}
 use Rattle.vt_term.specs.Size.{IsSize}
 use Rattle.ti_rows.specs.declared.rows.Row.{Row}
-use Rattle.ti_rows.specs.declared.rows.Row.TheVariants.{Cup, Hpa, Vpa, Cub, Cuf, Cuu, Cud, Ech, Sgr, Setaf, Setab, Csr}
+use Rattle.ti_rows.specs.declared.rows.Row.TheVariants.{Cup}
 use Rattle.ti_rows.specs.Names.{order}
 use Rattle.ti_rows.specs.Lists.{IsInRange, above, next, rank, count, Follows}
 use Rattle.ti_rows.proofs.ListFacts.{last_is_last, ranks_below, one_of_rank}
@@ -28,17 +28,6 @@ count_at rows cols n =
 counted : (rows cols : ℕ) (row : Row) → count rows cols row ≡ count_at rows cols (order row)
 unfolding count_at
 counted rows cols (Cup row col) = refl
-counted rows cols (Hpa col) = refl
-counted rows cols (Vpa row) = refl
-counted rows cols (Cub n) = refl
-counted rows cols (Cuf n) = refl
-counted rows cols (Cuu n) = refl
-counted rows cols (Cud n) = refl
-counted rows cols (Ech n) = refl
-counted rows cols (Sgr a) = refl
-counted rows cols (Setaf c) = refl
-counted rows cols (Setab c) = refl
-counted rows cols (Csr top bottom) = refl
 counted rows cols _ = refl
 
 -- rows of one capability have the same number of lists
