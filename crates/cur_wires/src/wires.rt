@@ -1,6 +1,6 @@
 //! The trait of all wires, and sending a whole text.
-ghost use Rattle.std.specs.Prelude.{◌≡◌, ◌<◌, ◌≤◌, ℕ, List, [], length, take, IfOk, OnErr};
-ghost use Rattle.cur_wires.specs.Wire.{IsWire, Rose, Sends};
+ghost use Rattle.std.specs.Prelude.{◌<◌, ℕ, List, length};
+ghost use Rattle.cur_wires.specs.Wire.{IsWire, Sends, SendsSome};
 
 use thiserror::Error;
 
@@ -24,11 +24,7 @@ pub trait Wire {
     /// least one byte. At `WireFault` no byte was sent, and the count of failures rose.
     fn send(&mut self, piece: &[u8]) -> Result<usize, WireFault>
         requires { 0 < length piece.now }
-        ensures some { IfOk result (λ n. 0 < n) }
-        ensures within { IfOk result (λ n. n ≤ length piece.now) }
-        ensures sent { IfOk result (λ n. went self.old self.new (take n piece.now)) }
-        ensures unsent { OnErr result (went self.old self.new []) }
-        ensures failed { OnErr result (Rose (failures self.old) (failures self.new)) };
+        ensures part { SendsSome went failures self.old self.new piece.now result };
 
     ghost lawful: { IsWire went failures };
 }

@@ -1,7 +1,5 @@
 //! Bytes that wait for the program to take them.
-ghost use Rattle.std.specs.Prelude.{◌≡◌, ◌++◌, ◌<◌, ◌≤◌, [], length, min, take, drop, IfOk, OnErr};
-ghost use Rattle.curses_c.specs.Outbox.{Posts};
-ghost use Rattle.cur_wires.specs.Wire.{Rose};
+ghost use Rattle.std.specs.Prelude.{◌≡◌, ◌++◌, ◌<◌, [], length, min, take, drop, IfOk, OnErr};
 
 use cur_wires::{Wire, WireFault};
 use std::alloc::Global;
@@ -83,6 +81,7 @@ impl Outbox {
 }
 
 impl Wire for Outbox {
+    ghost use Rattle.cur_wires.specs.Wire.{SendsSome};
     ghost use Rattle.curses_c.specs.Outbox.{Posts, Posts-lawful};
 
     ghost went = { Posts };
@@ -92,11 +91,7 @@ impl Wire for Outbox {
     /// Keeps `piece`. Fails if there is no memory for it.
     fn send(&mut self, piece: &[u8]) -> Result<usize, WireFault>
         requires { 0 < length piece.now }
-        ensures some { IfOk result (λ n. 0 < n) }
-        ensures within { IfOk result (λ n. n ≤ length piece.now) }
-        ensures sent { IfOk result (λ n. Posts self.old self.new (take n piece.now)) }
-        ensures unsent { OnErr result (Posts self.old self.new []) }
-        ensures failed { OnErr result (Rose self.old.failures self.new.failures) }
+        ensures part { SendsSome Posts (λ o. o.failures) self.old self.new piece.now result }
         ensures whole { IfOk result (λ n. n ≡ length piece.now) }
         ensures fails_only_short { OnErr result (self.old.room < length piece.now) }
     {
