@@ -88,10 +88,10 @@ fn words_of(alloc: Global, no: &No) -> Result<Vec<u8>, Failure>
     ensures says { IfOk result (λ words. words.items ≡ no_text no.now) }
     ensures lacks { IfErr result (λ e. e ≡ Failure.NoMemory) }
 {
-    match no.cause {
-        Cause::NoMemory => Err(Failure::NoMemory),
-        _ => or_no_memory(no_words(alloc, no)),
+    if matches!(no.cause, Cause::NoMemory) {
+        return Err(Failure::NoMemory);
     }
+    or_no_memory(no_words(alloc, no))
 }
 
 fn or_no_memory(words: Result<Vec<u8>, AllocError>) -> Result<Vec<u8>, Failure>
