@@ -27,7 +27,7 @@ use Rattle.cur_steps.proofs.Answers.{moves_few}
 use Rattle.cur_steps.proofs.Turns.{by_screen, calmly, look_at-drawn, stands_at}
 use Rattle.cur_moves.specs.Scrolls.{edge, scroll_row, shifted}
 use Rattle.cur_moves.specs.declared.scrolls.Scroll.{Scroll}
-use Rattle.cur_moves.specs.Frames.{Frame, Framed, Moves, Reframes, at_edge, framed, whole}
+use Rattle.cur_moves.specs.Frames.{Frame, Framed, IsThere, Moves, Reframes, at_edge, framed, whole}
 use Rattle.cur_moves.proofs.Shifts.{choice, shifted_next, shifted_none, times_grows}
 
 -- ---- a line, sent
@@ -64,47 +64,42 @@ row_sent went failures a z answer t checked widens row bytes is paint n f h b le
 any_of : (t : Table) (f : Frame) (b : Belief) (s : State) → Framed t f b s → IsAny t.rows t.cols s.screen
 any_of t f b s h = record { screen = h.sized.state.screen; rows_are = h.sized.rows; cols_are = h.sized.cols; tame = h.tame }
 
+-- a state with other margins, cells and cursor, and all else as before
+framed_anew : (t : Table) (f h : Frame) (b : Belief) (s u : State) (x : List (List Look)) (m n row col : ℕ) (p : Bool) → Framed t f b s → IsOfSize t.rows t.cols u → u.rest ≡ []
+    → u.screen ≡ record s.screen { grid = x; top = m; bottom = n; row = row; col = col; pending = p } → m ≡ h.top → n ≡ h.bottom
+    → ((i j : ℕ) → i < t.rows → j < t.cols → look_at x i j ≡ look_of t.looks (h.cells i j))
+    → IsThere t.cols h.place (record s.screen { grid = x; top = m; bottom = n; row = row; col = col; pending = p }) → Framed t h b u
+framed_anew t f h b s u x m n row col p is sized closed e top bottom cells place =
+    by_screen t (Framed t h b) u (record s.screen { grid = x; top = m; bottom = n; row = row; col = col; pending = p }) sized closed e
+    (λ k. record {
+      sized = k;
+      rest = refl;
+      tame = record { autowrap = is.tame.autowrap; inserting = is.tame.inserting };
+      top = top;
+      bottom = bottom;
+      settled = is.settled;
+      visible = is.visible;
+      cells = cells;
+      place = place;
+      plain = is.plain;
+      set = is.set;
+      seen = is.seen;
+    })
+
 -- the margins are set, and the cursor may be anywhere
 pub margins_set : (t : Table) (f : Frame) (b : Belief) (top bottom : ℕ) → Reframes t (Csr top bottom) f (record { top = top; bottom = bottom; cells = f.cells; place = None }) b
 margins_set t f b top bottom = record {
   starts = λ s h. any_of t f b s h;
-  ends = λ s u h sized closed w. by_screen t (Framed t (record { top = top; bottom = bottom; cells = f.cells; place = None }) b) u
-      (record s.screen { top = top; bottom = bottom; row = u.screen.row; col = u.screen.col; pending = u.screen.pending }) sized closed w.wants.others
-      (λ k. record {
-        sized = k;
-        rest = refl;
-        tame = record { autowrap = h.tame.autowrap; inserting = h.tame.inserting };
-        top = refl;
-        bottom = refl;
-        settled = h.settled;
-        visible = h.visible;
-        cells = h.cells;
-        place = tt;
-        plain = h.plain;
-        set = h.set;
-        seen = h.seen;
-      });
+  ends = λ s u h sized closed w. framed_anew t f (record { top = top; bottom = bottom; cells = f.cells; place = None }) b s u s.screen.grid top bottom u.screen.row u.screen.col u.screen.pending
+      h sized closed w.wants.others refl refl h.cells tt;
 }
 
 -- the cursor moves, whatever the margins are
 pub moved_in : (t : Table) (f : Frame) (b : Belief) (row : ℕ) → 0 < t.cols → Reframes t (Cup row 0) f (framed f.top f.bottom f.cells row) b
 moved_in t f b row some = record {
   starts = λ s h. any_of t f b s h;
-  ends = λ s u h sized closed w. by_screen t (Framed t (framed f.top f.bottom f.cells row) b) u (record s.screen { row = row; col = 0; pending = false }) sized closed w.wants
-      (λ k. record {
-        sized = k;
-        rest = refl;
-        tame = record { autowrap = h.tame.autowrap; inserting = h.tame.inserting };
-        top = h.top;
-        bottom = h.bottom;
-        settled = h.settled;
-        visible = h.visible;
-        cells = h.cells;
-        place = stands_at t.cols row 0 some;
-        plain = h.plain;
-        set = h.set;
-        seen = h.seen;
-      });
+  ends = λ s u h sized closed w. framed_anew t f (framed f.top f.bottom f.cells row) b s u s.screen.grid s.screen.top s.screen.bottom row 0 false
+      h sized closed w.wants h.top h.bottom h.cells (stands_at t.cols row 0 some);
 }
 
 -- ---- scrolling by a line
@@ -132,21 +127,7 @@ on_line t f b s h i j li lj = omega (arith, h.sized.state.screen.columns i (omeg
 recelled : (t : Table) (top bottom row : ℕ) (g h : ℕ → ℕ → Ink) (b : Belief) (s u : State) (x : List (List Look)) → Framed t (framed top bottom g row) b s → IsOfSize t.rows t.cols u → u.rest ≡ [] → u.screen ≡ record s.screen { grid = x }
     → ((i j : ℕ) → i < t.rows → j < t.cols → look_at x i j ≡ look_of t.looks (h i j)) → Framed t (framed top bottom h row) b u
 recelled t top bottom row g h b s u x f sized closed e cells =
-    by_screen t (Framed t (framed top bottom h row) b) u (record s.screen { grid = x }) sized closed e
-    (λ k. record {
-      sized = k;
-      rest = refl;
-      tame = record { autowrap = f.tame.autowrap; inserting = f.tame.inserting };
-      top = f.top;
-      bottom = f.bottom;
-      settled = f.settled;
-      visible = f.visible;
-      cells = cells;
-      place = f.place;
-      plain = f.plain;
-      set = f.set;
-      seen = f.seen;
-    })
+    framed_anew t (framed top bottom g row) (framed top bottom h row) b s u x s.screen.top s.screen.bottom s.screen.row s.screen.col s.screen.pending f sized closed e f.top f.bottom cells f.place
 
 same_up : (x : List (List Look)) (a b c d : ℕ) (l : Look) (s u : Screen) → a ≡ c → b ≡ d → u ≡ record s { grid = scrolled_up a b 1 l x } → u ≡ record s { grid = scrolled_up c d 1 l x }
 same_up x a b c d l s u e f h = h ∙ ap (λ (n : ℕ). record s { grid = scrolled_up n b 1 l x }) e ∙ ap (λ (n : ℕ). record s { grid = scrolled_up c n 1 l x }) f
