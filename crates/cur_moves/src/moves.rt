@@ -94,11 +94,7 @@ fn by_corner(row: u16, col: u16) -> Option<Row>
     ensures moves { (cols : ℕ) (from : Option Place) → IfSome result (λ line. Moves cols from row col line) }
     ensures found { (cols : ℕ) (from : Option Place) → Moves cols from row col Home → result ≡ Some Home }
 {
-    if row == 0 && col == 0 {
-        Some(Row::Home)
-    } else {
-        None
-    }
+    (row == 0 && col == 0).then_some(Row::Home)
 }
 
 /// `cr`, if line `row` is that of the cursor, which is at `at`, and column `col` is the first one.
@@ -106,11 +102,7 @@ fn by_line_start(at: Place, row: u16, col: u16) -> Option<Row>
     ensures moves { (cols : ℕ) → IfSome result (λ line. Moves cols (Some at) row col line) }
     ensures found { (cols : ℕ) → Moves cols (Some at) row col Cr → result ≡ Some Cr }
 {
-    if at.row == row as usize && col == 0 {
-        Some(Row::Cr)
-    } else {
-        None
-    }
+    (at.row == row as usize && col == 0).then_some(Row::Cr)
 }
 
 /// A move by one from `at` to line `row` and column `col`, if that is a neighbor and no wrap is pending.
@@ -169,11 +161,7 @@ fn by_column_name(at: Place, row: u16, col: u16) -> Option<Row>
     ensures moves { (cols : ℕ) → IfSome result (λ line. Moves cols (Some at) row col line) }
     ensures found { (cols n : ℕ) → Moves cols (Some at) row col (Hpa n) → result ≡ Some (Hpa n) }
 {
-    if at.row == row as usize {
-        Some(Row::Hpa(col))
-    } else {
-        None
-    }
+    (at.row == row as usize).then_some(Row::Hpa(col))
 }
 
 /// `vpa` to line `row`, if column `col` is that of the cursor, which is at `at`.
@@ -181,9 +169,5 @@ fn by_row_name(at: Place, row: u16, col: u16) -> Option<Row>
     ensures moves { (cols : ℕ) → IfSome result (λ line. Moves cols (Some at) row col line) }
     ensures found { (cols n : ℕ) → Moves cols (Some at) row col (Vpa n) → result ≡ Some (Vpa n) }
 {
-    if at.col == col as usize {
-        Some(Row::Vpa(row))
-    } else {
-        None
-    }
+    (at.col == col as usize).then_some(Row::Vpa(row))
 }
