@@ -2,6 +2,7 @@ pub mod Actions
 pub mod Answers
 pub mod LookFacts
 pub mod Prints
+pub mod RowTexts
 pub mod Sameness
 pub mod SetFacts
 pub mod SingleFacts

@@ -8,3 +8,4 @@ pub mod Sets
 pub mod Singles
 pub mod Steps
 pub mod Stretches
+pub mod Texts

@@ -2,7 +2,8 @@
 ghost use Rattle.std.specs.Prelude.{◌≡◌, ◌≤◌, ℕ, length, Some, true};
 ghost use Rattle.ti_conforms.specs.Certified.{IsChecked, has, limit_of, text_of};
 ghost use Rattle.cur_steps.specs.{Beliefs.{Belief, LeadsTo, Passes, Turns}, Pieces.{paints}, Steps.{Acts, KeepsText}};
-ghost use Rattle.cur_steps.specs.declared.inks.Ink.{Ink};
+ghost use Rattle.cur_steps.specs.{Texts.{texts_of}, declared.inks.Ink.{Ink}};
+ghost use Rattle.cur_wires.specs.Wire.{Sends};
 
 use crate::pens::Sent;
 use cur_wires::{Wire, send_all};
@@ -53,4 +54,24 @@ pub(crate) fn send_line_of<C: Certificate, W: Wire>(checked: &C, row: Row, wire:
         Some(line) => send_line(checked, row, line, wire),
         None => Ok(()),
     }
+}
+
+/// Sends the string for `row`, if there is one.
+fn send_row<C: Certificate, W: Wire>(checked: &C, row: Row, wire: &mut W) -> Sent
+    ensures sends { Sends W.went W.failures wire.old wire.new (text_of (C.table checked.now) row) result }
+{
+    match checked.line(row) {
+        Some(line) => send_all(wire, line),
+        None => Ok(()),
+    }
+}
+
+/// Sends the strings for `rows`, one after another, as far as there are any.
+pub fn send_rows<C: Certificate, W: Wire>(checked: &C, rows: &[Row], wire: &mut W) -> Sent
+    ensures sends { Sends W.went W.failures wire.old wire.new (texts_of (C.table checked.now) rows.now) result }
+{
+    for row in rows {
+        send_row(checked, *row, wire)?;
+    }
+    Ok(())
 }
