@@ -36,6 +36,7 @@ PUBLISHED = [
     "cur_update",
     "cur_play",
     "ti_commands",
+    "vt_commands",
     "ti_verdicts",
     "ti_surveys",
     "ti_mends",
@@ -52,8 +53,8 @@ PUBLISHED = [
 COMMANDS = [
     ("the command line", [("ti_arguments", "parse_line")]),
     ("expand", [("ti_commands", "expand_string")]),
-    ("feed", [("ti_commands", "feed_file")]),
-    ("feed --state, --json, --cases", [("ti_commands", "feed_state")]),
+    ("feed", [("vt_commands", "feed_file")]),
+    ("feed --state, --json, --cases", [("vt_commands", "feed_state")]),
     ("infocmp", [("ti_commands", "print_entry"), ("ti_commands", "compare_entries")]),
     ("tic", [("ti_commands", "compile_entry")]),
     ("verify", [("ti_verdicts", "verify_certificate")]),

@@ -26,6 +26,7 @@ PARTS = [
             "ti_wrapped",
             "ti_verdicts",
             "ti_places",
+            "vt_commands",
             "ti_commands",
             "ti_hints",
             "ti_words",

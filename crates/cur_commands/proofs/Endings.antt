@@ -6,7 +6,7 @@ use Rattle.vt_term.specs.Run.{Runs, Sticks}
 use Rattle.vt_term.specs.Screen.{State, reset}
 use Rattle.vt_term.specs.declared.terminals.Stuck.{Stuck}
 use Rattle.vt_term.proofs.Runs.{runs_or_sticks}
-use Rattle.ti_commands.specs.Feeds.{ShowsAfter}
+use Rattle.vt_commands.specs.Feeds.{ShowsAfter}
 use Rattle.ti_conforms.specs.Certified.{Table}
 use Rattle.cur_play.specs.Log.{Ran}
 use Rattle.cur_play.specs.declared.runs.LogEntry.{LogEntry}

@@ -1,6 +1,6 @@
 //! Runs of calls on the specified terminal.
 ghost use Rattle.std.specs.Prelude.{◌≡◌, [], IfOk, Some};
-ghost use Rattle.ti_commands.specs.Feeds.{ShowsAfter};
+ghost use Rattle.vt_commands.specs.Feeds.{ShowsAfter};
 ghost use Rattle.cur_play.specs.Log.{Ran};
 ghost use Rattle.cur_commands.specs.{Shows.{IsTaken, ShowsRun}, Through.{AreThrough, unfailing}};
 

@@ -4,5 +4,4 @@ pub mod Params
 pub mod Listings
 pub mod Expansions
 pub mod Colons
-pub mod FeedFacts
 pub mod Comparisons

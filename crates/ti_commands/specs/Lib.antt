@@ -5,10 +5,8 @@ pub mod Failures
 pub mod Sizes
 pub mod Listings
 pub mod Expansions
-pub mod Feeds
 pub mod Further
 pub mod Findings
 pub mod Replies
 pub mod Sources
 pub mod Refusals
-pub mod States

@@ -14,8 +14,7 @@ use std::io::{IsTerminal, Write};
 use ti_arguments::{Asked, ParsedLine, UsageFault, parse_line};
 use ti_commands::{
     CommandRefusal, Comparison, Failure, Files, Output, Reply, Written, compare_entries,
-    compile_entry, expand_string, feed_file, feed_state, print_entry, report, write_reply,
-    write_text,
+    compile_entry, expand_string, print_entry, report, write_reply, write_text,
 };
 use ti_mends::fix_entry;
 use ti_places::LinedFile;
@@ -27,6 +26,7 @@ use ti_surveys::{Survey, survey_files};
 use ti_verdicts::{Checker, check_all, check_entry, verify_certificate};
 use ti_words::Remarks;
 use ti_wrapped::{Beside, Wrapped};
+use vt_commands::{feed_file, feed_state};
 
 /// The output of a command, and the standard error.
 #[derive(Drop)]

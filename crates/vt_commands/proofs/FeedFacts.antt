@@ -3,7 +3,7 @@ use Rattle.std.proofs.Common.{◌≡◌, ◌≤◌, [], ℕ, List, None, subst, 
 use Rattle.ti_commands.specs.Failures.{IsFileFailure}
 use Rattle.ti_commands.specs.Contents.{AreBytesOf, Held, longest_file}
 use Rattle.ti_commands.specs.Sizes.{LacksSize, SizeGiven}
-use Rattle.ti_commands.specs.Feeds.{FailsToFeed, ShowsAfter, ShowsScreen, IsStuckFailure}
+use Rattle.vt_commands.specs.Feeds.{FailsToFeed, ShowsAfter, ShowsScreen, IsStuckFailure}
 use Rattle.ti_commands.specs.declared.failure.Failure.{Failure}
 use Rattle.ti_commands.specs.declared.failure.Failure.TheVariants.{Refused, RefusedUnwritten, Usage, File, Output, NoMemory}
 use Rattle.ti_commands.specs.declared.failure.CommandRefusal.TheVariants as refusals

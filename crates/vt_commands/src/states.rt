@@ -1,21 +1,19 @@
 //! The command `feed` with options.
 
 ghost use Rattle.std.specs.Prelude.{◌≡◌, IfErr, IfOk};
-ghost use Rattle.ti_commands.specs.States.{FailsToShow, FailsWith, IsBadLineFailure, Shows, ShowsForm, ShowsStates};
-ghost use Rattle.ti_commands.specs.{States.{fed_of, line_text, note_of, notes_of}, Feeds.{IsStuckFailure}};
+ghost use Rattle.vt_term.specs.{Run.{Runs}, Screen.{reset}};
 ghost use Rattle.vt_states.specs.Cases.{AreAnswers};
 ghost use Rattle.ti_requests.specs.declared.feeds.FeedForm.TheVariants as forms;
+ghost use Rattle.vt_commands.specs.States.{FailsToShow, FailsWith, IsBadLineFailure, Shows, ShowsForm, ShowsStates};
+ghost use Rattle.vt_commands.specs.{States.{fed_of, line_text, note_of, notes_of}, Feeds.{IsStuckFailure}};
 
-use crate::contents::{LONGEST_FILE, read_whole};
-use crate::failure::{CommandRefusal, Failure, Reply};
+use crate::fed::{Fed, stuck_failure};
 use crate::feeds::screen_after;
-use crate::files::Files;
-use crate::sizes::size_words;
 use std::alloc::{AllocError, Global};
+use ti_commands::{CommandRefusal, Failure, Files, LONGEST_FILE, Reply, read_whole, size_words};
 use ti_requests::{FeedForm, FeedWords};
-use ti_words::{Remarks, explain_stuck};
+use ti_words::Remarks;
 use vt_states::{CaseFault, Snapshot, case_answers, plain_recording};
-use vt_term::{Size, Stuck};
 
 /// Feeds the file of the `words` to a terminal in its reset state, and shows the state that it
 /// leaves in the form that they ask for; or the states of all cases of the file. In a recording
@@ -32,8 +30,13 @@ pub fn feed_state<F: Files>(
 {
     let size = size_words(alloc, words.rows, words.cols, remarks)?;
     let bytes = read_whole(alloc, files, words.file, LONGEST_FILE, remarks)?;
-    let (fed, notes) = fed_bytes(alloc, words.plain_text, bytes)?;
-    let text = shown(alloc, words, size, fed.as_slice(), remarks)?;
+    let (plain, notes) = fed_bytes(alloc, words.plain_text, bytes)?;
+    let fed = Fed {
+        size,
+        path: words.file,
+        bytes: plain.as_slice(),
+    };
+    let text = shown(alloc, words.form, fed, remarks)?;
     Ok(Reply {
         notes,
         text,
@@ -72,94 +75,80 @@ fn note(alloc: Global, dropped: usize, replaced: usize) -> Result<Vec<u8>, Alloc
     Vec::from_slice(alloc, text.as_bytes())
 }
 
-/// The output that `words` ask for, from the `bytes` of their file.
+/// The output in this form after the bytes that a terminal is fed with.
 fn shown(
     alloc: Global,
-    words: &FeedWords<'_>,
-    size: Size,
-    bytes: &[u8],
+    form: FeedForm,
+    fed: Fed<'_>,
     remarks: &mut Remarks,
 ) -> Result<Vec<u8>, Failure>
-    ensures text { IfOk result (λ text. Shows words.now.form size.rows size.cols bytes.now text.items) }
-    ensures failure { IfErr result (λ e. FailsWith words.now.form size.rows size.cols bytes.now e) }
+    ensures text { IfOk result
+        (λ text. Shows form fed.entry.size.rows fed.entry.size.cols fed.entry.bytes.now text.items) }
+    ensures failure { IfErr result
+        (λ e. FailsWith form fed.entry.size.rows fed.entry.size.cols fed.entry.bytes.now e) }
 {
-    match words.form {
-        FeedForm::Screen => screen_after(alloc, size, words.file, bytes, remarks),
-        FeedForm::State => lines_after(alloc, size, words.file, bytes, remarks),
-        FeedForm::Json => object_after(alloc, size, words.file, bytes, remarks),
-        FeedForm::Cases => answers_to(alloc, size, words.file, bytes, remarks),
+    match form {
+        FeedForm::Screen => screen_after(alloc, fed, remarks),
+        FeedForm::State => lines_after(alloc, fed, remarks),
+        FeedForm::Json => object_after(alloc, fed, remarks),
+        FeedForm::Cases => answers_to(alloc, fed, remarks),
     }
 }
 
 /// The whole state after the bytes, as lines.
-fn lines_after(
-    alloc: Global,
-    size: Size,
-    path: &str,
-    bytes: &[u8],
-    remarks: &mut Remarks,
-) -> Result<Vec<u8>, Failure>
-    ensures text { IfOk result (λ text. ShowsForm forms.State size.rows size.cols bytes.now text.items) }
-    ensures failure { IfErr result (λ e. IsStuckFailure size.rows size.cols bytes.now e) }
+fn lines_after(alloc: Global, fed: Fed<'_>, remarks: &mut Remarks) -> Result<Vec<u8>, Failure>
+    ensures text { IfOk result
+        (λ text. ShowsForm forms.State fed.entry.size.rows fed.entry.size.cols fed.entry.bytes.now text.items) }
+    ensures failure { IfErr result
+        (λ e. IsStuckFailure fed.entry.size.rows fed.entry.size.cols fed.entry.bytes.now e) }
 {
-    match Snapshot::after(alloc, size, bytes)? {
-        (snapshot, None) => Ok(snapshot.print(alloc)?),
-        (_, Some(stuck)) => Err(stuck_failure(alloc, path, bytes, stuck, remarks)),
-    }
+    let snapshot = state_after(alloc, fed, remarks)?;
+    Ok(snapshot.print(alloc)?)
 }
 
 /// The whole state after the bytes, as an object, and an LF.
-fn object_after(
-    alloc: Global,
-    size: Size,
-    path: &str,
-    bytes: &[u8],
-    remarks: &mut Remarks,
-) -> Result<Vec<u8>, Failure>
-    ensures text { IfOk result (λ text. ShowsForm forms.Json size.rows size.cols bytes.now text.items) }
-    ensures failure { IfErr result (λ e. IsStuckFailure size.rows size.cols bytes.now e) }
+fn object_after(alloc: Global, fed: Fed<'_>, remarks: &mut Remarks) -> Result<Vec<u8>, Failure>
+    ensures text { IfOk result
+        (λ text. ShowsForm forms.Json fed.entry.size.rows fed.entry.size.cols fed.entry.bytes.now text.items) }
+    ensures failure { IfErr result
+        (λ e. IsStuckFailure fed.entry.size.rows fed.entry.size.cols fed.entry.bytes.now e) }
 {
-    match Snapshot::after(alloc, size, bytes)? {
-        (snapshot, None) => {
-            let mut text = Vec::new(alloc);
-            snapshot.push_object(alloc, b"", &mut text)?;
-            text.push(b'\n')?;
-            Ok(text)
-        }
-        (_, Some(stuck)) => Err(stuck_failure(alloc, path, bytes, stuck, remarks)),
+    let snapshot = state_after(alloc, fed, remarks)?;
+    let mut text = Vec::new(alloc);
+    snapshot.push_object(alloc, b"", &mut text)?;
+    text.push(b'\n')?;
+    Ok(text)
+}
+
+/// The whole state after the bytes.
+fn state_after<'a>(
+    alloc: Global,
+    fed: Fed<'a>,
+    remarks: &mut Remarks,
+) -> Result<Snapshot<'a>, Failure>
+    ensures state { IfOk result
+        (λ after. Runs (reset fed.entry.size.rows fed.entry.size.cols) fed.entry.bytes.now after) }
+    ensures failure { IfErr result
+        (λ e. IsStuckFailure fed.entry.size.rows fed.entry.size.cols fed.entry.bytes.now e) }
+{
+    match Snapshot::after(alloc, fed.size, fed.bytes)? {
+        (snapshot, None) => Ok(snapshot),
+        (_, Some(stuck)) => Err(stuck_failure(alloc, fed, stuck, remarks)),
     }
 }
 
-/// The failure of the file at `path`, whose bytes got stuck.
-fn stuck_failure(
-    alloc: Global,
-    path: &str,
-    bytes: &[u8],
-    stuck: Stuck,
-    remarks: &mut Remarks,
-) -> Failure
-    ensures { result ≡ Failure.Refused (CommandRefusal.Stuck stuck) }
+/// The answers to the cases of the file.
+fn answers_to(alloc: Global, fed: Fed<'_>, remarks: &mut Remarks) -> Result<Vec<u8>, Failure>
+    ensures text { IfOk result
+        (λ text. AreAnswers fed.entry.size.rows fed.entry.size.cols fed.entry.bytes.now text.items) }
+    ensures failure { IfErr result
+        (λ e. FailsWith forms.Cases fed.entry.size.rows fed.entry.size.cols fed.entry.bytes.now e) }
 {
-    explain_stuck(alloc, path.as_bytes(), bytes, stuck.at, remarks);
-    Failure::Refused(CommandRefusal::Stuck(stuck))
-}
-
-/// The answers to the cases of the file at `path`.
-fn answers_to(
-    alloc: Global,
-    size: Size,
-    path: &str,
-    file: &[u8],
-    remarks: &mut Remarks,
-) -> Result<Vec<u8>, Failure>
-    ensures text { IfOk result (λ text. AreAnswers size.rows size.cols file.now text.items) }
-    ensures failure { IfErr result (λ e. FailsWith forms.Cases size.rows size.cols file.now e) }
-{
-    match case_answers(alloc, size, file) {
+    match case_answers(alloc, fed.size, fed.bytes) {
         Ok(text) => Ok(text),
         Err(CaseFault::NoMemory) => Err(Failure::NoMemory),
         Err(CaseFault::BadLine(line)) => {
-            remarks.add(path.as_bytes(), CASE_WORDS);
+            remarks.add(fed.path.as_bytes(), CASE_WORDS);
             Err(bad_line(alloc, line))
         }
     }

@@ -13,7 +13,7 @@ use Rattle.vt_states.specs.Json.{object}
 use Rattle.vt_states.specs.Lines.{state_text}
 use Rattle.vt_states.specs.Recordings.{all_parts, dropped, plain_text, replaced, total}
 use Rattle.ti_commands.specs.Contents.{HasBytes, Held, longest_file}
-use Rattle.ti_commands.specs.Feeds.{IsStuckFailure, ShowsAfter}
+use Rattle.vt_commands.specs.Feeds.{IsStuckFailure, ShowsAfter}
 use Rattle.ti_commands.specs.Sizes.{HasSize, LacksSize, SizeGiven}
 use Rattle.ti_commands.specs.declared.failure.Failure.{Failure}
 use Rattle.ti_commands.specs.declared.failure.Failure.TheVariants.{Refused, File, NoMemory}

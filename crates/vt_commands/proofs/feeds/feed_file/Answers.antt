@@ -1,7 +1,7 @@
 use Rattle.std.proofs.Common.{ap, arith}
 use Rattle.std.proofs.lemmas.Result.{err_from_is_err_and}
-use Rattle.ti_commands.proofs.FeedFacts.{file_told, screen_shown, size_told, stuck_told}
-use Rattle.ti_commands.proofs.feeds.feed_file.Goals as goal
+use Rattle.vt_commands.proofs.FeedFacts.{file_told, screen_shown, size_told, stuck_told}
+use Rattle.vt_commands.proofs.feeds.feed_file.Goals as goal
 
 pub returns-in_err-size-clause-failure : goal.returns-in_err-size-clause-failure
 returns-in_err-size-clause-failure g c =
