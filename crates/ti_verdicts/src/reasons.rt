@@ -7,7 +7,7 @@ use ti_checker::{Cause, No};
 use ti_places::row_of;
 use ti_rows::Row;
 use ti_words::{
-    NO_RESYNC, NOT_TAME, Remarks, STATIC_READ, STAYS_GRAPHIC, TOO_LONG, explain_absent,
+    NO_RESYNC, NOT_TAME, Remarks, STATIC_READ, STAYS_GRAPHIC, Sent, TOO_LONG, explain_absent,
     explain_field, explain_flag, explain_look, explain_pairs, explain_run, explain_unshown,
     explain_whole, first_of_resync, unsent_words,
 };
@@ -28,15 +28,9 @@ fn explain_cause(
     let row = match no.cause {
         Cause::NoResync => first_of_resync(alloc, entry, size),
         Cause::FlagOut | Cause::Absent | Cause::AcsByte | Cause::NoMemory => None,
-        Cause::Parm(_)
-        | Cause::StaticRead
-        | Cause::Unfinished
-        | Cause::Stuck
-        | Cause::NotTame
-        | Cause::BadLook
-        | Cause::WrongEffect(_)
-        | Cause::NotShown
-        | Cause::TooLong => row_of(no),
+        Cause::Parm(_) | Cause::StaticRead | Cause::Unfinished | Cause::Stuck => row_of(no),
+        Cause::NotTame | Cause::BadLook | Cause::WrongEffect(_) => row_of(no),
+        Cause::NotShown | Cause::TooLong => row_of(no),
     };
     match no.cause {
         Cause::FlagOut => explain_flag(no.cap, remarks),
@@ -62,56 +56,53 @@ fn explain_string(
     cause: Cause,
     remarks: &mut Remarks,
 ) -> Result<(), AllocError> {
-    let unsent: &[u8] = match cause {
+    let Some(bytes) = explain_field(alloc, entry, row, unsent_by(cause), remarks)? else {
+        return Ok(());
+    };
+    let sent = Sent {
+        size,
+        row,
+        bytes: bytes.as_slice(),
+    };
+    explain_sent(alloc, sent, cause, remarks)
+}
+
+/// The words about a string that sends nothing for this `cause`.
+fn unsent_by(cause: Cause) -> &'static [u8] {
+    match cause {
         Cause::StaticRead => STATIC_READ,
         Cause::Parm(fault) => unsent_words(fault),
-        Cause::FlagOut
-        | Cause::Absent
-        | Cause::AcsByte
-        | Cause::Unfinished
-        | Cause::Stuck
-        | Cause::NotTame
-        | Cause::BadLook
-        | Cause::WrongEffect(_)
-        | Cause::NotShown
-        | Cause::TooLong
-        | Cause::NoResync
-        | Cause::NoMemory => b" can't be expanded",
-    };
-    match explain_field(alloc, entry, row, unsent, remarks)? {
-        Some(bytes) => explain_sent(alloc, size, row, cause, bytes.as_slice(), remarks),
-        None => Ok(()),
+        Cause::FlagOut | Cause::Absent | Cause::AcsByte | Cause::Unfinished => UNSENT,
+        Cause::Stuck | Cause::NotTame | Cause::BadLook | Cause::WrongEffect(_) => UNSENT,
+        Cause::NotShown | Cause::TooLong | Cause::NoResync | Cause::NoMemory => UNSENT,
     }
 }
 
-/// Explains the fault of `bytes`, which a string sends for `row`.
+/// The words about a string that sends nothing, for no reason that its fault has.
+const UNSENT: &[u8] = b" can't be expanded";
+
+/// Explains the fault of the bytes that were `sent`.
 fn explain_sent(
     alloc: Global,
-    size: Size,
-    row: Row,
+    sent: Sent<'_>,
     cause: Cause,
-    bytes: &[u8],
     remarks: &mut Remarks,
 ) -> Result<(), AllocError> {
     match cause {
-        Cause::Unfinished | Cause::Stuck => explain_whole(alloc, bytes, remarks)?,
-        Cause::BadLook => explain_look(alloc, size, row, bytes, remarks)?,
+        Cause::Unfinished | Cause::Stuck => explain_whole(alloc, sent.bytes, remarks)?,
+        Cause::BadLook => explain_look(alloc, sent, remarks)?,
         Cause::WrongEffect(probe) => {
-            if let Some(terminal) = terminal_at(alloc, size, &probe)? {
-                explain_run(alloc, row, bytes, terminal, probe.fill, remarks)?;
+            if let Some(terminal) = terminal_at(alloc, sent.size, &probe)? {
+                explain_run(alloc, sent, terminal, probe.fill, remarks)?;
             }
         }
         Cause::NotTame => remarks.add_words(NOT_TAME),
         Cause::TooLong => remarks.add_words(TOO_LONG),
         Cause::NoResync => remarks.add_words(NO_RESYNC),
-        Cause::NotShown => explain_unshown(alloc, size, row, bytes, remarks)?,
-        // these are told before any bytes are looked at
-        Cause::FlagOut
-        | Cause::Absent
-        | Cause::AcsByte
-        | Cause::Parm(_)
-        | Cause::StaticRead
-        | Cause::NoMemory => {}
+        Cause::NotShown => explain_unshown(alloc, sent, remarks)?,
+        // Earlier functions tell these before they look at any bytes.
+        Cause::FlagOut | Cause::Absent | Cause::AcsByte | Cause::NoMemory => {}
+        Cause::Parm(_) | Cause::StaticRead => {}
     }
     Ok(())
 }

@@ -199,47 +199,51 @@ pub fn unsent_words(fault: ParmFault) -> &'static [u8] {
     }
 }
 
-/// Explains that `bytes`, which a string sends for `row`, weren't judged right, though nothing wrong was found: because
-/// of this string alone, or, at `clear`, because of all strings of the entry together.
+/// The bytes that a checked string sends for a row, to a terminal of this size.
+#[derive(Clone, Copy)]
+pub struct Sent<'a> {
+    pub size: Size,
+    pub row: Row,
+    pub bytes: &'a [u8],
+}
+
+/// Explains that the bytes that were `sent` weren't judged right, though nothing wrong was found: because of their
+/// string alone, or, at `clear`, because of all strings of the entry together.
 pub fn explain_unshown(
     alloc: Global,
-    size: Size,
-    row: Row,
-    bytes: &[u8],
+    sent: Sent<'_>,
     remarks: &mut Remarks,
 ) -> Result<(), AllocError> {
-    if row == Row::Clear && does_its_own(alloc, size, row, bytes) {
+    if sent.row == Row::Clear && does_its_own(alloc, sent) {
         remarks.add_words(NOT_TOGETHER);
         return Ok(());
     }
-    remarks.add_words(wanted_line(alloc, row)?.as_slice());
+    remarks.add_words(wanted_line(alloc, sent.row)?.as_slice());
     remarks.add_words(NOT_SHOWN);
     Ok(())
 }
 
-/// Whether the effect of `bytes` is the one that is asked for by `row`, if no attribute can be seen. The set that
-/// `smacs` and `rmacs` leave active doesn't count.
-fn does_its_own(alloc: Global, size: Size, row: Row, bytes: &[u8]) -> bool {
-    let Ok(found) = tokens(alloc, bytes) else {
+/// Whether the effect of the bytes that were `sent` is the one that is asked for by their row, if no attribute can be
+/// seen. The set that `smacs` and `rmacs` leave active doesn't count.
+fn does_its_own(alloc: Global, sent: Sent<'_>) -> bool {
+    let Ok(found) = tokens(alloc, sent.bytes) else {
         return false;
     };
-    match effect_of(found.as_slice(), size, &row.start(size)) {
-        Some(effect) => effect == row.asked(NO_LOOKS, &effect),
+    match effect_of(found.as_slice(), sent.size, &sent.row.start(sent.size)) {
+        Some(effect) => effect == sent.row.asked(NO_LOOKS, &effect),
         None => false,
     }
 }
 
-/// Explains which renditions `bytes` turn on. They must be sent by a string for `row`, which turns on one attribute.
+/// Explains which renditions the bytes that were `sent` turn on. Their row must be one that turns on one attribute.
 pub fn explain_look(
     alloc: Global,
-    size: Size,
-    row: Row,
-    bytes: &[u8],
+    sent: Sent<'_>,
     remarks: &mut Remarks,
 ) -> Result<(), AllocError> {
-    let mut terminal = Terminal::new(alloc, size)?;
-    let _ = terminal.feed(bytes);
-    let wanted = wanted_line(alloc, row)?;
+    let mut terminal = Terminal::new(alloc, sent.size)?;
+    let _ = terminal.feed(sent.bytes);
+    let wanted = wanted_line(alloc, sent.row)?;
     let mut words = Vec::from_slice(alloc, b"seen: sent after a reset, it makes the rendition")?;
     push_rendition(terminal.rendition(), &mut words)?;
     remarks.add_words(wanted.as_slice());
@@ -248,28 +252,26 @@ pub fn explain_look(
     Ok(())
 }
 
-/// Explains what is wrong with `bytes`, which a string sends for `row`, by running them on `terminal`. All cells of the
-/// terminal must show the character `fill`.
+/// Explains what is wrong with the bytes that were `sent` by running them on `terminal`, which must have their size. All
+/// of its cells must show the character `fill`.
 pub fn explain_run(
     alloc: Global,
-    row: Row,
-    bytes: &[u8],
+    sent: Sent<'_>,
     mut terminal: Terminal,
     fill: u8,
     remarks: &mut Remarks,
 ) -> Result<(), AllocError> {
-    let size = terminal.size();
     let start = terminal.settings();
-    if terminal.feed(bytes).is_err() {
+    if terminal.feed(sent.bytes).is_err() {
         return Ok(());
     }
-    let wanted = wanted_line(alloc, row)?;
+    let wanted = wanted_line(alloc, sent.row)?;
     let mut seen = Vec::from_slice(alloc, b"seen: ")?;
     seen.extend_from_slice(seen_words(alloc, &start, &terminal, fill)?.as_slice())?;
     let mut began = Vec::from_slice(alloc, b"start: ")?;
-    began.extend_from_slice(start_words(alloc, size, &start, fill)?.as_slice())?;
+    began.extend_from_slice(start_words(alloc, sent.size, &start, fill)?.as_slice())?;
     remarks.add_words(began.as_slice());
-    if does_its_own(alloc, size, row, bytes) {
+    if does_its_own(alloc, sent) {
         remarks.add_words(LED_THERE);
     }
     remarks.add_words(wanted.as_slice());

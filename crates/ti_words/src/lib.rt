@@ -17,7 +17,7 @@ mod wanted;
 
 pub use certificates::{explain_disagreement, explain_line, first_line_words, missing_line_words};
 pub use checked_strings::{
-    NO_RESYNC, NOT_TAME, STATIC_READ, STAYS_GRAPHIC, TOO_LONG, explain_absent, explain_field,
+    NO_RESYNC, NOT_TAME, STATIC_READ, STAYS_GRAPHIC, Sent, TOO_LONG, explain_absent, explain_field,
     explain_flag, explain_look, explain_pairs, explain_run, explain_unshown, first_of_resync,
     unsent_words,
 };
