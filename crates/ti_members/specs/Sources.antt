@@ -9,9 +9,9 @@ use Rattle.ti_entries.specs.BadUses.{IsBadUse}
 use Rattle.ti_joins.specs.declared.places.Region.{Region}
 use Rattle.ti_members.specs.Names.{HasName}
 use Rattle.ti_members.specs.declared.forms.Written.{Written}
-use Rattle.ti_reports.specs.declared.lines.Standing.{Standing}
-use Rattle.ti_reports.specs.declared.lines.Standing.TheVariants.{Unsourced, Named, Placed}
-use Rattle.ti_reports.specs.declared.lines.ValuePlace.{ValuePlace}
+use Rattle.ti_members.specs.declared.places.Standing.{Standing}
+use Rattle.ti_members.specs.declared.places.Standing.TheVariants.{Unsourced, Named, Placed}
+use Rattle.ti_members.specs.declared.places.ValuePlace.{ValuePlace}
 use Rattle.ti_resolve.specs.Origins.{IsOrigin, IsOriginAt}
 use Rattle.ti_resolve.specs.Uses.{names_at}
 use Rattle.ti_resolve.specs.declared.origins.Origin.{Origin}

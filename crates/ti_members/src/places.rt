@@ -2,16 +2,19 @@
 
 ghost use Rattle.std.specs.Prelude.{◌≡◌, ◌<◌, ◌==◌, IfOk, IfSome, None, Some, if◌then◌else◌, length, map, option_map};
 ghost use Rattle.ti_members.specs.Names.{IsNameOf};
-ghost use Rattle.ti_reports.specs.Sources as spec;
+ghost use Rattle.ti_members.specs.Sources as spec;
 ghost use Rattle.ti_resolve.specs.Uses.{names_at};
 ghost use Rattle.ti_places.specs.{Locations.{first_name, place_if, place_in}, Spots.{file_text, line_of}};
 
+use crate::forms::Written;
+use crate::names::name_of;
 use std::alloc::{AllocError, Global};
 use ti_caps::Cap;
 use ti_commands::CommandRefusal;
 use ti_joins::Region;
-use ti_members::{Written, name_of};
-use ti_places::{FieldPlace, Judged, LinedFile, NamedSource, SourcePlace, begun_line, first_name};
+use ti_places::{
+    FieldPlace, Judged, LinedFile, NamedSource, SourcePlace, begun_line, first_name, names_of,
+};
 use ti_resolve::Origin;
 use ti_source::RawEntry;
 
@@ -264,23 +267,8 @@ fn number_of(line: usize) -> Option<usize>
 }
 
 /// The first name of the entry of `raws` that has the field at `origin`.
-pub(crate) fn holder(
-    alloc: Global,
-    raws: &[RawEntry],
-    origin: Origin,
-) -> Result<Written, AllocError>
+pub fn holder(alloc: Global, raws: &[RawEntry], origin: Origin) -> Result<Written, AllocError>
     ensures { IfOk result (λ name. IsNameOf (first_name (names_at raws.now origin.entry)) name) }
 {
     name_of(alloc, first_name(names_of(raws, origin.entry)))
-}
-
-/// The names of the entry at `place`.
-#[tactic(auto, unfolding(ti_resolve::specs::Uses::names_at))]
-fn names_of(raws: &[RawEntry], place: usize) -> &[u8]
-    ensures { result.now ≡ names_at raws.now place }
-{
-    match raws.get(place) {
-        Some(raw) => raw.names.as_slice(),
-        None => &[],
-    }
 }

@@ -12,7 +12,7 @@ mod source_places;
 mod spots;
 
 pub use faulty_parts::{Judged, row_of};
-pub use locations::{PlacedFault, first_name, location, placed};
+pub use locations::{PlacedFault, first_name, location, names_of, placed};
 pub use originals::{begun_line, region_at};
 pub use refusals::{cause_name, disagreement_words, fault_words, no_failure, no_words, verdict};
 pub use source_places::{NamedSource, SourcePlace};

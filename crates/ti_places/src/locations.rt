@@ -379,9 +379,9 @@ fn fault_lines(
     Ok(lines)
 }
 
-/// The names of the entry at `place`.
+/// The names of the entry at `place`; none if there is no such entry.
 #[tactic(auto, unfolding(ti_resolve::specs::Uses::names_at))]
-fn names_of(raws: &[RawEntry], place: usize) -> &[u8]
+pub fn names_of(raws: &[RawEntry], place: usize) -> &[u8]
     ensures { result.now ≡ names_at raws.now place }
 {
     match raws.get(place) {

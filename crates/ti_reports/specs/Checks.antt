@@ -12,7 +12,7 @@ use Rattle.ti_commands.specs.declared.sources.SourceText.{SourceText}
 use Rattle.ti_reports.specs.Faults.{AreFoundLines}
 use Rattle.ti_reports.specs.Findings.{AreFaults}
 use Rattle.ti_reports.specs.Lacks.{ReportsLackOf, is_alone}
-use Rattle.ti_reports.specs.Sources.{Whereabouts, by_name}
+use Rattle.ti_members.specs.Sources.{Whereabouts, by_name}
 use Rattle.ti_places.specs.Spots.{FileText}
 use Rattle.ti_requests.specs.declared.request.FaultsWords.{FaultsWords}
 use Rattle.ti_verdicts.specs.Checks.{TellsNotes}

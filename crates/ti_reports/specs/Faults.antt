@@ -12,7 +12,7 @@ use Rattle.ti_members.specs.Names.{AreAliases, HasName}
 use Rattle.ti_reports.specs.Hints.{HintText, IsHintPlace, hint_text}
 use Rattle.ti_reports.specs.Reports.{IsNothing, report_line}
 use Rattle.ti_members.specs.Sent.{IsSentText}
-use Rattle.ti_reports.specs.Sources.{ByName, ByPlace, IsFaultyAt, IsNowhere, IsValuePlace, Nowhere, Whereabouts, whereabouts_of}
+use Rattle.ti_members.specs.Sources.{ByName, ByPlace, IsFaultyAt, IsNowhere, IsValuePlace, Nowhere, Whereabouts, whereabouts_of}
 use Rattle.ti_members.specs.Spellings.{IsSpelling}
 use Rattle.ti_members.specs.Suggestions.{AreFields, IsMendedFor, IsSuggested, is_judged, mended_with, other_kind}
 use Rattle.ti_members.specs.Texts.{IsShownAs}

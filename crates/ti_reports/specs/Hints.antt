@@ -6,7 +6,7 @@ use Rattle.ti_hints.specs.declared.hints.FieldHint.{FieldHint}
 use Rattle.ti_joins.specs.declared.places.Region.{Region}
 use Rattle.ti_members.specs.Names.{HasName}
 use Rattle.ti_reports.specs.declared.hints.HintSource.{HintSource}
-use Rattle.ti_reports.specs.declared.lines.ValuePlace.{ValuePlace}
+use Rattle.ti_members.specs.declared.places.ValuePlace.{ValuePlace}
 use Rattle.ti_resolve.specs.Uses.{names_at}
 use Rattle.ti_source.specs.declared.types.RawEntry.{RawEntry}
 use Rattle.ti_places.specs.Locations.{first_name}

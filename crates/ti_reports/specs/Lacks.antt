@@ -7,9 +7,9 @@ use Rattle.ti_commands.specs.declared.failure.Failure.{Failure}
 use Rattle.ti_commands.specs.declared.failure.Failure.TheVariants.{Refused, RefusedUnwritten, Usage, File, Output}
 use Rattle.ti_commands.specs.declared.failure.Failure.TheVariants.{NoMemory}
 use Rattle.ti_commands.specs.declared.failure.Reply.{Reply}
-use Rattle.ti_reports.specs.Sources.{IsNowhere, IsRefusalPlace}
+use Rattle.ti_members.specs.Sources.{IsNowhere, IsRefusalPlace}
 use Rattle.ti_reports.specs.Surveys.{IsRefusedReport, file_text}
-use Rattle.ti_reports.specs.declared.lines.ValuePlace.{ValuePlace}
+use Rattle.ti_members.specs.declared.places.ValuePlace.{ValuePlace}
 
 -- the reason of a failure in words: what its first line on standard error has behind `refused: `, or that line
 abbrev pub IsReason : Failure → List ℕ → Type 0

@@ -4,5 +4,4 @@ pub mod Findings
 pub mod Hints
 pub mod Lacks
 pub mod Reports
-pub mod Sources
 pub mod Surveys

@@ -7,7 +7,7 @@ use Rattle.serde_json.specs.View.{items_of}
 use Rattle.serde_json.specs.Written.{compact_text}
 use Rattle.ti_joins.specs.declared.places.Region.{Region}
 use Rattle.ti_objects.specs.Escapes.{printable_json}
-use Rattle.ti_reports.specs.declared.lines.ValuePlace.{ValuePlace}
+use Rattle.ti_members.specs.declared.places.ValuePlace.{ValuePlace}
 use Rattle.ti_reports.specs.declared.reports.Finding.{Finding}
 use Rattle.ti_reports.specs.declared.reports.Report.{Report}
 use Rattle.ti_reports.specs.declared.reports.Verdict.{Verdict}

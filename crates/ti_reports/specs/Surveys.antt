@@ -13,8 +13,8 @@ use Rattle.ti_reports.specs.Faults.{AreFoundLines, HasWords, IsReportLine}
 use Rattle.ti_reports.specs.Findings.{AreFaults}
 use Rattle.ti_members.specs.Names.{IsNameIf}
 use Rattle.ti_reports.specs.Reports.{IsBare}
-use Rattle.ti_reports.specs.Sources.{IsNowhere, IsRefusalPlace, Whereabouts, by_place, fault_file}
-use Rattle.ti_reports.specs.declared.lines.ValuePlace.{ValuePlace}
+use Rattle.ti_members.specs.Sources.{IsNowhere, IsRefusalPlace, Whereabouts, by_place, fault_file}
+use Rattle.ti_members.specs.declared.places.ValuePlace.{ValuePlace}
 use Rattle.ti_reports.specs.declared.reports.Report.{Report}
 use Rattle.ti_reports.specs.declared.reports.Verdict.TheVariants as verdicts
 use Rattle.ti_requests.specs.declared.request.SurveyWords.{SurveyWords}

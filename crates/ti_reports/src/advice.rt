@@ -1,16 +1,15 @@
 //! Reports of advice on an entry.
 
 ghost use Rattle.std.specs.Prelude.{IfOk};
-ghost use Rattle.ti_reports.specs.Sources.{IsNowhere};
+ghost use Rattle.ti_members.specs.Sources.{IsNowhere};
 ghost use Rattle.ti_reports.specs.Faults as spec;
 
 use crate::faults::{Subject, report_on};
-use crate::lines::ValuePlace;
 use crate::reports::{Finding, Report, Verdict, report_line};
 use std::alloc::{AllocError, Global};
 use ti_checker::No;
 use ti_hints::{advice_on, unchecked_advice};
-use ti_members::text_of;
+use ti_members::{ValuePlace, text_of};
 
 /// A line for each piece of advice on the `subject`, which has the faults `nos`: on what is never seen, if there are
 /// none; and on strings that aren't checked, if `lists_all`.

@@ -1,7 +1,8 @@
 //! The command `check --json`.
 
 ghost use Rattle.std.specs.Prelude.{◌≡◌, IfErr, IfOk, Some, map};
-ghost use Rattle.ti_reports.specs.{Lacks.{is_alone}, Sources.{IsThere, by_name, whereabouts_of}};
+ghost use Rattle.ti_members.specs.Sources.{IsThere, by_name, whereabouts_of};
+ghost use Rattle.ti_reports.specs.Lacks.{is_alone};
 ghost use Rattle.ti_reports.specs.Checks as spec;
 ghost use Rattle.ti_commands.specs.Sizes.{LacksSize};
 ghost use Rattle.ti_places.specs.Spots.{file_text};
@@ -10,11 +11,11 @@ use crate::asked::Asked;
 use crate::faults::{Subject, found_lines};
 use crate::findings::found_faults;
 use crate::lacks::lack_reply;
-use crate::lines::Standing;
 use std::alloc::{AllocError, Global};
 use ti_caps::Entry;
 use ti_checker::No;
 use ti_commands::{Failure, Files, Reply, SourceText, Sourced, size_words, sourced_entry};
+use ti_members::Standing;
 use ti_places::{LinedFile, LinedFiles, NamedSource, no_failure, source_files};
 use ti_requests::FaultsWords;
 use ti_resolve::Index;

@@ -1,17 +1,17 @@
 //! The reports on the entries of a file.
 
 ghost use Rattle.std.specs.Prelude.{◌≡◌, ◌<◌, [], IfOk, IfSome, length, map};
-ghost use Rattle.ti_reports.specs.Sources.{IsThere, whereabouts_of};
+ghost use Rattle.ti_members.specs.Sources.{IsThere, whereabouts_of};
 ghost use Rattle.ti_reports.specs.Surveys as spec;
 ghost use Rattle.ti_places.specs.{Locations.{place_if}, Spots.{file_text}};
 
 use crate::asked::Asked;
 use crate::faults::{Subject, found_lines};
 use crate::findings::found_faults;
-use crate::lines::{Standing, placed};
 use crate::refusals::{lacking_line, unread_line};
 use std::alloc::{AllocError, Global};
 use ti_caps::Entry;
+use ti_members::{Standing, placed};
 use ti_surveys::{FileEntry, Lacking, Said, Speaker, answers_of, kind_of};
 use ti_verdicts::Answer;
 

@@ -2,7 +2,7 @@
 
 ghost use Rattle.std.specs.Prelude.{IfOk, string_bytes};
 ghost use Rattle.ti_caps.specs.Table.{name_at};
-ghost use Rattle.ti_reports.specs.Sources.{IsThere, whereabouts_of};
+ghost use Rattle.ti_members.specs.Sources.{IsThere, whereabouts_of};
 ghost use Rattle.ti_reports.specs.Faults as spec;
 ghost use Rattle.ti_members.specs.Texts.{IsShownAs};
 ghost use Rattle.ti_verdicts.specs.Parts.{HasParts};
@@ -10,15 +10,14 @@ ghost use Rattle.ti_places.specs.Refusals.{cause_name};
 
 use crate::advice::advice_lines;
 use crate::hints::hint_lines;
-use crate::lines::{Standing, faulty_region, value_place};
 use crate::reports::{Finding, Report, Verdict, report_line};
 use std::alloc::{AllocError, Global};
 use ti_caps::{Cap, Entry, name};
 use ti_checker::{Cause, No};
 use ti_faults::Mended;
 use ti_members::{
-    entry_aliases, entry_name, explained, is_judged, mended_if, other_kind, own_string, sent_text,
-    suggested, suggested_with, text_of,
+    Standing, entry_aliases, entry_name, explained, faulty_region, is_judged, mended_if,
+    other_kind, own_string, sent_text, suggested, suggested_with, text_of, value_place,
 };
 use ti_places::{Judged, cause_name};
 use ti_surveys::is_part;

@@ -4,12 +4,11 @@ ghost use Rattle.std.specs.{Prelude.{◌≡◌, IfOk, OnOk, map, option_map}, Li
 ghost use Rattle.ti_hints.specs.Places.{IsHintOf};
 ghost use Rattle.ti_reports.specs.Hints.{IsHintPlace, hint_text, line_hinted, region_hinted, text_in};
 ghost use Rattle.ti_reports.specs.Faults as spec;
-ghost use Rattle.ti_reports.specs.Sources.{whereabouts_of};
+ghost use Rattle.ti_members.specs.Sources.{whereabouts_of};
 ghost use Rattle.ti_source.specs.Layout.{lines_of};
 ghost use Rattle.ti_places.specs.{Locations.{place_in}, Spots.{file_text, files_of, line_of, put_files}};
 
 use crate::faults::{Subject, cap_text, report_on};
-use crate::lines::{Standing, ValuePlace, holder};
 use crate::reports::{Finding, Verdict, report_line};
 use std::alloc::{AllocError, Global};
 use ti_caps::Cap;
@@ -17,6 +16,7 @@ use ti_commands::own_raws;
 use ti_entries::LinedText;
 use ti_hints::{FieldHint, entry_hints, used_places};
 use ti_joins::Region;
+use ti_members::{Standing, ValuePlace, holder};
 use ti_places::{
     FieldPlace, LinedFile, LinedFiles, NamedSource, SourcePlace, begun_line, region_at,
 };

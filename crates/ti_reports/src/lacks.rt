@@ -4,10 +4,10 @@ ghost use Rattle.std.specs.Prelude.{◌≡◌, IfErr, IfNone, IfOk, IfSome, opti
 ghost use Rattle.ti_commands.specs.{Findings.{IsPath, IsPathAndName}, declared.failure.Failure.TheVariants.{NoMemory}};
 ghost use Rattle.ti_reports.specs.Lacks as spec;
 
-use crate::lines::{ValuePlace, refusal_place};
 use crate::refusals::{file_words, refused_line};
 use std::alloc::{AllocError, Global};
 use ti_commands::{Failure, Reply, refusal_words};
+use ti_members::{ValuePlace, refusal_place};
 use vt_term::Size;
 
 /// The reply that reports, for this `size`, that the ENTRY `word` gives no entry, with the reason of `failure`;

@@ -9,7 +9,6 @@ mod faults;
 mod findings;
 mod hints;
 mod lacks;
-mod lines;
 mod refusals;
 mod reports;
 mod surveys;

@@ -1,15 +1,15 @@
 //! Reports on entries and files that can't be obtained.
 
 ghost use Rattle.std.specs.Prelude.{◌≡◌, ◌<◌, IfOk, IfSome, length, option_map};
-ghost use Rattle.ti_reports.specs.{Reports.{IsBare}, Sources.{fault_file}};
+ghost use Rattle.ti_members.specs.Sources.{fault_file};
+ghost use Rattle.ti_reports.specs.Reports.{IsBare};
 ghost use Rattle.ti_reports.specs.Surveys as spec;
 ghost use Rattle.ti_places.specs.Locations.{place_if};
 
-use crate::lines::{ValuePlace, refusal_place};
 use crate::reports::{Finding, Report, Verdict, report_line};
 use std::alloc::{AllocError, Global};
 use ti_commands::refusal_words;
-use ti_members::{name_if, text_of};
+use ti_members::{ValuePlace, name_if, refusal_place, text_of};
 use ti_resolve::Origin;
 use ti_surveys::Lacking;
 use vt_term::Size;

@@ -4,12 +4,11 @@ ghost use Rattle.std.specs.Prelude.{◌≡◌, IfOk, OnOk};
 ghost use Rattle.serde_json.specs.View.{members_view, view};
 ghost use Rattle.ti_reports.specs.Reports as spec;
 
-use crate::lines::ValuePlace;
 use serde_json::{Map, Value, json, put};
 use std::alloc::{AllocError, Global};
 use ti_hints::HintKind;
 use ti_joins::Region;
-use ti_members::{Explanation, Written, text_of};
+use ti_members::{Explanation, ValuePlace, Written, text_of};
 use ti_objects::printable_json;
 
 /// The version of the form of a report.

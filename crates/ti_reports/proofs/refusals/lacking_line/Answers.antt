@@ -1,7 +1,7 @@
 use Rattle.std.proofs.Common.{◌∙◌, ℕ, List, Some, subst}
 use Rattle.std.proofs.lemmas.Result.{IfOk-weaker}
 use Rattle.std.specs.Prelude.{option_map}
-use Rattle.ti_reports.specs.Sources.{IsRefusalPlace}
+use Rattle.ti_members.specs.Sources.{IsRefusalPlace}
 use Rattle.ti_reports.specs.Surveys.{IsRefusedReport}
 use Rattle.ti_places.specs.Locations.{place_if}
 use Rattle.ti_reports.proofs.refusals.lacking_line.Goals as goal
