@@ -1,5 +1,5 @@
 -- The parts of an effect, one by one.
-use Rattle.std.specs.Prelude.{◌≡◌, ◌&&◌, ℕ, Bool, if◌then◌else◌}
+use Rattle.std.specs.Prelude.{◌≡◌, ◌&&◌, ◌+◌, ℕ, Bool, if◌then◌else◌}
 use Rattle.ti_blames.specs.declared.parts.Mark.{Mark}
 use Rattle.ti_blames.specs.declared.parts.Mark.TheVariants.{Bold, Faint, Underline, Blink, Negative, Concealed}
 use Rattle.ti_blames.specs.declared.parts.Part.{Part}
@@ -44,13 +44,13 @@ is_shown Concealed attributes looks = attributes.invisible && looks.invisible
 
 -- the digit of the attribute's parameter of `sgr`: 1 is standout, 2 underline, and so on
 abbrev pub own_digit : Mark → ℕ
-own_digit Underline = 50
-own_digit Negative = 51
-own_digit Blink = 52
-own_digit Faint = 53
-own_digit Bold = 54
-own_digit Concealed = 55
+own_digit Underline = 48 + 2
+own_digit Negative = 48 + 3
+own_digit Blink = 48 + 4
+own_digit Faint = 48 + 5
+own_digit Bold = 48 + 6
+own_digit Concealed = 48 + 7
 
 -- the digit of the parameter of `sgr` by which a mark is asked for
 abbrev pub digit_for : Mark → Attributes → Looks → ℕ
-digit_for mark attributes looks = if is_shown mark attributes looks then own_digit mark else 49
+digit_for mark attributes looks = if is_shown mark attributes looks then own_digit mark else 48 + 1
