@@ -1,11 +1,12 @@
 -- Lines moved down and up.
-use Rattle.std.proofs.Common.{◌≡◌, ℕ, ◌+◌, ◌-◌, ◌<◌, ◌≤◌, ◌==◌, ◌&&◌, nat_le, nat_lt, true, false, Option, Some, None, refl, sym, ap, ◌∙◌, arith}
+use Rattle.std.proofs.Common.{◌≡◌, ℕ, ◌+◌, ◌-◌, ◌<◌, ◌≤◌, ◌==◌, ◌&&◌, nat_le, nat_lt, if◌then◌else◌, Bool, true, false, Option, Some, None, refl, sym, ap, ◌∙◌, arith}
 use Rattle.std.proofs.lemmas.Bool.{and_parts, eqb-true, leb-true, ltb-true, lt-ltb, ne_eqb, eq-eqb}
 use Rattle.vt_term.specs.Look.{Look, blank}
 use Rattle.vt_term.specs.Grid.{Grid, scrolled_up, scrolled_down}
 use Rattle.vt_term.specs.Screen.{Screen, IsScreen}
 use Rattle.vt_term.specs.Step.{goes_to, line_feed, reverse_index}
 use Rattle.vt_term.specs.Function as functions
+use Rattle.vt_term.specs.Function.{Function}
 use Rattle.vt_effects.specs.declared.effects.Move.{Move}
 use Rattle.vt_effects.specs.declared.effects.Move.TheVariants as moves
 use Rattle.vt_effects.specs.declared.effects.Scroll.{Scroll}
@@ -50,19 +51,12 @@ reverse_scrolls : (s : Screen) → (s.row == s.top) ≡ true → reverse_index s
 reverse_scrolls s h = rw h refl
 
 -- the cells of a scrolled region
-grid_up : (e : Effect) (s : Screen) → Scrolls e
-    → scrolled_up (applied e s).top (applied e s).bottom 1 (blank (applied e s).rendition) (applied e s).grid ≡ scrolled_up s.top s.bottom 1 (blank s.rendition) (erased e.erasure s.row s.col (blank s.rendition) s.grid)
-grid_up e s h =
-    ap (λ (m : Option Region). scrolled_up (top_of m s.top) (bottom_of m s.bottom) 1 (blank (applied e s).rendition) (applied e s).grid) h.margins
-    ∙ ap (λ (x : Look). scrolled_up s.top s.bottom 1 x (applied e s).grid) (same_blank e s h.background)
-    ∙ ap (λ (w : Scroll). scrolled_up s.top s.bottom 1 (blank s.rendition) (scrolled w s.top s.bottom (blank s.rendition) (erased e.erasure s.row s.col (blank s.rendition) s.grid))) h.still
-
-grid_down : (e : Effect) (s : Screen) → Scrolls e
-    → scrolled_down (applied e s).top (applied e s).bottom 1 (blank (applied e s).rendition) (applied e s).grid ≡ scrolled_down s.top s.bottom 1 (blank s.rendition) (erased e.erasure s.row s.col (blank s.rendition) s.grid)
-grid_down e s h =
-    ap (λ (m : Option Region). scrolled_down (top_of m s.top) (bottom_of m s.bottom) 1 (blank (applied e s).rendition) (applied e s).grid) h.margins
-    ∙ ap (λ (x : Look). scrolled_down s.top s.bottom 1 x (applied e s).grid) (same_blank e s h.background)
-    ∙ ap (λ (w : Scroll). scrolled_down s.top s.bottom 1 (blank s.rendition) (scrolled w s.top s.bottom (blank s.rendition) (erased e.erasure s.row s.col (blank s.rendition) s.grid))) h.still
+grid_scrolls : (scroll : ℕ → ℕ → ℕ → Look → Grid → Grid) (e : Effect) (s : Screen) → Scrolls e
+    → scroll (applied e s).top (applied e s).bottom 1 (blank (applied e s).rendition) (applied e s).grid ≡ scroll s.top s.bottom 1 (blank s.rendition) (erased e.erasure s.row s.col (blank s.rendition) s.grid)
+grid_scrolls scroll e s h =
+    ap (λ (m : Option Region). scroll (top_of m s.top) (bottom_of m s.bottom) 1 (blank (applied e s).rendition) (applied e s).grid) h.margins
+    ∙ ap (λ (x : Look). scroll s.top s.bottom 1 x (applied e s).grid) (same_blank e s h.background)
+    ∙ ap (λ (w : Scroll). scroll s.top s.bottom 1 (blank s.rendition) (scrolled w s.top s.bottom (blank s.rendition) (erased e.erasure s.row s.col (blank s.rendition) s.grid))) h.still
 
 -- an effect that keeps the cursor and the margins
 row_stays : (e : Effect) (s : Screen) → Scrolls e → (applied e s).row ≡ s.row
@@ -110,28 +104,25 @@ fed_moves rows cols start e s g w h a =
     (lt-ltb (moved e.row s.row + 1) s.rows (omega (arith, room, order, a.rows)))
     ∙ ap (λ (r : ℕ). goes_to r (applied e s).col (applied e s)) (one_forward e.row 1 start.row_min s.row g.row a.row_from).there
 
-fed_scrolls : (rows cols : ℕ) (start : Start) (e : Effect) (s : Screen) → on_bottom rows start.row_min start.margins ≡ true → may_scroll e ≡ true → Allows rows cols start s
-    → line_feed (applied e s) ≡ applied (scrolling scrolls.Up e) s
-fed_scrolls rows cols start e s b m a =
-    let h : Scrolls e = may_scroll_is e m in
-    let there : s.row ≡ s.bottom = is_on_bottom start.margins rows start.row_min s b a.margins a.rows a.screen a.row_from in
+fed_scrolls : (e : Effect) (s : Screen) → Scrolls e → s.row ≡ s.bottom → line_feed (applied e s) ≡ applied (scrolling scrolls.Up e) s
+fed_scrolls e s h there =
     line_feed_scrolls (applied e s) (eq-eqb (applied e s).row (applied e s).bottom (row_stays e s h ∙ there ∙ sym (bottom_stays e s h)))
-    ∙ ap (λ (g : Grid). record (applied e s) { grid = g; pending = false }) (grid_up e s h)
+    ∙ ap (λ (g : Grid). record (applied e s) { grid = g; pending = false }) (grid_scrolls scrolled_up e s h)
+
+-- a line on without a scroll, if two tests say so, or with one, if two others do
+line_right : (rows cols : ℕ) (start : Start) (act : Function) (e f moves scrolls : Effect) (a b c d : Bool)
+    → (if a && b then Some moves else (if c && d then Some scrolls else None)) ≡ Some f → (a ≡ true → b ≡ true → Right rows cols start act e moves) → (c ≡ true → d ≡ true → Right rows cols start act e scrolls)
+    → Right rows cols start act e f
+line_right rows cols start act e f moves scrolls a b c d h p q = chosen (a && b) (Some moves) _ f h
+    (λ i k. given (λ w. Right rows cols start act e w) _ f k (let both = and_parts a b i in p both.0 both.1))
+    (λ i k. chosen (c && d) (Some scrolls) None f k
+    (λ j l. given (λ w. Right rows cols start act e w) _ f l (let both = and_parts c d j in q both.0 both.1))
+    (λ j l. not_found f l))
 
 pub fed_right : (rows cols : ℕ) (start : Start) (e f : Effect) → IsGood start e → spec.line_fed rows start e ≡ Some f → Right rows cols start functions.LineFeed e f
-fed_right rows cols start e f g h = chosen (are_whole rows start.margins e.margins && nat_lt (moved e.row start.row_max + 1) rows) (Some (with_row e (and_forward e.row 1))) _ f h
-    (λ b k. given (λ w. Right rows cols start functions.LineFeed e w) _ f k
-    (let both = and_parts (are_whole rows start.margins e.margins) (nat_lt (moved e.row start.row_max + 1) rows) b in record {
-      good = record { row = (one_forward e.row 1 start.row_min start.row_min g.row (omega arith)).back; col = g.col };
-      leads = λ s a. fed_moves rows cols start e s g both.0 both.1 a;
-    }))
-    (λ b k. chosen (on_bottom rows start.row_min start.margins && may_scroll e) (Some (scrolling scrolls.Up e)) None f k
-    (λ c i. given (λ w. Right rows cols start functions.LineFeed e w) _ f i
-    (let both = and_parts (on_bottom rows start.row_min start.margins) (may_scroll e) c in record {
-      good = record { row = g.row; col = g.col };
-      leads = λ s a. fed_scrolls rows cols start e s both.0 both.1 a;
-    }))
-    (λ c i. not_found f i))
+fed_right rows cols start e f g h = line_right rows cols start functions.LineFeed e f (with_row e (and_forward e.row 1)) (scrolling scrolls.Up e) _ _ _ _ h
+    (λ w b. record { good = record { row = (one_forward e.row 1 start.row_min start.row_min g.row (omega arith)).back; col = g.col }; leads = λ s a. fed_moves rows cols start e s g w b a })
+    (λ b m. record { good = record { row = g.row; col = g.col }; leads = λ s a. fed_scrolls e s (may_scroll_is e m) (is_on_bottom start.margins rows start.row_min s b a.margins a.rows a.screen a.row_from) })
 
 -- NEL is LF from the first column
 pub next_right : (rows cols : ℕ) (start : Start) (e f : Effect) → IsGood start e → spec.line_fed rows start (with_col e (moves.To 0)) ≡ Some f → Right rows cols start functions.NextLine e f
@@ -148,25 +139,12 @@ reversed_moves rows cols start e s g w h a =
     reverse_moves (applied e s) (ne_eqb (moved e.row s.row) (applied e s).top (λ q. omega (arith, q, whole.top, room, order)))
     ∙ ap (λ (r : ℕ). goes_to r (applied e s).col (applied e s)) (one_back e.row 1 start.row_min s.row g.row a.row_from h).there
 
-reversed_scrolls : (rows cols : ℕ) (start : Start) (e : Effect) (s : Screen) → on_top rows start.row_max start.margins ≡ true → may_scroll e ≡ true → Allows rows cols start s
-    → reverse_index (applied e s) ≡ applied (scrolling scrolls.Down e) s
-reversed_scrolls rows cols start e s b m a =
-    let h : Scrolls e = may_scroll_is e m in
-    let there : s.row ≡ s.top = is_on_top start.margins rows start.row_max s b a.margins a.rows a.screen a.row_to in
+reversed_scrolls : (e : Effect) (s : Screen) → Scrolls e → s.row ≡ s.top → reverse_index (applied e s) ≡ applied (scrolling scrolls.Down e) s
+reversed_scrolls e s h there =
     reverse_scrolls (applied e s) (eq-eqb (applied e s).row (applied e s).top (row_stays e s h ∙ there ∙ sym (top_stays e s h)))
-    ∙ ap (λ (g : Grid). record (applied e s) { grid = g; pending = false }) (grid_down e s h)
+    ∙ ap (λ (g : Grid). record (applied e s) { grid = g; pending = false }) (grid_scrolls scrolled_down e s h)
 
 pub reversed_right : (rows cols : ℕ) (start : Start) (e f : Effect) → IsGood start e → spec.line_reversed rows start e ≡ Some f → Right rows cols start functions.ReverseIndex e f
-reversed_right rows cols start e f g h = chosen (are_whole rows start.margins e.margins && nat_le 1 (moved e.row start.row_min)) (Some (with_row e (and_back e.row 1))) _ f h
-    (λ b k. given (λ w. Right rows cols start functions.ReverseIndex e w) _ f k
-    (let both = and_parts (are_whole rows start.margins e.margins) (nat_le 1 (moved e.row start.row_min)) b in record {
-      good = record { row = (one_back e.row 1 start.row_min start.row_min g.row (omega arith) both.1).back; col = g.col };
-      leads = λ s a. reversed_moves rows cols start e s g both.0 both.1 a;
-    }))
-    (λ b k. chosen (on_top rows start.row_max start.margins && may_scroll e) (Some (scrolling scrolls.Down e)) None f k
-    (λ c i. given (λ w. Right rows cols start functions.ReverseIndex e w) _ f i
-    (let both = and_parts (on_top rows start.row_max start.margins) (may_scroll e) c in record {
-      good = record { row = g.row; col = g.col };
-      leads = λ s a. reversed_scrolls rows cols start e s both.0 both.1 a;
-    }))
-    (λ c i. not_found f i))
+reversed_right rows cols start e f g h = line_right rows cols start functions.ReverseIndex e f (with_row e (and_back e.row 1)) (scrolling scrolls.Down e) _ _ _ _ h
+    (λ w b. record { good = record { row = (one_back e.row 1 start.row_min start.row_min g.row (omega arith) b).back; col = g.col }; leads = λ s a. reversed_moves rows cols start e s g w b a })
+    (λ b m. record { good = record { row = g.row; col = g.col }; leads = λ s a. reversed_scrolls e s (may_scroll_is e m) (is_on_top start.margins rows start.row_max s b a.margins a.rows a.screen a.row_to) })

@@ -105,21 +105,19 @@ replacing_said rows d = record {
   visible = λ n. record { before = n; same = λ s. refl };
 }
 
+-- the cursor is shown or hidden, whatever it was
+switch_said : (rows : ℕ) (on : Bool) (to : Switch) (d : Effect) → ((was : Bool) → switched to was ≡ on) → (to ≡ switches.Kept → ⊥) → Says rows (λ s. record s { visible = on }) d (record d { visible = to })
+switch_said rows on to d is changes = record {
+  rows_stay = λ s. refl;
+  sets = λ s t z h. record { rendition = h.rendition; charset = h.charset; visible = sym (is s.visible); top = h.top; bottom = h.bottom; tame = record { autowrap = h.tame.autowrap; inserting = h.tame.inserting } };
+  tame = λ s h. record { autowrap = h.autowrap; inserting = h.inserting };
+  margins = λ n. record { before = n; same = λ s z. record { top = refl; bottom = refl } };
+  visible = λ n. absurd (changes n);
+}
+
 shown_said : (rows : ℕ) (on : Bool) (d : Effect) → Says rows (λ s. record s { visible = on }) d (record d { visible = if on then switches.On else switches.Off })
-shown_said rows true d = record {
-  rows_stay = λ s. refl;
-  sets = λ s t z h. record { rendition = h.rendition; charset = h.charset; visible = refl; top = h.top; bottom = h.bottom; tame = record { autowrap = h.tame.autowrap; inserting = h.tame.inserting } };
-  tame = λ s h. record { autowrap = h.autowrap; inserting = h.inserting };
-  margins = λ n. record { before = n; same = λ s z. record { top = refl; bottom = refl } };
-  visible = λ n. absurd (on_kept n);
-}
-shown_said rows false d = record {
-  rows_stay = λ s. refl;
-  sets = λ s t z h. record { rendition = h.rendition; charset = h.charset; visible = refl; top = h.top; bottom = h.bottom; tame = record { autowrap = h.tame.autowrap; inserting = h.tame.inserting } };
-  tame = λ s h. record { autowrap = h.autowrap; inserting = h.inserting };
-  margins = λ n. record { before = n; same = λ s z. record { top = refl; bottom = refl } };
-  visible = λ n. absurd (off_kept n);
-}
+shown_said rows true d = switch_said rows true switches.On d (λ was. refl) on_kept
+shown_said rows false d = switch_said rows false switches.Off d (λ was. refl) off_kept
 
 -- nothing changes
 nothing_said : (rows : ℕ) (d : Effect) → Says rows (λ s. s) d d
