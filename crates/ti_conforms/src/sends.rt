@@ -32,25 +32,20 @@ fn values(row: Row) -> ArrayVec<Param<'static>, 9>
     values
 }
 
-/// Replaces the content of `bytes` by the bytes that `string` sends for `row`: the string expanded with the
+/// Replaces the content of `out` by the bytes that `string` sends for `row`: the string expanded with the
 /// row's parameters, from static variables that are all 0, without its delays (terminfo(5), "Parameterized
-/// Strings" and "Delays and Padding"). Memory is requested if `bytes` have to grow, and for a deep stack.
+/// Strings" and "Delays and Padding"). Memory is requested if `out` has to grow, and for a deep stack.
 ///
 /// # Errors
 /// `Fault` if the string can't be expanded; `StaticRead` if it reads a static variable before it sets it, so
-/// that its bytes would depend on earlier strings; or `NoMemory`. The content of `bytes` is then unspecified.
-pub fn send_into(
-    alloc: Global,
-    string: &[u8],
-    row: Row,
-    bytes: &mut Vec<u8>,
-) -> Result<(), SendFault>
-    ensures sends { OnOk result (spec.Sends string.now row bytes.new.items) }
+/// that its bytes would depend on earlier strings; or `NoMemory`. The content of `out` is then unspecified.
+pub fn send_into(alloc: Global, string: &[u8], row: Row, out: &mut Vec<u8>) -> Result<(), SendFault>
+    ensures sends { OnOk result (spec.Sends string.now row out.new.items) }
     ensures unsent { IfErr result (λ why. spec.IsUnsent string.now row why) }
 {
     let values = values(row);
-    bytes.clear();
-    let reads = match sent_and_reads_unset(alloc, string, values.as_slice(), bytes) {
+    out.clear();
+    let reads = match sent_and_reads_unset(alloc, string, values.as_slice(), out) {
         Ok(reads) => reads,
         Err(ParmFault::NoMemory) => return Err(SendFault::NoMemory),
         Err(fault) => return Err(SendFault::Fault(fault)),

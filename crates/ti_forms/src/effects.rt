@@ -1,10 +1,10 @@
 //! The effects of the bytes of rows.
 
-ghost use Rattle.std.specs.Prelude.{◌≡◌, ℕ, IfErr, IfOk, IfSome, List, OnOk, Some, []};
+ghost use Rattle.std.specs.Prelude.{◌≡◌, ℕ, IfErr, IfOk, IfSome, List, OnOk, Some, [], true};
 ghost use Rattle.ti_conforms.specs.Charsets.{joined, reach_of};
 ghost use Rattle.ti_forms.specs.Forms as spec;
 ghost use Rattle.ti_rows.specs.Asked.{start_of};
-ghost use Rattle.vt_effects.specs.{Basic.{placed_at}, Effect.{unchanged}, Record.{IsRecordOf}};
+ghost use Rattle.vt_effects.specs.{Effect.{unchanged}, Record.{IsRecordOf}};
 ghost use Rattle.vt_effects.specs.declared.effects.Erasure.TheVariants as erasures;
 ghost use Rattle.vt_term.specs.{Scanned.{HasFault}, Text.{Splits}};
 
@@ -14,34 +14,12 @@ use ti_rows::Row;
 use vt_effects::{Effect, Erasure, Move, Region, effect_of_text};
 use vt_term::{Scanner, Size, TextFault};
 
-/// The effect of a move to a place.
-fn placed(row: u16, col: u16) -> Effect
-    ensures { result ≡ placed_at row col }
-{
-    Effect {
-        row: Move::To(row),
-        col: Move::To(col),
-        ends_pending: true,
-        ..Effect::unchanged()
-    }
-}
-
-/// The effect of a move of the cursor's row.
-fn by_rows(row: Move) -> Effect
-    ensures { result ≡ spec.by_rows row }
+/// The effect of a move of the cursor, which ends a pending wrap.
+fn moving(row: Move, col: Move) -> Effect
+    ensures { result ≡ record unchanged { row = row; col = col; ends_pending = true } }
 {
     Effect {
         row,
-        ends_pending: true,
-        ..Effect::unchanged()
-    }
-}
-
-/// The effect of a move of the cursor's column.
-fn by_cols(col: Move) -> Effect
-    ensures { result ≡ spec.by_cols col }
-{
-    Effect {
         col,
         ends_pending: true,
         ..Effect::unchanged()
@@ -54,7 +32,7 @@ fn bounded(top: u16, bottom: u16) -> Effect
 {
     Effect {
         margins: Some(Region { top, bottom }),
-        ..placed(0, 0)
+        ..moving(Move::To(0), Move::To(0))
     }
 }
 
@@ -73,13 +51,13 @@ pub(crate) fn standard_effect(row: Row) -> Effect
     ensures { result ≡ spec.standard_effect row }
 {
     match row {
-        Row::Cup(line, column) => placed(line, column),
-        Row::Hpa(column) => by_cols(Move::To(column)),
-        Row::Vpa(line) => by_rows(Move::To(line)),
-        Row::Cub(count) => by_cols(Move::Back(count)),
-        Row::Cuf(count) => by_cols(Move::Forward(count)),
-        Row::Cuu(count) => by_rows(Move::Back(count)),
-        Row::Cud(count) => by_rows(Move::Forward(count)),
+        Row::Cup(line, column) => moving(Move::To(line), Move::To(column)),
+        Row::Hpa(column) => moving(Move::Kept, Move::To(column)),
+        Row::Vpa(line) => moving(Move::To(line), Move::Kept),
+        Row::Cub(count) => moving(Move::Kept, Move::Back(count)),
+        Row::Cuf(count) => moving(Move::Kept, Move::Forward(count)),
+        Row::Cuu(count) => moving(Move::Back(count), Move::Kept),
+        Row::Cud(count) => moving(Move::Forward(count), Move::Kept),
         Row::Ech(count) => erasing(count),
         Row::Csr(top, bottom) => bounded(top, bottom),
         _ => Effect::unchanged(),

@@ -19,27 +19,22 @@ pub(crate) fn form_into(form: Form, bytes: &mut Vec<u8>) -> Result<(), AllocErro
     bytes.extend_from_slice(form.bytes().as_slice())
 }
 
-/// Replaces the content of `bytes` by the bytes that `string` sends for `row`, as `send_into` of `ti_conforms` does.
+/// Replaces the content of `out` by the bytes that `string` sends for `row`, as `send_into` of `ti_conforms` does.
 /// A string that is the standard's for the row's capability isn't run.
 ///
 /// # Errors
 /// `Fault` if the string can't be expanded; `StaticRead` if it reads a static variable before it sets it; or
-/// `NoMemory`. The content of `bytes` is then unspecified.
-pub fn send_into(
-    alloc: Global,
-    string: &[u8],
-    row: Row,
-    bytes: &mut Vec<u8>,
-) -> Result<(), SendFault>
-    ensures sends { OnOk result (Sends string.now row bytes.new.items) }
+/// `NoMemory`. The content of `out` is then unspecified.
+pub fn send_into(alloc: Global, string: &[u8], row: Row, out: &mut Vec<u8>) -> Result<(), SendFault>
+    ensures sends { OnOk result (Sends string.now row out.new.items) }
     ensures unsent { IfErr result (λ why. IsUnsent string.now row why) }
 {
     match form_sent(string, row) {
-        Some(form) => match form_into(form, bytes) {
+        Some(form) => match form_into(form, out) {
             Ok(()) => Ok(()),
             Err(_) => Err(SendFault::NoMemory),
         },
-        None => ti_conforms::send_into(alloc, string, row, bytes),
+        None => ti_conforms::send_into(alloc, string, row, out),
     }
 }
 

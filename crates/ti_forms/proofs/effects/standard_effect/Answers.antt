@@ -4,7 +4,7 @@ use Rattle.ti_forms.specs.Forms.{standard_effect}
 use Rattle.ti_forms.proofs.effects.standard_effect.Goals as goal
 
 pub returns-in-Hpa : goal.returns-in-Hpa
-returns-in-Hpa c = c.by_cols.ensures ∙ ap (λ (row : Row). standard_effect row) (sym c.in-Hpa.is)
+returns-in-Hpa c = c.moving-in-Hpa.ensures ∙ ap (λ (row : Row). standard_effect row) (sym c.in-Hpa.is)
 
 pub returns-in-Vpa : goal.returns-in-Vpa
-returns-in-Vpa c = c.by_rows.ensures ∙ ap (λ (row : Row). standard_effect row) (sym c.in-Vpa.is)
+returns-in-Vpa c = c.moving-in-Vpa.ensures ∙ ap (λ (row : Row). standard_effect row) (sym c.in-Vpa.is)
