@@ -9,7 +9,7 @@ use crate::parts::{Mark, PARTS, Part, differ, digit_for, switch_of};
 use crate::units::{effect_in, tokens_of, units};
 use std::alloc::{AllocError, Global};
 use ti_parm::{Param, ParmFault};
-use ti_rows::{Attributes, Looks, NO_ATTRIBUTES, NO_MARKS, Row};
+use ti_rows::{Attributes, Looks, NO_ATTRIBUTES, NO_LOOKS, Row};
 use ti_stretches::{
     CodeFault, Sender, Stretch, conditional_on, faulty_code, open_conditional, sending_stretch,
     sent_bytes,
@@ -27,17 +27,6 @@ pub struct Checked<'a> {
     /// The size.
     pub size: Size,
 }
-
-/// The looks of no attribute.
-const NO_LOOKS: Looks = Looks {
-    standout: NO_MARKS,
-    underline: false,
-    reverse: false,
-    blink: false,
-    dim: false,
-    bold: false,
-    invisible: false,
-};
 
 /// The seven attributes, each alone.
 const ALONE: [Attributes; 7] = [

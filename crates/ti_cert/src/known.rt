@@ -14,9 +14,9 @@ use crate::strings::Strings;
 use crate::tokens::not_whole;
 use std::alloc::{AllocError, Global};
 use std::marker::Model;
-use ti_conforms::{NO_LOOKS, Reach, is_alone, is_some_look, settles};
+use ti_conforms::{Reach, is_alone, is_some_look, settles};
 use ti_forms::learn_row;
-use ti_rows::{Looks, NO_ATTRIBUTES, Row};
+use ti_rows::{Looks, NO_ATTRIBUTES, NO_LOOKS, Row};
 use vt_effects::{Effect, Sets};
 use vt_term::{Scanner, Size};
 

@@ -21,10 +21,10 @@ use crate::sends::checked_string;
 use crate::switches::Seen;
 use std::alloc::{AllocError, Global};
 use ti_caps::Entry;
-use ti_conforms::{NO_LOOKS, acsc};
+use ti_conforms::acsc;
 use ti_forms::{push_row_line, standard_text};
 use ti_lines::push_hex;
-use ti_rows::{CAPABILITIES, Looks, Row};
+use ti_rows::{CAPABILITIES, Looks, NO_LOOKS, Row};
 use vt_effects::Effect;
 use vt_term::Size;
 

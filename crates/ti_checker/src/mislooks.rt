@@ -5,7 +5,9 @@ ghost use Rattle.ti_checker.specs.Mislooks as spec;
 
 use crate::breakage::marks_after;
 use ti_conforms::is_alone;
-use ti_rows::{Attributes, Marks, NO_MARKS, Row};
+use ti_rows::{
+    Attributes, BLINK, BOLD, CONCEALED, FAINT, Marks, NEGATIVE, NO_MARKS, Row, UNDERLINE,
+};
 use vt_effects::Effect;
 
 /// The marks that have the names of these attributes.
@@ -35,30 +37,12 @@ fn own_mark(row: Row) -> Option<Marks>
                 None
             }
         }
-        Row::Smul => Some(Marks {
-            underline: true,
-            ..NO_MARKS
-        }),
-        Row::Rev => Some(Marks {
-            negative: true,
-            ..NO_MARKS
-        }),
-        Row::Blink => Some(Marks {
-            blink: true,
-            ..NO_MARKS
-        }),
-        Row::Dim => Some(Marks {
-            faint: true,
-            ..NO_MARKS
-        }),
-        Row::Bold => Some(Marks {
-            bold: true,
-            ..NO_MARKS
-        }),
-        Row::Invis => Some(Marks {
-            concealed: true,
-            ..NO_MARKS
-        }),
+        Row::Smul => Some(UNDERLINE),
+        Row::Rev => Some(NEGATIVE),
+        Row::Blink => Some(BLINK),
+        Row::Dim => Some(FAINT),
+        Row::Bold => Some(BOLD),
+        Row::Invis => Some(CONCEALED),
         _ => None,
     }
 }

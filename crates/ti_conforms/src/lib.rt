@@ -20,7 +20,7 @@ pub use certificates::Certificate;
 pub use closures::{Charsets, KEPT, designated, or_kept, settles, switched};
 pub use entries::{Group, is_checked};
 pub use fitness::{Unfit, acsc, first_unfit};
-pub use looks::{NO_LOOKS, is_alone, is_some_look};
+pub use looks::{is_alone, is_some_look};
 pub use partners::{Character, fallback, misfit, partner, shown};
 pub use reach::Reach;
 pub use resync::resync_rows;

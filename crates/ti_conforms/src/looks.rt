@@ -3,19 +3,8 @@
 ghost use Rattle.std.specs.Prelude.{◌≡◌, IsTrue};
 ghost use Rattle.ti_conforms.specs.Looks as spec;
 
-use ti_rows::{Attributes, Looks, NO_ATTRIBUTES, NO_MARKS, Row};
+use ti_rows::{Attributes, NO_ATTRIBUTES, NO_LOOKS, Row};
 use vt_effects::Effect;
-
-/// Attributes that can't be seen.
-pub const NO_LOOKS: Looks = Looks {
-    standout: NO_MARKS,
-    underline: false,
-    reverse: false,
-    blink: false,
-    dim: false,
-    bold: false,
-    invisible: false,
-};
 
 /// Standout by itself, which any marks may show.
 const STANDOUT: Attributes = Attributes {

@@ -9,8 +9,7 @@ use crate::claims::must_claim;
 use std::alloc::{AllocError, Global};
 use ti_caps::Entry;
 use ti_checker::{Cause, Judge, No, checked_string};
-use ti_conforms::NO_LOOKS;
-use ti_rows::{CAPABILITIES, Row};
+use ti_rows::{CAPABILITIES, NO_LOOKS, Row};
 use vt_term::Size;
 
 /// An entry, and the size at which it is judged.

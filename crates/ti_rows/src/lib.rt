@@ -16,4 +16,7 @@ mod wants;
 pub use judgements::does_as_wanted;
 pub use names::CAPABILITIES;
 pub use params::Params;
-pub use rows::{Attributes, Looks, Marks, NO_ATTRIBUTES, NO_MARKS, Row};
+pub use rows::{
+    Attributes, BLINK, BOLD, CONCEALED, FAINT, Looks, Marks, NEGATIVE, NO_ATTRIBUTES, NO_LOOKS,
+    NO_MARKS, Row, UNDERLINE,
+};

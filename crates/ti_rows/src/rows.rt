@@ -46,6 +46,42 @@ pub const NO_MARKS: Marks = Marks {
     concealed: false,
 };
 
+/// Bold alone.
+pub const BOLD: Marks = Marks {
+    bold: true,
+    ..NO_MARKS
+};
+
+/// Faint alone.
+pub const FAINT: Marks = Marks {
+    faint: true,
+    ..NO_MARKS
+};
+
+/// Underline alone.
+pub const UNDERLINE: Marks = Marks {
+    underline: true,
+    ..NO_MARKS
+};
+
+/// Blink alone.
+pub const BLINK: Marks = Marks {
+    blink: true,
+    ..NO_MARKS
+};
+
+/// Negative alone.
+pub const NEGATIVE: Marks = Marks {
+    negative: true,
+    ..NO_MARKS
+};
+
+/// Concealed alone.
+pub const CONCEALED: Marks = Marks {
+    concealed: true,
+    ..NO_MARKS
+};
+
 /// How each attribute looks alone: standout by any marks, each other by its own mark or by none.
 #[derive(Clone, Copy, Debug, PartialEq, Eq)]
 pub struct Looks {
@@ -57,6 +93,17 @@ pub struct Looks {
     pub bold: bool,
     pub invisible: bool,
 }
+
+/// Attributes that can't be seen.
+pub const NO_LOOKS: Looks = Looks {
+    standout: NO_MARKS,
+    underline: false,
+    reverse: false,
+    blink: false,
+    dim: false,
+    bold: false,
+    invisible: false,
+};
 
 /// A checked capability with its parameters; each variant has its capability's name in terminfo(5).
 /// Rows and columns are counted from 0.

@@ -3,39 +3,10 @@ ghost use Rattle.std.specs.Prelude.{◌≡◌, ◌&&◌, ◌||◌};
 ghost use Rattle.ti_rows.specs.Asked as spec;
 ghost use Rattle.ti_rows.specs.Looks as looks;
 
-use crate::rows::{Attributes, Looks, Marks, NO_MARKS, Row};
+use crate::rows::{
+    Attributes, BLINK, BOLD, CONCEALED, FAINT, Looks, Marks, NEGATIVE, Row, UNDERLINE,
+};
 use vt_effects::{Effect, Erasure, Ink, Move, Region, Rendering, Scroll, Switch};
-
-/// Each mark by itself.
-const BOLD: Marks = Marks {
-    bold: true,
-    ..NO_MARKS
-};
-
-const FAINT: Marks = Marks {
-    faint: true,
-    ..NO_MARKS
-};
-
-const UNDERLINE: Marks = Marks {
-    underline: true,
-    ..NO_MARKS
-};
-
-const BLINK: Marks = Marks {
-    blink: true,
-    ..NO_MARKS
-};
-
-const NEGATIVE: Marks = Marks {
-    negative: true,
-    ..NO_MARKS
-};
-
-const CONCEALED: Marks = Marks {
-    concealed: true,
-    ..NO_MARKS
-};
 
 impl Looks {
     /// The marks of a set of attributes: the union of what each of them shows alone.

@@ -10,9 +10,9 @@ use crate::strings::parm_words;
 use crate::wanted::wanted_line;
 use std::alloc::{AllocError, Global};
 use ti_caps::{Cap, Entry, name};
-use ti_conforms::{NO_LOOKS, SendFault, is_checked, misfit, send};
+use ti_conforms::{SendFault, is_checked, misfit, send};
 use ti_parm::ParmFault;
-use ti_rows::Row;
+use ti_rows::{NO_LOOKS, Row};
 use vt_effects::effect_of;
 use vt_term::{Size, Terminal, tokens};
 
