@@ -1,7 +1,6 @@
 //! The cells that a run has changed.
 
-ghost use Rattle.std.specs.Prelude.{◌≡◌, ◌<◌, ◌++◌, [], ◌∷◌, IfOk, OnOk, length};
-ghost use Rattle.vt_term.specs.Grid.{line_at};
+ghost use Rattle.std.specs.Prelude.{◌≡◌, ◌++◌, [], ◌∷◌, IfOk, OnOk};
 ghost use Rattle.ti_words.specs.Seen as spec;
 
 use crate::starts::has_look;
@@ -29,22 +28,9 @@ pub fn changed_cells(
 {
     let mut changes = Vec::new(alloc);
     for row in 0..terminal.size().rows {
-        let cells = row_cells(alloc, terminal, row)?;
-        push_changes(fill, row, cells.as_slice(), &mut changes)?;
+        push_changes(fill, row, terminal.line(row), &mut changes)?;
     }
     Ok(changes)
-}
-
-/// The cells of one row.
-fn row_cells(alloc: Global, terminal: &Terminal, row: usize) -> Result<Vec<Cell>, AllocError>
-    requires { row < terminal.now.screen.rows }
-    ensures { IfOk result (λ cells. cells.items ≡ line_at terminal.now.screen.grid row) }
-{
-    let mut cells = Vec::new(alloc);
-    for col in 0..terminal.size().cols {
-        cells.push(terminal.cell(row, col))?;
-    }
-    Ok(cells)
 }
 
 /// Appends the changed ones of the `cells` of a row.

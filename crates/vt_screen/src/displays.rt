@@ -2,7 +2,7 @@
 
 ghost use Rattle.std.specs.Prelude.{◌≡◌, ◌==◌, ◌+◌, ◌-◌, ◌^◌, ◌<◌, ◌≤◌, min, max, nat_le, ◌&&◌, if◌then◌else◌, length};
 ghost use Rattle.std.specs.{Prelude.{take, IfOk}, List.{AllByRecursion, prefix_len}};
-ghost use Rattle.vt_screen.specs.{Grid.{look_at}, Look.{IsPrinted, is_printed}};
+ghost use Rattle.vt_screen.specs.{Grid.{line_at, look_at}, Look.{IsPrinted, is_printed}};
 ghost use Rattle.vt_screen.specs.Step as spec;
 
 use crate::cells::Cell;
@@ -122,6 +122,14 @@ impl Display {
         ensures screen { IsScreen self.now }
     {
         self.size
+    }
+
+    /// The cells of the line `row`, which counts from 0 and must be on the screen.
+    pub fn line(&self, row: usize) -> &[Cell]
+        requires { row < self.now.rows }
+        ensures { result.now ≡ line_at self.now.grid row }
+    {
+        self.grid.line(row)
     }
 
     /// The cell at row `row` and column `col`, which count from 0 and must be on the screen.

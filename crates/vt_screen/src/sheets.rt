@@ -51,6 +51,15 @@ impl Sheet {
         (upper, lower)
     }
 
+    /// The cells of the line `row`, which must be in the sheet.
+    pub fn line(&self, row: usize) -> &[Cell]
+        requires { row < length self.now }
+        ensures { result.now ≡ line_at self.now row }
+    {
+        let at = place_of(&self.grid, self.start, row);
+        self.grid.line(at)
+    }
+
     /// The cell at row `row` and column `col`, which must be in the sheet.
     pub fn get(&self, row: usize, col: usize) -> Cell
         requires row_within { row < length self.now }

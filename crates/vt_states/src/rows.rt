@@ -1,7 +1,6 @@
 //! The cells of a terminal, row by row, as items of JSON lists.
 
 ghost use Rattle.std.specs.{Prelude.{◌≡◌, ◌<◌, ◌++◌, [], length, IfOk, OnOk}, List.{flat_map}};
-ghost use Rattle.vt_term.specs.Grid.{line_at};
 ghost use Rattle.vt_term.specs.Printed as shown;
 ghost use Rattle.vt_states.specs.Json as spec;
 
@@ -15,9 +14,8 @@ pub(crate) fn row_items(alloc: Global, terminal: &Terminal) -> Result<Vec<u8>, A
 {
     let mut items = Vec::new(alloc);
     for row in 0..terminal.size().rows {
-        let cells = row_cells(alloc, terminal, row)?;
         begin_item(&mut items)?;
-        push_row(&mut items, cells.as_slice())?;
+        push_row(&mut items, terminal.line(row))?;
     }
     Ok(items)
 }
@@ -28,22 +26,9 @@ pub(crate) fn look_items(alloc: Global, terminal: &Terminal) -> Result<Vec<u8>, 
 {
     let mut items = Vec::new(alloc);
     for row in 0..terminal.size().rows {
-        let cells = row_cells(alloc, terminal, row)?;
-        push_runs(alloc, &mut items, row, cells.as_slice())?;
+        push_runs(alloc, &mut items, row, terminal.line(row))?;
     }
     Ok(items)
-}
-
-/// The cells of one row.
-fn row_cells(alloc: Global, terminal: &Terminal, row: usize) -> Result<Vec<Cell>, AllocError>
-    requires { row < terminal.now.screen.rows }
-    ensures { IfOk result (λ cells. cells.items ≡ line_at terminal.now.screen.grid row) }
-{
-    let mut cells = Vec::new(alloc);
-    for col in 0..terminal.size().cols {
-        cells.push(terminal.cell(row, col))?;
-    }
-    Ok(cells)
 }
 
 /// Adds a comma if there are items already.

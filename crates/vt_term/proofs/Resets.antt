@@ -1,5 +1,5 @@
 -- A screen in the reset state, but for its character sets, is legal.
-use Rattle.std.proofs.Common.{◌≡◌, ℕ, refl}
+use Rattle.std.proofs.Common.{ℕ, refl}
 use Rattle.vt_screen.proofs.Resets.{begun_is_screen}
 use Rattle.vt_term.specs.Screen.{Charset, IsScreen, reset_screen}
 use Rattle.vt_term.specs.Size.{IsSize}

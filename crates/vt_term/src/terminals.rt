@@ -1,7 +1,7 @@
 //! `Terminal`: a display with a parser; bytes are fed to it.
 
 ghost use Rattle.std.specs.Prelude.{◌≡◌, ◌<◌, ◌≤◌, ◌+◌, [], ◌∷◌, length, take, IfOk, IfErr, OnOk};
-ghost use Rattle.vt_screen.specs.Grid.{look_at};
+ghost use Rattle.vt_screen.specs.Grid.{line_at, look_at};
 
 use crate::functions::{of_numbers, of_private_numbers};
 use crate::parser::{ESCAPE, Parser, Transition};
@@ -194,6 +194,14 @@ impl Terminal {
         // here the prover learns the invariant of the terminal
         let _ = &self.display;
         self.display.size()
+    }
+
+    /// The cells of the line `row`, which counts from 0 and must be on the screen.
+    pub fn line(&self, row: usize) -> &[Cell]
+        requires { row < self.now.screen.rows }
+        ensures { result.now ≡ line_at self.now.screen.grid row }
+    {
+        self.display.line(row)
     }
 
     /// The cell at row `row` and column `col`, which count from 0 and must be on the screen.
