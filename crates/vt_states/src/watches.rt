@@ -33,37 +33,10 @@ impl Switches {
     fn after(self, function: Function<'_>) -> Switches
         ensures { result ≡ switches_after function.entry self }
     {
-        match function {
-            Function::Modes(kind, on, numbers) => { switch_all(kind, on, numbers.as_slice(), self) }
-            Function::Print(_)
-            | Function::LineFeed
-            | Function::CarriageReturn
-            | Function::Backspace
-            | Function::Tab
-            | Function::ShiftOut
-            | Function::ShiftIn
-            | Function::ReverseIndex
-            | Function::NextLine
-            | Function::CursorUp(_)
-            | Function::CursorDown(_)
-            | Function::CursorForward(_)
-            | Function::CursorBack(_)
-            | Function::CursorColumn(_)
-            | Function::CursorRow(_)
-            | Function::CursorPosition(_, _)
-            | Function::EraseLine(_)
-            | Function::EraseDisplay(_)
-            | Function::EraseCells(_)
-            | Function::InsertCells(_)
-            | Function::DeleteCells(_)
-            | Function::InsertLines(_)
-            | Function::DeleteLines(_)
-            | Function::ScrollUp(_)
-            | Function::ScrollDown(_)
-            | Function::Margins(_, _)
-            | Function::Designate(_, _)
-            | Function::SelectRendition(_)
-            | Function::Ignored => self,
+        if let Function::Modes(kind, on, numbers) = function {
+            switch_all(kind, on, numbers.as_slice(), self)
+        } else {
+            self
         }
     }
 }
