@@ -6,6 +6,7 @@ use Rattle.vt_term.specs.Screen.{State, IsOfSize}
 use Rattle.vt_term.specs.Run.{Runs, RunsCut}
 use Rattle.vt_term.specs.Text.{IsOpen}
 use Rattle.vt_term.proofs.Sequences.{empty_open}
+use Rattle.vt_term.proofs.Splits.{compare, Longer, Shorter}
 use Rattle.vt_term.proofs.Runs.{runs_append, runs_nothing, runs_cut, run_keeps}
 use Rattle.cur_wires.specs.Leads.{Leads, Meets, Within, Past}
 use Rattle.vt_term.specs.Ends.{Ends}
@@ -22,14 +23,10 @@ pub ends_then : (A B : State → Type 0) (s : State) (x y : List ℕ) → Ends s
 ends_then A B s x y e f = let g = f e.after e.there in record { after = g.after; runs = runs_append s e.after g.after x y e.runs g.runs; there = g.there }
 
 pub meet : (a b c d : List ℕ) → a ++ b ≡ c ++ d → Meets a b c d
-meet [] b c d e = Past c refl e
-meet (y ∷ a) b [] d e = Within (y ∷ a) refl (sym e)
-meet (y ∷ a) b (z ∷ c) d e =
-    let same : y ≡ z = cc in
-    elim (meet a b c d (cc)) [
-      | Within x p q ↦ Within x (cc) q
-      | Past x p q ↦ Past x (cc) q
-    ]
+meet a b c d e = elim (compare a b c d e) [
+  | Longer x p q ↦ Past x p q
+  | Shorter x p q ↦ Within x p q
+]
 
 -- one text, and then another
 pub leads_then : (P : List ℕ → Type 0) (m n : ℕ) (D A B C : State → Type 0) (x y : List ℕ) → Leads P m D A x B → Leads P n D B y C → Leads P (m + n) D A (x ++ y) C
