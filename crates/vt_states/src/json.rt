@@ -1,6 +1,6 @@
 //! The whole state as JSON.
 
-ghost use Rattle.std.specs.Prelude.{◌≡◌, ◌∷◌, ◌++◌, IfOk, OnOk, Option, option_map};
+ghost use Rattle.std.specs.Prelude.{◌≡◌, ◌∷◌, ◌++◌, [], IfOk, OnOk, Option, option_map};
 ghost use Rattle.vt_states.specs.Json as spec;
 
 use crate::lines::either;
@@ -152,18 +152,22 @@ fn quoted(alloc: Global, bytes: &[u8]) -> Result<Vec<u8>, AllocError>
 fn quoted_plainly(alloc: Global, bytes: &[u8]) -> Result<Vec<u8>, AllocError>
     ensures { IfOk result (λ text. text.items ≡ spec.plainly_quoted bytes.now) }
 {
-    let mut text = Vec::from_slice(alloc, b"\"")?;
-    text.extend_from_slice(bytes)?;
-    text.push(b'"')?;
-    Ok(text)
+    enclosed(alloc, b'"', bytes, b'"')
 }
 
 fn bracketed(alloc: Global, items: &[u8]) -> Result<Vec<u8>, AllocError>
     ensures { IfOk result (λ text. text.items ≡ spec.bracketed items.now) }
 {
-    let mut text = Vec::from_slice(alloc, b"[")?;
-    text.extend_from_slice(items)?;
-    text.push(b']')?;
+    enclosed(alloc, b'[', items, b']')
+}
+
+/// The `bytes` with the bytes `first` and `last` around them.
+fn enclosed(alloc: Global, first: u8, bytes: &[u8], last: u8) -> Result<Vec<u8>, AllocError>
+    ensures { IfOk result (λ text. text.items ≡ first ∷ (bytes.now ++ last ∷ [])) }
+{
+    let mut text = Vec::from_slice(alloc, &[first])?;
+    text.extend_from_slice(bytes)?;
+    text.push(last)?;
     Ok(text)
 }
 
