@@ -37,7 +37,7 @@ use Rattle.ti_cert.specs.declared.audits.Progress.{Progress}
 use Rattle.ti_cert.specs.declared.audits.Awaited.{Awaited}
 use Rattle.ti_cert.specs.declared.audits.Awaited.TheVariants as lines_awaited
 use Rattle.ti_cert.specs.declared.faults.CertFaultKind.{CertFaultKind}
-use Rattle.ti_cert.specs.declared.faults.CertFaultKind.TheVariants.{BadLine, Missing, OutOfOrder, NotWhole, NotTame, NotShown, NoResync, BadLook, NoMemory, ReadFailed}
+use Rattle.ti_cert.specs.declared.faults.CertFaultKind.TheVariants.{BadLine, NoMemory}
 use Rattle.ti_cert.proofs.Ranges.{is_allowed}
 use Rattle.ti_cert.proofs.GroupFacts.{if_true, there_within, none_at_first, empty_group}
 use Rattle.ti_cert.proofs.Order.{missing_at_end, complete_at_end}
@@ -101,24 +101,16 @@ first_ok p text at is = λ said tells. by_awaited p.awaited at said tells
   where
     by_awaited : (s : Awaited) → s ≡ lines_awaited.First → (said : Said) → Tells p s said → Steps (record p { awaited = lines_awaited.Acsc }) p.size.rows p.size.cols (JudgesLine p.size.rows p.size.cols said text)
     by_awaited lines_awaited.First e Nothing t = record { after = Sized; judges = HasSize is refl; tells = (reawaited p lines_awaited.Acsc [] t.0, t.1); rows = refl; cols = refl }
-    by_awaited lines_awaited.First e Sized t = absurd t
-    by_awaited lines_awaited.First e (Listing pairs lines) t = absurd t
-    by_awaited lines_awaited.First e (Ended pairs lines) t = absurd t
-    by_awaited lines_awaited.Acsc e said t = cc
-    by_awaited lines_awaited.Rows e said t = cc
-    by_awaited (lines_awaited.Ended settled) e said t = cc
+    by_awaited lines_awaited.First e _ t = absurd t
+    by_awaited _ e said t = cc
 
 pub first_wrong : (p : Progress) (text : List ℕ) → p.awaited ≡ lines_awaited.First → (IsSizeText text p.size.rows p.size.cols → ⊥) → AnswersLine p text (Err BadLine)
 first_wrong p text at never = λ said tells. by_awaited p.awaited at said tells
   where
     by_awaited : (s : Awaited) → s ≡ lines_awaited.First → (said : Said) → Tells p s said → JudgesLine p.size.rows p.size.cols said text (Err BadLine)
     by_awaited lines_awaited.First e Nothing t = HasNoSize never refl
-    by_awaited lines_awaited.First e Sized t = absurd t
-    by_awaited lines_awaited.First e (Listing pairs lines) t = absurd t
-    by_awaited lines_awaited.First e (Ended pairs lines) t = absurd t
-    by_awaited lines_awaited.Acsc e said t = cc
-    by_awaited lines_awaited.Rows e said t = cc
-    by_awaited (lines_awaited.Ended settled) e said t = cc
+    by_awaited lines_awaited.First e _ t = absurd t
+    by_awaited _ e said t = cc
 
 -- before the second line only the size is known
 at_second : (p : Progress) (answer : Result Progress CertFaultKind) (text : List ℕ) → p.awaited ≡ lines_awaited.Acsc
@@ -127,12 +119,8 @@ at_second p answer text at f = λ said tells. by_awaited p.awaited at said tells
   where
     by_awaited : (s : Awaited) → s ≡ lines_awaited.Acsc → (said : Said) → Tells p s said → Becomes p answer (JudgesLine p.size.rows p.size.cols said text)
     by_awaited lines_awaited.Acsc e Sized t = f t.0 t.1
-    by_awaited lines_awaited.Acsc e Nothing t = absurd t
-    by_awaited lines_awaited.Acsc e (Listing pairs lines) t = absurd t
-    by_awaited lines_awaited.Acsc e (Ended pairs lines) t = absurd t
-    by_awaited lines_awaited.First e said t = cc
-    by_awaited lines_awaited.Rows e said t = cc
-    by_awaited (lines_awaited.Ended settled) e said t = cc
+    by_awaited lines_awaited.Acsc e _ t = absurd t
+    by_awaited _ e said t = cc
 
 pub second_pairs : (p q : Progress) (text bytes : List ℕ) → p.awaited ≡ lines_awaited.Acsc → IsAcscText text bytes → q ≡ record p { acsc = Some bytes; awaited = lines_awaited.Rows } → AnswersLine p text (Ok q)
 second_pairs p q text bytes at is e = subst (λ (x : Progress). AnswersLine p text (Ok x)) (sym e) (at_second p (Ok (record p { acsc = Some bytes; awaited = lines_awaited.Rows })) text at (λ st none. record {
@@ -161,12 +149,8 @@ later_line p text answer at h = λ said tells. by_awaited p.awaited at said tell
   where
     by_awaited : (s : Awaited) → s ≡ lines_awaited.Rows → (said : Said) → Tells p s said → Becomes p answer (JudgesLine p.size.rows p.size.cols said text)
     by_awaited lines_awaited.Rows e (Listing pairs lines) t = h pairs lines t.0 t.1
-    by_awaited lines_awaited.Rows e Nothing t = absurd t
-    by_awaited lines_awaited.Rows e Sized t = absurd t
-    by_awaited lines_awaited.Rows e (Ended pairs lines) t = absurd t
-    by_awaited lines_awaited.First e said t = cc
-    by_awaited lines_awaited.Acsc e said t = cc
-    by_awaited (lines_awaited.Ended settled) e said t = cc
+    by_awaited lines_awaited.Rows e _ t = absurd t
+    by_awaited _ e said t = cc
 
 pub later_refused : (p : Progress) (text : List ℕ) (kind : CertFaultKind) → p.awaited ≡ lines_awaited.Rows → OrNoMemory kind (AnswersLater p text) → OrNoMemory kind (AnswersLine p text)
 later_refused p text kind at h = or_by kind (AnswersLater p text) (AnswersLine p text) (λ r a. later_line p text r at a) h
@@ -202,15 +186,7 @@ later_none p text kind e none (HasNoMemory k) = inr k
 
 is_no_memory : (kind : CertFaultKind) → (kind ≡ NoMemory) ⊎ (kind ≡ NoMemory → ⊥)
 is_no_memory NoMemory = inl refl
-is_no_memory BadLine = inr (λ e. cc)
-is_no_memory (Missing cap numbers) = inr (λ e. cc)
-is_no_memory OutOfOrder = inr (λ e. cc)
-is_no_memory NotWhole = inr (λ e. cc)
-is_no_memory NotTame = inr (λ e. cc)
-is_no_memory NotShown = inr (λ e. cc)
-is_no_memory NoResync = inr (λ e. cc)
-is_no_memory BadLook = inr (λ e. cc)
-is_no_memory ReadFailed = inr (λ e. cc)
+is_no_memory _ = inr (λ e. cc)
 
 pub last_lacks : (p : Progress) (row : Row) → Some row ≡ missing p.size.rows p.size.cols p.place.last capabilities → AnswersLast p (Err (missing_line row))
 last_lacks p row e = λ pairs lines st pa. Lacks row (missing_at_end p.size.rows p.size.cols lines p.place.last row p.size.limits st.place (sym e)) refl

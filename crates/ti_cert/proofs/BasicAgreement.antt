@@ -1,5 +1,5 @@
 -- The table of a basic text has exactly what the basic entry sends.
-use Rattle.std.proofs.Common.{◌≡◌, ◌&&◌, ℕ, Bool, true, false, List, map, reverse, Option, Some, None, Result, Ok, inl, inr, refl, sym, ap, subst, ◌∙◌}
+use Rattle.std.proofs.Common.{◌≡◌, ◌&&◌, ℕ, Bool, true, false, List, map, reverse, Option, Some, None, Ok, inl, inr, refl, sym, ap, subst, ◌∙◌}
 use Rattle.std.specs.Prelude.{is_some}
 use Rattle.std.proofs.lemmas.Bool.{and_parts, false≢true}
 use Rattle.vt_term.specs.Size.{IsSize}
@@ -9,24 +9,22 @@ use Rattle.ti_rows.specs.declared.rows.Row.{Row}
 use Rattle.ti_rows.specs.declared.rows.Row.TheVariants.{Clear, Cup, Home, El, Sgr0}
 use Rattle.ti_rows.specs.Lists.{IsInRange}
 use Rattle.ti_lines.specs.declared.row_lines.RowLine.{RowLine}
-use Rattle.ti_lines.specs.declared.judgements.LineFault.{LineFault}
 use Rattle.ti_conforms.specs.Entries.{has_string, is_checked, string_of, EntrySends}
 use Rattle.ti_cert.specs.Strings.{row_string}
 use Rattle.ti_cert.specs.Table as tables
 use Rattle.ti_cert.specs.Order.{GivesBytes}
-use Rattle.ti_cert.specs.Certificates.{Said, Ended}
+use Rattle.ti_cert.specs.Certificates.{Ended}
 use Rattle.ti_cert.specs.Texts.{IsTableOf}
 use Rattle.ti_cert.specs.Basic.{basic_bytes, basic_line, is_basic, basic_rows, basic_text_of, IsBasic, IsBasicTable, IsVerifyStopped, BasicAgrees}
 use Rattle.ti_cert.specs.Disagreements.{IsDisagreeing}
 use Rattle.ti_cert.specs.declared.faults.AgreeFault.{AgreeFault}
 use Rattle.ti_cert.specs.declared.faults.AgreeFault.TheVariants.{Disagree, NoMemory}
-use Rattle.ti_cert.specs.declared.faults.CertFaultKind.{CertFaultKind}
 use Rattle.ti_cert.specs.declared.faults.VerifyFault.{VerifyFault}
 use Rattle.ti_cert.specs.declared.faults.VerifyFault.TheVariants.{Cert, Agree}
 use Rattle.ti_lines.specs.Reader.{Rose}
 use Rattle.ti_cert.proofs.Disagreements.{excludes_yes}
 use Rattle.ti_cert.proofs.Relations.{not_rose}
-use Rattle.ti_cert.proofs.Singleness.{one_answer}
+use Rattle.ti_cert.proofs.Singleness.{one_answer, same_end}
 use Rattle.ti_cert.proofs.BasicOrder.{Kind, IsClear, IsCup, IsEl, IsHome, IsSgr0, kind_of, each_there}
 use Rattle.ti_cert.proofs.BasicTogether.{AreBasic}
 use Rattle.ti_cert.proofs.BasicTexts.{basic_accepted, are_basic}
@@ -60,14 +58,11 @@ among_checked entry rows cols row b range checked = each_there rows cols (has_st
 
 -- ---- the table of its text
 
-same_end : (a b : Option (List ℕ)) (l m : List RowLine) → (x y : Result Said (LineFault CertFaultKind)) → x ≡ Ok (Ended a l) → y ≡ Ok (Ended b m) → x ≡ y → (a ≡ b) × (l ≡ m)
-same_end a b l m x y ex ey e = (cc, cc)
-
 pub some_string : (o : Option (List ℕ)) → is_some o ≡ true → (x : List ℕ) × (o ≡ Some x)
 some_string (Some x) h = (x, refl)
 some_string None h = cc
 
-no_string : (o : Option (List ℕ)) → ((x : List ℕ) → o ≡ Some x → ⊥) → o ≡ None
+pub no_string : (o : Option (List ℕ)) → ((x : List ℕ) → o ≡ Some x → ⊥) → o ≡ None
 no_string None h = refl
 no_string (Some x) h = absurd (h x refl)
 

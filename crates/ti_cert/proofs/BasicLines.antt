@@ -51,9 +51,14 @@ clear_tokens rows cols size = record { splits = clear_splits; recorded = clear_r
     keeps token (inr (inl e)) c = rw e refl
     keeps token (inr (inr a)) c = absurd a
 
+-- a text of one token changes no charset if the token doesn't
+one_keeps : (text : List ℕ) → ((c : Charset) → charset_after (function_of text) c ≡ c) → (token : List ℕ) → IsAmong (text ∷ []) token → (c : Charset) → charset_after (function_of token) c ≡ c
+one_keeps text keeps token (inl e) c = rw e (keeps c)
+one_keeps text keeps token (inr a) c = absurd a
+
 cup_tokens : (rows cols row col : ℕ) → IsSize rows cols → row < rows → col < cols → HasTokens rows cols (Cup row col)
 unfolding tokens_of
-cup_tokens rows cols row col size h k = record { splits = splits; recorded = cup_record rows cols row col (start_of rows cols (Cup row col)) size h k (cursor_to row col ∷ []) splits; keeps_sets = keeps }
+cup_tokens rows cols row col size h k = record { splits = splits; recorded = cup_record rows cols row col (start_of rows cols (Cup row col)) size h k (cursor_to row col ∷ []) splits; keeps_sets = one_keeps (cursor_to row col) (λ c. ap (λ (f : Function). charset_after f c) (move_function row col row_small col_small)) }
   where
     row_small : row ≤ 500
     row_small = omega (arith, h, size.1)
@@ -64,33 +69,17 @@ cup_tokens rows cols row col size h k = record { splits = splits; recorded = cup
     splits : Splits (cursor_to row col) (cursor_to row col ∷ []) []
     splits = one_token (cursor_to row col) (move_token row col row_small col_small)
 
-    keeps : (token : List ℕ) → IsAmong (cursor_to row col ∷ []) token → (c : Charset) → charset_after (function_of token) c ≡ c
-    keeps token (inl e) c = ap (λ (t : List ℕ). charset_after (function_of t) c) e ∙ ap (λ (f : Function). charset_after f c) (move_function row col row_small col_small)
-    keeps token (inr a) c = absurd a
-
 home_tokens : (rows cols : ℕ) → IsSize rows cols → HasTokens rows cols Home
 unfolding tokens_of
-home_tokens rows cols size = record { splits = one_token home_text home_token; recorded = home_record rows cols (start_of rows cols Home) size (home_text ∷ []) (one_token home_text home_token); keeps_sets = keeps }
-  where
-    keeps : (token : List ℕ) → IsAmong (home_text ∷ []) token → (c : Charset) → charset_after (function_of token) c ≡ c
-    keeps token (inl e) c = rw e refl
-    keeps token (inr a) c = absurd a
+home_tokens rows cols size = record { splits = one_token home_text home_token; recorded = home_record rows cols (start_of rows cols Home) size (home_text ∷ []) (one_token home_text home_token); keeps_sets = one_keeps home_text (λ c. refl) }
 
 el_tokens : (rows cols : ℕ) → HasTokens rows cols El
 unfolding tokens_of
-el_tokens rows cols = record { splits = one_token el_text el_token; recorded = el_record rows cols (start_of rows cols El) (el_text ∷ []) (one_token el_text el_token); keeps_sets = keeps }
-  where
-    keeps : (token : List ℕ) → IsAmong (el_text ∷ []) token → (c : Charset) → charset_after (function_of token) c ≡ c
-    keeps token (inl e) c = rw e refl
-    keeps token (inr a) c = absurd a
+el_tokens rows cols = record { splits = one_token el_text el_token; recorded = el_record rows cols (start_of rows cols El) (el_text ∷ []) (one_token el_text el_token); keeps_sets = one_keeps el_text (λ c. refl) }
 
 sgr0_tokens : (rows cols : ℕ) → HasTokens rows cols Sgr0
 unfolding tokens_of
-sgr0_tokens rows cols = record { splits = one_token sgr0_text sgr0_token; recorded = sgr0_record rows cols (start_of rows cols Sgr0) (sgr0_text ∷ []) (one_token sgr0_text sgr0_token); keeps_sets = keeps }
-  where
-    keeps : (token : List ℕ) → IsAmong (sgr0_text ∷ []) token → (c : Charset) → charset_after (function_of token) c ≡ c
-    keeps token (inl e) c = rw e refl
-    keeps token (inr a) c = absurd a
+sgr0_tokens rows cols = record { splits = one_token sgr0_text sgr0_token; recorded = sgr0_record rows cols (start_of rows cols Sgr0) (sgr0_text ∷ []) (one_token sgr0_text sgr0_token); keeps_sets = one_keeps sgr0_text (λ c. refl) }
 
 -- a row of one of these kinds has what the rows of each kind have
 by_kind : (P : Row → Type 0) (rows cols : ℕ) (home el : Bool) (row : Row) → P Clear → ((r c : ℕ) → r < rows → c < cols → P (Cup r c)) → P Home → P El → P Sgr0 → Kind rows cols home el row → P row

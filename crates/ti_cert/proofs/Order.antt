@@ -231,30 +231,24 @@ missing_some rows cols lines (Some last) n row size l h = by_next (next_within r
 
     rest : (follower : Row) → next rows cols last ≡ Some follower → order last < n → follower ≡ row → IsFirstLack rows cols lines n row
     rest follower e lt same = subst (λ (r : Row). IsFirstLack rows cols lines n r) same (record {
-      lacks = record { range = f.range; absent = absent; before = omega (arith, lt, so); due = inr (record { line = l.there.line; among = l.there.among; of_cap = ap order l.there.of_row ∙ sym so }) };
+      lacks = record { range = f.range; absent = absent; before = omega (arith, lt, f.same_order); due = inr (record { line = l.there.line; among = l.there.among; of_cap = ap order l.there.of_row ∙ sym f.same_order }) };
       first = λ other k. first other k (lacks_behind rows cols lines last other l k.range k.absent k.due);
     })
       where
         f : Follows rows cols last follower
         f = next_follows rows cols last follower size l.range e
 
-        so : order follower ≡ order last
-        so = f.same_order
-
-        one : rank rows cols follower ≡ rank rows cols last + 1
-        one = f.rank_next
-
         absent : HasLine lines follower → ⊥
         absent hl = by_upper (l.upper hl.line hl.among)
           where
             by_upper : (hl.line.row ≡ last) ⊎ Precedes rows cols hl.line.row last → ⊥
-            by_upper (inl e2) = let r : rank rows cols follower ≡ rank rows cols last = ap (λ (x : Row). rank rows cols x) (sym hl.of_row ∙ e2) in omega (arith, r, one)
-            by_upper (inr (inl p)) = let r : order hl.line.row ≡ order follower = ap order hl.of_row in omega (arith, r, p, so)
-            by_upper (inr (inr p)) = let r : rank rows cols hl.line.row ≡ rank rows cols follower = ap (λ (x : Row). rank rows cols x) hl.of_row in let q = p.1 in omega (arith, r, q, one)
+            by_upper (inl e2) = let r : rank rows cols follower ≡ rank rows cols last = ap (λ (x : Row). rank rows cols x) (sym hl.of_row ∙ e2) in omega (arith, r, f.rank_next)
+            by_upper (inr (inl p)) = let r : order hl.line.row ≡ order follower = ap order hl.of_row in omega (arith, r, p, f.same_order)
+            by_upper (inr (inr p)) = let r : rank rows cols hl.line.row ≡ rank rows cols follower = ap (λ (x : Row). rank rows cols x) hl.of_row in let q = p.1 in omega (arith, r, q, f.rank_next)
 
         first : (other : Row) → Lacks rows cols lines n other → Precedes rows cols last other → (other ≡ follower) ⊎ Precedes rows cols follower other
-        first other k (inl p) = inr (inl (omega (arith, p, so)))
-        first other k (inr p) = let q = p.1 in from_rank rows cols follower other f.range k.range (so ∙ p.0) (omega (arith, q, one))
+        first other k (inl p) = inr (inl (omega (arith, p, f.same_order)))
+        first other k (inr p) = let q = p.1 in from_rank rows cols follower other f.range k.range (f.same_order ∙ p.0) (omega (arith, q, f.rank_next))
 
     by_lt : (follower : Row) → next_within rows cols last ≡ Some follower → (t : Bool) → nat_lt (order last) n ≡ t → (if t then Some follower else required (order last + 1) n) ≡ Some row → IsFirstLack rows cols lines n row
     by_lt follower e true lt same = rest follower (next_is rows cols last l.range (Some follower) e) (ltb-true (order last) n lt) (same_Some follower row same)

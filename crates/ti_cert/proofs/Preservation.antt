@@ -12,7 +12,7 @@ use Rattle.ti_conforms.proofs.Reaches.{reach_of-append}
 use Rattle.ti_rows.specs.declared.rows.Looks.{Looks}
 use Rattle.ti_rows.specs.declared.rows.Marks.{Marks}
 use Rattle.ti_rows.specs.declared.rows.Row.{Row}
-use Rattle.ti_rows.specs.declared.rows.Row.TheVariants.{Clear, Cup, Home, Cr, Hpa, Vpa, Cub1, Cuf1, Cuu1, Cud1, Cub, Cuf, Cuu, Cud, El, El1, Ed, Ech, Sgr, Sgr0, Setaf, Setab, Op, Smul, Rev, Blink, Dim, Bold, Invis, Smso, Enacs, Smacs, Rmacs, Csr, Ind, Ri, Civis, Cnorm, Cvvis, Smcup, Rmcup, Bel}
+use Rattle.ti_rows.specs.declared.rows.Row.TheVariants.{Sgr, Smul, Rev, Blink, Dim, Bold, Invis, Smso}
 use Rattle.ti_rows.specs.declared.rows.Attributes.{Attributes}
 use Rattle.ti_rows.specs.Bits.{number_of}
 use Rattle.ti_rows.specs.Names.{order, capabilities}
@@ -32,48 +32,9 @@ use Rattle.ti_cert.proofs.GroupFacts.{there_some, none_at_first}
 
 -- the effect that is asked for depends on the looks only for rows of `sgr` and for `smso`
 pub asked_by : (l m : Looks) (r : Row) (f : Effect) → ((a : Attributes) → r ≡ Sgr a → shown l a ≡ shown m a) → (r ≡ Smso → l.standout ≡ m.standout) → asked l r f ≡ asked m r f
-asked_by l m Clear f s t = refl
-asked_by l m (Cup row col) f s t = refl
-asked_by l m Home f s t = refl
-asked_by l m Cr f s t = refl
-asked_by l m (Hpa col) f s t = refl
-asked_by l m (Vpa row) f s t = refl
-asked_by l m Cub1 f s t = refl
-asked_by l m Cuf1 f s t = refl
-asked_by l m Cuu1 f s t = refl
-asked_by l m Cud1 f s t = refl
-asked_by l m (Cub n) f s t = refl
-asked_by l m (Cuf n) f s t = refl
-asked_by l m (Cuu n) f s t = refl
-asked_by l m (Cud n) f s t = refl
-asked_by l m El f s t = refl
-asked_by l m El1 f s t = refl
-asked_by l m Ed f s t = refl
-asked_by l m (Ech n) f s t = refl
 asked_by l m (Sgr a) f s t = ap (λ (x : Marks). rendering (just x (ink_of (defaults_both_inks f.rendition))) f) (s a refl)
-asked_by l m Sgr0 f s t = refl
-asked_by l m (Setaf c) f s t = refl
-asked_by l m (Setab c) f s t = refl
-asked_by l m Op f s t = refl
-asked_by l m Smul f s t = refl
-asked_by l m Rev f s t = refl
-asked_by l m Blink f s t = refl
-asked_by l m Dim f s t = refl
-asked_by l m Bold f s t = refl
-asked_by l m Invis f s t = refl
 asked_by l m Smso f s t = ap (λ (x : Marks). rendering (with_marks_on x) f) (t refl)
-asked_by l m Enacs f s t = refl
-asked_by l m Smacs f s t = refl
-asked_by l m Rmacs f s t = refl
-asked_by l m (Csr top bottom) f s t = refl
-asked_by l m Ind f s t = refl
-asked_by l m Ri f s t = refl
-asked_by l m Civis f s t = refl
-asked_by l m Cnorm f s t = refl
-asked_by l m Cvvis f s t = refl
-asked_by l m Smcup f s t = refl
-asked_by l m Rmcup f s t = refl
-asked_by l m Bel f s t = refl
+asked_by l m row f s t = refl
 
 lower : (rows cols : ℕ) (r : Row) (a b : Attributes) → r ≡ Sgr b → (order r ≡ order (Sgr a) → nat_lt (rank rows cols r) (rank rows cols (Sgr a)) ≡ true) → number_of b < number_of a
 lower rows cols r a b e later = let h : nat_lt (number_of b) (number_of a) ≡ true = ap (λ (x : Row). nat_lt (rank rows cols x) (number_of a)) (sym e) ∙ later (ap order e) in less (number_of b) (number_of a) h
@@ -84,29 +45,7 @@ not_itself rows cols r e later = let h : nat_lt 0 0 ≡ true = ap (λ (x : Row).
 -- a line that was judged before is judged as before with the looks that one more line teaches
 pub learned_keeps : (rows cols : ℕ) (l : Looks) (row : Row) (e : Effect) (r : Row) (f : Effect) → (order r ≡ order (rival row) → ⊥)
     → (order r ≡ order row → nat_lt (rank rows cols r) (rank rows cols row) ≡ true) → asked l r f ≡ asked (learned row e l) r f
-learned_keeps rows cols l Clear e r f never later = refl
-learned_keeps rows cols l (Cup row col) e r f never later = refl
-learned_keeps rows cols l Home e r f never later = refl
-learned_keeps rows cols l Cr e r f never later = refl
-learned_keeps rows cols l (Hpa col) e r f never later = refl
-learned_keeps rows cols l (Vpa row) e r f never later = refl
-learned_keeps rows cols l Cub1 e r f never later = refl
-learned_keeps rows cols l Cuf1 e r f never later = refl
-learned_keeps rows cols l Cuu1 e r f never later = refl
-learned_keeps rows cols l Cud1 e r f never later = refl
-learned_keeps rows cols l (Cub n) e r f never later = refl
-learned_keeps rows cols l (Cuf n) e r f never later = refl
-learned_keeps rows cols l (Cuu n) e r f never later = refl
-learned_keeps rows cols l (Cud n) e r f never later = refl
-learned_keeps rows cols l El e r f never later = refl
-learned_keeps rows cols l El1 e r f never later = refl
-learned_keeps rows cols l Ed e r f never later = refl
-learned_keeps rows cols l (Ech n) e r f never later = refl
 learned_keeps rows cols l (Sgr a) e r f never later = asked_by l (learned (Sgr a) e l) r f (λ b is. sym (earlier_kept l a b e (lower rows cols r a b is later))) (λ is. absurd (never (ap order is)))
-learned_keeps rows cols l Sgr0 e r f never later = refl
-learned_keeps rows cols l (Setaf c) e r f never later = refl
-learned_keeps rows cols l (Setab c) e r f never later = refl
-learned_keeps rows cols l Op e r f never later = refl
 learned_keeps rows cols l Smul e r f never later = asked_by l (learned Smul e l) r f (λ b is. absurd (never (ap order is))) (λ is. refl)
 learned_keeps rows cols l Rev e r f never later = asked_by l (learned Rev e l) r f (λ b is. absurd (never (ap order is))) (λ is. refl)
 learned_keeps rows cols l Blink e r f never later = asked_by l (learned Blink e l) r f (λ b is. absurd (never (ap order is))) (λ is. refl)
@@ -114,18 +53,7 @@ learned_keeps rows cols l Dim e r f never later = asked_by l (learned Dim e l) r
 learned_keeps rows cols l Bold e r f never later = asked_by l (learned Bold e l) r f (λ b is. absurd (never (ap order is))) (λ is. refl)
 learned_keeps rows cols l Invis e r f never later = asked_by l (learned Invis e l) r f (λ b is. absurd (never (ap order is))) (λ is. refl)
 learned_keeps rows cols l Smso e r f never later = asked_by l (learned Smso e l) r f (λ b is. absurd (never (ap order is))) (λ is. not_itself rows cols r is later)
-learned_keeps rows cols l Enacs e r f never later = refl
-learned_keeps rows cols l Smacs e r f never later = refl
-learned_keeps rows cols l Rmacs e r f never later = refl
-learned_keeps rows cols l (Csr top bottom) e r f never later = refl
-learned_keeps rows cols l Ind e r f never later = refl
-learned_keeps rows cols l Ri e r f never later = refl
-learned_keeps rows cols l Civis e r f never later = refl
-learned_keeps rows cols l Cnorm e r f never later = refl
-learned_keeps rows cols l Cvvis e r f never later = refl
-learned_keeps rows cols l Smcup e r f never later = refl
-learned_keeps rows cols l Rmcup e r f never later = refl
-learned_keeps rows cols l Bel e r f never later = refl
+learned_keeps rows cols l row e r f never later = refl
 
 either_keeps : (k : Known) (row : Row) (e : Effect) (r : Row) (f : Effect) (b : Bool) → has_group k.strings (rival row) ≡ b → has_group k.strings r ≡ true
     → (order r ≡ order row → nat_lt (rank k.strings.rows k.strings.cols r) (rank k.strings.rows k.strings.cols row) ≡ true)

@@ -1,50 +1,25 @@
 -- A capability and its parameters name at most one row, and it is found by the capability's name.
-use Rattle.std.proofs.Common.{Bor, ◌≡◌, ◌≢◌, ℕ, ◌<◌, ◌==◌, Bool, true, false, List, Option, Some, None, IfSome, IfNone, inl, inr, refl, sym, ap, ◌∙◌, arith}
+use Rattle.std.proofs.Common.{Bor, ◌≡◌, ◌≢◌, ℕ, List, Option, Some, None, IfSome, IfNone, refl, sym, ap, ◌∙◌, arith}
 use Rattle.std.proofs.lemmas.Option.{same_Some, none-some}
 use Rattle.std.specs.Prelude.{option_copied}
 use Rattle.ti_caps.specs.Table.{name_at, place_in}
 use Rattle.ti_caps.proofs.Tables.{place_in_name}
 use Rattle.ti_rows.specs.declared.rows.Row.{Row}
-use Rattle.ti_rows.specs.Names.{order, string_in_order, name_in_order, name_of, cap_of, capabilities}
+use Rattle.ti_rows.specs.Names.{order, name_in_order, name_of, cap_of}
 use Rattle.ti_rows.specs.Params.{with_params, HasParams}
 use Rattle.ti_rows.proofs.NameFacts.{named, orders_small, strings_small}
 use Rattle.ti_rows.proofs.Readers.{finds_params, params_found}
-use Rattle.std.proofs.lemmas.Bool.{agree_below, agree_below_at, cases_order, eqb-false}
+use Rattle.ti_lines.proofs.LinesRead.{same_name}
 use Rattle.ti_conforms.specs.Table.{Table}
 use Rattle.ti_conforms.specs.Holds.{LineHolds}
 use Rattle.ti_cert.specs.Verified.{IsRowOf, IsLineOf}
-
--- no two checked capabilities have one position
-unfoldable is_same : ℕ → ℕ → Bool
-is_same high low = string_in_order low == string_in_order high
-
-unfoldable none_is_same : ℕ → Bool
-none_is_same high = agree_below (is_same high) (λ _. false) high
-
-each_differs : agree_below none_is_same (λ _. true) capabilities ≡ true
-unfolding none_is_same is_same string_in_order
-each_differs = refl
-
-all_differ : (high : ℕ) → high < capabilities → agree_below (is_same high) (λ _. false) high ≡ true
-unfolding none_is_same
-all_differ high within = agree_below_at none_is_same (λ _. true) capabilities high each_differs within
-
-never_same : (low high : ℕ) → low < high → high < capabilities → string_in_order low ≡ string_in_order high → ⊥
-unfolding is_same
-never_same low high less within e = eqb-false (string_in_order low) (string_in_order high) (agree_below_at (is_same high) (λ _. false) high low (all_differ high within) less) e
 
 -- a row's capability has the row's name
 name_of_cap : (row : Row) → name_at (cap_of row) ≡ name_of row
 name_of_cap row = named (order row) (orders_small row)
 
 same_order : (a b : Row) → cap_of a ≡ cap_of b → order a ≡ order b
-same_order a b e =
-    let same : string_in_order (order a) ≡ string_in_order (order b) = omega (arith, e) in
-    elim (cases_order (order a) (order b)) [
-      | inl h ↦ h
-      | inr (inl less) ↦ absurd (never_same (order a) (order b) less (orders_small b) same)
-      | inr (inr less) ↦ absurd (never_same (order b) (order a) less (orders_small a) (sym same))
-    ]
+same_order a b e = same_name a b (sym (name_of_cap a) ∙ (ap name_at e ∙ name_of_cap b))
 
 -- a capability has at most one row for each list of parameters
 one_row : (a b : Row) (cap : ℕ) (numbers : List ℕ) → IsRowOf cap numbers a → IsRowOf cap numbers b → a ≡ b

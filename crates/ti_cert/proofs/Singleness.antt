@@ -429,7 +429,7 @@ one_answer rows cols text a b p q = one_of_lines rows cols limit 1 Nothing (cut_
 
 -- the answer of an audit for a text
 
-same_end : (a b : Option (List ℕ)) (l m : List RowLine) → (x y : Answer) → x ≡ Ok (Ended a l) → y ≡ Ok (Ended b m) → x ≡ y → (a ≡ b) × (l ≡ m)
+pub same_end : (a b : Option (List ℕ)) (l m : List RowLine) → (x y : Result Said (LineFault CertFaultKind)) → x ≡ Ok (Ended a l) → y ≡ Ok (Ended b m) → x ≡ y → (a ≡ b) × (l ≡ m)
 same_end a b l m x y ex ey e = (cc, cc)
 
 pub one_table : OneTable
@@ -448,7 +448,7 @@ one_table rows cols text t u p q =
     back : (row : Row) (b : List ℕ) → GivesBytes p.lines row b → row_string t.known.strings row ≡ Some b
     back row b h = ap (λ (r : Row). row_string t.known.strings r) (sym h.of_row) ∙ (p.kept h.line h.among ∙ ap (λ (x : List ℕ). Some x) h.bytes_are)
 
-never_ends : (a : Option (List ℕ)) (l : List RowLine) (e : LineFault CertFaultKind) → (x y : Answer) → x ≡ Ok (Ended a l) → y ≡ Err e → x ≡ y → ⊥
+pub never_ends : (a : Option (List ℕ)) (l : List RowLine) (e : LineFault CertFaultKind) → (x y : Result Said (LineFault CertFaultKind)) → x ≡ Ok (Ended a l) → y ≡ Err e → x ≡ y → ⊥
 never_ends a l e x y ex ey h = cc
 
 pub no_other : NoOther

@@ -1,7 +1,6 @@
 -- Whatever was judged can be written: numbers of 16 bits, bytes, and effects in their one form.
 use Rattle.std.proofs.Common.{◌<◌, ℕ, Bool, true, false, List, [], ◌∷◌, ◌++◌, Option, None, Some, inl, inr, sym, subst, arith}
 use Rattle.std.specs.List.{AllByRecursion}
-use Rattle.vt_term.specs.Color.{Color, color_number, Black, Red, Green, Yellow, Blue, Magenta, Cyan, White}
 use Rattle.vt_term.specs.Size.{IsSize}
 use Rattle.vt_term.specs.Text.{IsParameter, IsIntermediate, IsSequence, IsSingle, IsToken, Splits}
 use Rattle.ti_caps.specs.Entry.{HasBytes, string_in}
@@ -13,6 +12,7 @@ use Rattle.ti_rows.specs.Asked.{start_of}
 use Rattle.ti_rows.specs.Bits.{bit}
 use Rattle.ti_rows.specs.Lists.{IsInRange}
 use Rattle.ti_rows.specs.Params.{params}
+use Rattle.ti_rows.proofs.Readers.{color_small}
 use Rattle.ti_lines.specs.declared.row_lines.RowLine.{RowLine}
 use Rattle.ti_lines.specs.RowLines.{IsLine}
 use Rattle.ti_lines.specs.Texts.{IsAcsc}
@@ -21,16 +21,6 @@ use Rattle.ti_cert.specs.Certificates.{HasEffect}
 use Rattle.ti_cert.proofs.BasicLines.{is_bytes}
 
 -- parameters have 16 bits
-color_small : (c : Color) → color_number c < 65536
-color_small Black = omega arith
-color_small Red = omega arith
-color_small Green = omega arith
-color_small Yellow = omega arith
-color_small Blue = omega arith
-color_small Magenta = omega arith
-color_small Cyan = omega arith
-color_small White = omega arith
-
 bit_small : (b : Bool) → bit b < 65536
 bit_small true = omega arith
 bit_small false = omega arith
@@ -45,8 +35,8 @@ numbers_small rows cols (Cuu n) size range = (omega (arith, range.1, size.1), tt
 numbers_small rows cols (Cud n) size range = (omega (arith, range.1, size.1), tt)
 numbers_small rows cols (Ech n) size range = (omega (arith, range.1, size.3), tt)
 numbers_small rows cols (Sgr a) size range = (bit_small a.standout, (bit_small a.underline, (bit_small a.reverse, (bit_small a.blink, (bit_small a.dim, (bit_small a.bold, (bit_small a.invisible, (omega arith, (omega arith, tt)))))))))
-numbers_small rows cols (Setaf c) size range = (color_small c, tt)
-numbers_small rows cols (Setab c) size range = (color_small c, tt)
+numbers_small rows cols (Setaf c) size range = (omega (arith, color_small c), tt)
+numbers_small rows cols (Setab c) size range = (omega (arith, color_small c), tt)
 numbers_small rows cols (Csr top bottom) size range = (omega (arith, range.0, range.1, size.1), (omega (arith, range.1, size.1), tt))
 numbers_small rows cols _ size range = tt
 

@@ -252,15 +252,11 @@ joined [] text h = sym h.0
 joined (line ∷ texts) text h = ap (λ (x : List ℕ). line ++ 10 ∷ x) (joined texts h.0 h.3) ∙ sym h.1
 
 record IsFirst (rows cols budget : ℕ) (texts : List (List ℕ)) (last : List ℕ) (pairs : Option (List ℕ)) (final : List RowLine) : Type 0 where
-  lines : List RowLine
   size : IsSizeText (size_text rows cols) rows cols
-  texts_are : size_text rows cols ∷ (acsc_lines pairs ++ row_lines lines) ≡ texts
-  last_is : last ≡ []
-  acsc : IsAcsc pairs
-  final_is : final ≡ reverse lines ++ []
-  each : AllByRecursion IsLine lines
-  stand : StandInOrder rows cols [] lines
-  together : OfLines rows cols final (λ t. GoesTogether (is_some pairs) t)
+  left : ℕ
+  others : List (List ℕ)
+  all : IsAll rows cols left others last pairs final
+  texts_are : size_text rows cols ∷ others ≡ texts
   few : length (ended texts) ≤ budget
   counted : all_bytes final < length (ended texts)
 
@@ -279,15 +275,11 @@ first_of_text rows cols budget number (text ∷ texts) last pairs final p =
     let r = second_of rows cols (budget - (length text + 1)) (number + 1) texts last pairs final
     (subst (λ (u : Said). JudgedLines (rules_of rows cols) (budget - (length text + 1)) (number + 1) u texts last (Ok (Ended pairs final))) f.1 h.later) in
     record {
-      lines = r.lines;
       size = record { rows_fit = f.0.rows_fit; cols_fit = f.0.cols_fit; spelled = refl };
-      texts_are = ap (λ (x : List ℕ). x ∷ (acsc_lines pairs ++ row_lines r.lines)) f.0.spelled ∙ ap (λ (x : List (List ℕ)). text ∷ x) r.texts_are;
-      last_is = r.last_is;
-      acsc = r.acsc;
-      final_is = r.final_is;
-      each = r.each;
-      stand = r.stand;
-      together = r.together;
+      left = budget - (length text + 1);
+      others = texts;
+      all = r;
+      texts_are = ap (λ (x : List ℕ). x ∷ texts) f.0.spelled;
       few = length_ended text texts budget h.small r.few;
       counted = let c = r.counted in let l = ended_length text texts in omega (arith, c, l);
     }
@@ -304,8 +296,8 @@ few_bytes rows cols text pairs lines p =
 pub that_of_certificate : IsThatOfCertificate
 unfolding Judged JudgedFrom
 that_of_certificate rows cols text pairs final p = subst (λ (l : List RowLine). IsCertificate rows cols text pairs l) lines_are (record {
-  spelled = record { size = f.size; acsc = f.acsc; lines = f.each; spelled = ap (λ (x : List (List ℕ)). ended x) f.texts_are ∙ whole };
-  stands = f.stand;
+  spelled = record { size = f.size; acsc = f.all.acsc; lines = f.all.each; spelled = ap (λ (x : List (List ℕ)). ended x) (ap (λ (x : List (List ℕ)). size_text rows cols ∷ x) f.all.texts_are ∙ f.texts_are) ∙ whole };
+  stands = f.all.stand;
   few = subst (λ (x : List ℕ). length x ≤ limit) whole f.few;
 })
   where
@@ -313,12 +305,12 @@ that_of_certificate rows cols text pairs final p = subst (λ (l : List RowLine).
     f = first_of_text rows cols limit 1 (cut_of text).lines (cut_of text).last pairs final p
 
     whole : ended (cut_of text).lines ≡ text
-    whole = joined (cut_of text).lines text (subst (λ (l : List ℕ). IsText (cut_of text).lines l text) f.last_is (text_is text))
+    whole = joined (cut_of text).lines text (subst (λ (l : List ℕ). IsText (cut_of text).lines l text) f.all.last_is (text_is text))
 
-    lines_are : f.lines ≡ reverse final
-    lines_are = sym (ap (λ (l : List RowLine). reverse l) (f.final_is ∙ append-nil (reverse f.lines)) ∙ reverse-reverse f.lines)
+    lines_are : f.all.lines ≡ reverse final
+    lines_are = sym (ap (λ (l : List RowLine). reverse l) (f.all.final_is ∙ append-nil (reverse f.all.lines)) ∙ reverse-reverse f.all.lines)
 
 -- all lines of an accepted text go together
 pub accepted_together : (rows cols : ℕ) (text : List ℕ) (pairs : Option (List ℕ)) (lines : List RowLine) → IsAnswer rows cols text (Ok (Ended pairs lines)) → OfLines rows cols lines (λ t. GoesTogether (is_some pairs) t)
 unfolding Judged JudgedFrom
-accepted_together rows cols text pairs lines p = (first_of_text rows cols limit 1 (cut_of text).lines (cut_of text).last pairs lines p).together
+accepted_together rows cols text pairs lines p = (first_of_text rows cols limit 1 (cut_of text).lines (cut_of text).last pairs lines p).all.together

@@ -48,9 +48,7 @@ impl Awaited {
     {
         match self {
             Awaited::Ended(settled) => Some(settled),
-            Awaited::First => None,
-            Awaited::Acsc => None,
-            Awaited::Rows => None,
+            Awaited::First | Awaited::Acsc | Awaited::Rows => None,
         }
     }
 }
@@ -231,9 +229,7 @@ impl Judge for Progress {
     fn finish(&mut self, _: Global) -> Result<(), CertFaultKind> {
         match self.awaited {
             Awaited::Ended(_) => Ok(()),
-            Awaited::First => Err(CertFaultKind::BadLine),
-            Awaited::Acsc => Err(CertFaultKind::BadLine),
-            Awaited::Rows => Err(CertFaultKind::BadLine),
+            Awaited::First | Awaited::Acsc | Awaited::Rows => Err(CertFaultKind::BadLine),
         }
     }
 

@@ -113,19 +113,6 @@ fn pairs_of(alloc: Global, entry: &Entry) -> Result<Option<Bytes>, CertifyFault>
     }
 }
 
-/// The effect of `bytes` from the start of `row`. Refuses bytes that have none.
-fn effect_of(
-    scanner: &mut Scanner,
-    bytes: &[u8],
-    row: Row,
-    size: Size,
-) -> Result<Effect, CertifyFault> {
-    match row_effect(scanner, bytes, row, size)? {
-        Some(effect) => Ok(effect),
-        None => Err(CertifyFault::Refused),
-    }
-}
-
 impl Draft {
     /// No lines about capabilities yet, for `entry`. Refuses pairs of alternate characters that are too long.
     fn new(alloc: Global, entry: &Entry, size: Size) -> Result<Draft, CertifyFault>
@@ -180,7 +167,9 @@ impl Draft {
         let room = mem::replace(&mut self.progress.room, Bytes::from_vec(Vec::new(alloc)));
         let mut bytes = room.into_vec();
         send_into(alloc, string, row, &mut bytes)?;
-        let effect = effect_of(&mut self.scanner, &bytes, row, self.progress.size)?;
+        let Some(effect) = row_effect(&mut self.scanner, &bytes, row, self.progress.size)? else {
+            return Err(CertifyFault::Refused);
+        };
         self.take_room(row, &bytes, &effect)?;
         self.progress.judge_row(RowLine {
             row,
@@ -311,8 +300,5 @@ pub fn certify(alloc: Global, entry: &Entry, size: Size) -> Result<Checked, Cert
 {
     check_fit(entry)?;
     let table = judged_table(alloc, entry, size)?;
-    match Checked::new(alloc, table) {
-        Ok(checked) => Ok(checked),
-        Err(_) => Err(CertifyFault::NoMemory),
-    }
+    Ok(Checked::new(alloc, table)?)
 }

@@ -80,26 +80,14 @@ fn first_settled(resync: Resync, reach: Reach) -> Charsets
     Charsets::left_by(&changes, reach)
 }
 
-/// The charsets of `first`, and all to which `changes` lead from them.
-fn settled_from(first: Charsets, changes: &[Sets]) -> Charsets
-    ensures sound { (c : Charset) → closing.has result c ≡ true
-        → closing.Settled (λ d. closing.has first d ≡ true) (closing.SomeLeads changes.now) c }
-    ensures complete { (c : Charset)
-        → closing.Settled (λ d. closing.has first d ≡ true) (closing.SomeLeads changes.now) c
-        → closing.has result c ≡ true }
-{
-    let mut settled = first;
-    settled.close(changes);
-    settled
-}
-
 /// The charsets that can be settled: those to which `resync` leads from the ones that `reach` allows, and all to which
 /// `changes` lead from there.
 fn settled_of(reach: Reach, changes: &[Sets], resync: Resync) -> Charsets
     ensures { spec.AreSettled reach changes.now resync result }
 {
-    let first = first_settled(resync, reach);
-    settled_from(first, changes)
+    let mut settled = first_settled(resync, reach);
+    settled.close(changes);
+    settled
 }
 
 /// One of the `settled` charsets from which `change` activates the wrong set. The right one is the graphic set if

@@ -100,8 +100,7 @@ fn kind_of(clash: Clash) -> CertFaultKind
     ensures { result ≡ clashes.kind_of clash }
 {
     match clash {
-        Clash::Smacs(_) => CertFaultKind::NotShown,
-        Clash::Rmacs(_) => CertFaultKind::NotShown,
+        Clash::Smacs(_) | Clash::Rmacs(_) => CertFaultKind::NotShown,
         Clash::Acsc => CertFaultKind::BadLook,
         Clash::Clear => CertFaultKind::NoResync,
     }

@@ -56,14 +56,8 @@ fn missing_behind(next: Option<Row>, last: usize, order: usize) -> Option<Row>
     ensures { result ≡ spec.missing_behind next last order }
 {
     match next {
-        Some(next) => {
-            if last < order {
-                Some(next)
-            } else {
-                required(last + 1, order)
-            }
-        }
-        None => required(last + 1, order),
+        Some(next) if last < order => Some(next),
+        Some(_) | None => required(last + 1, order),
     }
 }
 
@@ -118,14 +112,8 @@ impl Place {
         ensures { result ≡ spec.expected size.rows size.cols self.now.last row }
     {
         match self.last {
-            None => Row::first(row.order()),
-            Some(last) => {
-                if last.order() == row.order() {
-                    next_of(last, size)
-                } else {
-                    Row::first(row.order())
-                }
-            }
+            Some(last) if last.order() == row.order() => next_of(last, size),
+            Some(_) | None => Row::first(row.order()),
         }
     }
 

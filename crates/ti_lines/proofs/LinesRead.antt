@@ -155,7 +155,7 @@ rest_read first line h same =
 not_itself : (xs ys : List ℕ) → slice_cmp nat_cmp xs ys ≡ Less → xs ≡ ys → ⊥
 not_itself xs ys h e = true≢false (sym ((bytes_eq-Decides xs ys).1 e) ∙ sym (is_eq-slice_cmp xs ys) ∙ ap is_eq h)
 
-same_name : (a b : Row) → name_of a ≡ name_of b → order a ≡ order b
+pub same_name : (a b : Row) → name_of a ≡ name_of b → order a ≡ order b
 same_name a b h = elim (cases_order (order a) (order b)) [
   | inl e ↦ e
   | inr (inl lt) ↦ absurd (not_itself (name_of a) (name_of b) (names_rise (order a) (order b) lt (orders_small b)) h)
