@@ -1,9 +1,8 @@
 -- The bytes sent at the end of a program's screen, and their promise (X/Open Curses, endwin).
-use Rattle.std.specs.Prelude.{ℕ, ◌-◌, ◌<◌, ◌≡◌, List, [], ◌∷◌, ◌++◌, length, Result, Ok, Err}
+use Rattle.std.specs.Prelude.{ℕ, ◌-◌, ◌<◌, ◌≡◌, List, [], ◌++◌, length, Result, Ok, Err}
 use Rattle.vt_term.specs.Screen.{State}
 use Rattle.vt_term.specs.Ends.{Ends}
 use Rattle.cur_wires.specs.Wire.{Rose}
-use Rattle.ti_rows.specs.declared.rows.Row.{Row}
 use Rattle.ti_rows.specs.declared.rows.Row.TheVariants.{Cup, Sgr0, Rmacs, Cnorm, Rmcup}
 use Rattle.ti_conforms.specs.Certified.{Table, IsLost, text_of}
 use Rattle.cur_steps.specs.declared.inks.Ink.{Ink}
@@ -11,11 +10,6 @@ use Rattle.cur_paint.specs.Update.{Fits, IsFresh}
 use Rattle.cur_paint.specs.declared.updates.Knowledge.{Knowledge}
 use Rattle.cur_paint.specs.declared.updates.Status.{Status}
 use Rattle.cur_paint.specs.declared.updates.Status.TheVariants.{Fresh, Known, Lost}
-
--- the strings for these rows, one after another; one that the entry lacks is empty
-abbrev pub texts_of : Table → List Row → List ℕ
-texts_of t [] = []
-texts_of t (row ∷ rows) = text_of t row ++ texts_of t rows
 
 abbrev pub from_cnorm_text : Table → List ℕ
 from_cnorm_text t = text_of t Cnorm ++ text_of t Rmcup

@@ -5,6 +5,6 @@ pub mod Modes
 pub mod Lasting
 pub mod Rests
 pub mod Cleared
-pub mod Scenes
 pub mod Update
+pub mod Scenes
 pub mod Finish

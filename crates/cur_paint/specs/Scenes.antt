@@ -6,7 +6,7 @@ use Rattle.cur_wires.specs.Steps.{Steps}
 use Rattle.ti_rows.specs.declared.rows.Row.TheVariants.{Clear}
 use Rattle.ti_conforms.specs.Certified.{Table, IsChecked, IsLost, IsPiece, cell_limit}
 use Rattle.cur_steps.specs.Inks.{CanShow, mixed, blank_ink}
-use Rattle.cur_moves.specs.Scrolls.{shifted}
+use Rattle.cur_moves.specs.Scrolls.{CanScroll, shifted}
 use Rattle.cur_moves.specs.declared.scrolls.Scroll.{Scroll}
 use Rattle.cur_steps.specs.Beliefs.{Agrees, CanHide}
 use Rattle.cur_steps.specs.Steps.{Acts}
@@ -15,10 +15,12 @@ use Rattle.cur_steps.specs.declared.beliefs.Mode.{Mode}
 use Rattle.cur_steps.specs.declared.beliefs.Place.{Place}
 use Rattle.cur_steps.specs.declared.inks.Cells.{Cells}
 use Rattle.cur_steps.specs.declared.inks.Ink.{Ink}
+use Rattle.cur_paint.specs.Blanks.{IsBlankFrom}
 use Rattle.cur_paint.specs.Differ.{span, all_differ}
 use Rattle.cur_paint.specs.Limits.{IsWithin, paint_limit, renewal_limit}
 use Rattle.cur_paint.specs.Modes.{OnlyPaints}
 use Rattle.cur_paint.specs.Rests.{IsSet}
+use Rattle.cur_paint.specs.Update.{Anew}
 use Rattle.cur_paint.specs.declared.painters.Painter.{Painter}
 use Rattle.cur_paint.specs.declared.screens.Screens.{Screens}
 use Rattle.cur_paint.specs.declared.updates.Wanted.{Wanted}
@@ -41,10 +43,21 @@ pub record IsPaintable (s : Scene) : Type 0 where
 abbrev pub AreChanges : {D : Type 0} → (D → (ℕ → ℕ → Ink) → (ℕ → ℕ → Ink) → Type 0) → D → Scene → Type 0
 AreChanges between changes s = between changes s.old s.new
 
+-- the screen can be painted, and it differs only where these changes say
+pub record CanCompare {D : Type 0} (between : D → (ℕ → ℕ → Ink) → (ℕ → ℕ → Ink) → Type 0) (d : D)
+    (s : Scene) : Type 0 where
+  pub scene : IsPaintable s
+  pub changes : AreChanges between d s
+
 -- the cells are on the screen
 pub record IsOn (t : Table) (cells : Cells) : Type 0 where
   pub row : cells.row < t.rows
   pub cols : cells.from + cells.count ≤ t.cols
+
+-- the screen can be painted, and the cells are on it
+pub record HasCells (s : Scene) (cells : Cells) : Type 0 where
+  pub scene : IsPaintable s
+  pub on : IsOn s.table cells
 
 -- the number of these cells that differ
 abbrev pub changed : Scene → Cells → ℕ
@@ -78,6 +91,10 @@ mended s row col = mixed s.old s.new row col
 -- the new line is blank from a column on
 abbrev pub IsBlankPast : Scene → ℕ → ℕ → Type 0
 IsBlankPast s row col = (k : ℕ) → col ≤ k → k < s.table.cols → s.new row k ≡ blank_ink
+
+-- the new line is blank from a column on, and so are all lines below it
+abbrev pub IsBlankBelow : Scene → ℕ → ℕ → Type 0
+IsBlankBelow s row col = IsBlankFrom s.new s.table.rows s.table.cols row col
 
 -- a line doesn't differ from a column on
 abbrev pub IsSamePast : Scene → ℕ → ℕ → Type 0
@@ -148,6 +165,12 @@ pub record CanPaint (s : Scene) (w : Wanted) : Type 0 where
   pub cursor : IsWithin s.table w.cursor
   pub mode : CanHide s.table w.mode
 
+-- the painter can do so, and the screen differs only where these changes say
+pub record CanRefresh {D : Type 0} (between : D → (ℕ → ℕ → Ink) → (ℕ → ℕ → Ink) → Type 0) (d : D) (s : Scene)
+    (w : Wanted) : Type 0 where
+  pub paints : CanPaint s w
+  pub changes : AreChanges between d s
+
 -- Leads a painter's terminal from the cells g of its scene to the wanted ones, in at most `limit` bytes. At the end the
 -- cursor is as wanted, and all else is at rest.
 pub record Ends {C O N W T E : Type 0} (table : C → Table) (old : O → ℕ → ℕ → Ink) (new : N → ℕ → ℕ → Ink)
@@ -160,11 +183,22 @@ pub record Ends {C O N W T E : Type 0} (table : C → Table) (old : O → ℕ �
   pub set : OnOk answer (IsSet w after.pen.now.belief)
   pub same : IsSame before after
 
+-- Leads a painter's terminal from one kind of states to the wanted cells, beginning with the bytes `first`, as `Anew`
+-- says.
+abbrev pub Renews : {C O N W T E : Type 0} → (C → Table) → (O → ℕ → ℕ → Ink) → (N → ℕ → ℕ → Ink)
+    → (W → W → List ℕ → Type 0) → (W → ℕ) → Painter C O N W → Painter C O N W → Result T E
+    → (Scene → ℕ) → (Scene → State → Type 0) → (Scene → List ℕ) → Option Mode → Wanted → Type 0
+Renews table old new went failures before after answer limit kind first now w =
+    let s = scene table old new before.screens.now in
+    Anew went failures before.pen.now.wire after.pen.now.wire answer s.table (limit s) (kind s)
+    (Agrees s.table s.new after.pen.now.belief) (first s) now w
+
 -- ---- what is weighed
 
--- after a scroll fewer cells differ: fewer by the number of lines that it moves by, and 4 more
-abbrev pub ScrollSaves : Scene → Scroll → Type 0
-ScrollSaves s x = (x.count + 4) + all_differ (shifted x s.old) s.new s.table.cols s.table.rows ≤ all_changed s
+-- the terminal can scroll so, and fewer cells differ then: fewer by the number of lines that it moves by, and 4 more
+pub record IsUseful (s : Scene) (x : Scroll) : Type 0 where
+  pub can : CanScroll s.table x
+  pub saves : (x.count + 4) + all_differ (shifted x s.old) s.new s.table.cols s.table.rows ≤ all_changed s
 
 -- after `clear` fewer cells differ, and still fewer than that by the bytes of its line
 abbrev pub ClearSaves : Scene → Type 0

@@ -1,9 +1,8 @@
 //! The choice of how a known screen is mended: not at all, directly, after a scroll, or after `clear`, by the number of
 //! cells that would differ.
 ghost use Rattle.std.specs.Prelude.{◌≡◌, IfSome, Some, false, true};
-ghost use Rattle.cur_moves.specs.Scrolls.{CanScroll};
 ghost use Rattle.cur_paint.specs.Limits.{IsPlaced, last_move};
-ghost use Rattle.cur_paint.specs.Scenes.{AreChanges, ClearSaves, IsDue, IsPaintable, ScrollSaves, all_changed, scene};
+ghost use Rattle.cur_paint.specs.Scenes.{CanCompare, ClearSaves, IsDue, IsUseful, all_changed, scene};
 
 use crate::changes::{Changes, Moved, Whole};
 use crate::clears::{may_become_blanks, saves};
@@ -22,8 +21,7 @@ impl<C: Certificate, O: Picture, N: Picture> Screens<'_, C, O, N> {
     /// Whether nothing has to be sent from a known state: no cell differs, and the cursor is where `wanted` says and in
     /// its mode.
     pub(crate) fn is_still<D: Changes>(&self, belief: Belief, changes: &D, wanted: Wanted) -> bool
-        requires scene { IsPaintable (scene C.table O.cells N.cells self.now) }
-        requires changes { AreChanges D.between changes.now (scene C.table O.cells N.cells self.now) }
+        requires compared { CanCompare D.between changes.now (scene C.table O.cells N.cells self.now) }
         ensures there { result ≡ true → IsPlaced (C.table self.now.checked.now).cols wanted.cursor belief.place }
         ensures mode { result ≡ true → belief.mode ≡ Some wanted.mode }
         ensures same { result ≡ true → all_changed (scene C.table O.cells N.cells self.now) ≡ 0 }
@@ -44,10 +42,8 @@ impl<C: Certificate, O: Picture, N: Picture> Screens<'_, C, O, N> {
     /// The scroll that `changes` names, if the terminal can do it, and it leaves fewer cells to mend: fewer by the
     /// number of lines that it moves by, and 4 more.
     pub(crate) fn useful_scroll<D: Changes>(&self, changes: &D) -> Option<Scroll>
-        requires scene { IsPaintable (scene C.table O.cells N.cells self.now) }
-        requires changes { AreChanges D.between changes.now (scene C.table O.cells N.cells self.now) }
-        ensures can { IfSome result (λ x. CanScroll (C.table self.now.checked.now) x) }
-        ensures saves { IfSome result (λ x. ScrollSaves (scene C.table O.cells N.cells self.now) x) }
+        requires compared { CanCompare D.between changes.now (scene C.table O.cells N.cells self.now) }
+        ensures useful { IfSome result (λ x. IsUseful (scene C.table O.cells N.cells self.now) x) }
     {
         self.useful(changes, changes.scroll()?)
     }
@@ -56,10 +52,8 @@ impl<C: Certificate, O: Picture, N: Picture> Screens<'_, C, O, N> {
     /// without it and after it.
     #[inline(never)]
     fn useful<D: Changes>(&self, changes: &D, scroll: Scroll) -> Option<Scroll>
-        requires scene { IsPaintable (scene C.table O.cells N.cells self.now) }
-        requires changes { AreChanges D.between changes.now (scene C.table O.cells N.cells self.now) }
-        ensures can { IfSome result (λ x. CanScroll (C.table self.now.checked.now) x) }
-        ensures saves { IfSome result (λ x. ScrollSaves (scene C.table O.cells N.cells self.now) x) }
+        requires compared { CanCompare D.between changes.now (scene C.table O.cells N.cells self.now) }
+        ensures useful { IfSome result (λ x. IsUseful (scene C.table O.cells N.cells self.now) x) }
     {
         if !can_scroll(self.checked, scroll) {
             return None;
@@ -85,8 +79,7 @@ impl<C: Certificate, O: Picture, N: Picture> Screens<'_, C, O, N> {
     /// Whether clearing and painting everything is likely to take fewer bytes than mending the differences, and also
     /// keeps within the bound.
     pub(crate) fn is_better_cleared<D: Changes>(&self, changes: &D) -> bool
-        requires scene { IsPaintable (scene C.table O.cells N.cells self.now) }
-        requires changes { AreChanges D.between changes.now (scene C.table O.cells N.cells self.now) }
+        requires compared { CanCompare D.between changes.now (scene C.table O.cells N.cells self.now) }
         ensures saves { result ≡ true → ClearSaves (scene C.table O.cells N.cells self.now) }
     {
         let rows = self.checked.rows();
@@ -98,8 +91,7 @@ impl<C: Certificate, O: Picture, N: Picture> Screens<'_, C, O, N> {
     /// before and after `clear`.
     #[inline(never)]
     fn takes_fewer_cleared<D: Changes>(&self, changes: &D) -> bool
-        requires scene { IsPaintable (scene C.table O.cells N.cells self.now) }
-        requires changes { AreChanges D.between changes.now (scene C.table O.cells N.cells self.now) }
+        requires compared { CanCompare D.between changes.now (scene C.table O.cells N.cells self.now) }
         ensures saves { result ≡ true → ClearSaves (scene C.table O.cells N.cells self.now) }
     {
         let clear = self.checked.line(Row::Clear).unwrap().len();

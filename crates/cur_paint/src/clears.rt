@@ -1,8 +1,7 @@
 //! Whether to clear everything before a known screen is painted.
 use crate::changes::Changes;
-use crate::runs::are_blank;
 use crate::tails::may_differ;
-use cur_steps::Picture;
+use cur_steps::{Picture, are_blank};
 use ti_conforms::Certificate;
 use ti_rows::Row;
 

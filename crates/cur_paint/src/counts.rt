@@ -1,6 +1,6 @@
 //! The number of cells in which two screens differ.
 ghost use Rattle.std.specs.Prelude.{◌≡◌, ◌+◌, ◌-◌, ◌<◌, ◌≤◌, true, false};
-ghost use Rattle.cur_paint.specs.{Differ.{differs, span}, Scenes.{IsPaintable, all_changed, scene}};
+ghost use Rattle.cur_paint.specs.{Differ.{differs, span}, Scenes.{CanCompare, all_changed, scene}};
 
 use crate::changes::{Changes, Columns};
 use crate::pieces::differs_in;
@@ -55,8 +55,7 @@ fn count_line<O: Picture, N: Picture, D: Changes>(
 impl<C: Certificate, O: Picture, N: Picture> Screens<'_, C, O, N> {
     /// The number of cells in which the screens differ.
     pub(crate) fn count_cells<D: Changes>(&self, changes: &D) -> usize
-        requires scene { IsPaintable (scene C.table O.cells N.cells self.now) }
-        requires changes { D.between changes.now (O.cells self.now.old.now) (N.cells self.now.new.now) }
+        requires compared { CanCompare D.between changes.now (scene C.table O.cells N.cells self.now) }
         ensures value { result ≡ all_changed (scene C.table O.cells N.cells self.now) }
         ensures few { result ≤ 1000000 }
     {
@@ -65,8 +64,7 @@ impl<C: Certificate, O: Picture, N: Picture> Screens<'_, C, O, N> {
 
     /// Counts the cells in which the screens differ, line by line, until there are more than `most`.
     fn count_until<D: Changes>(&self, changes: &D, most: usize) -> usize
-        requires scene { IsPaintable (scene C.table O.cells N.cells self.now) }
-        requires changes { D.between changes.now (O.cells self.now.old.now) (N.cells self.now.new.now) }
+        requires compared { CanCompare D.between changes.now (scene C.table O.cells N.cells self.now) }
         ensures value { result ≤ most → result ≡ all_changed (scene C.table O.cells N.cells self.now) }
         ensures within { result ≤ all_changed (scene C.table O.cells N.cells self.now) }
         ensures few { result ≤ 1000000 }
@@ -86,8 +84,7 @@ impl<C: Certificate, O: Picture, N: Picture> Screens<'_, C, O, N> {
 
     /// Whether the first line that may differ does so: a cheap look before all cells are compared.
     pub(crate) fn first_differs<D: Changes>(&self, changes: &D) -> bool
-        requires scene { IsPaintable (scene C.table O.cells N.cells self.now) }
-        requires changes { D.between changes.now (O.cells self.now.old.now) (N.cells self.now.new.now) }
+        requires compared { CanCompare D.between changes.now (scene C.table O.cells N.cells self.now) }
         ensures { result ≡ true → 0 < all_changed (scene C.table O.cells N.cells self.now) }
     {
         let cols = self.checked.cols();
@@ -106,8 +103,7 @@ impl<C: Certificate, O: Picture, N: Picture> Screens<'_, C, O, N> {
 
     /// Whether the screens differ in more than `least` cells.
     pub(crate) fn differ_in_more<D: Changes>(&self, changes: &D, least: usize) -> bool
-        requires scene { IsPaintable (scene C.table O.cells N.cells self.now) }
-        requires changes { D.between changes.now (O.cells self.now.old.now) (N.cells self.now.new.now) }
+        requires compared { CanCompare D.between changes.now (scene C.table O.cells N.cells self.now) }
         ensures more { result ≡ true → least < all_changed (scene C.table O.cells N.cells self.now) }
         ensures within { result ≡ false → all_changed (scene C.table O.cells N.cells self.now) ≤ least }
     {

@@ -2,7 +2,7 @@
 ghost use Rattle.std.specs.Prelude.{◌≡◌, OnOk};
 ghost use Rattle.cur_paint.specs.{Limits.{IsWithin, renewal_limit, rest_limit}, Modes.{move_limit}};
 ghost use Rattle.cur_paint.specs.Rests.{IsAt, IsRested};
-ghost use Rattle.cur_paint.specs.Scenes.{AreChanges, CanPaint, Ends, IsPaintable, IsSame, scene};
+ghost use Rattle.cur_paint.specs.Scenes.{CanPaint, CanRefresh, Ends, IsPaintable, IsSame, scene};
 ghost use Rattle.cur_steps.specs.Steps.{ActsWith, Keeps};
 ghost use Rattle.ti_conforms.specs.Certified.{IsChecked, cell_limit};
 
@@ -18,8 +18,7 @@ impl<C: Certificate, O: Picture, N: Picture, W: Wire> Painter<'_, C, O, N, W> {
     /// Mends all differences, in the columns that may differ according to `changes`, then makes the rendition the
     /// default one and sets the cursor as `wanted` says.
     pub(crate) fn paint<D: Changes>(&mut self, changes: &D, wanted: Wanted) -> Sent
-        requires can { CanPaint (scene C.table O.cells N.cells self.old.screens.now) wanted }
-        requires changes { AreChanges D.between changes.now (scene C.table O.cells N.cells self.old.screens.now) }
+        requires can { CanRefresh D.between changes.now (scene C.table O.cells N.cells self.old.screens.now) wanted }
         ensures ends { Ends C.table O.cells N.cells W.went W.failures self.old self.new result
             (λ s. renewal_limit s.table s.old s.new) (λ s. s.old) wanted }
     {

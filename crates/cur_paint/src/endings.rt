@@ -1,38 +1,14 @@
 //! The end of a program's screen.
 ghost use Rattle.std.specs.Prelude.{◌≡◌};
 ghost use Rattle.cur_wires.specs.Wire.{Sends};
-ghost use Rattle.ti_conforms.specs.Certified.{text_of};
 ghost use Rattle.cur_paint.specs.declared.updates.Status.TheVariants.{Lost};
-ghost use Rattle.cur_paint.specs.Finish.{Finishes, end_text, finish_text, texts_of};
+ghost use Rattle.cur_paint.specs.Finish.{Finishes, end_text, finish_text};
 
 use crate::updates::{Knowledge, Status};
+use cur_steps::send_rows;
 use cur_wires::{Wire, WireFault, send_all};
 use ti_conforms::Certificate;
 use ti_rows::Row;
-
-/// Sends the string for `row`, if there is one.
-fn send_row<C: Certificate, W: Wire>(checked: &C, row: Row, wire: &mut W) -> Result<(), WireFault>
-    ensures sends { Sends W.went W.failures wire.old wire.new (text_of (C.table checked.now) row) result }
-{
-    match checked.line(row) {
-        Some(line) => send_all(wire, line),
-        None => Ok(()),
-    }
-}
-
-/// Sends the strings for `rows`, one after another, as far as there are any.
-fn send_rows<C: Certificate, W: Wire>(
-    checked: &C,
-    rows: &[Row],
-    wire: &mut W,
-) -> Result<(), WireFault>
-    ensures sends { Sends W.went W.failures wire.old wire.new (texts_of (C.table checked.now) rows.now) result }
-{
-    for row in rows {
-        send_row(checked, *row, wire)?;
-    }
-    Ok(())
-}
 
 /// Turns all attributes off, makes the plain set the active one, moves the cursor to the last line, makes it visible,
 /// and brings back the screen from before.

@@ -1,9 +1,8 @@
 //! The bytes that may go out before differences are mended: the resynchronization, `clear`, or a scroll.
 ghost use Rattle.std.specs.Prelude.{◌+◌, ◌≡◌, List, OnOk, Some, length, ℕ};
-ghost use Rattle.cur_moves.specs.Scrolls.{CanScroll};
 ghost use Rattle.cur_paint.specs.{Cleared.{IsLeft}, Limits.{fresh_limit, paint_limit, renewal_limit}};
 ghost use Rattle.cur_paint.specs.Rests.{IsRested, IsSet};
-ghost use Rattle.cur_paint.specs.{Scenes.{AreChanges, CanPaint, Ends, IsSame, ScrollSaves, scene}, Update.{Anew}};
+ghost use Rattle.cur_paint.specs.Scenes.{CanPaint, CanRefresh, Ends, IsSame, IsUseful, Renews, scene};
 ghost use Rattle.cur_steps.specs.{Beliefs.{Agrees}, Inks.{blank_ink}, declared.inks.Ink.{Ink}};
 ghost use Rattle.ti_rows.specs.declared.rows.Row.TheVariants.{Clear};
 
@@ -24,11 +23,8 @@ impl<C: Certificate, O: Picture, N: Picture, W: Wire> Painter<'_, C, O, N, W> {
     pub(crate) fn repaint(&mut self, shown_as: Option<Mode>, wanted: Wanted) -> Sent
         requires can { CanPaint (scene C.table O.cells N.cells self.old.screens.now) wanted }
         ensures set { OnOk result (IsSet wanted self.new.pen.now.belief) }
-        ensures step { Anew W.went W.failures self.old.pen.now.wire self.new.pen.now.wire result
-            (C.table self.old.screens.now.checked.now) (fresh_limit (C.table self.old.screens.now.checked.now))
-            (IsLeft (C.table self.old.screens.now.checked.now) shown_as)
-            (Agrees (C.table self.old.screens.now.checked.now) (N.cells self.old.screens.now.new.now)
-            self.new.pen.now.belief) (C.table self.old.screens.now.checked.now).resync shown_as wanted }
+        ensures step { Renews C.table O.cells N.cells W.went W.failures self.old self.new result
+            (λ s. fresh_limit s.table) (λ s. IsLeft s.table shown_as) (λ s. s.table.resync) shown_as wanted }
         ensures same { IsSame self.old self.new }
     {
         self.pen.belief = start_belief(shown_as);
@@ -43,12 +39,9 @@ impl<C: Certificate, O: Picture, N: Picture, W: Wire> Painter<'_, C, O, N, W> {
         requires rested { IsRested self.old.pen.now.belief }
         ensures set { OnOk result (IsSet wanted self.new.pen.now.belief) }
         ensures step { (line : List ℕ) → (C.table self.old.screens.now.checked.now).line_of Clear ≡ Some line
-            → (shown : ℕ → ℕ → Ink) → Anew W.went W.failures self.old.pen.now.wire self.new.pen.now.wire result
-            (C.table self.old.screens.now.checked.now) (length line + renewal_limit
-            (C.table self.old.screens.now.checked.now) (λ i j. blank_ink) (N.cells self.old.screens.now.new.now))
-            (Agrees (C.table self.old.screens.now.checked.now) shown self.old.pen.now.belief)
-            (Agrees (C.table self.old.screens.now.checked.now) (N.cells self.old.screens.now.new.now)
-            self.new.pen.now.belief) line self.old.pen.now.belief.mode wanted }
+            → (shown : ℕ → ℕ → Ink) → Renews C.table O.cells N.cells W.went W.failures self.old self.new result
+            (λ s. length line + renewal_limit s.table (λ i j. blank_ink) s.new)
+            (λ s. Agrees s.table shown self.old.pen.now.belief) (λ s. line) self.old.pen.now.belief.mode wanted }
         ensures same { IsSame self.old self.new }
     {
         self.pen.belief.place = Place { row: 0, col: 0 };
@@ -95,12 +88,11 @@ impl<C: Certificate, O: Picture, N: Picture, W: Wire> Painter<'_, C, O, N, W> {
         scroll: Scroll,
         wanted: Wanted,
     ) -> Sent
-        requires can { CanPaint (scene C.table O.cells N.cells self.old.screens.now) wanted }
-        requires changes { AreChanges D.between changes.now (scene C.table O.cells N.cells self.old.screens.now) }
-        requires scroll { CanScroll (C.table self.old.screens.now.checked.now) scroll }
-        requires saves { ScrollSaves (scene C.table O.cells N.cells self.old.screens.now) scroll }
+        requires can { CanRefresh D.between changes.now (scene C.table O.cells N.cells self.old.screens.now) wanted }
+        requires useful { IsUseful (scene C.table O.cells N.cells self.old.screens.now) scroll }
         ensures ends { Ends C.table O.cells N.cells W.went W.failures self.old self.new result
-            (λ s. paint_limit s.table s.old s.new self.old.pen.now.belief wanted.cursor wanted.mode) (λ s. s.old) wanted }
+            (λ s. paint_limit s.table s.old s.new self.old.pen.now.belief wanted.cursor wanted.mode) (λ s. s.old)
+            wanted }
     {
         scroll_lines(self.screens.checked, self.pen, scroll)?;
         let moved = Shifted {

@@ -9,6 +9,7 @@ ghost use Rattle.vt_term.specs.Screen.{State, reset};
 /// The most that a refresh of a known terminal sends: the bytes of a cell for each cell that differs, and once more for
 /// the cursor. Nothing if no cell differs, the mode is the shown one, and the terminal's cursor is in the wanted place
 /// or may be anywhere, in each state that agrees with what is known.
+#[tactic(auto, using(crate::proofs::Bounds::most, crate::proofs::Bounds::none))]
 pub fn bounded()
     ensures most { (t : Table) (old new : ℕ → ℕ → Ink) (b : Belief) (cursor : Option Place) (mode : Mode)
         → paint_limit t old new b cursor mode ≤ (all_differ old new t.cols t.rows + 1) * cell_limit t }

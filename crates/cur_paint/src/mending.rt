@@ -1,10 +1,10 @@
 //! The painter at work: mends cells, parts of lines, lines and the screen where they differ from the wanted ones.
 ghost use Rattle.std.specs.Prelude.{◌<◌, ◌≡◌, ◌≤◌, OnOk, Some, length, ℕ};
 ghost use Rattle.cur_moves.specs.Erasures.{erased, erasure_row};
-ghost use Rattle.cur_paint.specs.{Blanks.{IsBlankFrom}, Differ.{IsSameOutside, differs}};
-ghost use Rattle.cur_paint.specs.Scenes.{AreChanges, AreInked, IsBlankPast, IsOn, IsPaintable, IsSame, IsSamePast};
-ghost use Rattle.cur_paint.specs.Scenes.{IsShort, MendsAll, MendsBelow, MendsCells, MendsFrom, MendsLine, changed_from};
-ghost use Rattle.cur_paint.specs.Scenes.{scene};
+ghost use Rattle.cur_paint.specs.Differ.{IsSameOutside, differs};
+ghost use Rattle.cur_paint.specs.Scenes.{AreInked, CanCompare, HasCells, IsBlankBelow, IsBlankPast, IsPaintable};
+ghost use Rattle.cur_paint.specs.Scenes.{IsSame, IsSamePast, IsShort, MendsAll, MendsBelow, MendsCells, MendsFrom};
+ghost use Rattle.cur_paint.specs.Scenes.{MendsLine, changed_from, scene};
 ghost use Rattle.cur_steps.specs.Steps.{MakesFrom};
 ghost use Rattle.ti_conforms.specs.Certified.{cell_limit};
 ghost use Rattle.ti_rows.specs.declared.rows.Row.TheVariants.{Ed};
@@ -22,8 +22,7 @@ use ti_conforms::Certificate;
 impl<C: Certificate, O: Picture, N: Picture, W: Wire> Painter<'_, C, O, N, W> {
     /// Mends all lines, in the columns that may differ according to `changes`.
     pub(crate) fn mend_screen<D: Changes>(&mut self, changes: &D) -> Sent
-        requires scene { IsPaintable (scene C.table O.cells N.cells self.old.screens.now) }
-        requires changes { AreChanges D.between changes.now (scene C.table O.cells N.cells self.old.screens.now) }
+        requires compared { CanCompare D.between changes.now (scene C.table O.cells N.cells self.old.screens.now) }
         ensures mends { MendsAll C.table O.cells N.cells W.went W.failures self.old self.new result }
     {
         let screens = self.screens;
@@ -62,9 +61,7 @@ impl<C: Certificate, O: Picture, N: Picture, W: Wire> Painter<'_, C, O, N, W> {
         requires before { (k : ℕ) → k < columns.from
             → O.cells self.old.screens.now.old.now row k ≡ N.cells self.old.screens.now.new.now row k }
         requires differs { 0 < changed_from (scene C.table O.cells N.cells self.old.screens.now) row columns.end }
-        requires blank { IsBlankFrom (N.cells self.old.screens.now.new.now)
-            (C.table self.old.screens.now.checked.now).rows (C.table self.old.screens.now.checked.now).cols
-            row columns.end }
+        requires blank { IsBlankBelow (scene C.table O.cells N.cells self.old.screens.now) row columns.end }
         ensures mends { MendsBelow C.table O.cells N.cells W.went W.failures self.old self.new result row }
     {
         let cells = Cells {
@@ -164,8 +161,7 @@ impl<C: Certificate, O: Picture, N: Picture, W: Wire> Painter<'_, C, O, N, W> {
 
     /// Mends the `cells`, and erases runs of blanks if that takes fewer bytes.
     fn mend_parts(&mut self, cells: Cells) -> Sent
-        requires scene { IsPaintable (scene C.table O.cells N.cells self.old.screens.now) }
-        requires cells { IsOn (C.table self.old.screens.now.checked.now) cells }
+        requires cells { HasCells (scene C.table O.cells N.cells self.old.screens.now) cells }
         ensures mends { MendsCells C.table O.cells N.cells W.went W.failures self.old self.new result cells }
     {
         if cells.count <= FEWEST || !erases_runs(self.screens.checked) {
@@ -176,8 +172,7 @@ impl<C: Certificate, O: Picture, N: Picture, W: Wire> Painter<'_, C, O, N, W> {
 
     /// Mends the `cells`, part by part.
     fn mend_by_parts(&mut self, cells: Cells) -> Sent
-        requires scene { IsPaintable (scene C.table O.cells N.cells self.old.screens.now) }
-        requires cells { IsOn (C.table self.old.screens.now.checked.now) cells }
+        requires cells { HasCells (scene C.table O.cells N.cells self.old.screens.now) cells }
         ensures mends { MendsCells C.table O.cells N.cells W.went W.failures self.old self.new result cells }
     {
         let mut done = 0;
@@ -200,8 +195,7 @@ impl<C: Certificate, O: Picture, N: Picture, W: Wire> Painter<'_, C, O, N, W> {
 
     /// Mends the `cells`, by `erasure` if there is one.
     fn mend_part(&mut self, cells: Cells, erasure: Option<ErasedPart>) -> Sent
-        requires scene { IsPaintable (scene C.table O.cells N.cells self.old.screens.now) }
-        requires cells { IsOn (C.table self.old.screens.now.checked.now) cells }
+        requires cells { HasCells (scene C.table O.cells N.cells self.old.screens.now) cells }
         ensures mends { MendsCells C.table O.cells N.cells W.went W.failures self.old self.new result cells }
     {
         match erasure {
@@ -214,8 +208,7 @@ impl<C: Certificate, O: Picture, N: Picture, W: Wire> Painter<'_, C, O, N, W> {
     /// Erases the line from its start to the last of `cells` if all of that becomes blank and some of `cells` differ,
     /// else mends them one after another.
     fn mend_head(&mut self, cells: Cells) -> Sent
-        requires scene { IsPaintable (scene C.table O.cells N.cells self.old.screens.now) }
-        requires cells { IsOn (C.table self.old.screens.now.checked.now) cells }
+        requires cells { HasCells (scene C.table O.cells N.cells self.old.screens.now) cells }
         ensures mends { MendsCells C.table O.cells N.cells W.went W.failures self.old self.new result cells }
     {
         if !is_run(self.screens.old, self.screens.new, 0, cells) {
@@ -239,8 +232,7 @@ impl<C: Certificate, O: Picture, N: Picture, W: Wire> Painter<'_, C, O, N, W> {
 
     /// Erases the `cells` if they become blank and some differ, else mends them one after another.
     fn mend_run(&mut self, cells: Cells) -> Sent
-        requires scene { IsPaintable (scene C.table O.cells N.cells self.old.screens.now) }
-        requires cells { IsOn (C.table self.old.screens.now.checked.now) cells }
+        requires cells { HasCells (scene C.table O.cells N.cells self.old.screens.now) cells }
         ensures mends { MendsCells C.table O.cells N.cells W.went W.failures self.old self.new result cells }
     {
         if !is_run(self.screens.old, self.screens.new, cells.from, cells) {
@@ -256,8 +248,7 @@ impl<C: Certificate, O: Picture, N: Picture, W: Wire> Painter<'_, C, O, N, W> {
     /// Prints those of the `cells` that differ. Cells that are printed alike go out in one piece, with the few
     /// unchanged ones between them.
     fn mend_span(&mut self, cells: Cells) -> Sent
-        requires scene { IsPaintable (scene C.table O.cells N.cells self.old.screens.now) }
-        requires cells { IsOn (C.table self.old.screens.now.checked.now) cells }
+        requires cells { HasCells (scene C.table O.cells N.cells self.old.screens.now) cells }
         ensures mends { MendsCells C.table O.cells N.cells W.went W.failures self.old self.new result cells }
     {
         if cells.count == 1 {
@@ -268,8 +259,7 @@ impl<C: Certificate, O: Picture, N: Picture, W: Wire> Painter<'_, C, O, N, W> {
 
     /// Prints those of the `cells` that differ, piece by piece.
     fn print_pieces(&mut self, cells: Cells) -> Sent
-        requires scene { IsPaintable (scene C.table O.cells N.cells self.old.screens.now) }
-        requires cells { IsOn (C.table self.old.screens.now.checked.now) cells }
+        requires cells { HasCells (scene C.table O.cells N.cells self.old.screens.now) cells }
         ensures mends { MendsCells C.table O.cells N.cells W.went W.failures self.old self.new result cells }
     {
         let mut text = [0; TEXT];
@@ -303,8 +293,7 @@ impl<C: Certificate, O: Picture, N: Picture, W: Wire> Painter<'_, C, O, N, W> {
     /// Prints the `cells`, which must have the characters of `text` in the set and the brush of `ink`: in one piece if
     /// the terminal is known to print them so, else one by one those that differ.
     fn print_alike(&mut self, cells: Cells, ink: Ink, text: &[u8]) -> Sent
-        requires scene { IsPaintable (scene C.table O.cells N.cells self.old.screens.now) }
-        requires cells { IsOn (C.table self.old.screens.now.checked.now) cells }
+        requires cells { HasCells (scene C.table O.cells N.cells self.old.screens.now) cells }
         requires long { cells.count ≤ length text.now }
         requires alike { AreInked (N.cells self.old.screens.now.new.now) cells ink cells.count text.now }
         requires bytes { IsShort (scene C.table O.cells N.cells self.old.screens.now) cells }
@@ -322,8 +311,7 @@ impl<C: Certificate, O: Picture, N: Picture, W: Wire> Painter<'_, C, O, N, W> {
 
     /// Prints those of the `cells` that differ, one by one.
     fn print_each(&mut self, cells: Cells) -> Sent
-        requires scene { IsPaintable (scene C.table O.cells N.cells self.old.screens.now) }
-        requires cells { IsOn (C.table self.old.screens.now.checked.now) cells }
+        requires cells { HasCells (scene C.table O.cells N.cells self.old.screens.now) cells }
         ensures mends { MendsCells C.table O.cells N.cells W.went W.failures self.old self.new result cells }
     {
         for n in 0..cells.count {

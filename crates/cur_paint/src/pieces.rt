@@ -1,6 +1,6 @@
 //! The characters of a line that go out in one piece.
 ghost use Rattle.std.specs.Prelude.{◌*◌, ◌+◌, ◌<◌, ◌≡◌, ◌≤◌, false, length, true, ℕ};
-ghost use Rattle.cur_paint.specs.{Differ.{IsSameBy, span}, Scenes.{AreInked, IsOn, IsPaintable, IsShort, scene}};
+ghost use Rattle.cur_paint.specs.{Differ.{IsSameBy, span}, Scenes.{AreInked, HasCells, IsShort, scene}};
 ghost use Rattle.cur_steps.specs.{Gaps.{IsAlike}, declared.inks.Ink.{Ink}};
 ghost use Rattle.ti_conforms.specs.Certified.{cell_limit};
 
@@ -25,15 +25,15 @@ pub(crate) fn piece_of<C: Certificate, O: Picture, N: Picture>(
     text: &mut [u8],
     same: &mut [bool],
 ) -> usize
-    requires scene { IsPaintable (scene C.table O.cells N.cells screens.now) }
-    requires cells { IsOn (C.table screens.now.checked.now) cells }
+    requires cells { HasCells (scene C.table O.cells N.cells screens.now) cells }
     requires some { 0 < cells.count }
     requires ink { ink ≡ N.cells screens.now.new.now cells.row cells.from }
     requires room { length text.old ≤ 512 }
     requires marks { length text.old ≤ length same.old }
     ensures within { result < cells.count }
     ensures room { result ≤ length text.new }
-    ensures cells { AreInked (N.cells screens.now.new.now) (record cells { from = cells.from + 1 }) ink result text.new }
+    ensures cells { AreInked (N.cells screens.now.new.now) (record cells { from = cells.from + 1 }) ink result
+        text.new }
     ensures bytes { IsShort (scene C.table O.cells N.cells screens.now)
         (record cells { from = cells.from + 1; count = result }) }
 {

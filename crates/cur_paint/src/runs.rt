@@ -1,13 +1,13 @@
 //! The runs of blanks within a line that are erased, because that takes fewer bytes than printing them.
 ghost use Rattle.std.specs.Prelude.{◌+◌, ◌<◌, ◌≡◌, ◌≤◌, IfSome, true, ℕ};
-ghost use Rattle.cur_paint.specs.{Differ.{span}, Scenes.{IsOn, IsPaintable, scene}};
+ghost use Rattle.cur_paint.specs.{Differ.{span}, Scenes.{HasCells, scene}};
 ghost use Rattle.cur_steps.specs.Inks.{blank_ink};
 ghost use Rattle.ti_conforms.specs.Certified.{IsChecked};
 
 use crate::pieces::differs_in;
 use crate::screens::Screens;
 use cur_moves::{ErasedPart, erasing_line, line_bytes};
-use cur_steps::{Cells, Picture, Place};
+use cur_steps::{Cells, Picture, Place, are_blank};
 use ti_conforms::Certificate;
 
 /// The fewest bytes of an erasure and the move after it.
@@ -41,8 +41,7 @@ pub(crate) fn next_part<C: Certificate, O: Picture, N: Picture>(
     screens: &Screens<'_, C, O, N>,
     cells: Cells,
 ) -> Part
-    requires scene { IsPaintable (scene C.table O.cells N.cells screens.now) }
-    requires cells { IsOn (C.table screens.now.checked.now) cells }
+    requires cells { HasCells (scene C.table O.cells N.cells screens.now) cells }
     requires some { 0 < cells.count }
     ensures some { 0 < result.count }
     ensures within { result.count ≤ cells.count }
@@ -213,16 +212,4 @@ pub(crate) fn is_run<O: Picture, N: Picture>(old: &O, new: &N, first: usize, cel
     cells.count > 0
         && differs_in(old, new, cells)
         && are_blank(new, cells.row, first, cells.from + cells.count)
-}
-
-/// Whether the line `row` is blank from the column `from` to the one before `end`.
-pub(crate) fn are_blank<N: Picture>(new: &N, row: usize, from: usize, end: usize) -> bool
-    ensures { result ≡ true → (k : ℕ) → from ≤ k → k < end → N.cells new.now row k ≡ blank_ink }
-{
-    for col in from..end {
-        if !new.is_blank(row, col) {
-            return false;
-        }
-    }
-    true
 }

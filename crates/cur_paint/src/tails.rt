@@ -1,15 +1,14 @@
 //! The blank ends of lines and of the screen, and whether one erasure of them takes the fewest bytes.
 ghost use Rattle.std.specs.Prelude.{◌<◌, ◌≡◌, ◌≤◌, IfSome, Some, ℕ};
-ghost use Rattle.cur_paint.specs.{Blanks.{IsBlankFrom}, Scenes.{IsBlankPast, IsPaintable, changed_from, scene}};
+ghost use Rattle.cur_paint.specs.Scenes.{IsBlankBelow, IsBlankPast, IsPaintable, changed_from, scene};
 ghost use Rattle.cur_steps.specs.Inks.{blank_ink};
 ghost use Rattle.ti_rows.specs.declared.rows.Row.TheVariants.{Ed, El};
 
 use crate::changes::{Changes, Columns};
 use crate::pieces::differs_in;
-use crate::runs::are_blank;
 use crate::screens::Screens;
 use cur_moves::{ErasedPart, erasing_line};
-use cur_steps::{Cells, Picture, Place};
+use cur_steps::{Cells, Picture, Place, blank_from, first_solid};
 use ti_conforms::Certificate;
 use ti_rows::Row;
 
@@ -39,8 +38,8 @@ impl<C: Certificate, O: Picture, N: Picture> Screens<'_, C, O, N> {
             → IsBlankPast (scene C.table O.cells N.cells self.now) tail.row tail.col }
         ensures differs { result.col < (C.table self.now.checked.now).cols
             → 0 < changed_from (scene C.table O.cells N.cells self.now) tail.row result.col }
-        ensures blank { result.col < (C.table self.now.checked.now).cols → IsBlankFrom (N.cells self.now.new.now)
-            (C.table self.now.checked.now).rows (C.table self.now.checked.now).cols tail.row result.col }
+        ensures blank { result.col < (C.table self.now.checked.now).cols
+            → IsBlankBelow (scene C.table O.cells N.cells self.now) tail.row result.col }
         ensures tail { result.col < (C.table self.now.checked.now).cols → result.col ≡ tail.col }
     {
         let rows = self.checked.rows();
@@ -119,19 +118,6 @@ fn tail_bytes<C: Certificate>(checked: &C, count: usize) -> usize {
     }
 }
 
-/// The first line from `from` to the one before `rows` that isn't blank, or else the one after them.
-fn first_solid<N: Picture>(new: &N, from: usize, rows: usize, cols: usize) -> usize
-    ensures blank { (i j : ℕ) → from ≤ i → i < result → j < cols → N.cells new.now i j ≡ blank_ink }
-    ensures within { from ≤ rows → result ≤ rows }
-{
-    for row in from..rows {
-        if !are_blank(new, row, 0, cols) {
-            return row;
-        }
-    }
-    rows.max(from)
-}
-
 /// The string that erases the rest of the screen, if there is one and the column `col` is one of the `cols`.
 pub(crate) fn rest_line<C: Certificate>(checked: &C, col: usize, cols: usize) -> Option<&[u8]>
     ensures line { IfSome result (λ b. (C.table checked.now).line_of Ed ≡ Some b.now) }
@@ -171,21 +157,6 @@ pub(crate) fn tail_from<N: Picture>(new: &N, row: usize, columns: Columns, cols:
     } else {
         columns.end
     }
-}
-
-/// The column from which on the line `row` of `cols` columns is blank.
-fn blank_from<N: Picture>(new: &N, row: usize, cols: usize) -> usize
-    ensures within { result ≤ cols }
-    ensures blank { (k : ℕ) → result ≤ k → k < cols → N.cells new.now row k ≡ blank_ink }
-{
-    let mut col = cols;
-    while col > 0 {
-        if !new.is_blank(row, col - 1) {
-            return col;
-        }
-        col -= 1;
-    }
-    col
 }
 
 /// The lesser of the columns `a` and `b`.

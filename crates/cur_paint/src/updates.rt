@@ -9,7 +9,7 @@
 //! `tails.rt`.
 ghost use Rattle.std.specs.Prelude.{◌≡◌, false};
 ghost use Rattle.cur_paint.specs.{Cleared.{at_start}, Limits.{IsWithin}, Rests.{IsRested, cursor_of, rested}};
-ghost use Rattle.cur_paint.specs.{Scenes.{AreChanges, CanPaint, IsSame, scene}, Update.{Draws, Made, Refreshes}};
+ghost use Rattle.cur_paint.specs.{Scenes.{CanRefresh, IsSame, scene}, Update.{Draws, Made, Refreshes}};
 ghost use Rattle.cur_paint.specs.declared.updates.Status.TheVariants.{Fresh, Known};
 ghost use Rattle.cur_steps.specs.{Beliefs.{CanHide}, Inks.{CanShow}};
 
@@ -66,8 +66,7 @@ fn draw_whole<C: Certificate, O: Picture, N: Picture, D: Changes, W: Wire>(
     changes: &D,
     task: Task,
 ) -> Sent
-    requires can { CanPaint (scene C.table O.cells N.cells screens.now) task.wanted }
-    requires changes { AreChanges D.between changes.now (scene C.table O.cells N.cells screens.now) }
+    requires can { CanRefresh D.between changes.now (scene C.table O.cells N.cells screens.now) task.wanted }
     requires rested { IsRested belief.old }
     ensures made { Made W.went W.failures wire.old wire.new result (C.table screens.now.checked.now)
         (O.cells screens.now.old.now) (N.cells screens.now.new.now) task.wanted task.status belief.old belief.new }
@@ -95,8 +94,7 @@ fn draw_on<C: Certificate, O: Picture, N: Picture, D: Changes, W: Wire>(
     changes: &D,
     task: Task,
 ) -> Sent
-    requires can { CanPaint (scene C.table O.cells N.cells screens.now) task.wanted }
-    requires changes { AreChanges D.between changes.now (scene C.table O.cells N.cells screens.now) }
+    requires can { CanRefresh D.between changes.now (scene C.table O.cells N.cells screens.now) task.wanted }
     requires rested { IsRested pen.old.belief }
     ensures draws { Draws W.went W.failures pen.old.wire pen.new.wire result (C.table screens.now.checked.now)
         (O.cells screens.now.old.now) (N.cells screens.now.new.now) task.wanted task.status
@@ -109,8 +107,7 @@ fn draw_on<C: Certificate, O: Picture, N: Picture, D: Changes, W: Wire>(
 impl<C: Certificate, O: Picture, N: Picture, W: Wire> Painter<'_, C, O, N, W> {
     /// Sends the differences if the terminal is known by `status` and isn't to be cleared, else everything.
     fn draw<D: Changes>(&mut self, status: Status, changes: &D, wanted: Wanted) -> Sent
-        requires can { CanPaint (scene C.table O.cells N.cells self.old.screens.now) wanted }
-        requires changes { AreChanges D.between changes.now (scene C.table O.cells N.cells self.old.screens.now) }
+        requires can { CanRefresh D.between changes.now (scene C.table O.cells N.cells self.old.screens.now) wanted }
         requires rested { IsRested self.old.pen.now.belief }
         ensures draws { Draws W.went W.failures self.old.pen.now.wire self.new.pen.now.wire result
             (C.table self.old.screens.now.checked.now) (O.cells self.old.screens.now.old.now)
@@ -129,8 +126,7 @@ impl<C: Certificate, O: Picture, N: Picture, W: Wire> Painter<'_, C, O, N, W> {
     /// if `changes` names a scroll that leaves fewer cells to mend; or else everything is cleared and painted, if that
     /// is likely to take fewer bytes.
     fn mend<D: Changes>(&mut self, changes: &D, wanted: Wanted) -> Sent
-        requires can { CanPaint (scene C.table O.cells N.cells self.old.screens.now) wanted }
-        requires changes { AreChanges D.between changes.now (scene C.table O.cells N.cells self.old.screens.now) }
+        requires can { CanRefresh D.between changes.now (scene C.table O.cells N.cells self.old.screens.now) wanted }
         requires rested { IsRested self.old.pen.now.belief }
         ensures draws { Draws W.went W.failures self.old.pen.now.wire self.new.pen.now.wire result
             (C.table self.old.screens.now.checked.now) (O.cells self.old.screens.now.old.now)

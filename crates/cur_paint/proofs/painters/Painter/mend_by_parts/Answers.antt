@@ -4,7 +4,7 @@ use Rattle.cur_paint.proofs.Painting.{cells_fail, cells_none, cells_then}
 use Rattle.cur_paint.proofs.painters.Painter.mend_by_parts.Goals as goal
 
 pub loop-done-init : goal.loop-done-init
-loop-done-init g c = record { within = omega arith; mends = cells_none c.args.cells.row c.args.cells.from g.met.W.Wire.lawful c.requires.scene.checked }
+loop-done-init g c = record { within = omega arith; mends = cells_none c.args.cells.row c.args.cells.from g.met.W.Wire.lawful c.requires.cells.scene.checked }
 
 pub loop-done-preserved : goal.loop-done-preserved
 loop-done-preserved g c = record {

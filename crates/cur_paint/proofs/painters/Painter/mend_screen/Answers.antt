@@ -13,8 +13,8 @@ loop-row-init g c =
     let old = g.O.Picture.cells c.args.self.now.screens.now.old.now in
     let new = g.N.Picture.cells c.args.self.now.screens.now.new.now in
     let x = c.lines-lines.result in
-    let same = sized_as old new x.from x.end c.rows-rows.result c.cols-cols.result t.rows t.cols (c.lines-lines.ensures.same old new c.requires.changes) c.rows-rows.ensures.value c.cols-cols.ensures.value in
-    mends_none g.met.W.Wire.lawful c.requires.scene.checked (λ i j li lj. mixed_above old new x.from i j (λ lt. same.above i j lt lj))
+    let same = sized_as old new x.from x.end c.rows-rows.result c.cols-cols.result t.rows t.cols (c.lines-lines.ensures.same old new c.requires.compared.changes) c.rows-rows.ensures.value c.cols-cols.ensures.value in
+    mends_none g.met.W.Wire.lawful c.requires.compared.scene.checked (λ i j li lj. mixed_above old new x.from i j (λ lt. same.above i j lt lj))
 
 pub loop-row-preserved : goal.loop-row-preserved
 loop-row-preserved g c =
@@ -40,7 +40,7 @@ returns g c =
     let old = g.O.Picture.cells c.args.self.now.screens.now.old.now in
     let new = g.N.Picture.cells c.args.self.now.screens.now.new.now in
     let x = c.lines-lines.result in
-    let same = sized_as old new x.from x.end c.rows-rows.result c.cols-cols.result t.rows t.cols (c.lines-lines.ensures.same old new c.requires.changes) c.rows-rows.ensures.value c.cols-cols.ensures.value in
+    let same = sized_as old new x.from x.end c.rows-rows.result c.cols-cols.result t.rows t.cols (c.lines-lines.ensures.same old new c.requires.compared.changes) c.rows-rows.ensures.value c.cols-cols.ensures.value in
     let row = c.loop-row.row in
     let all : row ≡ x.end = omega (arith, c.lines-lines.ensures.order) in
     let grows = all_grows old new t.cols row t.rows (omega (arith, all, c.lines-lines.ensures.within, c.rows-rows.ensures.value)) in

@@ -5,7 +5,7 @@ use Rattle.cur_paint.proofs.Painting.{cells_fail, cells_none, cells_skip, cells_
 use Rattle.cur_paint.proofs.painters.Painter.print_each.Goals as goal
 
 pub loop-n-init : goal.loop-n-init
-loop-n-init g c = cells_none c.args.cells.row c.args.cells.from g.met.W.Wire.lawful c.requires.scene.checked
+loop-n-init g c = cells_none c.args.cells.row c.args.cells.from g.met.W.Wire.lawful c.requires.cells.scene.checked
 
 pub loop-n-preserved : goal.loop-n-preserved
 loop-n-preserved g c = cells_then c.args.cells.row c.args.cells.from c.loop-n.n _ 1 _ g.met.W.Wire.lawful c.loop-n.invariant c.in_ok-print_cell.ensures.mends refl refl

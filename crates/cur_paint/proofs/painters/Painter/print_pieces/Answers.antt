@@ -5,7 +5,7 @@ use Rattle.cur_paint.proofs.Painting.{cells_fail, cells_none, cells_skip, cells_
 use Rattle.cur_paint.proofs.painters.Painter.print_pieces.Goals as goal
 
 pub loop-done-init : goal.loop-done-init
-loop-done-init g c = record { within = omega arith; mends = cells_none c.args.cells.row c.args.cells.from g.met.W.Wire.lawful c.requires.scene.checked }
+loop-done-init g c = record { within = omega arith; mends = cells_none c.args.cells.row c.args.cells.from g.met.W.Wire.lawful c.requires.cells.scene.checked }
 
 pub loop-done-preserved : goal.loop-done-preserved
 loop-done-preserved g c =

@@ -23,7 +23,7 @@ returns-in_err-scroll_lines g c =
     let w = c.args.wanted in
     let k : ℕ = c.args.scroll.count + 4 in
     let enough : k * cell_limit t + renewal_limit t (shifted c.args.scroll old) new ≤ paint_limit t old new b w.cursor w.mode =
-    scrolled_enough t k (shifted c.args.scroll old) old new b w.cursor w.mode (omega arith) c.requires.saves in
+    scrolled_enough t k (shifted c.args.scroll old) old new b w.cursor w.mode (omega arith) c.requires.useful.saves in
     rw e.1 (record { ends = ends_cut (shifted c.args.scroll old) (c.in_err-scroll_lines.ensures.step old) (record { screens = refl; pen = refl }) (omega (arith, enough)) })
 
 pub returns : goal.returns
@@ -44,7 +44,7 @@ returns g c =
         step = sets_after g.W.Wire.went g.W.Wire.failures g.met.W.Wire.lawful c.args.self.now.pen.now.wire c.scroll_lines.new.pen.wire z.pen.now.wire _ c.paint_over.result t
             (k * cell_limit t) (renewal_limit t moved new) (paint_limit t old new b w.cursor w.mode) b.mode w.cursor w.mode
             (Agrees t old b) (Agrees t moved a) (Agrees t new z.pen.now.belief)
-            (scrolled_enough t k moved old new b w.cursor w.mode (omega arith) c.requires.saves) (c.in_ok-scroll_lines.ensures.step old) (subst P c.in_ok-scroll_lines.ensures.mode c.paint_over.ensures.ends.step);
+            (scrolled_enough t k moved old new b w.cursor w.mode (omega arith) c.requires.useful.saves) (c.in_ok-scroll_lines.ensures.step old) (subst P c.in_ok-scroll_lines.ensures.mode c.paint_over.ensures.ends.step);
         set = c.paint_over.ensures.ends.set;
         same = record { screens = x.screens; pen = x.pen };
       };

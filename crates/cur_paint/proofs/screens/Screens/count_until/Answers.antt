@@ -8,7 +8,7 @@ loop-row-init g c =
     let t = g.C.Certificate.table c.args.self.now.checked.now in
     let old = g.O.Picture.cells c.args.self.now.old.now in
     let new = g.N.Picture.cells c.args.self.now.new.now in
-    record { count = none_before old new c.lines-lines.result c.rows-rows.result c.cols-cols.result t.rows t.cols (c.lines-lines.ensures.same old new c.requires.changes) c.rows-rows.ensures.value c.cols-cols.ensures.value; few = omega arith }
+    record { count = none_before old new c.lines-lines.result c.rows-rows.result c.cols-cols.result t.rows t.cols (c.lines-lines.ensures.same old new c.requires.compared.changes) c.rows-rows.ensures.value c.cols-cols.ensures.value; few = omega arith }
 
 pub returns-then-count-most-clause-within : goal.returns-then-count-most-clause-within
 returns-then-count-most-clause-within g c =
@@ -25,7 +25,7 @@ returns-clause-value g c e =
     let t = g.C.Certificate.table c.args.self.now.checked.now in
     let old = g.O.Picture.cells c.args.self.now.old.now in
     let new = g.N.Picture.cells c.args.self.now.new.now in
-    c.loop-row.invariant.count ∙ none_past old new c.lines-lines.result c.loop-row.row c.rows-rows.result c.cols-cols.result t.rows t.cols (c.lines-lines.ensures.same old new c.requires.changes) c.lines-lines.ensures.within
+    c.loop-row.invariant.count ∙ none_past old new c.lines-lines.result c.loop-row.row c.rows-rows.result c.cols-cols.result t.rows t.cols (c.lines-lines.ensures.same old new c.requires.compared.changes) c.lines-lines.ensures.within
     (omega (arith, c.lines-lines.ensures.order)) c.rows-rows.ensures.value c.cols-cols.ensures.value
 
 pub returns-clause-within : goal.returns-clause-within

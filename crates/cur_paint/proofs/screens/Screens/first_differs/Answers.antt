@@ -11,7 +11,7 @@ returns g c e =
     let row = c.lines-lines.result.from in
     let x = c.columns-columns.result in
     let cols = c.cols-cols.result in
-    let here = span_within old new row x.from x.end cols (c.columns-columns.ensures.same old new c.requires.changes) c.columns-columns.ensures.order c.columns-columns.ensures.within in
+    let here = span_within old new row x.from x.end cols (c.columns-columns.ensures.same old new c.requires.compared.changes) c.columns-columns.ensures.order c.columns-columns.ensures.within in
     let line = rw c.cols-cols.ensures.value at here in
     let grows = all_grows old new t.cols (row + 1) t.rows (omega (arith, c.if-lines.false, c.lines-lines.ensures.order, c.lines-lines.ensures.within, c.rows.ensures.value)) in
     omega (arith, c.differs_in.ensures e, line, all_more old new t.cols row, grows)

@@ -1,5 +1,0 @@
-use Rattle.cur_paint.proofs.EndingFacts.{IsSentTo}
-use Rattle.cur_paint.proofs.endings.send_rows.Given as goal
-
-abbrev pub invariant-loop-row : goal.invariant-loop-row
-invariant-loop-row g l = IsSentTo g.W.Wire.went l.fn.wire l.wire (g.C.Certificate.table l.checked) l.rows l.row-index

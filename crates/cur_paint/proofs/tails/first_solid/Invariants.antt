@@ -1,8 +1,0 @@
-use Rattle.std.proofs.Common.{◌≡◌, ◌≤◌, ◌<◌, ℕ}
-use Rattle.cur_steps.specs.Inks.{blank_ink}
-use Rattle.cur_paint.proofs.tails.first_solid.Given as goal
-
-abbrev pub invariant-loop-row : goal.invariant-loop-row
-invariant-loop-row g l = record {
-  blank : (i j : ℕ) → l.from ≤ i → i < l.row → j < l.cols → g.N.Picture.cells l.new i j ≡ blank_ink;
-}
