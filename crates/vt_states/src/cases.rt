@@ -1,13 +1,14 @@
 //! The answers to many cases in one run.
 
-ghost use Rattle.std.specs.Prelude.{◌≡◌, ◌<◌, ◌≤◌, ◌/◌, ◌==◌, ◌++◌, ◌∷◌, [], ℕ, List, length, nat_le, ◌&&◌, Some, None};
-ghost use Rattle.std.specs.{Prelude.{option_map, IfErr, IfOk, IfSome, OnOk, if◌then◌else◌}, List.{position}};
+ghost use Rattle.std.specs.Prelude.{◌≡◌, ◌<◌, ◌≤◌, ◌==◌, ◌++◌, ◌∷◌, [], ℕ, List, length, nat_le, ◌&&◌, Some, None};
+ghost use Rattle.std.specs.{Prelude.{option_map, IfErr, IfOk, IfSome, OnOk}, List.{position}};
 ghost use Rattle.hex.specs.Hex.{decode_of};
 ghost use Rattle.vt_states.specs.declared.cases.CaseFault.TheVariants.{NoMemory};
 ghost use Rattle.vt_states.specs.Cases as spec;
 
 use crate::json::case_members;
 use crate::snapshots::Snapshot;
+use hex::FromHexError;
 use std::alloc::{AllocError, AllocFailed, Global};
 use std::error::Error;
 use std::fmt;
@@ -181,19 +182,11 @@ fn bytes_of(alloc: Global, digits: &[u8]) -> Result<Option<Vec<u8>>, AllocError>
 fn decoded(alloc: Global, digits: &[u8]) -> Result<Option<Vec<u8>>, AllocError>
     ensures { IfOk result (λ found. option_map (λ bytes. bytes.items) found ≡ spec.decoded (decode_of digits.now)) }
 {
-    let mut bytes = Vec::new(alloc);
-    bytes.resize(digits.len() / 2, 0)?;
-    if decode_into(digits, bytes.as_mut_slice()) {
-        Ok(Some(bytes))
-    } else {
-        Ok(None)
+    match hex::decode(alloc, digits) {
+        Ok(bytes) => Ok(Some(bytes)),
+        Err(FromHexError::OutOfMemory) => Err(AllocError),
+        Err(FromHexError::InvalidHexCharacter { .. })
+        | Err(FromHexError::OddLength)
+        | Err(FromHexError::InvalidStringLength) => Ok(None),
     }
-}
-
-/// Decodes `digits` into `bytes`, which must be half as long; returns false if they aren't all hexadecimal digits.
-fn decode_into(digits: &[u8], bytes: &mut [u8]) -> bool
-    requires { length bytes.old ≡ length digits.now / 2 }
-    ensures { (if result then Some bytes.new else None) ≡ spec.decoded (decode_of digits.now) }
-{
-    hex::decode_to_slice(digits, bytes).is_ok()
 }
