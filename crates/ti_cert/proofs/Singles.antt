@@ -30,72 +30,21 @@ kept before after l o u r k d b i s = record {
   standout = λ h. o.standout (sym s ∙ h);
 }
 
+-- the looks with a line of the row, where a row's capability has lines if it had some or is that row's
+joined_looks : (before : Row → Bool) (row : Row) (e : Effect) (l : Looks) → SingleLooks before l → (order (Sgr no_attributes) == order row) ≡ false → SingleLooks (λ r. order r == order row || before r) (learned row e l)
+joined_looks before (Sgr a) e l o other = cc
+joined_looks before Smul e l o other = record { underline = refl; reverse = o.reverse; blink = o.blink; dim = o.dim; bold = o.bold; invisible = o.invisible; standout = o.standout }
+joined_looks before Rev e l o other = record { underline = o.underline; reverse = refl; blink = o.blink; dim = o.dim; bold = o.bold; invisible = o.invisible; standout = o.standout }
+joined_looks before Blink e l o other = record { underline = o.underline; reverse = o.reverse; blink = refl; dim = o.dim; bold = o.bold; invisible = o.invisible; standout = o.standout }
+joined_looks before Dim e l o other = record { underline = o.underline; reverse = o.reverse; blink = o.blink; dim = refl; bold = o.bold; invisible = o.invisible; standout = o.standout }
+joined_looks before Bold e l o other = record { underline = o.underline; reverse = o.reverse; blink = o.blink; dim = o.dim; bold = refl; invisible = o.invisible; standout = o.standout }
+joined_looks before Invis e l o other = record { underline = o.underline; reverse = o.reverse; blink = o.blink; dim = o.dim; bold = o.bold; invisible = refl; standout = o.standout }
+joined_looks before Smso e l o other = record { underline = o.underline; reverse = o.reverse; blink = o.blink; dim = o.dim; bold = o.bold; invisible = o.invisible; standout = λ h. cc }
+joined_looks before _ e l o other = record { underline = o.underline; reverse = o.reverse; blink = o.blink; dim = o.dim; bold = o.bold; invisible = o.invisible; standout = o.standout }
+
 one_more : (before after : Row → Bool) (row : Row) (e : Effect) (l : Looks) → SingleLooks before l → Joins before row after → (order (Sgr no_attributes) == order row) ≡ false → SingleLooks after (learned row e l)
-one_more before after (Sgr a) e l o g other = cc
-one_more before after Smul e l o g other = record {
-  underline = sym (g Smul);
-  reverse = o.reverse ∙ sym (g Rev);
-  blink = o.blink ∙ sym (g Blink);
-  dim = o.dim ∙ sym (g Dim);
-  bold = o.bold ∙ sym (g Bold);
-  invisible = o.invisible ∙ sym (g Invis);
-  standout = λ h. o.standout (sym (g Smso) ∙ h);
-}
-one_more before after Rev e l o g other = record {
-  underline = o.underline ∙ sym (g Smul);
-  reverse = sym (g Rev);
-  blink = o.blink ∙ sym (g Blink);
-  dim = o.dim ∙ sym (g Dim);
-  bold = o.bold ∙ sym (g Bold);
-  invisible = o.invisible ∙ sym (g Invis);
-  standout = λ h. o.standout (sym (g Smso) ∙ h);
-}
-one_more before after Blink e l o g other = record {
-  underline = o.underline ∙ sym (g Smul);
-  reverse = o.reverse ∙ sym (g Rev);
-  blink = sym (g Blink);
-  dim = o.dim ∙ sym (g Dim);
-  bold = o.bold ∙ sym (g Bold);
-  invisible = o.invisible ∙ sym (g Invis);
-  standout = λ h. o.standout (sym (g Smso) ∙ h);
-}
-one_more before after Dim e l o g other = record {
-  underline = o.underline ∙ sym (g Smul);
-  reverse = o.reverse ∙ sym (g Rev);
-  blink = o.blink ∙ sym (g Blink);
-  dim = sym (g Dim);
-  bold = o.bold ∙ sym (g Bold);
-  invisible = o.invisible ∙ sym (g Invis);
-  standout = λ h. o.standout (sym (g Smso) ∙ h);
-}
-one_more before after Bold e l o g other = record {
-  underline = o.underline ∙ sym (g Smul);
-  reverse = o.reverse ∙ sym (g Rev);
-  blink = o.blink ∙ sym (g Blink);
-  dim = o.dim ∙ sym (g Dim);
-  bold = sym (g Bold);
-  invisible = o.invisible ∙ sym (g Invis);
-  standout = λ h. o.standout (sym (g Smso) ∙ h);
-}
-one_more before after Invis e l o g other = record {
-  underline = o.underline ∙ sym (g Smul);
-  reverse = o.reverse ∙ sym (g Rev);
-  blink = o.blink ∙ sym (g Blink);
-  dim = o.dim ∙ sym (g Dim);
-  bold = o.bold ∙ sym (g Bold);
-  invisible = sym (g Invis);
-  standout = λ h. o.standout (sym (g Smso) ∙ h);
-}
-one_more before after Smso e l o g other = record {
-  underline = o.underline ∙ sym (g Smul);
-  reverse = o.reverse ∙ sym (g Rev);
-  blink = o.blink ∙ sym (g Blink);
-  dim = o.dim ∙ sym (g Dim);
-  bold = o.bold ∙ sym (g Bold);
-  invisible = o.invisible ∙ sym (g Invis);
-  standout = λ h. let wrong : true ≡ false = sym (g Smso) ∙ h in cc;
-}
-one_more before after _ e l o g other = kept before after l o (g Smul) (g Rev) (g Blink) (g Dim) (g Bold) (g Invis) (g Smso)
+one_more before after row e l o g other =
+    kept (λ r. order r == order row || before r) after (learned row e l) (joined_looks before row e l o other) (g Smul) (g Rev) (g Blink) (g Dim) (g Bold) (g Invis) (g Smso)
 
 is_rival : (row : Row) → (order (Sgr no_attributes) == order row) ≡ false → rival row ≡ Sgr no_attributes
 is_rival (Sgr a) h = cc
