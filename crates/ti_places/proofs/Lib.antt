@@ -1,4 +1,3 @@
-pub mod NoFacts
 pub mod SpotFacts
 pub mod OriginalFacts
 pub mod RowFacts

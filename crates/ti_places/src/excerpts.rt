@@ -1,6 +1,6 @@
 //! A field of a source text, and below it marks under its value, or under the part of it that is at fault.
 
-ghost use Rattle.std.specs.Prelude.{◌≡◌, ◌≤◌, ◌++◌, IfOk, OnOk, length, option_map, replicate, take};
+ghost use Rattle.std.specs.Prelude.{◌≡◌, ◌≤◌, ◌++◌, IfOk, OnOk, length, option_map, replicate};
 ghost use Rattle.ti_places.specs.Excerpts as spec;
 ghost use Rattle.ti_words.specs.Shown.{shown};
 
@@ -101,21 +101,13 @@ pub(crate) fn underlined(
     Ok(text)
 }
 
-/// The bytes of `field`, which is about `cap`, before the `part` of its value that is at fault, as far as they can be
-/// shown.
-fn shown_before(
-    alloc: Global,
-    cap: Cap,
-    field: &[u8],
-    part: Option<Stretch>,
-) -> Result<Vec<u8>, AllocError>
-    requires { spec.IsFaulty (spec.value_in cap field.now) part }
-    ensures { IfOk result (λ text. text.items
-        ≡ shown (take (spec.before_value cap field.now) field.now ++ spec.front_of part (spec.value_in cap field.now))) }
+/// The bytes of both parts, one after the other, as far as they can be shown.
+fn shown_both(alloc: Global, front: &[u8], back: &[u8]) -> Result<Vec<u8>, AllocError>
+    ensures { IfOk result (λ text. text.items ≡ shown (front.now ++ back.now)) }
 {
-    let mut before = Vec::from_slice(alloc, field.split_at(before_value(cap, field)).0)?;
-    before.extend_from_slice(front_of(value_in(cap, field), part))?;
-    shown_bytes(alloc, before.as_slice())
+    let mut bytes = Vec::from_slice(alloc, front)?;
+    bytes.extend_from_slice(back)?;
+    shown_bytes(alloc, bytes.as_slice())
 }
 
 /// The line of `field`, which is about `cap`, as far as it can be shown, and below it the marks under the `part` of its
@@ -131,7 +123,9 @@ pub(crate) fn excerpt(
     ensures { IfOk result (λ text. text.items ≡ spec.excerpt cap part field.now) }
 {
     let line = shown_bytes(alloc, field)?;
-    let before = shown_before(alloc, cap, field, part)?;
-    let marked = shown_bytes(alloc, part_of(value_in(cap, field), part))?;
+    let name = field.split_at(before_value(cap, field)).0;
+    let value = value_in(cap, field);
+    let before = shown_both(alloc, name, front_of(value, part))?;
+    let marked = shown_bytes(alloc, part_of(value, part))?;
     underlined(alloc, line.as_slice(), before.as_slice(), marked.as_slice())
 }

@@ -52,8 +52,18 @@ pub fn no_failure(alloc: Global, no: &No) -> Failure
 {
     match no.cause {
         Cause::NoMemory => Failure::NoMemory,
-        _ => verdict(no_words(alloc, no)),
+        Cause::FlagOut | Cause::Absent | Cause::AcsByte | Cause::Parm(_) => no_verdict(alloc, no),
+        Cause::StaticRead | Cause::Unfinished | Cause::Stuck => no_verdict(alloc, no),
+        Cause::NotTame | Cause::BadLook | Cause::WrongEffect(_) => no_verdict(alloc, no),
+        Cause::NotShown | Cause::TooLong | Cause::NoResync => no_verdict(alloc, no),
     }
+}
+
+/// The refusal in the words of `no`.
+fn no_verdict(alloc: Global, no: &No) -> Failure
+    ensures { spec.IsVerdict (spec.no_text no.now) result }
+{
+    verdict(no_words(alloc, no))
 }
 
 /// The refusal in `words`, or out of memory if there was no memory for them.
@@ -114,6 +124,8 @@ fn push_cap(alloc: Global, kind: &CertFaultKind, words: &mut Vec<u8>) -> Result<
             words.extend_from_slice(name(*cap))?;
             push_numbers(alloc, params.as_slice(), words)
         }
-        _ => Ok(()),
+        CertFaultKind::BadLine | CertFaultKind::OutOfOrder | CertFaultKind::NotWhole => Ok(()),
+        CertFaultKind::NotTame | CertFaultKind::NotShown | CertFaultKind::NoResync => Ok(()),
+        CertFaultKind::BadLook | CertFaultKind::NoMemory | CertFaultKind::ReadFailed => Ok(()),
     }
 }
