@@ -7,14 +7,17 @@ use Rattle.ti_commands.proofs.FurtherFacts.{named}
 use Rattle.ti_commands.specs.Contents.{Held}
 use Rattle.ti_commands.specs.Findings.{IsOfText}
 use Rattle.ti_commands.specs.Further.{Together}
+use Rattle.ti_commands.specs.Sizes.{SizeGiven}
+use Rattle.ti_commands.specs.Sources.{IsSourced}
 use Rattle.ti_commands.specs.declared.failure.CommandRefusal.{CommandRefusal}
 use Rattle.ti_commands.specs.declared.failure.Reply.{Reply}
 use Rattle.ti_further.specs.declared.files.FurtherFile.{FurtherFile}
 use Rattle.ti_mends.specs.Delivery.{HandsOver, StoresChanged, own_bytes}
-use Rattle.ti_mends.specs.Replies.{AreMended, Delivers, IsMendedSource}
+use Rattle.ti_mends.specs.Replies.{AreMended, Delivers, IsFixed, IsMendedSource}
 use Rattle.ti_commands.specs.declared.sources.SourceText.{SourceText}
 use Rattle.ti_mends.specs.Texts.{AreSheetsOf, Sheet, sheets}
 use Rattle.ti_mends.specs.declared.mendings.Texts.{Texts}
+use Rattle.ti_requests.specs.declared.request.CheckWords.{CheckWords}
 use denote.Ref.{Bor}
 
 -- ---- whether there are further files
@@ -46,4 +49,20 @@ source_mended source entry rows cols name texts all notes left same files raws m
   files_are = files;
   raws_are = raws;
   mended = subst (λ (n : List ℕ). AreMended texts entry (record { name = n; rows = rows; cols = cols }) all notes left) same mended;
+}
+
+-- a reply with the notes on a mended source, whose texts are delivered in one of the two ways
+pub fixed_as : (before after : Held) (words : CheckWords) (height width : ℕ) (entry : Content) (source : SourceText) (texts : List Sheet) (notes : List ℕ) (left : List No) (reply : Reply) → SizeGiven words.rows.now words.cols.now height width → IsSourced before words.entry.now entry (Some source)
+    → notes ≡ reply.notes.items → IsMendedSource source entry height width texts notes left → Delivers source.further.items texts left words.out before after reply → IsFixed before after words reply
+fixed_as before after words height width entry source texts notes left reply given gives noted mended delivers = record {
+  height = height;
+  width = width;
+  given = given;
+  entry = entry;
+  source = source;
+  gives = gives;
+  sheets = texts;
+  left = left;
+  mended = subst (λ (n : List ℕ). IsMendedSource source entry height width texts n left) noted mended;
+  delivers = delivers;
 }

@@ -3,13 +3,13 @@
 ghost use Rattle.std.specs.{Prelude.{◌≡◌, ◌++◌, ◌∷◌, [], IfOk, OnErr, string_bytes}, List.{AllZip}};
 ghost use Rattle.ti_mends.specs.Texts.{sheet_of, sheets};
 ghost use Rattle.ti_mends.specs.Delivery as spec;
-ghost use Rattle.ti_verdicts.specs.Checks.{StoresText};
 
 use crate::mendings::{MendedTexts, Text};
 use std::alloc::{AllocError, Global};
 use ti_checker::No;
 use ti_commands::{Failure, Files, NewFile, Reply, file_fault};
 use ti_places::no_failure;
+use ti_verdicts::store_text;
 use ti_words::Remarks;
 
 /// How the reply ends if these faults are left.
@@ -19,22 +19,6 @@ fn ending(alloc: Global, nos: &[No]) -> Option<Failure>
     match nos {
         [] => None,
         [first, ..] => Some(no_failure(alloc, first)),
-    }
-}
-
-/// Stores `text` at `path`, or returns the failure.
-pub fn store_text<F: Files>(
-    alloc: Global,
-    files: &mut F,
-    path: &str,
-    text: &[u8],
-    remarks: &mut Remarks,
-) -> Option<Failure>
-    ensures { StoresText text.now path.now (F.holds files.old) (F.holds files.new) result }
-{
-    match files.store(path, text) {
-        Ok(()) => None,
-        Err(fault) => Some(file_fault(alloc, path, fault, remarks)),
     }
 }
 

@@ -11,7 +11,5 @@ mod steps;
 mod texts;
 
 pub use command::fix_entry;
-pub use delivery::store_text;
-pub use notes::names_at;
 pub use standings::is_faultless;
 pub use steps::all_listed;

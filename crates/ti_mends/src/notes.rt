@@ -2,26 +2,14 @@
 
 ghost use Rattle.std.specs.{Prelude.{◌≡◌, ◌++◌, IfOk, OnOk}, List.{flat_map}};
 ghost use Rattle.ti_mends.specs.Notes as spec;
-ghost use Rattle.ti_resolve.specs.Uses.{names_at};
 
 use crate::mendings::{Kept, Reason};
 use std::alloc::{AllocError, Global};
 use ti_caps::name;
 use ti_checker::No;
-use ti_places::{first_name, no_words};
+use ti_places::{first_name, names_of, no_words};
 use ti_source::RawEntry;
 use ti_words::push_shown;
-
-/// The names of the entry at `place`; none behind all entries.
-#[tactic(auto, unfolding(ti_resolve::specs::Uses::names_at))]
-pub fn names_at(raws: &[RawEntry], place: usize) -> &[u8]
-    ensures { result.now ≡ names_at raws.now place }
-{
-    match raws.get(place) {
-        Some(raw) => raw.names.as_slice(),
-        None => &[],
-    }
-}
 
 /// Appends why a suggestion is left.
 fn push_reason(lines: &mut Vec<u8>, raws: &[RawEntry], reason: Reason) -> Result<(), AllocError>
@@ -30,7 +18,7 @@ fn push_reason(lines: &mut Vec<u8>, raws: &[RawEntry], reason: Reason) -> Result
     match reason {
         Reason::Unplaced => lines.extend_from_slice(b"no place for its field was found"),
         Reason::Lost(place) => {
-            push_shown(lines, first_name(names_at(raws, place)))?;
+            push_shown(lines, first_name(names_of(raws, place)))?;
             lines.extend_from_slice(b" would lose its yes")
         }
     }

@@ -16,10 +16,10 @@ use std::alloc::{AllocError, Global};
 use ti_commands::{CommandRefusal, Failure, Files, LONGEST_FILE, Reply, read_whole, size_words};
 use ti_fixes::Fixed;
 use ti_hints::explain_source;
-use ti_mends::store_text;
 use ti_remedies::{Remedy, all_remedies, take_all};
 use ti_resolve::Index;
 use ti_source::{RawEntry, read};
+use ti_verdicts::store_text;
 use ti_words::Remarks;
 use vt_term::Size;
 

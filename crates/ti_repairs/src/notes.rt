@@ -5,8 +5,7 @@ ghost use Rattle.ti_repairs.specs.Notes as spec;
 
 use std::alloc::{AllocError, Global};
 use ti_caps::name;
-use ti_mends::names_at;
-use ti_places::first_name;
+use ti_places::{first_name, names_of};
 use ti_remedies::{Reason, Remedy, Treated};
 use ti_source::RawEntry;
 use ti_words::push_shown;
@@ -15,7 +14,7 @@ use ti_words::push_shown;
 pub fn own_name(raws: &[RawEntry], place: usize) -> &[u8]
     ensures { result.now ≡ spec.own_name raws.now place }
 {
-    first_name(names_at(raws, place))
+    first_name(names_of(raws, place))
 }
 
 /// Appends why a suggestion is left.

@@ -1,5 +1,5 @@
 -- The failure of a fault.
-use Rattle.std.proofs.Common.{◌≡◌, ◌≢◌, ◌⊎◌, ℕ, List, Option, None, Some, IfSome, inl, inr, refl, subst}
+use Rattle.std.proofs.Common.{◌≡◌, ◌⊎◌, ℕ, List, Option, None, Some, IfSome, inl, inr, refl, subst}
 use Rattle.ti_caps.specs.Entry.{Content}
 use Rattle.ti_cert.specs.Disagreements.{IsAgreeRefused}
 use Rattle.ti_cert.specs.Texts.{IsCertRefused, IsRefused}
@@ -11,21 +11,8 @@ use Rattle.ti_cert.specs.declared.faults.VerifyFault.TheVariants.{Cert, Agree}
 use Rattle.ti_commands.specs.Contents.{IsLeft}
 use Rattle.ti_cert.specs.declared.faults.CertFaultKind.TheVariants.{BadLine, Missing, OutOfOrder, NotWhole, NotTame, NotShown, NoResync, BadLook, NoMemory, ReadFailed}
 use Rattle.ti_commands.specs.declared.failure.Failure.{Failure}
-use Rattle.ti_places.specs.Refusals.{IsOfKind, IsVerdict, TellsFault, fault_text}
+use Rattle.ti_places.specs.Refusals.{IsOfKind, TellsFault, fault_text}
 use Rattle.ti_verdicts.specs.Verifications.{IsFaultOf, LacksCertificate}
-
--- every kind but two has its words
-pub told_by_words : (path text : List ℕ) (kind : CertFaultKind) (failure : Failure) → kind ≢ NoMemory → kind ≢ ReadFailed → IsVerdict text failure → IsOfKind path text kind failure
-told_by_words path text BadLine failure m r h = h
-told_by_words path text (Missing cap numbers) failure m r h = h
-told_by_words path text OutOfOrder failure m r h = h
-told_by_words path text NotWhole failure m r h = h
-told_by_words path text NotTame failure m r h = h
-told_by_words path text NotShown failure m r h = h
-told_by_words path text NoResync failure m r h = h
-told_by_words path text BadLook failure m r h = h
-told_by_words path text NoMemory failure m r h = absurd (m refl)
-told_by_words path text ReadFailed failure m r h = absurd (r refl)
 
 -- ---- a certificate at a path
 

@@ -118,7 +118,7 @@ fn deliver<F: Files>(
 }
 
 /// Stores `text` at `path`, or returns the failure.
-fn store_text<F: Files>(
+pub fn store_text<F: Files>(
     alloc: Global,
     files: &mut F,
     path: &str,

@@ -9,7 +9,7 @@ use crate::answers::{answers_line, fault_answers};
 use crate::checks::notes_on;
 use crate::indents::indented;
 use crate::reasons::explain_no;
-use crate::remedies::{note_another_kind, note_left_out, suggestion_lines};
+use crate::remedies::{Faulty, note_another_kind, note_left_out, suggestion_lines};
 use std::alloc::{AllocError, Global};
 use ti_caps::Entry;
 use ti_checker::No;
@@ -227,7 +227,12 @@ fn own_lines(
     lines.extend_from_slice(place.as_slice())?;
     let further = explanation(alloc, found.entry, found.size, no)?;
     lines.extend_from_slice(further.as_slice())?;
-    let remedies = suggestion_lines(alloc, found.entry, mended, no.cap, nos)?;
+    let faulty = Faulty {
+        entry: found.entry,
+        nos,
+        mended,
+    };
+    let remedies = suggestion_lines(alloc, &faulty, no.cap)?;
     lines.extend_from_slice(remedies.as_slice())?;
     Ok(lines)
 }

@@ -15,7 +15,7 @@ mod verifications;
 
 pub use answers::{Answer, answers_line, fault_answers};
 pub use certifiers::{Certifier, Checker};
-pub use checks::{check_entry, notes_on};
+pub use checks::{check_entry, notes_on, store_text};
 pub use fault_lists::check_all;
 pub use reasons::explain_no;
 pub use starts::{probe_run_words, probe_words};

@@ -13,16 +13,25 @@ use ti_faults::{Mended, is_of_another_kind, listed_with, suggestion};
 use ti_source::escape;
 use ti_words::{LEFT_OUT, OF_ANOTHER_KIND, Remarks};
 
+/// An entry, all its faults, and the entry with all of them mended, in which each suggested string is right beside the
+/// others.
+#[derive(Clone, Copy)]
+pub struct Faulty<'a> {
+    pub entry: &'a Entry,
+    pub nos: &'a [No],
+    pub mended: &'a Mended,
+}
+
 /// The string that is suggested for `cap`, if there is one.
-fn suggested(entry: &Entry, mended: &Mended, cap: Cap, nos: &[No]) -> Option<&'static [u8]>
-    ensures judged { spec.IsSuggestedBy (remedies.is_of_another_kind nos.now) entry.now mended.now cap
-        (option_copied result) }
+fn suggested(faulty: &Faulty<'_>, cap: Cap) -> Option<&'static [u8]>
+    ensures judged { spec.IsSuggestedBy (remedies.is_of_another_kind faulty.now.nos.now) faulty.now.entry.now
+        faulty.now.mended.now cap (option_copied result) }
     ensures fits { IfSome result (λ bytes. IsTrue (string_fits bytes.now)) }
 {
-    if is_of_another_kind(nos) {
+    if is_of_another_kind(faulty.nos) {
         None
     } else {
-        suggestion(entry, mended, cap)
+        suggestion(faulty.entry, faulty.mended, cap)
     }
 }
 
@@ -48,54 +57,37 @@ fn remedy_line(alloc: Global, cap: Cap, string: &[u8]) -> Result<Vec<u8>, AllocE
 }
 
 /// The line with the string that would be right for `cap`; empty if there is no such string.
-fn suggestion_line(
-    alloc: Global,
-    entry: &Entry,
-    mended: &Mended,
-    cap: Cap,
-    nos: &[No],
-) -> Result<Vec<u8>, AllocError>
-    ensures { IfOk result (λ line. spec.HasRemedy entry.now mended.now nos.now cap line.items) }
+fn suggestion_line(alloc: Global, faulty: &Faulty<'_>, cap: Cap) -> Result<Vec<u8>, AllocError>
+    ensures { IfOk result
+        (λ line. spec.HasRemedy faulty.now.entry.now faulty.now.mended.now faulty.now.nos.now cap line.items) }
 {
-    match suggested(entry, mended, cap, nos) {
+    match suggested(faulty, cap) {
         Some(string) => remedy_line(alloc, cap, string),
         None => Ok(Vec::new(alloc)),
     }
 }
 
 /// The lines with the strings that would be right for each of `caps`.
-fn lines_of(
-    alloc: Global,
-    entry: &Entry,
-    mended: &Mended,
-    caps: &[Cap],
-    nos: &[No],
-) -> Result<Vec<u8>, AllocError>
-    ensures { IfOk result (λ lines. HasParts (spec.HasRemedy entry.now mended.now nos.now) caps.now lines.items) }
+fn lines_of(alloc: Global, faulty: &Faulty<'_>, caps: &[Cap]) -> Result<Vec<u8>, AllocError>
+    ensures { IfOk result (λ lines. HasParts
+        (spec.HasRemedy faulty.now.entry.now faulty.now.mended.now faulty.now.nos.now) caps.now lines.items) }
 {
     let mut lines = Vec::new(alloc);
     for cap in caps {
-        let line = suggestion_line(alloc, entry, mended, *cap, nos)?;
+        let line = suggestion_line(alloc, faulty, *cap)?;
         lines.extend_from_slice(line.as_slice())?;
     }
     Ok(lines)
 }
 
 /// The lines with the strings that would be right, for `cap` and, where strings are mended as one, for those with it;
-/// none for a capability without such a string. `nos` are all faults of `entry`, and `mended` is the entry with all of
-/// them mended, in which each suggested string is right beside the others. If the faults show a terminal of another
-/// kind, nothing is suggested.
-pub fn suggestion_lines(
-    alloc: Global,
-    entry: &Entry,
-    mended: &Mended,
-    cap: Cap,
-    nos: &[No],
-) -> Result<Vec<u8>, AllocError>
-    ensures { IfOk result (λ lines. spec.HasRemedies entry.now mended.now nos.now cap lines.items) }
+/// none for a capability without such a string. If the faults show a terminal of another kind, nothing is suggested.
+pub fn suggestion_lines(alloc: Global, faulty: &Faulty<'_>, cap: Cap) -> Result<Vec<u8>, AllocError>
+    ensures { IfOk result
+        (λ lines. spec.HasRemedies faulty.now.entry.now faulty.now.mended.now faulty.now.nos.now cap lines.items) }
 {
-    let caps = listed_with(alloc, nos, cap)?;
-    lines_of(alloc, entry, mended, caps.as_slice(), nos)
+    let caps = listed_with(alloc, faulty.nos, cap)?;
+    lines_of(alloc, faulty, caps.as_slice())
 }
 
 /// Adds to `remarks` that the entry seems to be for a terminal of another kind, if its faults `nos` show that.

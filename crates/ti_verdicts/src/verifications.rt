@@ -2,7 +2,7 @@
 
 ghost use Rattle.std.specs.Prelude.{◌≡◌, IfErr, IfOk};
 ghost use Rattle.ti_conforms.specs.Conforms.{Conforms};
-ghost use Rattle.ti_places.specs.Refusals.{TellsFault};
+ghost use Rattle.ti_places.specs.Refusals.{IsVerdict, TellsFault, fault_text};
 ghost use Rattle.ti_verdicts.specs.Verifications.{FailsToVerify, HandsOut, IsVerified, LacksCertificate};
 
 use crate::certificates::CertificateFile;
@@ -99,9 +99,23 @@ fn cert_failure<R: Read>(
     match fault.kind {
         CertFaultKind::NoMemory => Failure::NoMemory,
         CertFaultKind::ReadFailed => file_fault(alloc, path, reader.fault(), remarks),
-        _ => {
+        CertFaultKind::BadLine
+        | CertFaultKind::Missing(_, _)
+        | CertFaultKind::OutOfOrder
+        | CertFaultKind::NotWhole
+        | CertFaultKind::NotTame
+        | CertFaultKind::NotShown
+        | CertFaultKind::NoResync
+        | CertFaultKind::BadLook => {
             explain_fault(alloc, path, size, fault, reader.seen(), remarks);
-            verdict(fault_words(alloc, fault))
+            fault_verdict(alloc, fault)
         }
     }
+}
+
+/// The refusal in the words of `fault`.
+fn fault_verdict(alloc: Global, fault: &CertFault) -> Failure
+    ensures { IsVerdict (fault_text fault.now) result }
+{
+    verdict(fault_words(alloc, fault))
 }

@@ -2,9 +2,8 @@ use Rattle.std.proofs.Common.{List, Ok, Some, ap, inl, inr, rules, subst, sym, �
 use Rattle.std.proofs.lemmas.Result.{err_from_is_err_and}
 use Rattle.ti_commands.specs.Contents.{Held}
 use Rattle.ti_commands.specs.Sources.{IsSourced, together_of}
-use Rattle.ti_mends.proofs.FileFacts.{delivers_many, delivers_one, none_left, several_paths, some_left}
+use Rattle.ti_mends.proofs.FileFacts.{delivers_many, delivers_one, fixed_as, none_left, several_paths, some_left}
 use Rattle.ti_mends.specs.Delivery.{HandsOver, StoresChanged, own_bytes}
-use Rattle.ti_mends.specs.Replies.{IsMendedSource}
 use Rattle.ti_mends.specs.Texts.{sheets}
 use Rattle.ti_mends.proofs.command.fix_entry.Goals as goal
 
@@ -16,27 +15,14 @@ returns-in_err-entry-clause-failure g c =
 -- the files are those from which the source was read
 pub returns-then-is_empty-clause-reply : goal.returns-then-is_empty-clause-reply
 returns-then-is_empty-clause-reply g c =
-    let before = g.F.Files.holds c.args.files.now in
-    let after = g.F.Files.holds c.handed_over.new.files in
     let source = c.in-Some.source in
-    let entry = c.in_ok-entry.field-0.entry in
-    let texts = sheets c.in_ok-mended.mended.texts.items in
-    let left = c.in_ok-mended.mended.left.items in
-    let reply = c.in_ok-handed_over.field-0 in
+    let mended = c.in_ok-mended.mended in
     let gives : IsSourced (g.F.Files.holds c.args.files.now) c.args.words.now.entry.now c.in_ok-entry.field-0.entry (Some c.in-Some.source) = search rules in
-    record {
-      height = c.in_ok-size.size.rows;
-      width = c.in_ok-size.size.cols;
-      given = c.in_ok-size.ensures.size;
-      entry = entry;
-      source = source;
-      gives = gives;
-      sheets = texts;
-      left = left;
-      mended = subst (λ (notes : List ℕ). IsMendedSource source entry c.in_ok-size.size.rows c.in_ok-size.size.cols texts notes left) (ap (λ v. v.items) (sym c.in_ok-handed_over.ensures.noted)) c.in_ok-mended.ensures;
-      delivers = delivers_one source.further.items texts left c.args.words.now.out before after reply (none_left source.further.items source.further.len source.further.ok.0 c.if-is_empty.ensures)
-          (subst (λ (h : Held). HandsOver (own_bytes texts) left c.args.words.now.out h after reply) c.in_ok-entry.ensures.kept c.in_ok-handed_over.ensures.hands);
-    }
+    fixed_as (g.F.Files.holds c.args.files.now) (g.F.Files.holds c.handed_over.new.files) c.args.words.now c.in_ok-size.size.rows c.in_ok-size.size.cols c.in_ok-entry.field-0.entry source (sheets mended.texts.items) mended.notes.items mended.left.items c.in_ok-handed_over.field-0
+    c.in_ok-size.ensures.size gives (ap (λ v. v.items) (sym c.in_ok-handed_over.ensures.noted)) c.in_ok-mended.ensures
+    (delivers_one source.further.items (sheets mended.texts.items) mended.left.items c.args.words.now.out (g.F.Files.holds c.args.files.now) (g.F.Files.holds c.handed_over.new.files) c.in_ok-handed_over.field-0
+    (none_left source.further.items source.further.len source.further.ok.0 c.if-is_empty.ensures)
+    (subst (λ (h : Held). HandsOver (own_bytes (sheets mended.texts.items)) mended.left.items c.args.words.now.out h (g.F.Files.holds c.handed_over.new.files) c.in_ok-handed_over.field-0) c.in_ok-entry.ensures.kept c.in_ok-handed_over.ensures.hands))
 
 -- the line names files of --with, but no folder
 pub returns-in_default-out-clause-failure : goal.returns-in_default-out-clause-failure
@@ -56,25 +42,11 @@ returns-in_default-out-clause-failure g c =
 
 pub returns-clause-reply : goal.returns-clause-reply
 returns-clause-reply g c =
-    let before = g.F.Files.holds c.args.files.now in
-    let after = g.F.Files.holds c.stored_in.new.files in
     let source = c.in-Some.source in
-    let entry = c.in_ok-entry.field-0.entry in
-    let texts = sheets c.in_ok-mended-2.mended.texts.items in
-    let left = c.in_ok-mended-2.mended.left.items in
-    let reply = c.in_ok-stored_in.field-0 in
-    let folder = c.in-Some-out.folder in
+    let mended = c.in_ok-mended-2.mended in
     let gives : IsSourced (g.F.Files.holds c.args.files.now) c.args.words.now.entry.now c.in_ok-entry.field-0.entry (Some c.in-Some.source) = search rules in
-    record {
-      height = c.in_ok-size.size.rows;
-      width = c.in_ok-size.size.cols;
-      given = c.in_ok-size.ensures.size;
-      entry = entry;
-      source = source;
-      gives = gives;
-      sheets = texts;
-      left = left;
-      mended = subst (λ (notes : List ℕ). IsMendedSource source entry c.in_ok-size.size.rows c.in_ok-size.size.cols texts notes left) (ap (λ v. v.items) (sym c.in_ok-stored_in.ensures.noted)) c.in_ok-mended-2.ensures;
-      delivers = delivers_many source.further.items texts left c.args.words.now.out folder before after reply (some_left source.further.items source.further.len source.further.ok.0 c.if-is_empty.ensures) c.in-Some-out.is
-          (subst (λ (h : Held). StoresChanged texts left folder.now h after reply) c.in_ok-entry.ensures.kept c.in_ok-stored_in.ensures.stores);
-    }
+    fixed_as (g.F.Files.holds c.args.files.now) (g.F.Files.holds c.stored_in.new.files) c.args.words.now c.in_ok-size.size.rows c.in_ok-size.size.cols c.in_ok-entry.field-0.entry source (sheets mended.texts.items) mended.notes.items mended.left.items c.in_ok-stored_in.field-0
+    c.in_ok-size.ensures.size gives (ap (λ v. v.items) (sym c.in_ok-stored_in.ensures.noted)) c.in_ok-mended-2.ensures
+    (delivers_many source.further.items (sheets mended.texts.items) mended.left.items c.args.words.now.out c.in-Some-out.folder (g.F.Files.holds c.args.files.now) (g.F.Files.holds c.stored_in.new.files) c.in_ok-stored_in.field-0
+    (some_left source.further.items source.further.len source.further.ok.0 c.if-is_empty.ensures) c.in-Some-out.is
+    (subst (λ (h : Held). StoresChanged (sheets mended.texts.items) mended.left.items c.in-Some-out.folder.now h (g.F.Files.holds c.stored_in.new.files) c.in_ok-stored_in.field-0) c.in_ok-entry.ensures.kept c.in_ok-stored_in.ensures.stores))

@@ -1,4 +1,4 @@
-use Rattle.std.proofs.Common.{◌<◌, ◌++◌, ◌∙◌, ℕ, List, length, ap, arith}
+use Rattle.std.proofs.Common.{◌++◌, ◌∙◌, ℕ, List, ap, arith}
 use Rattle.ti_reports.specs.Faults.{IsFaultLine, of_subject}
 use Rattle.ti_verdicts.specs.Parts.{HasParts}
 use Rattle.ti_verdicts.proofs.Parts.{parts_next}
@@ -11,6 +11,5 @@ loop-no-init c = c.new-lines.ensures.items
 -- the line of the next fault follows those so far
 pub loop-no-preserved : goal.loop-no-preserved
 loop-no-preserved c =
-    let here : c.loop-no.no-index < length c.args.nos.now = omega arith in
-    parts_next (IsFaultLine (of_subject c.args.subject.now c.args.nos.now c.args.mended.now) c.args.subject.now.file.now) c.args.nos.now c.loop-no.no-index c.no-item.result c.loop-no.lines.items c.in_ok-own.own.items c.extend_from_slice.new.self.items here c.no-item.is
+    parts_next (IsFaultLine (of_subject c.args.subject.now c.args.nos.now c.args.mended.now) c.args.subject.now.file.now) c.args.nos.now c.loop-no.no-index c.no-item.result c.loop-no.lines.items c.in_ok-own.own.items c.extend_from_slice.new.self.items (omega arith) c.no-item.is
     (c.in_ok-extend_from_slice.ensures.items ∙ ap (λ (own : List ℕ). c.loop-no.lines.items ++ own) c.as_slice.ensures.value) c.loop-no.invariant c.in_ok-own.ensures

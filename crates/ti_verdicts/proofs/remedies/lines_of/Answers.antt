@@ -1,4 +1,4 @@
-use Rattle.std.proofs.Common.{◌<◌, ◌++◌, ◌∙◌, ℕ, List, length, ap, arith}
+use Rattle.std.proofs.Common.{◌++◌, ◌∙◌, ℕ, List, ap, arith}
 use Rattle.ti_verdicts.specs.Parts.{HasParts}
 use Rattle.ti_verdicts.specs.Remedies.{HasRemedy}
 use Rattle.ti_verdicts.proofs.Parts.{parts_next}
@@ -11,6 +11,5 @@ loop-cap-init c = c.new-lines.ensures.items
 -- the line of the next capability follows those so far
 pub loop-cap-preserved : goal.loop-cap-preserved
 loop-cap-preserved c =
-    let here : c.loop-cap.cap-index < length c.args.caps.now = omega arith in
-    parts_next (HasRemedy c.args.entry.now c.args.mended.now c.args.nos.now) c.args.caps.now c.loop-cap.cap-index c.cap-item.result c.loop-cap.lines.items c.in_ok-line.line.items c.extend_from_slice.new.self.items here c.cap-item.is
+    parts_next (HasRemedy c.args.faulty.now.entry.now c.args.faulty.now.mended.now c.args.faulty.now.nos.now) c.args.caps.now c.loop-cap.cap-index c.cap-item.result c.loop-cap.lines.items c.in_ok-line.line.items c.extend_from_slice.new.self.items (omega arith) c.cap-item.is
     (c.in_ok-extend_from_slice.ensures.items ∙ ap (λ (own : List ℕ). c.loop-cap.lines.items ++ own) c.as_slice.ensures.value) c.loop-cap.invariant c.in_ok-line.ensures

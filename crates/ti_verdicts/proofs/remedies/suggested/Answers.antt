@@ -6,5 +6,5 @@ use Rattle.ti_verdicts.proofs.remedies.suggested.Goals as goal
 -- the faults show no terminal of another kind
 pub returns-else-is_of_another_kind-clause-judged : goal.returns-else-is_of_another_kind-clause-judged
 returns-else-is_of_another_kind-clause-judged c =
-    subst (λ (b : Bool). IsSuggestedBy b c.args.entry.now c.args.mended.now c.args.cap (option_copied c.suggestion.result))
+    subst (λ (b : Bool). IsSuggestedBy b c.args.faulty.now.entry.now c.args.faulty.now.mended.now c.args.cap (option_copied c.suggestion.result))
     (sym c.if-is_of_another_kind.false ∙ c.is_of_another_kind.ensures) c.suggestion.ensures.found
