@@ -17,7 +17,7 @@ use Rattle.ti_commands.specs.Contents.{Held}
 use Rattle.ti_commands.specs.declared.failure.Failure.{Failure}
 use Rattle.cur_calls.specs.declared.calls.Call.{Call}
 use Rattle.cur_scripts.specs.Texts.{script_of}
-use Rattle.cur_commands.specs.Commands.{FailsAtScript, IsReady}
+use Rattle.cur_commands.specs.Commands.{FailsAtScript, Given}
 use Rattle.cur_commands.specs.Preparations.{Prepared}
 use Rattle.cur_commands.specs.Scripts.{IsScriptFailure}
 use Rattle.ti_requests.specs.declared.request.ScriptWords.{ScriptWords}
@@ -32,11 +32,16 @@ script_refused held words height width checked text slice e prepared same h = re
   refused = subst (λ (l : List ℕ). IsScriptFailure l e) same h;
 }
 
-pub ready_for : (held : Held) (words : ScriptWords) (height width : ℕ) (checked : CheckedTable) (text slice : List ℕ) (calls lent : List Call) → Prepared held words height width checked text → slice ≡ text → script_of slice ≡ Ok calls → lent ≡ calls
-    → IsReady held words height width checked lent
-ready_for held words height width checked text slice calls lent prepared same reads lends = record {
+-- what the words give, once all of it is read
+pub given_by : (held : Held) (words : ScriptWords) (height width : ℕ) (checked : CheckedTable) (text slice : List ℕ) (calls lent : List Call) → Prepared held words height width checked text → slice ≡ text → script_of slice ≡ Ok calls → lent ≡ calls
+    → Given held words
+given_by held words height width checked text slice calls lent prepared same reads lends = record {
+  height = height;
+  width = width;
+  checked = checked;
   text = text;
   prepared = prepared;
+  calls = lent;
   reads =
       let P : List ℕ → Type 0 = λ l. script_of l ≡ Ok calls in
       let Q : List Call → Type 0 = λ l. script_of text ≡ Ok l in

@@ -16,33 +16,28 @@ use Rattle.cur_commands.specs.Shows.{ShowsRun}
 use Rattle.cur_commands.specs.Through.{IsUnplayed, RanThrough}
 use Rattle.ti_requests.specs.declared.request.ScriptWords.{ScriptWords}
 
--- the words give a size, an entry that conforms at it and has these strings, and these calls
-pub record IsReady (held : Held) (words : ScriptWords) (height width : ℕ) (checked : CheckedTable)
-    (calls : List Call) : Type 0 where
+-- what the words give: a size, an entry that conforms at it and has these strings, and calls
+pub record Given (held : Held) (words : ScriptWords) : Type 0 where
+  pub height : ℕ
+  pub width : ℕ
+  pub checked : CheckedTable
   pub text : List ℕ
   pub prepared : Prepared held words height width checked text
+  pub calls : List Call
   pub reads : script_of text ≡ Ok calls
 
 -- The output received the bytes of a run of the script's calls, and no call was cut short.
 pub record IsPlayed (table : CheckedTable → Table) (partners : CheckedTable → ℕ → Option ℕ) (held : Held)
     (words : ScriptWords) (old new : Option (List ℕ)) : Type 0 where
-  pub height : ℕ
-  pub width : ℕ
-  pub checked : CheckedTable
-  pub calls : List Call
-  pub ready : IsReady held words height width checked calls
-  pub ran : RanThrough (table checked) (partners checked) old new calls
+  pub given : Given held words
+  pub ran : RanThrough (table given.checked) (partners given.checked) old new given.calls
 
 -- the reply is about a run of the script's calls and the screen that it leaves
 pub record IsShown (table : CheckedTable → Table) (partners : CheckedTable → ℕ → Option ℕ) (held : Held)
     (words : ScriptWords) (reply : Reply) : Type 0 where
-  pub height : ℕ
-  pub width : ℕ
-  pub checked : CheckedTable
-  pub calls : List Call
-  pub ready : IsReady held words height width checked calls
+  pub given : Given held words
   pub text : List ℕ
-  pub shows : ShowsRun (table checked) (partners checked) height width calls text
+  pub shows : ShowsRun (table given.checked) (partners given.checked) given.height given.width given.calls text
   pub says : IsText text reply
 
 -- the file's text is no script, and everything before it is right
@@ -57,20 +52,12 @@ pub record FailsAtScript (held : Held) (words : ScriptWords) (failure : Failure)
 -- everything is right, but the run fails: there is no memory, or the output has failed
 pub record FailsInRun {O : Type 0} (held : Held) (words : ScriptWords) (has_failed : O → Bool) (old new : O)
     (failure : Failure) : Type 0 where
-  pub height : ℕ
-  pub width : ℕ
-  pub checked : CheckedTable
-  pub calls : List Call
-  pub ready : IsReady held words height width checked calls
+  pub given : Given held words
   pub unplayed : IsUnplayed has_failed old new failure
 
 -- everything is right, but there is no memory for the run or its reply
 pub record FailsForMemory (held : Held) (words : ScriptWords) (failure : Failure) : Type 0 where
-  pub height : ℕ
-  pub width : ℕ
-  pub checked : CheckedTable
-  pub calls : List Call
-  pub ready : IsReady held words height width checked calls
+  pub given : Given held words
   pub lacks : failure ≡ NoMemory
 
 -- the words come first, then the files in their order, then the run

@@ -28,11 +28,7 @@ pub fn play_script<F: Files, O: Output>(
     ensures kept { F.holds files.new ≡ F.holds files.old }
 {
     let ready = prepare(alloc, words, files, remarks)?;
-    let Ready {
-        size: _,
-        checked,
-        text,
-    } = ready;
+    let Ready { checked, text, .. } = ready;
     let calls = calls_of(alloc, words.script, text.as_slice(), remarks)?;
     play_calls(alloc, checked, calls.as_slice(), out)?;
     Ok(())
@@ -51,11 +47,7 @@ pub fn show_script<F: Files>(
     ensures kept { F.holds files.new ≡ F.holds files.old }
 {
     let ready = prepare(alloc, words, files, remarks)?;
-    let Ready {
-        size: _,
-        checked,
-        text,
-    } = ready;
+    let Ready { checked, text, .. } = ready;
     let calls = calls_of(alloc, words.script, text.as_slice(), remarks)?;
     let text = show_calls(alloc, checked, calls.as_slice())?;
     Ok(Reply::of_text(alloc, text))
