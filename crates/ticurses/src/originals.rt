@@ -45,11 +45,19 @@ fn paths_of<'a>(alloc: Global, asked: &'a Asked<'a>) -> Result<Vec<&'a str>, All
         Request::Survey(words) | Request::SurveyJson(words) if !asked.fixes => {
             paths.extend_from_slice(words.paths.as_slice())?;
         }
-        Request::Survey(_) | Request::SurveyJson(_) | Request::Check(_) => return Ok(paths),
-        Request::Expand(_) | Request::Feed { .. } | Request::FeedAs(_) => return Ok(paths),
-        Request::Tic { .. } | Request::Verify(_) | Request::Play(_) => return Ok(paths),
-        Request::Show(_) | Request::Print { .. } => return Ok(paths),
-        Request::Common { .. } | Request::Neither { .. } => return Ok(paths),
+        Request::Survey(_)
+        | Request::SurveyJson(_)
+        | Request::Check(_)
+        | Request::Tic { .. }
+        | Request::Print { .. }
+        | Request::Common { .. }
+        | Request::Neither { .. }
+        | Request::Expand(_)
+        | Request::Feed { .. }
+        | Request::FeedAs(_)
+        | Request::Verify(_)
+        | Request::Play(_)
+        | Request::Show(_) => return Ok(paths),
     }
     paths.extend_from_slice(asked.further.as_slice())?;
     Ok(paths)
