@@ -94,7 +94,7 @@ def commands():
     text = read(f"{CRATES}/ticurses/src/run.rt")
     called = [
         (crate, name)
-        for crate, names in re.findall(r"^use ((?:ti|cur)_\w+)::\{([^}]*)\}", text, re.M)
+        for crate, names in re.findall(r"^use ((?:ti|cur|vt)_\w+)::\{([^}]*)\}", text, re.M)
         for name in re.findall(r"\b[a-z]\w*", names)
     ]
     known = {it for _, functions in COMMANDS for it in functions}

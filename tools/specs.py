@@ -39,6 +39,7 @@ def files_of(crate, folder, ending):
 USE = re.compile(
     r"^\s*(?:ghost )?(?:pub )?use Rattle\.([a-z_]+)\.specs\.([A-Z]\w*)(?:\.\{([^}]*)\})?(?: as (\w+))?;?\s*$", re.M
 )
+TOGETHER = re.compile(r"^(\s*(?:ghost )?(?:pub )?use Rattle\.[a-z_]+\.specs)\.\{(.*)\};?\s*$", re.M)
 PASSED_ON = re.compile(r"^pub use [^\n]*$", re.M)
 # the types that the code declares, and their variants and fields
 DECLARED = re.compile(
@@ -46,10 +47,27 @@ DECLARED = re.compile(
 )
 
 
+def apart(text):
+    """A text in which each import names one module: those of a crate that were imported together stand one by one."""
+
+    def each(found):
+        front, inside = found.groups()
+        parts, depth = [""], 0
+        for letter in inside:
+            depth += (letter == "{") - (letter == "}")
+            if letter == "," and not depth:
+                parts.append("")
+            else:
+                parts[-1] += letter
+        return "\n".join(f"{front}.{part.strip()};" for part in parts)
+
+    return TOGETHER.sub(each, text)
+
+
 def imports_of(text):
     """The words and the modules of specifications that a text names: each by its own name there."""
     words, modules = {}, {}
-    for crate, module, names, alias in USE.findall(text):
+    for crate, module, names, alias in USE.findall(apart(text)):
         if names:
             for name in names.split(","):
                 name = name.strip()
@@ -63,7 +81,7 @@ def imports_of(text):
 def declared_in(text):
     """The types of the code that a text names: for each word there the crate, the file of src/ and the type."""
     found = {}
-    for crate, path, names in DECLARED.findall(text):
+    for crate, path, names in DECLARED.findall(apart(text)):
         # Call.TheVariants.{Show} is a variant of the type Call
         parts = path.split(".The")[0].split(".")
         for name in names.split(","):
