@@ -191,16 +191,12 @@ fn size_text(alloc: Global, rows: usize, cols: usize) -> Result<Vec<u8>, AllocEr
 fn truth(value: bool) -> &'static [u8]
     ensures { result.now ≡ spec.truth value }
 {
-    if value { b"true" } else { b"false" }
+    either(value, b"true", b"false")
 }
 
 /// The word for a character set, in quotes.
 fn set_word(graphic: bool) -> &'static [u8]
     ensures { result.now ≡ spec.set_value graphic }
 {
-    if graphic {
-        b"\"graphic\""
-    } else {
-        b"\"plain\""
-    }
+    either(graphic, b"\"graphic\"", b"\"plain\"")
 }
