@@ -11,7 +11,7 @@ use Rattle.ti_checker.specs.No.{IsFaulty, HasFaulty}
 use Rattle.ti_checker.specs.Notes.{SendsNoTokens, RowNotes, RowsNotes, IsUnsentAt, IsFirstUnsent, AddsNotesAt}
 use Rattle.ti_checker.specs.declared.note_list.CheckNote.{CheckNote}
 use Rattle.ti_checker.specs.declared.causes.Cause.{Cause}
-use Rattle.ti_checker.specs.declared.causes.Cause.TheVariants.{FlagOut, Absent, AcsByte, Parm, StaticRead, Unfinished, Stuck, NotTame, BadLook, WrongEffect, NotShown, TooLong, NoResync, NoMemory}
+use Rattle.ti_checker.specs.declared.causes.Cause.TheVariants.{Parm, StaticRead, Unfinished, Stuck, NoMemory}
 use Rattle.ti_checker.specs.declared.causes.No.{No}
 
 -- ---- rows
@@ -68,15 +68,7 @@ faulty rows cols string row StaticRead h = h
 faulty rows cols string row Unfinished h = h
 faulty rows cols string row Stuck h = h
 faulty rows cols string row NoMemory h = tt
-faulty rows cols string row FlagOut h = absurd h
-faulty rows cols string row Absent h = absurd h
-faulty rows cols string row AcsByte h = absurd h
-faulty rows cols string row NoResync h = absurd h
-faulty rows cols string row NotTame h = absurd h
-faulty rows cols string row BadLook h = absurd h
-faulty rows cols string row (WrongEffect p) h = absurd h
-faulty rows cols string row NotShown h = absurd h
-faulty rows cols string row TooLong h = absurd h
+faulty rows cols string row _ h = absurd h
 
 pub faulty_unsent : (entry : Content) (rows cols place : ℕ) (refusal : No) → IsSize rows cols → IsUnsentAt entry place refusal → HasFaulty entry rows cols refusal
 faulty_unsent entry rows cols place refusal size u = record {

@@ -81,6 +81,12 @@ pub added_same : (old between new : List ℕ) (row : Row) (a b : List ℕ) (e : 
 added_same old between new row a b e p q h =
     h ∙ (ap (λ (t : List ℕ). t ++ (line_text (record { row = row; bytes = a; effect = e }) ++ 10 ∷ [])) p ∙ ap (λ (x : List ℕ). old ++ (line_text (record { row = row; bytes = x; effect = e }) ++ 10 ∷ [])) q)
 
+-- the line of a row whose bytes were judged is added
+pub adds_judged : (rows cols : ℕ) (string : List ℕ) (row : Row) (old between new a b : List ℕ) (e : Effect) → between ≡ old → a ≡ b → IsLineFor rows cols string (record { row = row; bytes = b; effect = e })
+    → new ≡ between ++ (line_text (record { row = row; bytes = a; effect = e }) ++ 10 ∷ []) → AddsLine rows cols string row old new
+adds_judged rows cols string row old between new a b e p q is h =
+    record { line = record { row = row; bytes = b; effect = e }; of_row = refl; is = is; added = added_same old between new row a b e p q h }
+
 right_stands : (entry : Content) (rows cols : ℕ) (row : Row) (string : List ℕ) → string_of entry row ≡ Some string → SendsAsked rows cols string row → RowStands entry rows cols row
 right_stands entry rows cols row string there right checked other found =
     subst (λ (x : List ℕ). SendsAsked rows cols x row) (same_Some string other (sym there ∙ found)) right

@@ -1,8 +1,8 @@
 -- A misjudged effect is a fault of the string.
-use Rattle.std.proofs.Common.{◌≡◌, ℕ, List, [], Some, false}
+use Rattle.std.proofs.Common.{◌≡◌, ℕ, List, [], Option, Some, false, sym, subst, ◌∙◌}
 use Rattle.vt_term.specs.Size.{IsSize}
 use Rattle.vt_term.specs.Text.{Splits}
-use Rattle.vt_effects.specs.Record.{record_of}
+use Rattle.vt_effects.specs.Record.{record_of, IsRecordOf}
 use Rattle.vt_effects.specs.declared.effects.Effect.{Effect}
 use Rattle.ti_rows.specs.Asked.{start_of}
 use Rattle.ti_rows.specs.Lists.{IsInRange, Follows}
@@ -19,7 +19,7 @@ use Rattle.ti_checker.specs.Mislooks.{looks_other}
 use Rattle.ti_checker.specs.No.{HasOwnEffect, IsFaulty, IsMisfit, IsMisjudged, IsNotWhole, IsRowRefused}
 use Rattle.ti_checker.specs.Taught.{IsAskedOf, IsTaught, After}
 use Rattle.ti_checker.specs.declared.causes.Cause.{Cause}
-use Rattle.ti_checker.specs.declared.causes.Cause.TheVariants.{FlagOut, Absent, AcsByte, Parm, StaticRead, Unfinished, Stuck, NotTame, BadLook, WrongEffect, NotShown, TooLong, NoResync, NoMemory}
+use Rattle.ti_checker.specs.declared.causes.Cause.TheVariants.{Unfinished, Stuck, NotTame, BadLook, WrongEffect, NotShown, TooLong, NoMemory}
 
 own_effect : (rows cols : ℕ) (row : Row) (bytes : List ℕ) (tokens : List (List ℕ)) (e : Effect) → Splits bytes tokens [] → record_of rows cols (start_of rows cols row) tokens ≡ Some e → looks_other row e ≡ false → HasOwnEffect rows cols row bytes
 own_effect rows cols row bytes tokens e split recorded own = record { tokens = tokens; whole = split; effect = e; recorded = recorded; own = not_mislooks rows cols row bytes tokens e split recorded own }
@@ -46,34 +46,22 @@ misjudged rows cols string looks row bytes tokens NotShown size taught sends spl
   };
 }
 misjudged rows cols string looks row bytes tokens NoMemory size taught sends split m = tt
-misjudged rows cols string looks row bytes tokens FlagOut size taught sends split m = absurd m.misfit
-misjudged rows cols string looks row bytes tokens Absent size taught sends split m = absurd m.misfit
-misjudged rows cols string looks row bytes tokens AcsByte size taught sends split m = absurd m.misfit
-misjudged rows cols string looks row bytes tokens (Parm fault) size taught sends split m = absurd m.misfit
-misjudged rows cols string looks row bytes tokens StaticRead size taught sends split m = absurd m.misfit
-misjudged rows cols string looks row bytes tokens NoResync size taught sends split m = absurd m.misfit
-misjudged rows cols string looks row bytes tokens TooLong size taught sends split m = absurd m.misfit
-misjudged rows cols string looks row bytes tokens Unfinished size taught sends split m = absurd m.misfit
-misjudged rows cols string looks row bytes tokens Stuck size taught sends split m = absurd m.misfit
+misjudged rows cols string looks row bytes tokens _ size taught sends split m = absurd m.misfit
 
 -- the fault of an effect that isn't the one that is asked for is a fault of the tokens with that record
 pub misfit_misjudged : (rows cols : ℕ) (looks : Looks) (row : Row) (tokens : List (List ℕ)) (e : Effect) (cause : Cause) → record_of rows cols (start_of rows cols row) tokens ≡ Some e → IsMisfit rows cols looks row e cause → IsMisjudged rows cols looks row tokens cause
-misfit_misjudged rows cols looks row tokens e FlagOut recorded m = absurd m
-misfit_misjudged rows cols looks row tokens e Absent recorded m = absurd m
-misfit_misjudged rows cols looks row tokens e AcsByte recorded m = absurd m
-misfit_misjudged rows cols looks row tokens e (Parm fault) recorded m = absurd m
-misfit_misjudged rows cols looks row tokens e StaticRead recorded m = absurd m
-misfit_misjudged rows cols looks row tokens e Unfinished recorded m = absurd m
-misfit_misjudged rows cols looks row tokens e Stuck recorded m = absurd m
-misfit_misjudged rows cols looks row tokens e NotTame recorded m = absurd m
-misfit_misjudged rows cols looks row tokens e TooLong recorded m = absurd m
-misfit_misjudged rows cols looks row tokens e NoResync recorded m = absurd m
-misfit_misjudged rows cols looks row tokens e NoMemory recorded m = absurd m
 misfit_misjudged rows cols looks row tokens e BadLook recorded m = record { effect = e; recorded = recorded; misfit = m }
 misfit_misjudged rows cols looks row tokens e (WrongEffect p) recorded m = record { effect = e; recorded = recorded; misfit = m }
 misfit_misjudged rows cols looks row tokens e NotShown recorded m = record { effect = e; recorded = recorded; misfit = m }
+misfit_misjudged rows cols looks row tokens e _ recorded m = absurd m
 
 -- ---- an effect that is asked for
+
+-- the line of the bytes that were sent and of their effect
+pub judged_line : (rows cols : ℕ) (string bytes at : List ℕ) (row : Row) (found : Option Effect) (e : Effect) → Sends string row bytes → at ≡ bytes → IsRecordOf rows cols (start_of rows cols row) at found → found ≡ Some e
+    → IsLineFor rows cols string (record { row = row; bytes = bytes; effect = e })
+judged_line rows cols string bytes at row found e sends same r is =
+    record { sends = sends; has = record { tokens = r.tokens; splits = subst (λ (b : List ℕ). Splits b r.tokens []) same r.splits; recorded = sym r.is ∙ is } }
 
 -- the looks with those that the row shows are taught before the next row
 pub taught_next : (rows cols : ℕ) (string : List ℕ) (row : Row) (before after : Looks) (bytes : List ℕ) (e : Effect) → IsInRange rows cols row → IsTaught rows cols string row before
@@ -98,17 +86,7 @@ pub cut_refused : (rows cols : ℕ) (string : List ℕ) (row : Row) (bytes text 
 cut_refused rows cols string row bytes text Unfinished sends h = record { bytes = bytes; sends = sends; holds = h }
 cut_refused rows cols string row bytes text Stuck sends h = record { bytes = bytes; sends = sends; holds = h }
 cut_refused rows cols string row bytes text NoMemory sends h = tt
-cut_refused rows cols string row bytes text FlagOut sends h = absurd h
-cut_refused rows cols string row bytes text Absent sends h = absurd h
-cut_refused rows cols string row bytes text AcsByte sends h = absurd h
-cut_refused rows cols string row bytes text (Parm fault) sends h = absurd h
-cut_refused rows cols string row bytes text StaticRead sends h = absurd h
-cut_refused rows cols string row bytes text NotTame sends h = absurd h
-cut_refused rows cols string row bytes text BadLook sends h = absurd h
-cut_refused rows cols string row bytes text (WrongEffect p) sends h = absurd h
-cut_refused rows cols string row bytes text NotShown sends h = absurd h
-cut_refused rows cols string row bytes text TooLong sends h = absurd h
-cut_refused rows cols string row bytes text NoResync sends h = absurd h
+cut_refused rows cols string row bytes text _ sends h = absurd h
 
 pub cut_faulty : (rows cols : ℕ) (string : List ℕ) (row : Row) (bytes : List ℕ) (cause : Cause) → Sends string row bytes → IsNotWhole bytes cause → IsFaulty rows cols string row cause
 cut_faulty rows cols string row bytes TooLong sends h = absurd h

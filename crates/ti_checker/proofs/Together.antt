@@ -15,7 +15,7 @@ use Rattle.ti_checker.specs.No.{IsFaulty, IsUnsendable, cause_of_unfit, IsOfEntr
 use Rattle.ti_checker.specs.Kept.{is_sent, HasKept, OfAllKept}
 use Rattle.ti_cert.specs.Clashes.{BeginsOpen}
 use Rattle.ti_checker.specs.declared.causes.Cause.{Cause}
-use Rattle.ti_checker.specs.declared.causes.Cause.TheVariants.{FlagOut, Absent, AcsByte, Parm, StaticRead, Unfinished, Stuck, NotTame, BadLook, WrongEffect, NotShown, TooLong, NoResync, NoMemory}
+use Rattle.ti_checker.specs.declared.causes.Cause.TheVariants.{Parm, StaticRead, NoMemory}
 use Rattle.ti_checker.specs.declared.causes.No.{No}
 use Rattle.ti_checker.specs.Resync.{AreInRange, IsPart, SendsAll}
 use Rattle.ti_conforms.specs.Resync.{resync_rows, texts_of}
@@ -45,17 +45,7 @@ pub unsendable : (rows cols : ℕ) (string : List ℕ) (row : Row) (cause : Caus
 unsendable rows cols string row (Parm fault) h = h
 unsendable rows cols string row StaticRead h = h
 unsendable rows cols string row NoMemory h = tt
-unsendable rows cols string row FlagOut h = absurd h
-unsendable rows cols string row Absent h = absurd h
-unsendable rows cols string row AcsByte h = absurd h
-unsendable rows cols string row Unfinished h = absurd h
-unsendable rows cols string row Stuck h = absurd h
-unsendable rows cols string row NotTame h = absurd h
-unsendable rows cols string row BadLook h = absurd h
-unsendable rows cols string row (WrongEffect p) h = absurd h
-unsendable rows cols string row NotShown h = absurd h
-unsendable rows cols string row NoResync h = absurd h
-unsendable rows cols string row TooLong h = absurd h
+unsendable rows cols string row _ h = absurd h
 
 same_part : (entry : Content) (rows cols : ℕ) (kept : ℕ → Bool) (t : Table) → HasKept entry rows cols kept t → (row : Row) → IsInRange rows cols row → (bytes : List ℕ) → IsPart entry kept row bytes → text_of t row ≡ bytes
 same_part entry rows cols kept t h row range bytes p = elim (cases_Bool (is_sent entry kept row)) [

@@ -12,11 +12,12 @@ use Rattle.ti_rows.specs.declared.rows.Attributes.{Attributes}
 use Rattle.ti_rows.specs.declared.rows.Marks.{Marks}
 use Rattle.ti_rows.specs.declared.rows.Looks.{Looks}
 use Rattle.ti_rows.specs.declared.rows.Row.{Row}
-use Rattle.ti_rows.specs.declared.rows.Row.TheVariants.{Clear, Cup, Home, Cr, Hpa, Vpa, Cub1, Cuf1, Cuu1, Cud1, Cub, Cuf, Cuu, Cud, El, El1, Ed, Ech, Sgr, Sgr0, Setaf, Setab, Op, Smul, Rev, Blink, Dim, Bold, Invis, Smso, Enacs, Smacs, Rmacs, Csr, Ind, Ri, Civis, Cnorm, Cvvis, Smcup, Rmcup, Bel}
+use Rattle.ti_rows.specs.declared.rows.Row.TheVariants.{Cub1, Cuf1, Cuu1, Cud1, Cub, Cuf, Cuu, Cud, El, El1, Ed, Ech, Sgr, Smso, Csr, Ind, Ri, Cvvis, Smcup, Rmcup}
 use Rattle.ti_rows.specs.Looks.{shown}
 use Rattle.ti_rows.specs.Starts.{Starts}
 use Rattle.ti_rows.specs.Wants.{Wants, marked}
 use Rattle.ti_rows.specs.Asked.{asked, no_marks, on_or_kept, just, with_marks_on}
+use Rattle.ti_rows.proofs.WantFacts.{same_marks}
 use Rattle.ti_checker.specs.Probes.{screen_of}
 use Rattle.ti_checker.specs.Alone.{is_several, ShowsBy}
 use Rattle.ti_checker.specs.Breakage.{has_choice, wanted_end, with_defaults, without_defaults, marks_after, looks_of, looks_for, AgreeBefore, EndAlike, NotWanted}
@@ -27,16 +28,6 @@ never : {A : Type 0} → true ≡ false → A
 never h = absurd (true≢false h)
 
 -- ---- marks
-
-same_marks : (a b c d e f a' b' c' d' e' f' : Bool) (x y : Option Color) → a ≡ a' → b ≡ b' → c ≡ c' → d ≡ d' → e ≡ e' → f ≡ f' →
-    marked (record { bold = a; faint = b; underline = c; blink = d; negative = e; concealed = f }) x y ≡ marked (record { bold = a'; faint = b'; underline = c'; blink = d'; negative = e'; concealed = f' }) x y
-same_marks a b c d e f a' b' c' d' e' f' x y p q r s t u =
-    ap (λ (z : Bool). marked (record { bold = z; faint = b; underline = c; blink = d; negative = e; concealed = f }) x y) p
-    ∙ ap (λ (z : Bool). marked (record { bold = a'; faint = z; underline = c; blink = d; negative = e; concealed = f }) x y) q
-    ∙ ap (λ (z : Bool). marked (record { bold = a'; faint = b'; underline = z; blink = d; negative = e; concealed = f }) x y) r
-    ∙ ap (λ (z : Bool). marked (record { bold = a'; faint = b'; underline = c'; blink = z; negative = e; concealed = f }) x y) s
-    ∙ ap (λ (z : Bool). marked (record { bold = a'; faint = b'; underline = c'; blink = d'; negative = z; concealed = f }) x y) t
-    ∙ ap (λ (z : Bool). marked (record { bold = a'; faint = b'; underline = c'; blink = d'; negative = e'; concealed = z }) x y) u
 
 pub set_mark : (b x : Bool) → b ≡ switched (switch_of b) x
 set_mark true x = refl
@@ -96,12 +87,6 @@ standout_asked rows cols l e p by h =
 
 one_end : (rows cols : ℕ) (l : Looks) (row : Row) (e : Effect) (p : Probe) → has_choice row ≡ false → Starts rows cols row (screen_of rows cols p) → ShowsBy l row (alone e)
     → Wants l row (screen_of rows cols p) (applied e (screen_of rows cols p)) → EndAlike e (wanted_end (seen_alone e) row e) (screen_of rows cols p)
-one_end rows cols l Clear e p one st by h = h
-one_end rows cols l (Cup row col) e p one st by h = h
-one_end rows cols l Home e p one st by h = h
-one_end rows cols l Cr e p one st by h = h
-one_end rows cols l (Hpa col) e p one st by h = h
-one_end rows cols l (Vpa row) e p one st by h = h
 one_end rows cols l Cub1 e p one st by h = h ∙ ap (λ (z : Bool). record (screen_of rows cols p) { col = (applied (asked (seen_alone e) Cub1 e) (screen_of rows cols p)).col; pending = z }) (calm_end e.ends_pending p.pending st.0.pending)
 one_end rows cols l Cuf1 e p one st by h = h ∙ ap (λ (z : Bool). record (screen_of rows cols p) { col = (applied (asked (seen_alone e) Cuf1 e) (screen_of rows cols p)).col; pending = z }) (calm_end e.ends_pending p.pending st.0.pending)
 one_end rows cols l Cuu1 e p one st by h = h ∙ ap (λ (z : Bool). record (screen_of rows cols p) { row = (applied (asked (seen_alone e) Cuu1 e) (screen_of rows cols p)).row; pending = z }) (calm_end e.ends_pending p.pending st.0.pending)
@@ -115,29 +100,14 @@ one_end rows cols l El1 e p one st by h = h ∙ ap (λ (z : Bool). record (scree
 one_end rows cols l Ed e p one st by h = h ∙ ap (λ (z : Bool). record (screen_of rows cols p) { grid = (applied (asked (seen_alone e) Ed e) (screen_of rows cols p)).grid; pending = z }) (calm_end e.ends_pending p.pending st.pending)
 one_end rows cols l (Ech n) e p one st by h = h ∙ ap (λ (z : Bool). record (screen_of rows cols p) { grid = (applied (asked (seen_alone e) (Ech n) e) (screen_of rows cols p)).grid; pending = z }) (calm_end e.ends_pending p.pending st.pending)
 one_end rows cols l (Sgr a) e p one st by h = never one
-one_end rows cols l Sgr0 e p one st by h = h
-one_end rows cols l (Setaf c) e p one st by h = h
-one_end rows cols l (Setab c) e p one st by h = h
-one_end rows cols l Op e p one st by h = h
-one_end rows cols l Smul e p one st by h = h
-one_end rows cols l Rev e p one st by h = h
-one_end rows cols l Blink e p one st by h = h
-one_end rows cols l Dim e p one st by h = h
-one_end rows cols l Bold e p one st by h = h
-one_end rows cols l Invis e p one st by h = h
 one_end rows cols l Smso e p one st by h = standout_asked rows cols l e p by h
-one_end rows cols l Enacs e p one st by h = h
-one_end rows cols l Smacs e p one st by h = h
-one_end rows cols l Rmacs e p one st by h = h
 one_end rows cols l (Csr top bottom) e p one st by h = h.others
 one_end rows cols l Ind e p one st by h = h ∙ ap (λ (z : Bool). record (screen_of rows cols p) { grid = (applied (asked (seen_alone e) Ind e) (screen_of rows cols p)).grid; pending = z }) (calm_end e.ends_pending p.pending st.0.pending)
 one_end rows cols l Ri e p one st by h = h ∙ ap (λ (z : Bool). record (screen_of rows cols p) { grid = (applied (asked (seen_alone e) Ri e) (screen_of rows cols p)).grid; pending = z }) (calm_end e.ends_pending p.pending st.0.pending)
-one_end rows cols l Civis e p one st by h = h
-one_end rows cols l Cnorm e p one st by h = h
 one_end rows cols l Cvvis e p one st by h = never one
 one_end rows cols l Smcup e p one st by h = h.others
 one_end rows cols l Rmcup e p one st by h = h.others
-one_end rows cols l Bel e p one st by h = h
+one_end rows cols l row e p one st by h = h
 
 -- the looks for a row with one wanted end are those that are seen
 one_seen : (taught : Looks) (row : Row) (e : Effect) → has_choice row ≡ false → looks_for taught row e ≡ seen_alone e

@@ -5,7 +5,7 @@ use Rattle.vt_effects.specs.declared.effects.Effect.{Effect}
 use Rattle.vt_effects.specs.declared.effects.Rendering.{Rendering}
 use Rattle.vt_effects.specs.declared.effects.Ink.TheVariants as inks
 use Rattle.vt_effects.specs.declared.effects.Switch.TheVariants as switches
-use Rattle.vt_effects.specs.Effect.{applied, switched}
+use Rattle.vt_effects.specs.Effect.{applied, rendered}
 use Rattle.vt_effects.specs.Record.{record_of}
 use Rattle.vt_term.specs.Run.{Runs}
 use Rattle.vt_term.specs.Text.{Splits}
@@ -18,8 +18,8 @@ use Rattle.ti_rows.specs.declared.rows.Row.{Row}
 use Rattle.ti_rows.specs.declared.rows.Row.TheVariants.{Sgr, Cvvis, Smcup, Rmcup}
 use Rattle.ti_rows.specs.Asked.{no_marks, start_of, asked}
 use Rattle.ti_rows.specs.Starts.{Starts}
-use Rattle.ti_rows.specs.Wants.{Wants}
-use Rattle.ti_checker.specs.Alone.{is_several, ShowsAlone, ShowsBy}
+use Rattle.ti_rows.specs.Wants.{Wants, marked}
+use Rattle.ti_checker.specs.Alone.{is_several, marks_of, ShowsAlone, ShowsBy}
 use Rattle.ti_checker.specs.First.{StandBefore}
 use Rattle.ti_checker.specs.Probes.{screen_of}
 use Rattle.ti_checker.specs.Taught.{IsTaught}
@@ -43,14 +43,7 @@ AgreeBefore _ l m = Unit {0}
 
 -- the marks after an effect's rendering, starting from these marks
 abbrev pub marks_after : Rendering → Marks → Marks
-marks_after e m = record {
-  bold = switched e.bold m.bold;
-  faint = switched e.faint m.faint;
-  underline = switched e.underline m.underline;
-  blink = switched e.blink m.blink;
-  negative = switched e.negative m.negative;
-  concealed = switched e.concealed m.concealed;
-}
+marks_after e m = marks_of (rendered e (marked m None None))
 
 -- the end of the effect isn't wanted, for all looks that agree with what the rows before taught and with which the one
 -- attribute that the row turns on looks as the effect shows it from a start without marks

@@ -34,22 +34,20 @@ pub record SendsSuch (Such : Looks → Effect → Type 0) (rows cols : ℕ) (str
   pub taught : IsTaught rows cols string row looks
   pub such : Such looks effect
 
-abbrev pub NeverElsewhere : Type 0
-NeverElsewhere = (rows cols : ℕ) (string : List ℕ) (row : Row)
-    → SendsSuch (λ looks e. LeadsElsewhere rows cols looks row e) rows cols string row
+-- `NotShown` isn't true of a row that sends bytes with such an effect
+abbrev pub NeverSuch : (ℕ → ℕ → Looks → Row → Effect → Type 0) → Type 0
+NeverSuch Such = (rows cols : ℕ) (string : List ℕ) (row : Row)
+    → SendsSuch (λ looks e. Such rows cols looks row e) rows cols string row
     → IsFaulty rows cols string row NotShown → ⊥
+
+abbrev pub NeverElsewhere : Type 0
+NeverElsewhere = NeverSuch LeadsElsewhere
 
 abbrev pub NeverOther : Type 0
-NeverOther = (rows cols : ℕ) (string : List ℕ) (row : Row)
-    → SendsSuch (λ looks e. RendersOther rows cols looks row e) rows cols string row
-    → IsFaulty rows cols string row NotShown → ⊥
+NeverOther = NeverSuch RendersOther
 
 abbrev pub NeverOtherCells : Type 0
-NeverOtherCells = (rows cols : ℕ) (string : List ℕ) (row : Row)
-    → SendsSuch (λ looks e. LeavesOtherCells rows cols looks row e) rows cols string row
-    → IsFaulty rows cols string row NotShown → ⊥
+NeverOtherCells = NeverSuch LeavesOtherCells
 
 abbrev pub NeverOtherModes : Type 0
-NeverOtherModes = (rows cols : ℕ) (string : List ℕ) (row : Row)
-    → SendsSuch (λ looks e. LeavesOtherModes rows cols looks row e) rows cols string row
-    → IsFaulty rows cols string row NotShown → ⊥
+NeverOtherModes = NeverSuch LeavesOtherModes

@@ -1,4 +1,4 @@
-use Rattle.std.proofs.Common.{refl, sym, ap, subst, ◌∙◌}
+use Rattle.std.proofs.Common.{sym, ap, subst, ◌∙◌}
 use Rattle.std.proofs.lemmas.Result.{err_from_is_err_and, on_ok_weaker}
 use Rattle.ti_conforms.proofs.Matches.{on_err}
 use Rattle.ti_rows.specs.Lists.{Follows}
@@ -9,7 +9,7 @@ use Rattle.ti_checker.specs.Switches.{IsSeenToo}
 use Rattle.ti_checker.specs.No.{IsRowRefused}
 use Rattle.ti_checker.specs.Taught.{IsTaught}
 use Rattle.ti_checker.specs.declared.causes.Cause.{Cause}
-use Rattle.ti_checker.proofs.Earliest.{added_same}
+use Rattle.ti_checker.proofs.Earliest.{adds_judged}
 use Rattle.ti_checker.proofs.Misjudgements.{cut_refused}
 use Rattle.ti_checker.proofs.Settled.{is_seen_too}
 use Rattle.ti_checker.proofs.StandardLines.{standard_adds, standard_right, standard_seen, standard_taught}
@@ -50,12 +50,8 @@ returns-in-Ok-clause-taught c =
 
 pub returns-in-Ok-push_line-clause-adds : goal.returns-in-Ok-push_line-clause-adds
 returns-in-Ok-push_line-clause-adds c =
-    let adds : AddsLine c.args.size.rows c.args.size.cols c.args.string.now c.args.row c.args.draft.now.text.items c.push_line.new.self.text.items = record {
-      line = record { row = c.args.row; bytes = c.judge_row.new.self.bytes.items; effect = c.in_ok-effect.effect };
-      of_row = refl;
-      is = c.in_ok-effect.ensures.line;
-      added = added_same _ _ _ c.args.row _ _ c.in_ok-effect.effect c.learn.ensures.text c.learn.ensures.bytes c.in-Ok-push_line.ensures.text;
-    } in
+    let adds : AddsLine c.args.size.rows c.args.size.cols c.args.string.now c.args.row c.args.draft.now.text.items c.push_line.new.self.text.items =
+    adds_judged _ _ _ c.args.row _ _ _ _ c.judge_row.new.self.bytes.items c.in_ok-effect.effect c.learn.ensures.text c.learn.ensures.bytes c.in_ok-effect.ensures.line c.in-Ok-push_line.ensures.text in
     on_ok_weaker c.check_length-in-Ok-push_line.result (λ h. adds) c.check_length-in-Ok-push_line.ensures.short
 
 pub returns-in-Ok-push_line-clause-seen : goal.returns-in-Ok-push_line-clause-seen
@@ -67,12 +63,8 @@ returns-in-Ok-push_line-clause-seen c =
 
 pub returns-in-Ok-push_line-clause-refused : goal.returns-in-Ok-push_line-clause-refused
 returns-in-Ok-push_line-clause-refused c =
-    let adds : AddsLine c.args.size.rows c.args.size.cols c.args.string.now c.args.row c.args.draft.now.text.items c.push_line.new.self.text.items = record {
-      line = record { row = c.args.row; bytes = c.judge_row.new.self.bytes.items; effect = c.in_ok-effect.effect };
-      of_row = refl;
-      is = c.in_ok-effect.ensures.line;
-      added = added_same _ _ _ c.args.row _ _ c.in_ok-effect.effect c.learn.ensures.text c.learn.ensures.bytes c.in-Ok-push_line.ensures.text;
-    } in
+    let adds : AddsLine c.args.size.rows c.args.size.cols c.args.string.now c.args.row c.args.draft.now.text.items c.push_line.new.self.text.items =
+    adds_judged _ _ _ c.args.row _ _ _ _ c.judge_row.new.self.bytes.items c.in_ok-effect.effect c.learn.ensures.text c.learn.ensures.bytes c.in_ok-effect.ensures.line c.in-Ok-push_line.ensures.text in
     on_err c.check_length-in-Ok-push_line.result
     (λ cause h. rw h.0 (record { new = c.push_line.new.self.text.items; adds = adds; long = h.1 }))
     c.check_length-in-Ok-push_line.ensures.long
