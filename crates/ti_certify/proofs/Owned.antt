@@ -1,41 +1,25 @@
 -- An entry's own certificate is accepted, unless memory runs out.
-use Rattle.std.proofs.Common.{◌≡◌, ℕ, true, false, List, Option, Some, None, Result, Ok, Err, inl, inr, refl, sym, ap, subst, ◌∙◌}
+use Rattle.std.proofs.Common.{◌≡◌, ℕ, true, false, List, Option, None, Ok, Err, inl, inr, refl, sym, ap, subst, ◌∙◌}
 use Rattle.std.proofs.lemmas.Bool.{false≢true}
 use Rattle.ti_caps.specs.Entry.{Content, string_at}
 use Rattle.ti_conforms.specs.Charsets.{IsAmong}
 use Rattle.ti_conforms.specs.Entries.{acsc, is_checked, EntryAgrees, EntrySends}
 use Rattle.ti_rows.specs.declared.rows.Row.{Row}
 use Rattle.ti_rows.specs.Lists.{IsInRange}
-use Rattle.ti_lines.specs.declared.judgements.LineFault.{LineFault}
 use Rattle.ti_lines.specs.declared.row_lines.RowLine.{RowLine}
-use Rattle.ti_cert.specs.Certificates.{Said, Ended}
+use Rattle.ti_cert.specs.Certificates.{Ended}
 use Rattle.ti_cert.specs.Certification.{HasText}
 use Rattle.ti_cert.specs.Strings.{row_string}
 use Rattle.ti_cert.specs.Table.{CheckedTable, table_of}
 use Rattle.ti_cert.specs.Texts.{IsTableOf}
 use Rattle.ti_cert.specs.declared.faults.AgreeFault.TheVariants.{Disagree, NoMemory}
-use Rattle.ti_cert.specs.declared.faults.CertFaultKind.{CertFaultKind}
 use Rattle.ti_cert.specs.declared.faults.VerifyFault.TheVariants.{Cert, Agree}
 use Rattle.ti_cert.proofs.Disagreements.{excludes_yes}
-use Rattle.ti_cert.proofs.Singleness.{one_answer}
+use Rattle.ti_cert.proofs.BasicAgreement.{no_string}
+use Rattle.ti_cert.proofs.Singleness.{one_answer, same_end, never_ends}
 use Rattle.ti_checker.proofs.Owned.{certificate_of_table}
 use Rattle.ti_checker.specs.Certificate.{IsCertificateOf}
 use Rattle.ti_certify.specs.Owned.{IsOwnTable, OwnIsAccepted}
-
--- ---- the answer of an audit
-
-abbrev Answer : Type 0
-Answer = Result Said (LineFault CertFaultKind)
-
-same_end : (a b : Option (List ℕ)) (l m : List RowLine) (x y : Answer) → x ≡ Ok (Ended a l) → y ≡ Ok (Ended b m) → x ≡ y → (a ≡ b) × (l ≡ m)
-same_end a b l m x y ex ey e = (cc, cc)
-
-never_ends : (a : Option (List ℕ)) (l : List RowLine) (fault : LineFault CertFaultKind) (x y : Answer) → x ≡ Ok (Ended a l) → y ≡ Err fault → x ≡ y → ⊥
-never_ends a l fault x y ex ey e = cc
-
-no_string : (o : Option (List ℕ)) → ((x : List ℕ) → o ≡ Some x → ⊥) → o ≡ None
-no_string None h = refl
-no_string (Some x) h = absurd (h x refl)
 
 -- ---- a table of the entry's certificate
 
