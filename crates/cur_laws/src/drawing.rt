@@ -9,6 +9,7 @@ ghost use Rattle.cur_drawing.specs.Laws.{line_deleted};
 use cur_drawing::{Border, Put, Window};
 
 /// A call that writes changes no cell outside its window's rectangle, and leaves the window at its place.
+#[tactic(auto, using(cur_drawing::proofs::Stability::added, cur_drawing::proofs::Stability::added_all, cur_drawing::proofs::Stability::insert_char, cur_drawing::proofs::Stability::horizontal, cur_drawing::proofs::Stability::vertical, cur_drawing::proofs::Stability::bordered, cur_drawing::proofs::Stability::change_background))]
 pub fn writing_stays_inside()
     ensures addch { (put : Put) → IsLocal (calls.added put) }
     ensures addstr { (text : List ℕ) → IsLocal (calls.added_all text) }
@@ -34,6 +35,7 @@ pub fn erasing_stays_inside()
 
 /// A scroll up by `n` lines gives each place of the region the cell `n` lines below it, or the
 /// background; all other places keep their cells.
+#[tactic(auto, using(cur_drawing::proofs::Scrolls::up_by_place))]
 pub fn scroll_up_by_place()
     ensures { (g : Grid) (w : Window) (n y x : ℕ) → calls.IsCanvas g w → y < w.area.rows → x < w.area.cols →
         cell_of w (calls.scrolled (pos n) w g) y x ≡ went_up w n g y x }
@@ -58,6 +60,7 @@ pub fn refusals_change_nothing()
 {}
 
 /// `insch` and `delch` shift the rest of the cursor's line by one place.
+#[tactic(auto, using(cur_drawing::proofs::ByPlace::insert_char, cur_drawing::proofs::ByPlace::delete_char))]
 pub fn line_shifts_by_place()
     ensures insch { (put : Put) →
         LeavesCells (calls.insert_char put) (λ w g y x. cell_inserted w (content w put) g y x) }
@@ -65,6 +68,7 @@ pub fn line_shifts_by_place()
 {}
 
 /// `insertln` and `deleteln` shift the lines from the cursor's to the window's bottom by one line.
+#[tactic(auto, using(cur_drawing::proofs::ByPlace::insert_line, cur_drawing::proofs::ByPlace::delete_line))]
 pub fn lines_shift_by_place()
     ensures insertln { LeavesCells calls.insert_line (λ w g y x. line_inserted w g y x) }
     ensures deleteln { LeavesCells calls.delete_line (λ w g y x. line_deleted w g y x) }
@@ -72,6 +76,7 @@ pub fn lines_shift_by_place()
 
 /// `bkgd` replaces the old background by the new one in each cell: its character, its attributes
 /// and its pair, each by itself.
+#[tactic(auto, using(cur_drawing::proofs::ByPlace::change_background))]
 pub fn background_changes_by_place()
     ensures { (put : Put)
         → LeavesCells (calls.change_background put) (λ w g y x. restyled w.background (as_is put) (cell_of w g y x)) }

@@ -22,6 +22,7 @@ use cur_windows::Desk;
 
 /// A call on one window changes no cell outside the window's rectangle, and no other window. It
 /// must be local to its window and grid, which is a law of each such call.
+#[tactic(auto, using(crate::proofs::Within::on_window, crate::proofs::Within::on_grid, crate::proofs::Within::on_cursor))]
 pub fn calls_stay_inside()
     ensures writing { (d : State) (n : ℕ) (s : Slot) (act : calls.Canvas → calls.CanvasStep) → IsDesk d
         → slot_of d n ≡ Ok s → IsLocal act → OnlyWithin d (on_window d n act).0 n s }
@@ -32,12 +33,14 @@ pub fn calls_stay_inside()
 {}
 
 /// A call on one window changes no cell of a window that has no cell in common with it.
+#[tactic(auto, using(crate::proofs::Within::apart_kept))]
 pub fn windows_apart_stay()
     ensures { (d e : State) (n : ℕ) (s t : Slot) (y x : ℕ) → OnlyWithin d e n s → Apart s t → y < t.window.area.rows
         → x < t.window.area.cols → cell e t y x ≡ cell d t y x }
 {}
 
 /// A copy changes no cell outside its target, and no window.
+#[tactic(auto, using(crate::proofs::Copied::common_part_within, crate::proofs::Copied::copywin_within))]
 pub fn copies_stay_inside()
     ensures overlay { (d : State) (skip : Bool) (n m : ℕ) (t : Slot) → IsDesk d → slot_of d m ≡ Ok t
         → OnlyWithin d (copying.common_part skip d n m).0 m t }
@@ -46,17 +49,20 @@ pub fn copies_stay_inside()
 {}
 
 /// A new window with a grid of its own changes no cell of the others.
+#[tactic(auto, using(crate::proofs::Shares::settled_apart))]
 pub fn new_windows_lie_apart()
     ensures { (d : State) (n m : ℕ) (g : Grid) (o : Origin) (w : Window) (t : Slot) (y x : ℕ) → IsDesk d
         → window_at d n ≡ None → window_at d m ≡ Some t → cell (making.root_added d n g o w) t y x ≡ cell d t y x }
 {}
 
 /// A subwindow and its parent show the same cell at the same place, whatever happens to the desk.
+#[tactic(auto, using(crate::proofs::Shares::part_cell))]
 pub fn subwindows_share_cells()
     ensures { (d : State) (s t : Slot) (y x i j : ℕ) → IsSubwindowOf s t y x → cell d t i j ≡ cell d s (y + i) (x + j) }
 {}
 
 /// `derwin` makes such a subwindow, at the given place of its parent.
+#[tactic(auto, using(crate::proofs::Shares::derwin_part))]
 pub fn derwin_makes_subwindows()
     ensures { (d : State) (n w : ℕ) (lines cols : ℤ) (y x : ℕ) (s t : Slot) → IsDesk d
         → (making.derwin d n w lines cols (pos y) (pos x)).1 ≡ Ok tt → slot_of d w ≡ Ok s
@@ -97,6 +103,7 @@ pub fn refused_writing_changes_nothing()
 {}
 
 /// A refused call that sets a place, a region, a pair or a background changes nothing.
+#[tactic(auto, using(cur_windows::proofs::Supports::move_to, cur_windows::proofs::Supports::set_region, cur_windows::proofs::Supports::set_pair, cur_windows::proofs::Supports::set_background))]
 pub fn refused_setting_changes_nothing()
     ensures move_to { (d : State) (n : ℕ) (y x : ℤ) → UnchangedIfRefused d (on_cursor d n (window_calls.move_to y x)) }
     ensures setscrreg { (d : State) (n : ℕ) (top bottom : ℤ)
@@ -108,6 +115,7 @@ pub fn refused_setting_changes_nothing()
 {}
 
 /// A refused call that makes, moves, deletes or copies windows changes nothing.
+#[tactic(auto, using(cur_windows::proofs::Supports::newwin, cur_windows::proofs::Supports::derwin, cur_windows::proofs::Supports::subwin, cur_windows::proofs::Supports::dupwin, cur_windows::proofs::Supports::delwin, cur_windows::proofs::Supports::mvwin, cur_windows::proofs::Supports::common_part, cur_windows::proofs::Supports::copywin))]
 pub fn refused_making_changes_nothing()
     ensures newwin { (d : State) (n : ℕ) (lines cols y x : ℤ)
         → UnchangedIfRefused d (making.newwin d n lines cols y x) }
@@ -147,6 +155,7 @@ pub fn lent_cells_are_written(desk: &mut Desk, id: usize, y: u16, x: u16, cell: 
 
 /// A line that was written as a whole has these cells place by place, and no cell outside it
 /// changes, nor a window.
+#[tactic(auto, using(cur_windows::proofs::Loans::written_inside, cur_windows::proofs::Loans::written_outside))]
 pub fn lines_are_written_in_place()
     ensures inside { (d : State) (n : ℕ) (s : Slot) (y x : ℕ) (cells : List Content) → IsDesk d → slot_of d n ≡ Ok s
         → y < s.window.area.rows → x < s.window.area.cols → x < length cells
@@ -160,6 +169,7 @@ pub fn lines_are_written_in_place()
 
 /// `noutrefresh` gives each place of the virtual screen under the window the window's cell, and
 /// keeps all other places.
+#[tactic(auto, using(crate::proofs::Places::window_shown))]
 pub fn windows_are_shown_by_place()
     ensures { (d : State) (v : Screen) (n : ℕ) (s : Slot) → IsDesk d → slot_of d n ≡ Ok s
         → (noutrefresh d v n).2 ≡ Ok tt → IsWindowShown d s v (noutrefresh d v n).1 }
@@ -167,6 +177,7 @@ pub fn windows_are_shown_by_place()
 
 /// `noutrefresh_lines` gives each place of the virtual screen under the window's lines `t` to `b` the window's cell, and
 /// keeps all other places.
+#[tactic(auto, using(crate::proofs::ShownLines::lines_shown))]
 pub fn lines_are_shown_by_place()
     ensures { (d : State) (v : Screen) (n t b : ℕ) (s : Slot) → IsDesk d → slot_of d n ≡ Ok s
         → (noutrefresh_lines d v n (pos t) (pos b)).2 ≡ Ok tt
@@ -175,6 +186,7 @@ pub fn lines_are_shown_by_place()
 
 /// `overlay`, `overwrite` and `copywin` write the source's cells, as they were before the call, to the
 /// copied places of the target, and keep all its other places. `copywin` refuses every negative number.
+#[tactic(auto, using(crate::proofs::Places::overlay_by_place, crate::proofs::Places::copywin_by_place))]
 pub fn copies_are_made_by_place()
     ensures overlay { (d : State) (skip : Bool) (n m : ℕ) (s t : Slot) → IsDesk d → slot_of d n ≡ Ok s
         → slot_of d m ≡ Ok t → (copying.common_part skip d n m).1 ≡ Ok tt
@@ -188,6 +200,7 @@ pub fn copies_are_made_by_place()
 
 /// `dupwin` makes a window with equal cells on a grid of its own, so that writing in one of the two
 /// doesn't change the other.
+#[tactic(auto, using(crate::proofs::Places::copy_made, crate::proofs::Places::copy_written, crate::proofs::Places::original_written))]
 pub fn duplicates_are_apart()
     ensures copy { (d : State) (n w : ℕ) (s t : Slot) → IsDesk d → slot_of d w ≡ Ok s
         → (making.dupwin d n w).1 ≡ Ok tt → window_at (making.dupwin d n w).0 n ≡ Some t
@@ -200,6 +213,7 @@ pub fn duplicates_are_apart()
 
 /// The refusal of a call that makes, moves or deletes a window is the first, in the order of ranks,
 /// that applies. `NoMemory`, the last of all, is reported only if none of the others applies.
+#[tactic(auto, using(cur_windows::proofs::Ranks::newwin, cur_windows::proofs::Ranks::derwin, cur_windows::proofs::Ranks::subwin, cur_windows::proofs::Ranks::dupwin, cur_windows::proofs::Ranks::delwin, cur_windows::proofs::Ranks::mvwin))]
 pub fn refused_making_is_ranked()
     ensures newwin { (d : State) (n : ℕ) (lines cols y x : ℤ)
         → IsFirstOf (causes.newwin d n lines cols y x) (making.newwin d n lines cols y x).1 }
@@ -213,6 +227,7 @@ pub fn refused_making_is_ranked()
 {}
 
 /// The refusal of a call that copies is the first, in the order of ranks, that applies.
+#[tactic(auto, using(cur_windows::proofs::Ranks::overlay, cur_windows::proofs::Ranks::copywin, cur_windows::proofs::Ranks::noutrefresh, cur_windows::proofs::Ranks::noutrefresh_lines))]
 pub fn refused_copying_is_ranked()
     ensures overlay { (d : State) (skip : Bool) (n m : ℕ)
         → IsFirstOf (causes.overlay d n m) (copying.common_part skip d n m).1 }
@@ -225,6 +240,7 @@ pub fn refused_copying_is_ranked()
 
 /// The refusal of a call that sets a window's cursor, region, pair, options or background is the
 /// first, in the order of ranks, that applies.
+#[tactic(auto, using(cur_windows::proofs::Ranks::move_to, cur_windows::proofs::Ranks::set_region, cur_windows::proofs::Ranks::set_pair, cur_windows::proofs::Ranks::set_background, cur_windows::proofs::Ranks::option, cur_windows::proofs::Ranks::unchanged))]
 pub fn refused_setting_is_ranked()
     ensures move_to { (d : State) (n : ℕ) (y x : ℤ)
         → IsFirstOf (causes.move_to d n y x) (on_cursor d n (window_calls.move_to y x)).1 }
@@ -241,6 +257,7 @@ pub fn refused_setting_is_ranked()
 
 /// The refusal of a call that writes or erases is the first, in the order of ranks, that applies. A
 /// string stops at its first refusal, whatever the ranks.
+#[tactic(auto, using(cur_windows::proofs::Ranks::insert_char, cur_windows::proofs::Ranks::horizontal, cur_windows::proofs::Ranks::vertical, cur_windows::proofs::Ranks::change_background, cur_windows::proofs::Ranks::scroll_by, cur_windows::proofs::Ranks::on_window, cur_windows::proofs::Ranks::on_grid, cur_windows::proofs::Ranks::added, cur_windows::proofs::Ranks::bordered))]
 pub fn refused_writing_is_ranked()
     ensures addch { (d : State) (n : ℕ) (put : Put)
         → IsFirstOf (causes.addch d n put) (on_window d n (calls.added put)).1 }
