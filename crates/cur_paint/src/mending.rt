@@ -13,7 +13,7 @@ use crate::changes::{Changes, Columns};
 use crate::painters::Painter;
 use crate::pieces::{TEXT, differs_in, is_led_on, piece_of};
 use crate::runs::{FEWEST, erases_runs, is_run, next_part};
-use crate::tails::{lesser, rest_line, short_tail, tail_from};
+use crate::tails::{rest_line, short_tail, tail_from};
 use cur_moves::{ErasedPart, Erasure, Target, erase_at, erasing_line};
 use cur_steps::{Cells, Ink, Picture, Place, Sent};
 use cur_wires::Wire;
@@ -38,7 +38,7 @@ impl<C: Certificate, O: Picture, N: Picture, W: Wire> Painter<'_, C, O, N, W> {
             match rest_line(screens.checked, bottom.col, cols) {
                 Some(line) => {
                     let before = Columns {
-                        from: lesser(tail, columns.from),
+                        from: tail.min(columns.from),
                         end: bottom.col,
                     };
                     return self.mend_bottom(row, before, line);
@@ -115,7 +115,7 @@ impl<C: Certificate, O: Picture, N: Picture, W: Wire> Painter<'_, C, O, N, W> {
         if columns.from == columns.end {
             return Ok(());
         }
-        let from = lesser(tail, columns.from);
+        let from = tail.min(columns.from);
         let cells = Cells {
             row,
             from,

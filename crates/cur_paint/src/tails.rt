@@ -159,14 +159,6 @@ pub(crate) fn tail_from<N: Picture>(new: &N, row: usize, columns: Columns, cols:
     }
 }
 
-/// The lesser of the columns `a` and `b`.
-pub(crate) fn lesser(a: usize, b: usize) -> usize
-    ensures first { result ≤ a }
-    ensures second { result ≤ b }
-{
-    a.min(b)
-}
-
 /// Whether the line `row` is one of the screen's `rows` and may differ.
 pub(crate) fn may_differ<D: Changes>(changes: &D, row: usize, rows: usize, cols: usize) -> bool {
     if row >= rows {

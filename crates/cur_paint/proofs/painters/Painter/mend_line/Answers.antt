@@ -15,7 +15,7 @@ pub returns-in_err-mend_parts : goal.returns-in_err-mend_parts
 returns-in_err-mend_parts g c =
     let e = err_from_is_err_and c.from_residual.result c.from_residual.ensures.1 in
     rw e.1 (record {
-      mends = line_fail c.args.row c.lesser-from.result c.args.tail c.in_err-mend_parts.ensures.mends c.lesser-from.ensures.first (omega (arith, c.requires.tail, c.requires.within)) (λ k lt. c.requires.same.before k (omega (arith, lt, c.lesser-from.ensures.second)));
+      mends = line_fail c.args.row c.min-from.result c.args.tail c.in_err-mend_parts.ensures.mends (omega (arith, c.min-from.ensures)) (omega (arith, c.requires.tail, c.requires.within)) (λ k lt. c.requires.same.before k (omega (arith, lt, c.min-from.ensures)));
     })
 
 pub returns : goal.returns
@@ -24,8 +24,8 @@ returns g c =
     let old = g.O.Picture.cells c.args.self.now.screens.now.old.now in
     let new = g.N.Picture.cells c.args.self.now.screens.now.new.now in
     record {
-      mends = mends_as (line_then c.args.row c.lesser-from.result c.args.tail g.met.W.Wire.lawful c.in_ok-mend_parts.ensures.mends c.mend_tail.ensures.mends c.lesser-from.ensures.first (omega (arith, c.requires.tail, c.requires.within)) (omega arith)
-          (λ k lt. c.requires.same.before k (omega (arith, lt, c.lesser-from.ensures.second)))) (omega arith) (itself t (mixed old new c.args.row 0)) (λ i j li lj. mixed_row old new c.args.row t.cols i j lj);
+      mends = mends_as (line_then c.args.row c.min-from.result c.args.tail g.met.W.Wire.lawful c.in_ok-mend_parts.ensures.mends c.mend_tail.ensures.mends (omega (arith, c.min-from.ensures)) (omega (arith, c.requires.tail, c.requires.within)) (omega arith)
+          (λ k lt. c.requires.same.before k (omega (arith, lt, c.min-from.ensures)))) (omega arith) (itself t (mixed old new c.args.row 0)) (λ i j li lj. mixed_row old new c.args.row t.cols i j lj);
     }
 
 pub returns-then-columns : goal.returns-then-columns
