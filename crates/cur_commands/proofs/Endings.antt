@@ -33,7 +33,7 @@ script_refused held words height width checked text slice e prepared same h = re
 }
 
 -- what the words give, once all of it is read
-pub given_by : (held : Held) (words : ScriptWords) (height width : ℕ) (checked : CheckedTable) (text slice : List ℕ) (calls lent : List Call) → Prepared held words height width checked text → slice ≡ text → script_of slice ≡ Ok calls → lent ≡ calls
+abbrev pub given_by : (held : Held) (words : ScriptWords) (height width : ℕ) (checked : CheckedTable) (text slice : List ℕ) (calls lent : List Call) → Prepared held words height width checked text → slice ≡ text → script_of slice ≡ Ok calls → lent ≡ calls
     → Given held words
 given_by held words height width checked text slice calls lent prepared same reads lends = record {
   height = height;
