@@ -156,7 +156,7 @@ exit_line {R} {X} {T} {F} rules limit start new left failures old a r number t n
           fails);
     }
 
--- what was read up to here is what was given
+-- the text that was read up to here is the one that was given
 given_so_far : {R X T F : Type 0} (rules : Rules T F) (limit : ℕ) (start new : T) (left : R → List ℕ → Type 0) (failures : R → ℕ) (old a : R) (r : Reading) (number : ℕ) (t : T) (answer : Result X (LineFault F)) (p : Progress rules limit start left failures old a r number t)
     → IfErr answer (λ e. e.line ≡ number) → Outcome rules limit start new (AtEnd left a) (Rose (failures old) (failures a)) (p.passed ++ r.unread) answer → Reports rules limit start new left failures old a answer
 given_so_far rules limit start new left failures old a r number t answer p same outcome = record {
