@@ -8,12 +8,19 @@ use Rattle.cur_paint.specs.Differ.{AreSameOutside}
 use Rattle.cur_paint.specs.declared.changes.Columns.{Columns}
 use Rattle.cur_paint.specs.declared.changes.LineRange.{LineRange}
 use Rattle.cur_update.specs.Inks.{ink_at}
+use Rattle.cur_update.specs.declared.changes.Shift.{Shift}
 
 pub record IsShift (t : Table) (partners : ℕ → Option ℕ) (v w : Screen) (same_pairs : Bool)
     (old new : ℕ → ℕ → Ink) : Type 0 where
   pub before : old ≡ ink_at t partners v
   pub after : new ≡ ink_at t partners w
   pub pairs : same_pairs ≡ true → (p : ℕ) → p < pair_count → colors_at v p ≡ colors_at w p
+
+-- the inks of the screen that was shown last, and of the one to be shown
+abbrev pub Shifts : {C : Type 0} → (C → Table) → (C → ℕ → Option ℕ) → Shift C → (ℕ → ℕ → Ink) → (ℕ → ℕ → Ink)
+    → Type 0
+Shifts table partners s old new =
+    IsShift (table s.checked.now) (partners s.checked.now) s.shown.now s.screen.now s.same_pairs old new
 
 -- a line is the same on both screens before one column, and from another one on
 pub record AreAlikeOutside (old new : ℕ → ℕ → Ink) (i k from end cols : ℕ) : Type 0 where

@@ -4,7 +4,7 @@ ghost use Rattle.cur_screens.specs.{Differences.{AreEqualIn}, Marks.{AreSame}};
 ghost use Rattle.cur_steps.specs.declared.inks.Ink.{Ink};
 ghost use Rattle.cur_drawing.specs.Cells.{IsCell};
 ghost use Rattle.cur_paint.specs.Differ.{AreSameOutside};
-ghost use Rattle.cur_update.specs.{Inks.{content_at}, Shift.{AreAlikeOutside, AreFound, IsShift, found_at}};
+ghost use Rattle.cur_update.specs.{Inks.{content_at}, Shift.{AreAlikeOutside, AreFound, Shifts, found_at}};
 
 use crate::scrolls::{found_scroll, scroll_of};
 use cur_drawing::{Cell, Span};
@@ -42,9 +42,7 @@ impl<'a, C: Certificate> Shift<'a, C> {
     fn columns_between(&self, from: usize, to: usize, cols: usize) -> Columns
         ensures order { result.from ≤ result.end }
         ensures within { result.end ≤ cols }
-        ensures same { (old new : ℕ → ℕ → Ink)
-            → IsShift (C.table self.now.checked.now) (C.partners self.now.checked.now)
-            self.now.shown.now self.now.screen.now self.now.same_pairs old new
+        ensures same { (old new : ℕ → ℕ → Ink) → Shifts C.table C.partners self.now old new
             → AreAlikeOutside old new from to result.from result.end cols }
     {
         let rows = self.screen.size().0 as usize;
@@ -60,9 +58,7 @@ impl<'a, C: Certificate> Shift<'a, C> {
         requires marked { AreSame marks.now (self.now.shown.now).grid (self.now.screen.now).grid }
         ensures order { result.from ≤ result.end }
         ensures within { result.end ≤ cols }
-        ensures same { (old new : ℕ → ℕ → Ink)
-            → IsShift (C.table self.now.checked.now) (C.partners self.now.checked.now)
-            self.now.shown.now self.now.screen.now self.now.same_pairs old new
+        ensures same { (old new : ℕ → ℕ → Ink) → Shifts C.table C.partners self.now old new
             → AreAlikeOutside old new row row result.from result.end cols }
     {
         let (rows, new_cols) = self.screen.size();
@@ -85,9 +81,7 @@ impl<'a, C: Certificate> Shift<'a, C> {
         requires marked { AreSame marks.now (self.now.shown.now).grid (self.now.screen.now).grid }
         ensures order { result.from ≤ result.end }
         ensures within { result.end ≤ rows }
-        ensures same { (old new : ℕ → ℕ → Ink)
-            → IsShift (C.table self.now.checked.now) (C.partners self.now.checked.now)
-            self.now.shown.now self.now.screen.now self.now.same_pairs old new
+        ensures same { (old new : ℕ → ℕ → Ink) → Shifts C.table C.partners self.now old new
             → AreSameOutside old new result.from result.end rows cols }
     {
         let new_rows = self.screen.size().0;
@@ -110,9 +104,7 @@ impl<'a, C: Certificate> Shift<'a, C> {
         ensures long { length columns.new ≡ length columns.old }
         ensures order { result.from ≤ result.end }
         ensures within { result.end ≤ length columns.old }
-        ensures found { (old new : ℕ → ℕ → Ink)
-            → IsShift (C.table self.now.checked.now) (C.partners self.now.checked.now)
-            self.now.shown.now self.now.screen.now self.now.same_pairs old new
+        ensures found { (old new : ℕ → ℕ → Ink) → Shifts C.table C.partners self.now old new
             → AreFound result columns.new (length columns.new) cols old new }
     {
         let lines = self.lines_marked(marks, columns.len(), cols);
@@ -146,10 +138,9 @@ impl<'a, C: Certificate> Changes for Found<'a, C> {
     ghost use Rattle.std.specs.Prelude.{◌≤◌, ℕ, length};
     ghost use Rattle.cur_steps.specs.declared.inks.Ink.{Ink};
     ghost use Rattle.cur_paint.specs.Differ.{IsSameOutside};
-    ghost use Rattle.cur_update.specs.Shift.{AreFound, IsShift};
+    ghost use Rattle.cur_update.specs.Shift.{AreFound, Shifts};
 
-    ghost between = { λ f old new. IsShift (C.table f.shift.checked.now) (C.partners f.shift.checked.now)
-        f.shift.shown.now f.shift.screen.now f.shift.same_pairs old new
+    ghost between = { λ f old new. Shifts C.table C.partners f.shift old new
         × AreFound f.lines f.columns.now (length f.columns.now) f.cols old new };
 
     fn lines(&self, rows: usize, cols: usize) -> LineRange {
