@@ -15,6 +15,7 @@ pub fn parts_are_shown()
 {}
 
 /// A refused call changes neither the desk nor the screen.
+#[tactic(auto, using(crate::proofs::Supports::newpad, crate::proofs::Supports::subpad, crate::proofs::Supports::shown))]
 pub fn refused_calls_change_nothing()
     ensures newpad { (d : State) (n : ℕ) (lines cols : ℤ) → UnchangedIfRefused d (newpad d n lines cols) }
     ensures subpad { (d : State) (n w : ℕ) (lines cols y x : ℤ) → UnchangedIfRefused d (subpad d n w lines cols y x) }
@@ -24,6 +25,7 @@ pub fn refused_calls_change_nothing()
 
 /// The refusal of a call is the first, in the order of ranks, that applies. `NoMemory`, the last of
 /// all, is reported only if none of the others applies.
+#[tactic(auto, using(crate::proofs::Ranks::newpad, crate::proofs::Ranks::subpad, crate::proofs::Ranks::shown))]
 pub fn refused_calls_are_ranked()
     ensures newpad { (d : State) (n : ℕ) (lines cols : ℤ) →
         IsFirstOf (causes.newpad d n lines cols) (newpad d n lines cols).1 }
