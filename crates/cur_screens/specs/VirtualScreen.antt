@@ -23,6 +23,11 @@ pub record Screen : Type 0 where
   -- the colors of the pairs
   pub pairs : List Colors
 
+-- the screen of these parts
+abbrev pub screen_of : ℕ → ℕ → Grid → Option Place → Bool → List Colors → Screen
+screen_of rows cols grid cursor clearok pairs =
+    record { rows = rows; cols = cols; grid = grid; cursor = cursor; clearok = clearok; pairs = pairs }
+
 abbrev pub default_colors : Colors
 default_colors = record { foreground = None; background = None }
 

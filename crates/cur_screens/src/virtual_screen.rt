@@ -50,27 +50,14 @@ pub struct Virtual {
 }
 
 impl Model for Virtual {
-    ghost use Rattle.cur_screens.specs.VirtualScreen.{AreDefault, Screen, IsScreen};
+    ghost use Rattle.cur_screens.specs.VirtualScreen.{AreDefault, Screen, IsScreen, screen_of};
 
     ghost Value = { Screen };
 
-    ghost view = { λ v. record {
-      rows = v.rows;
-      cols = v.cols;
-      grid = v.grid;
-      cursor = v.cursor;
-      clearok = v.clearok;
-      pairs = v.pairs.items;
-    } };
+    ghost view = { λ v. screen_of v.rows v.cols v.grid v.cursor v.clearok v.pairs.items };
 
-    ghost invariant = { λ v. IsScreen (record {
-      rows = v.rows;
-      cols = v.cols;
-      grid = v.grid;
-      cursor = v.cursor;
-      clearok = v.clearok;
-      pairs = v.pairs.items;
-    }) × AreDefault v.colored v.pairs.items };
+    ghost invariant = { λ v. IsScreen (screen_of v.rows v.cols v.grid v.cursor v.clearok v.pairs.items)
+        × AreDefault v.colored v.pairs.items };
 }
 
 impl Virtual {
