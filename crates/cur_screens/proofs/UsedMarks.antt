@@ -5,16 +5,9 @@ use Rattle.grids.specs.declared.areas.Area.{Area}
 use Rattle.cur_drawing.specs.declared.windows.Window.{Window}
 use Rattle.cur_screens.specs.Marks.{IsUnmarked, Marking}
 use Rattle.cur_screens.specs.declared.slots.Origin.{Origin}
-use Rattle.cur_screens.specs.Touched.{Markings, MarksArea, MarksCells, TouchesGrid, full_from, grid_marks}
+use Rattle.cur_screens.specs.Touched.{Markings, MarksArea, MarksCells, OnGrid, TouchesGrid, full_from, grid_marks}
 use Rattle.cur_screens.proofs.Openings.{is_full_at, length_full_from, set_open, used_at}
 use Rattle.cur_screens.proofs.Spreading.{unknown}
-
--- one grid's marks change, unless it is a pad's; those of the other grids stay
-pub record OnGrid (p : Marking → Marking → Type 0) (t u : Markings) (root : ℕ) (lies : Bool) : Type 0 where
-  pub grid : lies ≡ false → root < length t → p (grid_marks t root) (grid_marks u root)
-  pub pad : lies ≡ true → u ≡ t
-  pub none : length t ≤ root → u ≡ t
-  pub others : (k : ℕ) → k ≢ root → grid_marks u k ≡ grid_marks t k
 
 -- a grid that isn't in use is fully marked
 pub all_marked_at : (n : ℕ) (g t : Markings) (k : ℕ) → full_from n g ≡ t → n ≤ k → (grid_marks t k).all ≡ true

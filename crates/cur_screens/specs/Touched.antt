@@ -84,13 +84,16 @@ pub record TouchesGrid (m n : Marking) (w : Window) (o : Origin) (first : ℕ) :
   pub all : MayScroll w → (i j : ℕ) → IsUnmarked n i j → ⊥
   pub only : (i j : ℕ) → IsUnmarked m i j → (IsWrittenLine w o first i → ⊥) → IsUnmarked n i j
 
--- these lines of the window's grid become marked, unless it is a pad's, and no other grid changes its marks
-pub record IsTouched (t u : Markings) (s : Slot) (o : Origin) (first : ℕ) : Type 0 where
-  pub grid : o.pad ≡ false → s.root < length t
-      → TouchesGrid (grid_marks t s.root) (grid_marks u s.root) s.window o first
-  pub pad : o.pad ≡ true → u ≡ t
-  pub none : length t ≤ s.root → u ≡ t
-  pub others : (k : ℕ) → k ≢ s.root → grid_marks u k ≡ grid_marks t k
+-- one grid's marks change in some way, unless it is a pad's (`lies`), and no other grid changes its marks
+pub record OnGrid (p : Marking → Marking → Type 0) (t u : Markings) (root : ℕ) (lies : Bool) : Type 0 where
+  pub grid : lies ≡ false → root < length t → p (grid_marks t root) (grid_marks u root)
+  pub pad : lies ≡ true → u ≡ t
+  pub none : length t ≤ root → u ≡ t
+  pub others : (k : ℕ) → k ≢ root → grid_marks u k ≡ grid_marks t k
+
+-- these lines of the window's grid become marked
+abbrev pub IsTouched : Markings → Markings → Slot → Origin → ℕ → Type 0
+IsTouched t u s o first = OnGrid (λ m n. TouchesGrid m n s.window o first) t u s.root o.pad
 
 -- a character becomes one cell of the cursor's line, and not in its last column
 pub record IsOneCell (w : Window) (p : Put) : Type 0 where
@@ -131,14 +134,9 @@ pub record MarksCells (m n : Marking) (o : Origin) (w : Window) (col count : ℕ
   pub only : (i j : ℕ) → IsUnmarked m i j → i ≢ o.top + w.area.top + w.row → IsUnmarked n i j
   pub alone : MarksNoMore m n (cells_shown o w col count)
 
--- (Serves the code alone.) these cells of the window's grid become marked, unless it is a pad's, and no other grid
--- changes its marks
-pub record AreTouched (t u : Markings) (s : Slot) (o : Origin) (col count : ℕ) : Type 0 where
-  pub grid : o.pad ≡ false → s.root < length t
-      → MarksCells (grid_marks t s.root) (grid_marks u s.root) o s.window col count
-  pub pad : o.pad ≡ true → u ≡ t
-  pub none : length t ≤ s.root → u ≡ t
-  pub others : (k : ℕ) → k ≢ s.root → grid_marks u k ≡ grid_marks t k
+-- (Serves the code alone.) these cells of the window's grid become marked
+abbrev pub AreTouched : Markings → Markings → Slot → Origin → ℕ → ℕ → Type 0
+AreTouched t u s o col count = OnGrid (λ m n. MarksCells m n o s.window col count) t u s.root o.pad
 
 -- a call was refused, but not with NoScroll, which may come after it has written; the marks are as before
 pub record LeavesMarks (t u : Markings) (r : Result (Unit {0}) Refusal) : Type 0 where

@@ -9,7 +9,7 @@ use Rattle.cur_screens.specs.Marks.{AreUnmarkedBeside, IsUnmarked, Marking, none
 use Rattle.cur_screens.specs.declared.slots.Slot.{Slot}
 use Rattle.cur_windows.specs.Desks.{State, grid_at, origin_at, slot_of}
 use Rattle.cur_windows.specs.Refreshes.{area_on_screen}
-use Rattle.cur_screens.specs.Touched.{IsOneCell, IsShownBut, IsWrittenLine, Markings, MarksArea, MarksNoMore}
+use Rattle.cur_screens.specs.Touched.{IsOneCell, IsShownBut, IsWrittenLine, Markings, MarksArea, MarksNoMore, OnGrid}
 use Rattle.cur_screens.specs.Touched.{cells_shown, grid_marks}
 
 -- a screen shows the cells of each grid, except where the grid is marked; a pad's isn't on the screen
@@ -28,13 +28,9 @@ MarksCellsAlone t u d s count =
     MarksNoMore (grid_marks t s.root) (grid_marks u s.root)
     (cells_shown (origin_at d s.root) s.window s.window.col count)
 
--- a window's rectangle of its grid becomes marked, unless the grid is a pad's, and no other grid changes its marks
-pub record MarksSlot (t u : Markings) (d : State) (s : Slot) : Type 0 where
-  pub grid : (origin_at d s.root).pad ≡ false → s.root < length t
-      → MarksArea (grid_marks t s.root) (grid_marks u s.root) (area_on_screen d s)
-  pub pad : (origin_at d s.root).pad ≡ true → u ≡ t
-  pub none : length t ≤ s.root → u ≡ t
-  pub others : (k : ℕ) → k ≢ s.root → grid_marks u k ≡ grid_marks t k
+-- a window's rectangle of its grid becomes marked
+abbrev pub MarksSlot : Markings → Markings → State → Slot → Type 0
+MarksSlot t u d s = OnGrid (λ m n. MarksArea m n (area_on_screen d s)) t u s.root (origin_at d s.root).pad
 
 -- the rectangle of the window of a number becomes marked, if there is one
 abbrev pub MarksWindow : Markings → Markings → State → Result Slot Refusal → Type 0

@@ -41,7 +41,7 @@ returns-clause-marks c = record {
   ];
   cells = subst (λ (r : Result Slot Refusal). IfOk r (λ s. IsOneCell s.window c.args.put → MarksCellsAlone c.args.touched.now c.touch_written.new.touched c.args.self.now s 1)) c.in_ok-slot.ensures.value (λ is.
       let fits = c.start_of-start.ensures.exact is in
-      alone_cells c.args.self.now _ _ _ _ _ _ _ _ _ 1 (put_stays c.args.put _ _ is c.add-answer.ensures.value) c.origin_of-origin.ensures.value c.start_of-start.ensures.col (c.start_of-start.ensures.one fits).1
+      alone_cells c.args.self.now c.in_ok-slot.slot _ _ _ _ _ _ _ _ 1 (put_stays c.args.put _ _ is c.add-answer.ensures.value) c.origin_of-origin.ensures.value c.start_of-start.ensures.col (c.start_of-start.ensures.one fits).1
       (subst (λ (r : Result (Unit {0}) Refusal). OnOk r (AreTouched c.args.touched.now c.touch_written.new.touched (record c.in_ok-slot.slot { window = c.add-answer.new.self }) c.origin_of-origin.result c.start_of-start.result.col c.start_of-start.result.cells))
       (put_answers c.args.put _ _ is c.add-answer.ensures.value) (c.touch_written.ensures.cells fits)));
   refused = c.touch_written.ensures.refused;

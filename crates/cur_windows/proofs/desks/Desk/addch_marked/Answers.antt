@@ -23,6 +23,6 @@ returns-clause-marks c = record {
       written_cells _ _ _ c.args.id _ _ _ _ _ _ _ 1 (put_stays c.args.put _ _ (c.start_of-start.ensures.one (not-false _ c.if-not-start.false)).0 c.put_next.ensures.value)
       c.self.view_is c.self.invariant c.in_ok-slot.ensures.there c.in_ok-slot.ensures.value (ap (λ (o : Option Slot). set c.self.inside.windows.items c.args.id o) is) c.origin_of-origin.ensures.value c.touch_cells.ensures;
   cells = subst (λ (r : Result Slot Refusal). IfOk r (λ s. IsOneCell s.window c.args.put → MarksCellsAlone c.args.touched.now c.touch_cells.new.touched c.args.self.now s 1)) c.in_ok-slot.ensures.value (λ is.
-      alone_cells c.args.self.now _ _ _ _ _ _ _ _ _ 1 (put_stays c.args.put _ _ is c.put_next.ensures.value) c.origin_of-origin.ensures.value refl refl c.touch_cells.ensures);
+      alone_cells c.args.self.now c.in_ok-slot.slot _ _ _ _ _ _ _ _ 1 (put_stays c.args.put _ _ is c.put_next.ensures.value) c.origin_of-origin.ensures.value refl refl c.touch_cells.ensures);
   refused = tt;
 }

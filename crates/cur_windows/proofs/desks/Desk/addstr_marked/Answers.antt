@@ -37,4 +37,4 @@ returns-clause-only c = elim c.touch_text.ensures.touched [
 pub returns-clause-cells : goal.returns-clause-cells
 returns-clause-cells c = subst (λ (r : Result Slot Refusal). IfOk r (λ s. FitsLine s.window c.args.text.now → MarksCellsAlone c.args.touched.now c.touch_text.new.touched c.args.self.now s (length c.args.text.now))) c.in_ok-slot.ensures.value (λ is.
     let fits = c.start_of_text-start.ensures.exact is in
-    alone_cells c.args.self.now _ _ _ _ _ _ _ _ _ (length c.args.text.now) (text_stays c.args.text.now _ _ is c.add_all-answer.ensures.value) c.origin_of-origin.ensures.value c.start_of_text-start.ensures.col (c.start_of_text-start.ensures.cells fits).1 (c.touch_text.ensures.cells fits))
+    alone_cells c.args.self.now c.in_ok-slot.slot _ _ _ _ _ _ _ _ (length c.args.text.now) (text_stays c.args.text.now _ _ is c.add_all-answer.ensures.value) c.origin_of-origin.ensures.value c.start_of_text-start.ensures.col (c.start_of_text-start.ensures.cells fits).1 (c.touch_text.ensures.cells fits))
