@@ -25,8 +25,7 @@ pub fn advice_lines(
     let texts = advice_texts(alloc, subject, lists_all, nos)?;
     let mut lines = Vec::new(alloc);
     for text in &texts {
-        let own = advice_line(alloc, subject, text.as_slice())?;
-        lines.extend_from_slice(own.as_slice())?;
+        lines.extend_from_slice(advice_line(alloc, subject, text.as_slice())?.as_slice())?;
     }
     Ok(lines)
 }

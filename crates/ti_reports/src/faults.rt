@@ -108,8 +108,7 @@ fn fault_lines(
 {
     let mut lines = Vec::new(alloc);
     for no in nos {
-        let own = fault_line(alloc, subject, mended, nos, no)?;
-        lines.extend_from_slice(own.as_slice())?;
+        lines.extend_from_slice(fault_line(alloc, subject, mended, nos, no)?.as_slice())?;
     }
     Ok(lines)
 }

@@ -163,8 +163,7 @@ fn own_lines(
     let hints = hints_in(alloc, source, place)?;
     let mut lines = Vec::new(alloc);
     for hint in &hints {
-        let own = hint_line(alloc, subject, source, place, hint)?;
-        lines.extend_from_slice(own.as_slice())?;
+        lines.extend_from_slice(hint_line(alloc, subject, source, place, hint)?.as_slice())?;
     }
     Ok(lines)
 }

@@ -199,8 +199,7 @@ fn fault_lines(
 {
     let mut lines = Vec::new(alloc);
     for no in nos {
-        let own = own_lines(alloc, found, mended, no, nos)?;
-        lines.extend_from_slice(own.as_slice())?;
+        lines.extend_from_slice(own_lines(alloc, found, mended, no, nos)?.as_slice())?;
     }
     Ok(lines)
 }

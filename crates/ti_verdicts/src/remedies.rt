@@ -74,8 +74,7 @@ fn lines_of(alloc: Global, faulty: &Faulty<'_>, caps: &[Cap]) -> Result<Vec<u8>,
 {
     let mut lines = Vec::new(alloc);
     for cap in caps {
-        let line = suggestion_line(alloc, faulty, *cap)?;
-        lines.extend_from_slice(line.as_slice())?;
+        lines.extend_from_slice(suggestion_line(alloc, faulty, *cap)?.as_slice())?;
     }
     Ok(lines)
 }

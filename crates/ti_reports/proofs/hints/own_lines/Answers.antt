@@ -19,5 +19,5 @@ hint_line-requires c =
 -- the line of the next hint follows those so far
 pub loop-hint-preserved : goal.loop-hint-preserved
 loop-hint-preserved c =
-    OneMore c.loop-hint.lines.items c.in_ok-own.own.items c.extend_from_slice.new.self.items
-    (c.in_ok-extend_from_slice.ensures.items ∙ ap (λ (own : List ℕ). c.loop-hint.lines.items ++ own) c.as_slice.ensures.value) c.loop-hint.invariant c.in_ok-own.ensures
+    OneMore c.loop-hint.lines.items c.in_ok-hint_line.field-0.items c.extend_from_slice.new.self.items
+    (c.in_ok-extend_from_slice.ensures.items ∙ ap (λ (own : List ℕ). c.loop-hint.lines.items ++ own) c.as_slice.ensures.value) c.loop-hint.invariant c.in_ok-hint_line.ensures
