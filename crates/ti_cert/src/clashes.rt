@@ -66,6 +66,23 @@ pub struct Resync {
     pub rmacs: Option<Sets>,
 }
 
+/// The facts of strings by which they are judged together.
+#[derive(Clone, Copy)]
+pub struct Facts<'c> {
+    /// The marks that the tokens of all strings turn on.
+    pub reach: Reach,
+    /// The change by each string that leaves settled charsets settled.
+    pub changes: &'c [Sets],
+    /// The changes by the strings that lead out of an unknown state.
+    pub resync: Resync,
+    /// The change by `smacs`.
+    pub smacs: Option<Sets>,
+    /// Whether there are pairs of alternate characters.
+    pub has_acsc: bool,
+    /// Whether the bytes that lead out of an unknown state begin with ESC.
+    pub escapes: bool,
+}
+
 /// The charsets to which `resync` leads from those that `reach` allows.
 fn first_settled(resync: Resync, reach: Reach) -> Charsets
     ensures sound { (d : Charset) → closing.has result d ≡ true → closing.Leaves reach (spec.parts_of resync) d }
@@ -144,50 +161,32 @@ fn clashes_of(
 }
 
 /// All clashes of strings, each of four by itself: `smacs`, `rmacs`, charsets that stay graphic, and the bytes that
-/// lead out of an unknown state. `reach` has the marks that the tokens of all strings turn on, `changes` the change by
-/// each string that leaves settled charsets settled, and `resync` and `smacs` the changes by these strings. `has_acsc`
-/// says whether there are pairs of alternate characters, and `escapes` whether the bytes that lead out of an unknown
-/// state begin with ESC.
-pub fn all_clashes(
-    reach: Reach,
-    changes: &[Sets],
-    resync: Resync,
-    smacs: Option<Sets>,
-    has_acsc: bool,
-    escapes: bool,
-) -> AllClashes
-    ensures { (t : Table) → spec.IsFound t reach changes.now resync smacs escapes
-        → clashes.AreClashes has_acsc t result }
+/// lead out of an unknown state.
+pub fn all_clashes(facts: Facts<'_>) -> AllClashes
+    ensures { (t : Table) → spec.IsFound t facts.entry.reach facts.entry.changes.now facts.entry.resync
+        facts.entry.smacs facts.entry.escapes → clashes.AreClashes facts.entry.has_acsc t result }
 {
-    let settled = settled_of(reach, changes, resync);
-    let sent = all_there(has_acsc, smacs, resync.rmacs);
-    clashes_of(&settled, smacs, resync.rmacs, sent, escapes)
+    let settled = settled_of(facts.reach, facts.changes, facts.resync);
+    let sent = all_there(facts.has_acsc, facts.smacs, facts.resync.rmacs);
+    clashes_of(&settled, facts.smacs, facts.resync.rmacs, sent, facts.escapes)
 }
 
 /// Checks strings against each other. Returns the charsets that can be settled, or the first clash: of `smacs`, of
-/// `rmacs`, of charsets that stay graphic, or of the bytes that lead out of an unknown state. `reach` has the marks
-/// that the tokens of all strings turn on, `changes` the change by each string that leaves settled charsets settled,
-/// and `resync` and `smacs` the changes by these strings. `has_acsc` says whether there are pairs of alternate
-/// characters, and `escapes` whether the bytes that lead out of an unknown state begin with ESC.
-pub fn first_clash(
-    reach: Reach,
-    changes: &[Sets],
-    resync: Resync,
-    smacs: Option<Sets>,
-    has_acsc: bool,
-    escapes: bool,
-) -> Result<Charsets, Clash>
-    ensures clash { IfErr result (λ clash. (t : Table) → spec.IsFound t reach changes.now resync smacs escapes
-        → clashes.IsClash has_acsc t clash) }
-    ensures together { IfOk result (λ settled. (t : Table) → spec.IsFound t reach changes.now resync smacs escapes
-        → clashes.GoesTogether has_acsc t) }
-    ensures settled { IfOk result (spec.AreSettled reach changes.now resync) }
-    ensures none { IfOk result (λ settled. spec.NoneClashes settled smacs resync.rmacs
-        (has_acsc && (is_some smacs && is_some resync.rmacs)) escapes) }
+/// `rmacs`, of charsets that stay graphic, or of the bytes that lead out of an unknown state.
+pub fn first_clash(facts: Facts<'_>) -> Result<Charsets, Clash>
+    ensures clash { IfErr result (λ clash. (t : Table) → spec.IsFound t facts.entry.reach facts.entry.changes.now
+        facts.entry.resync facts.entry.smacs facts.entry.escapes → clashes.IsClash facts.entry.has_acsc t clash) }
+    ensures together { IfOk result (λ settled. (t : Table) → spec.IsFound t facts.entry.reach facts.entry.changes.now
+        facts.entry.resync facts.entry.smacs facts.entry.escapes → clashes.GoesTogether facts.entry.has_acsc t) }
+    ensures settled { IfOk result (spec.AreSettled facts.entry.reach facts.entry.changes.now facts.entry.resync) }
+    ensures none { IfOk result (λ settled. spec.NoneClashes settled facts.entry.smacs facts.entry.resync.rmacs
+        (facts.entry.has_acsc && (is_some facts.entry.smacs && is_some facts.entry.resync.rmacs))
+        facts.entry.escapes) }
 {
-    let settled = settled_of(reach, changes, resync);
-    let sent = all_there(has_acsc, smacs, resync.rmacs);
-    match clashes_of(&settled, smacs, resync.rmacs, sent, escapes).first() {
+    let settled = settled_of(facts.reach, facts.changes, facts.resync);
+    let sent = all_there(facts.has_acsc, facts.smacs, facts.resync.rmacs);
+    let all = clashes_of(&settled, facts.smacs, facts.resync.rmacs, sent, facts.escapes);
+    match all.first() {
         None => Ok(settled),
         Some(clash) => Err(clash),
     }

@@ -8,7 +8,7 @@ ghost use Rattle.ti_cert.specs.Table as spec;
 ghost use Rattle.ti_conforms.specs.Resync.{texts_of};
 ghost use Rattle.ti_rows.specs.declared.rows.Row.TheVariants as rows;
 
-use crate::clashes::{Clash, Resync, first_clash};
+use crate::clashes::{Clash, Facts, Resync, first_clash};
 use crate::faults::CertFaultKind;
 use crate::known::Known;
 use crate::strings::Strings;
@@ -122,14 +122,15 @@ pub(crate) fn conclude(
     let resync = resync_of(&mut scanner, strings)?;
     let smacs = change_of(&mut scanner, strings, Row::Smacs)?;
     let escapes = begins_with_escape(strings);
-    match first_clash(
-        known.reach,
-        &known.changes,
+    let facts = Facts {
+        reach: known.reach,
+        changes: &known.changes,
         resync,
         smacs,
         has_acsc,
         escapes,
-    ) {
+    };
+    match first_clash(facts) {
         Ok(settled) => Ok(settled),
         Err(clash) => Err(kind_of(clash)),
     }

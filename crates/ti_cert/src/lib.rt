@@ -20,7 +20,7 @@ mod verification;
 pub use agreement::agrees;
 pub use audits::{audit, audit_from};
 pub use certification::{CertifyFault, certify};
-pub use clashes::{AllClashes, Clash, Resync, all_clashes, first_clash};
+pub use clashes::{AllClashes, Clash, Facts, Resync, all_clashes, first_clash};
 pub use faults::{AgreeFault, CertFault, CertFaultKind, VerifyFault};
 pub use table::Table;
 pub use ti_lines::{Drip, ReadFault, Reader};

@@ -22,7 +22,7 @@ use crate::resync::escapes;
 use crate::sends::sent;
 use std::alloc::{AllocError, Global};
 use ti_caps::Entry;
-use ti_cert::{AllClashes, Clash, Resync, all_clashes, first_clash};
+use ti_cert::{AllClashes, Clash, Facts, Resync, all_clashes, first_clash};
 use ti_conforms::{Reach, acsc, settles};
 use ti_rows::{NO_MARKS, Row};
 use vt_effects::{Sets, effect_of};
@@ -176,41 +176,32 @@ fn has_pairs(entry: &Entry) -> bool
     entry.get_string(acsc()).is_some()
 }
 
-/// The facts that are asked of an entry's strings, beside [`Seen`], to judge them together.
-#[derive(Clone, Copy)]
-struct Together {
-    resync: Resync,
-    smacs: Option<Sets>,
-    pairs: bool,
-    begins: bool,
-}
-
-/// The facts, beside `seen`, by which the strings of `entry` are judged together, without those that the refusals
-/// `left_out` are about. Each of the others must be right by itself, and `seen` must have the facts of all of them.
-/// Fails if memory runs out.
-fn together_of(
+/// The facts by which the strings of `entry` are judged together, without those that the refusals `left_out` are about.
+/// Each of the others must be right by itself, and `seen` must have the facts of all of them. Fails if memory runs out.
+fn together_of<'s>(
     alloc: Global,
     entry: &Entry,
     left_out: &[No],
     size: Size,
-    seen: &Seen,
-) -> Result<Together, AllocError>
+    seen: &'s Seen,
+) -> Result<Facts<'s>, AllocError>
     requires stand { keeping.KeptStand entry.now size.rows size.cols (keeping.unnamed left_out.now) }
     requires seen { spec.IsSeen entry.now size.rows size.cols (keeping.unnamed left_out.now) seen.now.reach
         seen.now.changes.items capabilities 0 }
     ensures found { IfOk result (λ all. keeping.OfAllKept entry.now size.rows size.cols
-        (keeping.unnamed left_out.now) (λ t. IsFound t seen.now.reach seen.now.changes.items all.resync all.smacs
-        all.begins)) }
-    ensures pairs { IfOk result (λ all. all.pairs ≡ is_some (string_at entry.now entries.acsc)) }
+        (keeping.unnamed left_out.now) (λ t. IsFound t all.reach all.changes.now all.resync all.smacs all.escapes)) }
+    ensures pairs { IfOk result (λ all. all.has_acsc ≡ is_some (string_at entry.now entries.acsc)) }
 {
     let resync = resync_sets(alloc, entry, left_out, size)?;
     let smacs = change_of(alloc, entry, left_out, Row::Smacs, size)?;
     let begins = escapes(alloc, entry, left_out, size)?;
-    Ok(Together {
+    Ok(Facts {
+        reach: seen.reach,
+        changes: &seen.changes,
         resync,
         smacs,
-        pairs: has_pairs(entry),
-        begins,
+        has_acsc: has_pairs(entry),
+        escapes: begins,
     })
 }
 
@@ -233,14 +224,7 @@ pub(crate) fn check_together(
     ensures refused { IfErr result (IsNo entry.now size.rows size.cols) }
 {
     let all = together_of(alloc, entry, &[], size, seen)?;
-    match first_clash(
-        seen.reach,
-        &seen.changes,
-        all.resync,
-        all.smacs,
-        all.pairs,
-        all.begins,
-    ) {
+    match first_clash(all) {
         Ok(_) => Ok(()),
         Err(clash) => Err(no_of(clash, size)),
     }
@@ -262,12 +246,5 @@ pub(crate) fn clashes_together(
         (λ t. AreClashes (is_some (string_at entry.now entries.acsc)) t all)) }
 {
     let all = together_of(alloc, entry, left_out, size, seen)?;
-    Ok(all_clashes(
-        seen.reach,
-        &seen.changes,
-        all.resync,
-        all.smacs,
-        all.pairs,
-        all.begins,
-    ))
+    Ok(all_clashes(all))
 }
