@@ -4,3 +4,4 @@ pub mod Marks
 pub mod Differences
 pub mod VirtualScreen
 pub mod Touched
+pub mod Copies

@@ -2,8 +2,7 @@
 ghost use Rattle.std.specs.Prelude.{◌≡◌, ◌<◌, ◌≤◌, ◌+◌, ◌-◌, ℕ, length, slice_index_or};
 ghost use Rattle.cur_drawing.specs.{Cells.{space}, Calls.{place}};
 ghost use Rattle.cur_drawing.specs.Grids.{Fits, copied, drawn_in, line_at, moved_to, overlaid, row_of, shape_of, taken};
-ghost use Rattle.cur_drawing.specs.Spans.{ArePlaces};
-ghost use Rattle.cur_screens.specs.Marks.{AreSame, IsCopiedBut, IsSameIn, Keeps, MarksOnly};
+ghost use Rattle.cur_screens.specs.{Copies.{CopiesMarking, IsFrom, IsInBoth}, Marks.{AreSame, IsCopiedBut, IsSameIn}};
 
 use crate::differences::changed;
 use crate::marks::Marks;
@@ -64,13 +63,9 @@ pub fn copy_changed(
     marks: &mut Marks,
 )
     requires target { Fits copy.area grid.old }
-    requires source { Fits (moved_to copy.area copy.from) source.now }
-    requires places { ArePlaces copy.area copy.from }
+    requires from { IsFrom copy source.now }
     requires touched { IsCopiedBut touched.now copy.area copy.from source.now grid.old }
-    ensures value { grid.new ≡ copied copy.area copy.from source.now grid.old }
-    ensures shape { shape_of grid.new ≡ shape_of grid.old }
-    ensures marked { Keeps marks.old grid.old marks.new grid.new }
-    ensures only { MarksOnly marks.old grid.old marks.new grid.new }
+    ensures copied { CopiesMarking copy source.now grid.old grid.new marks.old marks.new }
 {
     let AreaCopy { area, from } = copy;
     let rows = touched.rows_from(area.top, area.rows);
@@ -97,13 +92,9 @@ fn copy_changed_lines(
     marks: &mut Marks,
 )
     requires target { Fits copy.area grid.old }
-    requires source { Fits (moved_to copy.area copy.from) source.now }
-    requires places { ArePlaces copy.area copy.from }
+    requires from { IsFrom copy source.now }
     requires touched { IsCopiedBut touched.now copy.area copy.from source.now grid.old }
-    ensures value { grid.new ≡ copied copy.area copy.from source.now grid.old }
-    ensures shape { shape_of grid.new ≡ shape_of grid.old }
-    ensures marked { Keeps marks.old grid.old marks.new grid.new }
-    ensures only { MarksOnly marks.old grid.old marks.new grid.new }
+    ensures copied { CopiesMarking copy source.now grid.old grid.new marks.old marks.new }
 {
     for k in 0..copy.area.rows {
         let AreaCopy { area, from } = copy;
@@ -129,12 +120,8 @@ fn copy_changed_lines(
 fn copy_changed_line(grid: &mut Grid<Cell>, source: &Grid<Cell>, copy: AreaCopy, marks: &mut Marks)
     requires one { copy.area.rows ≡ 1 }
     requires target { Fits copy.area grid.old }
-    requires source { Fits (moved_to copy.area copy.from) source.now }
-    requires places { ArePlaces copy.area copy.from }
-    ensures value { grid.new ≡ copied copy.area copy.from source.now grid.old }
-    ensures shape { shape_of grid.new ≡ shape_of grid.old }
-    ensures marked { Keeps marks.old grid.old marks.new grid.new }
-    ensures only { MarksOnly marks.old grid.old marks.new grid.new }
+    requires from { IsFrom copy source.now }
+    ensures copied { CopiesMarking copy source.now grid.old grid.new marks.old marks.new }
 {
     let AreaCopy { area, from } = copy;
     let old = part_of(grid.line(area.top as usize), area.left, area.cols);
@@ -161,10 +148,7 @@ fn copy_changed_line(grid: &mut Grid<Cell>, source: &Grid<Cell>, copy: AreaCopy,
 /// Copies the cells of `source` at the same places into the rectangle `area`, which must begin at the
 /// first column. The grids must have equal cells there outside `marks`; only marked cells are written.
 pub fn copy_marked(grid: &mut Grid<Cell>, area: Area, source: &Grid<Cell>, marks: &Marks)
-    requires left { area.left ≡ 0 }
-    requires short { area.top + area.rows < 65536 }
-    requires target { Fits area grid.old }
-    requires source { Fits area source.now }
+    requires both { IsInBoth area source.now grid.old }
     requires marked { AreSame marks.now grid.old source.now }
     ensures value { grid.new ≡ copied area (place area.top area.left) source.now grid.old }
     ensures shape { shape_of grid.new ≡ shape_of grid.old }
@@ -181,10 +165,7 @@ pub fn copy_marked(grid: &mut Grid<Cell>, area: Area, source: &Grid<Cell>, marks
 
 // Copies as `copy_marked` does, row by row.
 fn copy_marked_rows(grid: &mut Grid<Cell>, area: Area, source: &Grid<Cell>, marks: &Marks)
-    requires left { area.left ≡ 0 }
-    requires short { area.top + area.rows < 65536 }
-    requires target { Fits area grid.old }
-    requires source { Fits area source.now }
+    requires both { IsInBoth area source.now grid.old }
     requires marked { AreSame marks.now grid.old source.now }
     ensures value { grid.new ≡ copied area (place area.top area.left) source.now grid.old }
     ensures shape { shape_of grid.new ≡ shape_of grid.old }
@@ -196,10 +177,7 @@ fn copy_marked_rows(grid: &mut Grid<Cell>, area: Area, source: &Grid<Cell>, mark
 
 // Copies the row `k` of the rectangle.
 fn copy_marked_row(grid: &mut Grid<Cell>, area: Area, k: u16, source: &Grid<Cell>, marks: &Marks)
-    requires left { area.left ≡ 0 }
-    requires short { area.top + area.rows < 65536 }
-    requires target { Fits area grid.old }
-    requires source { Fits area source.now }
+    requires both { IsInBoth area source.now grid.old }
     requires within { k < area.rows }
     requires marked { IsSameIn marks.now (area.top + k) grid.old source.now }
     ensures value { grid.new ≡ drawn_in (row_of area k) (taken area (place area.top area.left) source.now) grid.old }

@@ -7,9 +7,17 @@ pub copy_changed_lines-requires-clause-touched : goal.copy_changed_lines-require
 copy_changed_lines-requires-clause-touched c =
     copied_but_lines c.args.copy.area c.args.copy.from c.rows_from-rows.result c.args.source.now c.args.grid.now c.args.touched.now c.rows_from-rows.ensures.within c.requires.touched
 
-pub returns-clause-value : goal.returns-clause-value
-returns-clause-value c =
+pub returns : goal.returns
+returns c =
     let s = c.rows_from-rows.result in
-    c.copy_changed_lines.ensures.value
-    ∙ rows_copied c.args.copy.area c.args.copy.from s c.args.source.now c.args.grid.now c.requires.target c.requires.source c.rows_from-rows.ensures.within
-    (unmarked_lines c.args.copy.area c.args.copy.from s c.args.source.now c.args.grid.now c.args.touched.now c.requires.touched c.rows_from-rows.ensures.others)
+    let lines = c.copy_changed_lines.ensures.copied in
+    record {
+      copied = record {
+        value = lines.value
+            ∙ rows_copied c.args.copy.area c.args.copy.from s c.args.source.now c.args.grid.now c.requires.target c.requires.from.source c.rows_from-rows.ensures.within
+            (unmarked_lines c.args.copy.area c.args.copy.from s c.args.source.now c.args.grid.now c.args.touched.now c.requires.touched c.rows_from-rows.ensures.others);
+        shape = lines.shape;
+        marked = lines.marked;
+        only = lines.only;
+      };
+    }

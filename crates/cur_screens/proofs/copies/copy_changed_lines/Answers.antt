@@ -24,14 +24,14 @@ pub loop-k-preserved : goal.loop-k-preserved
 loop-k-preserved c =
     let f : ℕ → ℕ → Content → Content = taken c.args.copy.area c.args.copy.from c.args.source.now in
     let a = c.args.copy.area in let k = c.loop-k.k in
-    let row = c.copy_changed_line.ensures.value
-    ∙ row_copied a c.args.copy.from k c.columns_from-span.result c.args.source.now c.loop-k.grid (omega arith) (fits_same a c.args.grid.now c.loop-k.grid c.loop-k.invariant.shape c.requires.target) c.requires.source c.columns_from-span.ensures.within
+    let row = c.copy_changed_line.ensures.copied.value
+    ∙ row_copied a c.args.copy.from k c.columns_from-span.result c.args.source.now c.loop-k.grid (omega arith) (fits_same a c.args.grid.now c.loop-k.grid c.loop-k.invariant.shape c.requires.target) c.requires.from.source c.columns_from-span.ensures.within
     (equal_beside_touched a c.args.copy.from k f c.columns_from-span.result c.args.source.now c.args.grid.now c.loop-k.grid c.args.touched.now (omega arith) c.loop-k.invariant.value c.requires.touched c.columns_from-span.ensures.others) in
     record {
       value = row ∙ ap (drawn_in (row_of a k) f) c.loop-k.invariant.value
           ∙ drawn_join (top_rows a k) (row_of a k) (top_rows a (k + 1)) f f c.args.grid.now (next_row a k) (row_apart a k) (λ i j d h. refl);
-      shape = c.copy_changed_line.ensures.shape ∙ c.loop-k.invariant.shape;
-      marked = λ v same. c.copy_changed_line.ensures.marked v (c.loop-k.invariant.marked v same);
-      only = marks_only_then c.args.marks.now c.loop-k.marks c.copy_changed_line.new.marks c.args.grid.now c.loop-k.grid c.copy_changed_line.new.grid c.loop-k.invariant.only c.copy_changed_line.ensures.only
+      shape = c.copy_changed_line.ensures.copied.shape ∙ c.loop-k.invariant.shape;
+      marked = λ v same. c.copy_changed_line.ensures.copied.marked v (c.loop-k.invariant.marked v same);
+      only = marks_only_then c.args.marks.now c.loop-k.marks c.copy_changed_line.new.marks c.args.grid.now c.loop-k.grid c.copy_changed_line.new.grid c.loop-k.invariant.only c.copy_changed_line.ensures.copied.only
           (row_by_row a k f f c.args.grid.now c.loop-k.grid c.copy_changed_line.new.grid c.loop-k.invariant.value row);
     }

@@ -9,5 +9,5 @@ returns-clause-value c =
     let a = c.args.area in let s = c.rows_from-rows.result in
     let from = place a.top a.left in
     c.copy_marked_rows.ensures.value
-    ∙ rows_copied a from s c.args.source.now c.args.grid.now c.requires.target (record { rows = c.requires.source.rows; cols = c.requires.source.cols }) c.rows_from-rows.ensures.within
+    ∙ rows_copied a from s c.args.source.now c.args.grid.now c.requires.both.target (record { rows = c.requires.both.source.rows; cols = c.requires.both.source.cols }) c.rows_from-rows.ensures.within
     (unmarked_lines a from s c.args.source.now c.args.grid.now c.args.marks.now (same_is_copied a c.args.source.now c.args.grid.now c.args.marks.now c.requires.marked) c.rows_from-rows.ensures.others)

@@ -13,8 +13,13 @@ loop-k-init c = record {
   shape = refl;
 }
 
-pub copy_marked_row-requires-clause-target : goal.copy_marked_row-requires-clause-target
-copy_marked_row-requires-clause-target c = fits_same c.args.area c.args.grid.now c.loop-k.grid c.loop-k.invariant.shape c.requires.target
+pub copy_marked_row-requires-clause-both : goal.copy_marked_row-requires-clause-both
+copy_marked_row-requires-clause-both c = record {
+  left = c.requires.both.left;
+  short = c.requires.both.short;
+  target = fits_same c.args.area c.args.grid.now c.loop-k.grid c.loop-k.invariant.shape c.requires.both.target;
+  source = c.requires.both.source;
+}
 
 pub copy_marked_row-requires-clause-marked : goal.copy_marked_row-requires-clause-marked
 copy_marked_row-requires-clause-marked c =
