@@ -1,5 +1,5 @@
 -- What copies between grids need, and what they do.
-use Rattle.std.specs.Prelude.{ℕ, ◌+◌, ◌<◌, ◌≡◌}
+use Rattle.std.specs.Prelude.{◌+◌, ◌<◌, ◌≡◌}
 use Rattle.grids.specs.declared.areas.Area.{Area}
 use Rattle.cur_drawing.specs.Grids.{Fits, Grid, copied, moved_to, shape_of}
 use Rattle.cur_drawing.specs.Spans.{ArePlaces}
