@@ -1,5 +1,5 @@
 -- Text that becomes cells of the cursor's line changes and marks nothing else.
-use Rattle.std.proofs.Common.{Some, Ok, set, ◌≡◌, inl, inr, ℕ, ◌+◌, ◌<◌, nat_lt, Bool, true, false, List, [], Option, length, get_or, sym, ap, subst, ◌∙◌, arith, if◌then◌else◌, refl, suc, ◌∷◌}
+use Rattle.std.proofs.Common.{Some, Ok, set, ◌≡◌, inl, inr, ℕ, ◌+◌, ◌<◌, Bool, true, false, List, [], Option, length, get_or, sym, ap, subst, ◌∙◌, arith, refl, suc, ◌∷◌}
 use Rattle.std.proofs.lemmas.Bool.{cases_lt}
 use Rattle.std.proofs.lemmas.Bool.Decides.{nat_tests}
 use Rattle.std.proofs.lemmas.List.{get_or_default}
@@ -9,7 +9,7 @@ use Rattle.cur_drawing.proofs.Written.{added_next, one_drawn}
 use Rattle.cur_drawing.specs.declared.puts.Put.{Put}
 use Rattle.cur_drawing.specs.declared.windows.Window.{Window}
 use Rattle.cur_drawing.specs.Cells.{space}
-use Rattle.cur_drawing.specs.Grids.{Grid, cell_at, filled, is_in, shape_of}
+use Rattle.cur_drawing.specs.Grids.{Grid, cell_at, is_in, shape_of}
 use Rattle.cur_screens.specs.Marks.{Marking}
 use Rattle.cur_drawing.specs.Windows.{cells_of, content}
 use Rattle.cur_drawing.specs.Calls as calls

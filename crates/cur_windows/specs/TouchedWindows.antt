@@ -1,6 +1,6 @@
 -- The marks of the grids of a desk: the places where each may differ from the virtual screen, and the marks that a
 -- call adds.
-use Rattle.std.specs.Prelude.{ℕ, ◌≡◌, ◌≢◌, ◌<◌, ◌≤◌, ◌⊎◌, length, true, false, None, Result, Ok, Err, IfErr, IfOk}
+use Rattle.std.specs.Prelude.{ℕ, ◌≡◌, ◌≢◌, ◌<◌, ◌⊎◌, length, false, None, Result, Ok, Err, IfErr, IfOk}
 use Rattle.cur_drawing.specs.declared.puts.Put.{Put}
 use Rattle.cur_drawing.specs.declared.refusals.Refusal.{Refusal}
 use Rattle.cur_drawing.specs.declared.refusals.Refusal.TheVariants.{NoScroll}
