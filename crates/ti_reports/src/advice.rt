@@ -12,17 +12,16 @@ use ti_hints::{advice_on, unchecked_advice};
 use ti_members::{ValuePlace, text_of};
 
 /// A line for each piece of advice on the `subject`, which has the faults `nos`: on what is never seen, if there are
-/// none; and on strings that aren't checked, if `lists_all`.
+/// none; and on strings that aren't checked, if all faults are reported.
 pub fn advice_lines(
     alloc: Global,
     subject: &Subject<'_, '_>,
-    lists_all: bool,
     nos: &[No],
 ) -> Result<Vec<u8>, AllocError>
     ensures { IfOk result (λ lines. spec.AreLinesOf (spec.ReportsAdvice subject.now.entry.now
         subject.now.size.rows subject.now.size.cols subject.now.file.now) lines.items) }
 {
-    let texts = advice_texts(alloc, subject, lists_all, nos)?;
+    let texts = advice_texts(alloc, subject, nos)?;
     let mut lines = Vec::new(alloc);
     for text in &texts {
         lines.extend_from_slice(advice_line(alloc, subject, text.as_slice())?.as_slice())?;
@@ -34,7 +33,6 @@ pub fn advice_lines(
 fn advice_texts(
     alloc: Global,
     subject: &Subject<'_, '_>,
-    lists_all: bool,
     nos: &[No],
 ) -> Result<Vec<Vec<u8>>, AllocError> {
     let mut texts = if nos.is_empty() {
@@ -42,7 +40,7 @@ fn advice_texts(
     } else {
         Vec::new(alloc)
     };
-    if lists_all {
+    if subject.lists_all {
         for text in unchecked_advice(alloc, subject.entry)? {
             texts.push(text)?;
         }

@@ -111,10 +111,11 @@ fn located_reply<'x>(
             let subject = Subject {
                 entry: &found.entry,
                 size: asked.size,
+                lists_all: asked.lists_all,
                 file: word,
                 stands: Standing::Unsourced,
             };
-            reply_of(alloc, &subject, asked.lists_all, notes, nos)
+            reply_of(alloc, &subject, notes, nos)
         }
         Some(source) => source_reply(alloc, asked, &found.entry, source, notes, nos),
     }
@@ -165,29 +166,29 @@ fn named_reply<'x, 'y>(
     let subject = Subject {
         entry,
         size: asked.size,
+        lists_all: asked.lists_all,
         file: named.source.path,
         stands: Standing::Named(named, asked.originals),
     };
-    reply_of(alloc, &subject, asked.lists_all, notes, nos)
+    reply_of(alloc, &subject, notes, nos)
 }
 
-/// The reply with `notes` that says that `nos` are the faults of the `subject`, all of them if `lists_all`.
+/// The reply with `notes` that says that `nos` are the faults of the `subject`.
 fn reply_of(
     alloc: Global,
     subject: &Subject<'_, '_>,
-    lists_all: bool,
     notes: Vec<u8>,
     nos: &[No],
 ) -> Result<Reply, AllocError>
     requires { IsThere subject.now.stands }
     ensures noted { IfOk result (λ reply. reply.notes ≡ notes) }
     ensures told { IfOk result (λ reply. spec.TellsFound subject.now.entry.now
-        subject.now.size.rows subject.now.size.cols lists_all subject.now.file.now
+        subject.now.size.rows subject.now.size.cols subject.now.lists_all subject.now.file.now
         (whereabouts_of subject.now.stands) nos.now reply) }
 {
     Ok(Reply {
         notes,
-        text: found_lines(alloc, subject, lists_all, nos)?,
+        text: found_lines(alloc, subject, nos)?,
         failure: failure_of(alloc, nos),
     })
 }

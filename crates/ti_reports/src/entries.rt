@@ -65,10 +65,11 @@ fn entry_said(
     let subject = Subject {
         entry,
         size: asked.size,
+        lists_all: asked.lists_all,
         file: path,
         stands,
     };
-    let lines = found_lines(alloc, &subject, asked.lists_all, nos.as_slice())?;
+    let lines = found_lines(alloc, &subject, nos.as_slice())?;
     let kind = kind_of(asked.lists_all, entry, nos.as_slice());
     let answers = answers_of(alloc, kind, nos.as_slice())?;
     Ok(Said {

@@ -32,6 +32,8 @@ pub struct Subject<'a, 'b> {
     pub entry: &'a Entry,
     /// The terminal's size.
     pub size: Size,
+    /// Whether all of its faults are reported, and not only the first one.
+    pub lists_all: bool,
     /// The path of the file that has the entry.
     pub file: &'a str,
     /// The origin of the entry.
@@ -39,58 +41,47 @@ pub struct Subject<'a, 'b> {
 }
 
 /// The lines of the faults `nos` of the `subject`, or the line that it has a certificate if there are none; and then
-/// those of the advice on it and of the hints about its fields. If `lists_all`, they must be all faults of the entry,
-/// and what is suggested is right with all of them mended.
+/// those of the advice on it and of the hints about its fields. If all faults are reported, what is suggested is right
+/// with all of them mended.
 pub fn found_lines(
     alloc: Global,
     subject: &Subject<'_, '_>,
-    lists_all: bool,
     nos: &[No],
 ) -> Result<Vec<u8>, AllocError>
     requires { IsThere subject.now.stands }
     ensures { IfOk result (λ lines. spec.AreFoundLines subject.now.entry.now
-        subject.now.size.rows subject.now.size.cols lists_all subject.now.file.now
+        subject.now.size.rows subject.now.size.cols subject.now.lists_all subject.now.file.now
         (whereabouts_of subject.now.stands) nos.now lines.items) }
 {
-    let mut lines = verdict_lines(alloc, subject, lists_all, nos)?;
-    let advice = advice_lines(alloc, subject, lists_all, nos)?;
+    let mut lines = judged_lines(alloc, subject, nos)?;
+    let advice = advice_lines(alloc, subject, nos)?;
     lines.extend_from_slice(advice.as_slice())?;
-    let hints = hint_lines(alloc, subject, lists_all)?;
+    let hints = hint_lines(alloc, subject)?;
     lines.extend_from_slice(hints.as_slice())?;
     Ok(lines)
 }
 
 /// The lines of the faults `nos` of the `subject`, or the line that it has a certificate if there are none.
-fn verdict_lines(
-    alloc: Global,
-    subject: &Subject<'_, '_>,
-    lists_all: bool,
-    nos: &[No],
-) -> Result<Vec<u8>, AllocError>
+fn judged_lines(alloc: Global, subject: &Subject<'_, '_>, nos: &[No]) -> Result<Vec<u8>, AllocError>
     requires { IsThere subject.now.stands }
     ensures { IfOk result (λ lines. spec.AreVerdictLines subject.now.entry.now
-        subject.now.size.rows subject.now.size.cols lists_all subject.now.file.now
+        subject.now.size.rows subject.now.size.cols subject.now.lists_all subject.now.file.now
         (whereabouts_of subject.now.stands) nos.now lines.items) }
 {
     match nos {
         [] => yes_line(alloc, subject),
-        [_, ..] => lines_of(alloc, subject, lists_all, nos),
+        [_, ..] => lines_of(alloc, subject, nos),
     }
 }
 
-/// A line for each of the faults `nos` of the `subject`, which are all that it has if `lists_all`.
-fn lines_of(
-    alloc: Global,
-    subject: &Subject<'_, '_>,
-    lists_all: bool,
-    nos: &[No],
-) -> Result<Vec<u8>, AllocError>
+/// A line for each of the faults `nos` of the `subject`.
+fn lines_of(alloc: Global, subject: &Subject<'_, '_>, nos: &[No]) -> Result<Vec<u8>, AllocError>
     requires { IsThere subject.now.stands }
     ensures { IfOk result (λ lines. spec.AreFaultLines subject.now.entry.now
-        subject.now.size.rows subject.now.size.cols lists_all subject.now.file.now
+        subject.now.size.rows subject.now.size.cols subject.now.lists_all subject.now.file.now
         (whereabouts_of subject.now.stands) nos.now lines.items) }
 {
-    let mended = mended_if(alloc, lists_all, subject.entry, subject.size, nos)?;
+    let mended = mended_if(alloc, subject.lists_all, subject.entry, subject.size, nos)?;
     let lines = fault_lines(alloc, subject, &mended, nos)?;
     Ok(lines)
 }

@@ -24,21 +24,17 @@ use ti_resolve::Origin;
 use ti_source::RawEntry;
 
 /// A line for each hint about the `subject`. Of an entry that was asked for by its name, the fields are its own and
-/// those of the entries of its file that it uses; of one at a place they are its own, and there are hints only if
-/// `lists_all`. None if it is in no source.
-pub fn hint_lines(
-    alloc: Global,
-    subject: &Subject<'_, '_>,
-    lists_all: bool,
-) -> Result<Vec<u8>, AllocError>
-    ensures { IfOk result (λ lines. spec.AreHintLines subject.now.entry.now subject.now.size.rows
-        subject.now.size.cols lists_all subject.now.file.now (whereabouts_of subject.now.stands) lines.items) }
+/// those of the entries of its file that it uses; of one at a place they are its own, and there are hints only if all
+/// faults are reported. None if it is in no source.
+pub fn hint_lines(alloc: Global, subject: &Subject<'_, '_>) -> Result<Vec<u8>, AllocError>
+    ensures { IfOk result (λ lines. spec.AreHintLines subject.now.entry.now subject.now.size.rows subject.now.size.cols
+        subject.now.lists_all subject.now.file.now (whereabouts_of subject.now.stands) lines.items) }
 {
     match subject.stands {
         Standing::Unsourced => Ok(Vec::new(alloc)),
         Standing::Named(named, originals) => named_lines(alloc, subject, named, originals),
         Standing::Placed(there, originals) => {
-            placed_lines(alloc, subject, lists_all, there, originals)
+            placed_lines(alloc, subject, subject.lists_all, there, originals)
         }
     }
 }
