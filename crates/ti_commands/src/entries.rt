@@ -239,9 +239,21 @@ fn unpack<F: Files>(
 /// The fault of a compiled file that is in the answer `entry`, if there is one.
 fn pack_fault(entry: &Result<Result<Entry, CommandRefusal>, Failure>) -> Option<PackFault> {
     match entry {
-        Err(Failure::Refused(CommandRefusal::Pack(fault))) | Ok(Err(CommandRefusal::Pack(fault))) =>
-            Some(*fault),
-        _ => None,
+        Ok(Ok(_)) => None,
+        Ok(Err(refusal)) => fault_in(refusal),
+        Err(Failure::Refused(refusal)) => fault_in(refusal),
+        Err(Failure::RefusedUnwritten(refusal)) => fault_in(refusal),
+        Err(Failure::Usage(_) | Failure::File(_) | Failure::Output | Failure::NoMemory) => None,
+    }
+}
+
+/// The fault of a compiled file, if the `refusal` is about one.
+fn fault_in(refusal: &CommandRefusal) -> Option<PackFault> {
+    match refusal {
+        CommandRefusal::Pack(fault) => Some(*fault),
+        CommandRefusal::Size | CommandRefusal::Escape(_) | CommandRefusal::Parm(_) => None,
+        CommandRefusal::Token(_) | CommandRefusal::Stuck(_) | CommandRefusal::Source(_) => None,
+        CommandRefusal::Resolve(_) | CommandRefusal::Verdict(_) => None,
     }
 }
 

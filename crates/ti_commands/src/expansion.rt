@@ -71,7 +71,7 @@ fn show(
         Ok(_) => Ok(Reply::of_text(alloc, whole_text(alloc, size, string, sent, judges_cup)?)),
         Err(fault) => match fault.kind {
             TokenFaultKind::NoMemory => Err(AllocError),
-            _ => {
+            TokenFaultKind::Unfinished | TokenFaultKind::Stuck => {
                 explain_token(alloc, sent, fault, remarks);
                 Ok(Reply {
                     notes: Vec::new(alloc),
@@ -160,7 +160,9 @@ fn cup_line(alloc: Global, string: &[u8], size: Size) -> Result<String, AllocErr
         Ok(()) => String::from_str(alloc, "cup yes\n"),
         Err(miss) => match miss.kind {
             MissKind::NoMemory => Err(AllocError),
-            _ => miss_line(alloc, miss.row, miss.col),
+            MissKind::Parm | MissKind::Token | MissKind::Misses | MissKind::Undecided => {
+                miss_line(alloc, miss.row, miss.col)
+            }
         },
     }
 }
@@ -176,7 +178,9 @@ fn escape_failure(fault: EscapeFault) -> Failure
 {
     match fault {
         EscapeFault::NoMemory => Failure::NoMemory,
-        _ => Failure::Refused(CommandRefusal::Escape(fault)),
+        EscapeFault::BadEscape | EscapeFault::TooLong => {
+            Failure::Refused(CommandRefusal::Escape(fault))
+        }
     }
 }
 
