@@ -14,6 +14,7 @@ use Rattle.vt_states.specs.Lines.{state_text}
 use Rattle.vt_states.specs.Recordings.{all_parts, dropped, plain_text, replaced, total}
 use Rattle.ti_commands.specs.Contents.{HasBytes, Held, longest_file}
 use Rattle.vt_commands.specs.Feeds.{IsStuckFailure, ShowsAfter}
+use Rattle.vt_commands.specs.declared.fed.Fed.{Fed}
 use Rattle.ti_commands.specs.Sizes.{HasSize, LacksSize, SizeGiven}
 use Rattle.ti_commands.specs.declared.failure.Failure.{Failure}
 use Rattle.ti_commands.specs.declared.failure.Failure.TheVariants.{Refused, File, NoMemory}
@@ -101,3 +102,11 @@ FailsToShow held words (Refused (Stuck stuck)) = FileFails held words (Refused (
 FailsToShow held words (Refused (Verdict told)) = FileFails held words (Refused (Verdict told))
 FailsToShow held words (File told) = HasSize words.rows.now words.cols.now × (string_bytes told ≡ words.file.now)
 FailsToShow held words failure = LacksSize words.rows.now words.cols.now failure
+
+-- ---- for private clauses: the output and the failure in a form, for what a terminal is fed with
+
+abbrev pub ShowsFed : FeedForm → Fed → List ℕ → Type 0
+ShowsFed form fed text = Shows form fed.size.rows fed.size.cols fed.bytes.now text
+
+abbrev pub FailsFed : FeedForm → Fed → Failure → Type 0
+FailsFed form fed failure = FailsWith form fed.size.rows fed.size.cols fed.bytes.now failure

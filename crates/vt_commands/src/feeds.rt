@@ -1,7 +1,8 @@
 //! The command `feed`.
 
 ghost use Rattle.std.specs.Prelude.{◌≡◌, IfErr, IfOk};
-ghost use Rattle.vt_commands.specs.Feeds.{FailsToFeed, ShowsAfter, ShowsScreen, IsStuckFailure};
+ghost use Rattle.ti_requests.specs.declared.feeds.FeedForm.TheVariants as forms;
+ghost use Rattle.vt_commands.specs.{Feeds.{FailsToFeed, ShowsScreen}, States.{FailsFed, ShowsFed}};
 
 use crate::fed::{Fed, stuck_failure};
 use std::alloc::Global;
@@ -36,10 +37,8 @@ pub fn feed_file<F: Files>(
 
 /// The screen of a terminal after the bytes that it is fed with.
 pub fn screen_after(alloc: Global, fed: Fed<'_>, remarks: &mut Remarks) -> Result<Vec<u8>, Failure>
-    ensures text { IfOk result
-        (λ text. ShowsAfter fed.entry.size.rows fed.entry.size.cols fed.entry.bytes.now text.items) }
-    ensures failure { IfErr result
-        (λ e. IsStuckFailure fed.entry.size.rows fed.entry.size.cols fed.entry.bytes.now e) }
+    ensures text { IfOk result (λ text. ShowsFed forms.Screen fed.entry text.items) }
+    ensures failure { IfErr result (λ e. FailsFed forms.Screen fed.entry e) }
 {
     let mut terminal = Terminal::new(alloc, fed.size)?;
     match terminal.feed(fed.bytes) {

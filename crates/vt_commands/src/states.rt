@@ -2,10 +2,9 @@
 
 ghost use Rattle.std.specs.Prelude.{◌≡◌, IfErr, IfOk};
 ghost use Rattle.vt_term.specs.{Run.{Runs}, Screen.{reset}};
-ghost use Rattle.vt_states.specs.Cases.{AreAnswers};
 ghost use Rattle.ti_requests.specs.declared.feeds.FeedForm.TheVariants as forms;
-ghost use Rattle.vt_commands.specs.States.{FailsToShow, FailsWith, IsBadLineFailure, Shows, ShowsForm, ShowsStates};
-ghost use Rattle.vt_commands.specs.{States.{fed_of, line_text, note_of, notes_of}, Feeds.{IsStuckFailure}};
+ghost use Rattle.vt_commands.specs.States.{FailsFed, FailsToShow, IsBadLineFailure, ShowsFed, ShowsStates};
+ghost use Rattle.vt_commands.specs.States.{fed_of, line_text, note_of, notes_of};
 
 use crate::fed::{Fed, stuck_failure};
 use crate::feeds::screen_after;
@@ -82,10 +81,8 @@ fn shown(
     fed: Fed<'_>,
     remarks: &mut Remarks,
 ) -> Result<Vec<u8>, Failure>
-    ensures text { IfOk result
-        (λ text. Shows form fed.entry.size.rows fed.entry.size.cols fed.entry.bytes.now text.items) }
-    ensures failure { IfErr result
-        (λ e. FailsWith form fed.entry.size.rows fed.entry.size.cols fed.entry.bytes.now e) }
+    ensures text { IfOk result (λ text. ShowsFed form fed.entry text.items) }
+    ensures failure { IfErr result (λ e. FailsFed form fed.entry e) }
 {
     match form {
         FeedForm::Screen => screen_after(alloc, fed, remarks),
@@ -97,10 +94,8 @@ fn shown(
 
 /// The whole state after the bytes, as lines.
 fn lines_after(alloc: Global, fed: Fed<'_>, remarks: &mut Remarks) -> Result<Vec<u8>, Failure>
-    ensures text { IfOk result
-        (λ text. ShowsForm forms.State fed.entry.size.rows fed.entry.size.cols fed.entry.bytes.now text.items) }
-    ensures failure { IfErr result
-        (λ e. IsStuckFailure fed.entry.size.rows fed.entry.size.cols fed.entry.bytes.now e) }
+    ensures text { IfOk result (λ text. ShowsFed forms.State fed.entry text.items) }
+    ensures failure { IfErr result (λ e. FailsFed forms.State fed.entry e) }
 {
     let snapshot = state_after(alloc, fed, remarks)?;
     Ok(snapshot.print(alloc)?)
@@ -108,10 +103,8 @@ fn lines_after(alloc: Global, fed: Fed<'_>, remarks: &mut Remarks) -> Result<Vec
 
 /// The whole state after the bytes, as an object, and an LF.
 fn object_after(alloc: Global, fed: Fed<'_>, remarks: &mut Remarks) -> Result<Vec<u8>, Failure>
-    ensures text { IfOk result
-        (λ text. ShowsForm forms.Json fed.entry.size.rows fed.entry.size.cols fed.entry.bytes.now text.items) }
-    ensures failure { IfErr result
-        (λ e. IsStuckFailure fed.entry.size.rows fed.entry.size.cols fed.entry.bytes.now e) }
+    ensures text { IfOk result (λ text. ShowsFed forms.Json fed.entry text.items) }
+    ensures failure { IfErr result (λ e. FailsFed forms.Json fed.entry e) }
 {
     let snapshot = state_after(alloc, fed, remarks)?;
     let mut text = Vec::new(alloc);
@@ -128,8 +121,7 @@ fn state_after<'a>(
 ) -> Result<Snapshot<'a>, Failure>
     ensures state { IfOk result
         (λ after. Runs (reset fed.entry.size.rows fed.entry.size.cols) fed.entry.bytes.now after) }
-    ensures failure { IfErr result
-        (λ e. IsStuckFailure fed.entry.size.rows fed.entry.size.cols fed.entry.bytes.now e) }
+    ensures failure { IfErr result (λ e. FailsFed forms.State fed.entry e) }
 {
     match Snapshot::after(alloc, fed.size, fed.bytes)? {
         (snapshot, None) => Ok(snapshot),
@@ -139,10 +131,8 @@ fn state_after<'a>(
 
 /// The answers to the cases of the file.
 fn answers_to(alloc: Global, fed: Fed<'_>, remarks: &mut Remarks) -> Result<Vec<u8>, Failure>
-    ensures text { IfOk result
-        (λ text. AreAnswers fed.entry.size.rows fed.entry.size.cols fed.entry.bytes.now text.items) }
-    ensures failure { IfErr result
-        (λ e. FailsWith forms.Cases fed.entry.size.rows fed.entry.size.cols fed.entry.bytes.now e) }
+    ensures text { IfOk result (λ text. ShowsFed forms.Cases fed.entry text.items) }
+    ensures failure { IfErr result (λ e. FailsFed forms.Cases fed.entry e) }
 {
     match case_answers(alloc, fed.size, fed.bytes) {
         Ok(text) => Ok(text),
