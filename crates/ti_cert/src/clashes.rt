@@ -168,7 +168,13 @@ pub fn all_clashes(facts: Facts<'_>) -> AllClashes
 {
     let settled = settled_of(facts.reach, facts.changes, facts.resync);
     let sent = all_there(facts.has_acsc, facts.smacs, facts.resync.rmacs);
-    clashes_of(&settled, facts.smacs, facts.resync.rmacs, sent, facts.escapes)
+    clashes_of(
+        &settled,
+        facts.smacs,
+        facts.resync.rmacs,
+        sent,
+        facts.escapes,
+    )
 }
 
 /// Checks strings against each other. Returns the charsets that can be settled, or the first clash: of `smacs`, of
@@ -185,7 +191,13 @@ pub fn first_clash(facts: Facts<'_>) -> Result<Charsets, Clash>
 {
     let settled = settled_of(facts.reach, facts.changes, facts.resync);
     let sent = all_there(facts.has_acsc, facts.smacs, facts.resync.rmacs);
-    let all = clashes_of(&settled, facts.smacs, facts.resync.rmacs, sent, facts.escapes);
+    let all = clashes_of(
+        &settled,
+        facts.smacs,
+        facts.resync.rmacs,
+        sent,
+        facts.escapes,
+    );
     match all.first() {
         None => Ok(settled),
         Some(clash) => Err(clash),
