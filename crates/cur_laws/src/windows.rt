@@ -175,8 +175,8 @@ pub fn windows_are_shown_by_place()
         → (noutrefresh d v n).2 ≡ Ok tt → IsWindowShown d s v (noutrefresh d v n).1 }
 {}
 
-/// `noutrefresh_lines` gives each place of the virtual screen under the window's lines `t` to `b` the window's cell, and
-/// keeps all other places.
+/// `noutrefresh_lines` gives each place of the virtual screen under the window's lines `t` to `b` the window's cell,
+/// and keeps all other places.
 #[tactic(auto, using(crate::proofs::ShownLines::lines_shown))]
 pub fn lines_are_shown_by_place()
     ensures { (d : State) (v : Screen) (n t b : ℕ) (s : Slot) → IsDesk d → slot_of d n ≡ Ok s

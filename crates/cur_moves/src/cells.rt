@@ -68,8 +68,8 @@ impl<C: Certificate, N: Picture> Target<'_, C, N> {
     }
 }
 
-/// Makes the attributes `wanted`, and the colors the default ones: by the string for the attributes alone if that resets
-/// the colors.
+/// Makes the attributes `wanted`, and the colors the default ones: by the string for the attributes alone if that
+/// resets the colors.
 fn plainly_as<C: Certificate, W: Wire>(checked: &C, pen: &mut Pen<W>, wanted: Attributes) -> Sent
     requires checked { IsChecked (C.table checked.now) }
     ensures brush { OnOk result

@@ -178,7 +178,8 @@ pub record Ends {C O N W T E : Type 0} (table : C → Table) (old : O → ℕ �
     (limit : Scene → ℕ) (g : Scene → ℕ → ℕ → Ink) (w : Wanted) : Type 0 where
   pub step :
       let s = scene table old new before.screens.now in
-      Sets went failures before.pen.now.wire after.pen.now.wire answer s.table (limit s) before.pen.now.belief.mode w.cursor w.mode
+      Sets went failures before.pen.now.wire after.pen.now.wire answer s.table (limit s)
+      before.pen.now.belief.mode w.cursor w.mode
       (Agrees s.table (g s) before.pen.now.belief) (Agrees s.table s.new after.pen.now.belief)
   pub set : OnOk answer (IsSet w after.pen.now.belief)
   pub same : IsSame before after

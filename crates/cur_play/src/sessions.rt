@@ -86,9 +86,9 @@ impl<C: Certificate> Session<C> {
         )
     }
 
-    /// Copies the lines `top` to `bottom` of `window` to the virtual screen, as the call `noutrefresh` copies all of its
-    /// lines. Nothing is sent. Fails with `Full` for a number above 63, `NoWindow`, `PadKind` for a pad, and `BadRegion`
-    /// unless these are lines of the window, in order; nothing has changed then.
+    /// Copies the lines `top` to `bottom` of `window` to the virtual screen, as the call `noutrefresh` copies all of
+    /// its lines. Nothing is sent. Fails with `Full` for a number above 63, `NoWindow`, `PadKind` for a pad, and
+    /// `BadRegion` unless these are lines of the window, in order; nothing has changed then.
     pub fn noutrefresh_lines(&mut self, window: usize, top: i32, bottom: i32) -> Answer
         ensures { (self.new, result) ≡ lines_shown window top bottom self.old }
     {
@@ -107,9 +107,9 @@ impl<C: Certificate> Session<C> {
         )
     }
 
-    /// Does the call `addch` of `put` in `window`, as `call` does it; nothing is sent. Fails with `Full` for a number above
-    /// 63, `NoWindow`, `BadCell` for a byte above 127, `BadPair`, and `NoScroll` if the window would have to scroll and may
-    /// not.
+    /// Does the call `addch` of `put` in `window`, as `call` does it; nothing is sent. Fails with `Full` for a number
+    /// above 63, `NoWindow`, `BadCell` for a byte above 127, `BadPair`, and `NoScroll` if the window would have to
+    /// scroll and may not.
     pub fn addch(&mut self, window: usize, put: Put) -> Answer
         ensures { DoesAlone C.table (cell_step Addch self.old.desk window put) self.old result self.new }
     {
@@ -140,8 +140,8 @@ impl<C: Certificate> Session<C> {
         ))
     }
 
-    /// Does the call `color_set` of `pair` in `window`, as `call` does it; nothing is sent. Fails with `Full` for a number
-    /// above 63, `NoWindow`, and `BadPair` for a pair that isn't 0 to 63; nothing has changed then.
+    /// Does the call `color_set` of `pair` in `window`, as `call` does it; nothing is sent. Fails with `Full` for a
+    /// number above 63, `NoWindow`, and `BadPair` for a pair that isn't 0 to 63; nothing has changed then.
     pub fn color_set(&mut self, window: usize, pair: i32) -> Answer
         ensures { DoesAlone C.table (number_step ColorSet self.old.desk window pair) self.old result self.new }
     {
@@ -149,8 +149,8 @@ impl<C: Certificate> Session<C> {
         answer_of(number_call(&mut self.desk, touched, NumberCall::ColorSet, window, pair))
     }
 
-    /// Does `attron`, `attroff` or `attrset` of `attrs` in `window`, as `call` does it; nothing is sent. Fails with `Full`
-    /// for a number above 63 and `NoWindow`; nothing has changed then.
+    /// Does `attron`, `attroff` or `attrset` of `attrs` in `window`, as `call` does it; nothing is sent. Fails with
+    /// `Full` for a number above 63 and `NoWindow`; nothing has changed then.
     pub fn attributes(&mut self, call: AttrsCall, window: usize, attrs: Attrs) -> Answer
         ensures { DoesAlone C.table (attributes_step call self.old.desk window attrs) self.old result self.new }
     {

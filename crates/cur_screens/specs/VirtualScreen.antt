@@ -1,7 +1,9 @@
 -- The virtual screen: the picture that the terminal must show (X/Open Curses Issue 7, noutrefresh, doupdate; "Color
 -- Manipulation").
-use Rattle.std.specs.Prelude.{◌≡◌, ℕ, zero, suc, ◌<◌, ◌≤◌, ◌||◌, ◌==◌, List, length, slice_index_or, slice_set, replicate}
-use Rattle.std.specs.Prelude.{Bool, false, nat_lt, Option, Some, None, IfSome, Result, Ok, Err, if◌then◌else◌, ℤ, pos, negsuc}
+use Rattle.std.specs.Prelude.{◌≡◌, ℕ, zero, suc, ◌<◌, ◌≤◌, ◌||◌, ◌==◌, List, length, slice_index_or, slice_set}
+use Rattle.std.specs.Prelude.{replicate}
+use Rattle.std.specs.Prelude.{Bool, false, nat_lt, Option, Some, None, IfSome, Result, Ok, Err, if◌then◌else◌, ℤ, pos}
+use Rattle.std.specs.Prelude.{negsuc}
 use Rattle.grids.specs.declared.areas.Area.{Area}
 use Rattle.grids.specs.declared.areas.Place.{Place}
 use Rattle.cur_drawing.specs.declared.refusals.Refusal.{Refusal}

@@ -47,7 +47,8 @@ only_line text (Some (line, b ∷ rest)) = None
 -- the call of a script that is a single call
 abbrev pub only_call : List ℕ → Option Call
 only_call text =
-    if nat_lt 1048576 (length text) then None else (only_line text (cut_at 10 text) >>= λ line. if is_skipped line then None else call_of line)
+    if nat_lt 1048576 (length text) then None
+    else (only_line text (cut_at 10 text) >>= λ line. if is_skipped line then None else call_of line)
 
 -- the fault is the one that reading gives, unless memory ran out
 abbrev pub FailsBy : ScriptFaultKind → ScriptFault → Result (List Call) ScriptFault → Type 0

@@ -15,8 +15,8 @@ use cur_calls::{
     PlainCall, ScreenCall, ShowCall,
 };
 
-// Passes on to `$to` what is read for the first of these names that is the first word of `$text`, where `$words` are the
-// words after it; no call if none of them is.
+// Passes on to `$to` what is read for the first of these names that is the first word of `$text`, where `$words` are
+// the words after it; no call if none of them is.
 macro_rules! named {
     ($text:ident, $to:ident, $words:ident; $($name:literal => $read:expr,)*) => {
         $(if let Some($words) = Words::after($name, $text) { hand_on($read, $to) } else)* { hand_on(None, $to) }

@@ -1,8 +1,8 @@
 //! How cells of the virtual screen are printed.
 //!
 //! `Means` has an entry's means for that, looked up once. `ink_of` says how a cell is printed, and `shows_ink` whether
-//! it is printed like a given ink. All other functions that ask this are short cuts (`shortcuts.rt`): they decide by the
-//! cell's own numbers, and leave the rest to these two.
+//! it is printed like a given ink. All other functions that ask this are short cuts (`shortcuts.rt`): they decide by
+//! the cell's own numbers, and leave the rest to these two.
 ghost use Rattle.std.specs.Prelude.{◌≡◌, ℕ, Option};
 ghost use Rattle.ti_rows.specs.declared.rows.Row.TheVariants.{Smacs, Op};
 ghost use Rattle.cur_steps.specs.Inks.{same, blank_ink};

@@ -36,7 +36,8 @@ impl Desk {
     ) -> Result<(), Refusal>
         requires rows { (screen.old).rows ≡ (self.old).rows }
         requires cols { (screen.old).cols ≡ (self.old).cols }
-        ensures { copies.refresh self.new screen.new result ≡ copies.noutrefresh_lines self.old screen.old id top bottom }
+        ensures { copies.refresh self.new screen.new result
+            ≡ copies.noutrefresh_lines self.old screen.old id top bottom }
     {
         let mut touched = Touched::unknown(self.alloc);
         let mut marks = Marks::unknown(self.alloc);

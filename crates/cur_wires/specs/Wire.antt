@@ -1,5 +1,6 @@
 -- A wire, which takes bytes and may fail (the output device of refresh in X/Open Curses).
-use Rattle.std.specs.Prelude.{ℕ, ◌-◌, ◌^◌, ◌<◌, ◌≤◌, ◌≡◌, ◌⊎◌, List, [], ◌++◌, length, take, Result, Ok, Err, IfOk, OnErr}
+use Rattle.std.specs.Prelude.{ℕ, ◌-◌, ◌^◌, ◌<◌, ◌≤◌, ◌≡◌, ◌⊎◌, List, [], ◌++◌, length, take, Result, Ok, Err, IfOk}
+use Rattle.std.specs.Prelude.{OnErr}
 use Rattle.std.proofs.Math.Nat.{le_refl, le_trans}
 
 -- The laws of a wire: nothing is sent over no time, bytes sent one after the other are sent together, and failures

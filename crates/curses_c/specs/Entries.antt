@@ -59,7 +59,8 @@ LacksPacked bytes e = ((fault : PackFault) × (read_of bytes ≡ Err fault) × (
 -- the text has a fault, or doesn't yield the entry of the name
 abbrev pub LacksNamed : List ℕ → List ℕ → Failure → Type 0
 LacksNamed text name e =
-    ((fault : SourceFault) × source.FailsBy fault.kind fault (source_of text) × IsOf sources.NoMemory BadEntry fault.kind e)
+    ((fault : SourceFault) × source.FailsBy fault.kind fault (source_of text)
+    × IsOf sources.NoMemory BadEntry fault.kind e)
     ⊎ ((raws : List RawEntry) × (source_of text ≡ Ok raws)
     × ((fault : ResolveFault) × walk.FailsBy fault (walk_of raws name) × IsOf walks.NoMemory BadEntry fault e))
 
@@ -98,4 +99,5 @@ pub record IsCertified (entry : Content) (rows cols : ℕ) (text : List ℕ) : T
 
 -- there is a no that is true of the entry, the first that applies
 abbrev pub IsUncertified : Content → ℕ → ℕ → Failure → Type 0
-IsUncertified entry rows cols e = (refusal : No) × IsNo entry rows cols refusal × IsOf causes.NoMemory NoCertificate refusal.cause e
+IsUncertified entry rows cols e =
+    (refusal : No) × IsNo entry rows cols refusal × IsOf causes.NoMemory NoCertificate refusal.cause e

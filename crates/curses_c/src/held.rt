@@ -113,8 +113,8 @@ impl Held {
         self.session.attributes(call, window, attrs)
     }
 
-    /// Does `attron`, `attroff` or `attrset` in `window`, and gives the number of its answer; if `attrs` isn't 0 to 255,
-    /// that of `BadCall`.
+    /// Does `attron`, `attroff` or `attrset` in `window`, and gives the number of its answer; if `attrs` isn't 0 to
+    /// 255, that of `BadCall`.
     pub fn attributes(&mut self, call: AttrsCall, window: usize, attrs: i32) -> i32
         ensures { Styles call window attrs self.old result self.new }
     {

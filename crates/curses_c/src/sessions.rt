@@ -131,8 +131,8 @@ pub extern "C" fn ticurses_raw_addstr(
     code
 }
 
-/// Does `addch` in `window` of the character `byte` with the attributes `attrs`, a set from 0 to 255, and the color pair
-/// `pair`. Returns the number of the answer, or of `Closed`.
+/// Does `addch` in `window` of the character `byte` with the attributes `attrs`, a set from 0 to 255, and the color
+/// pair `pair`. Returns the number of the answer, or of `Closed`.
 #[unsafe(no_mangle)]
 pub extern "C" fn ticurses_raw_addch(
     alloc: Global,
@@ -142,7 +142,8 @@ pub extern "C" fn ticurses_raw_addch(
     attrs: u8,
     pair: u8,
 ) -> i32
-    ensures { Answers closed (MakesAlone (Cell Addch window (put_of (record { byte = byte; attrs = attrs; pair = pair }))))
+    ensures { Answers closed
+        (MakesAlone (Cell Addch window (put_of (record { byte = byte; attrs = attrs; pair = pair }))))
         (handle.old).slot.held result (handle.new).slot.held }
 {
     let Some(held) = handle.take(alloc) else {
@@ -195,8 +196,8 @@ pub extern "C" fn ticurses_raw_color_set(
     code
 }
 
-/// Does `attron` of the set `attrs` in `window`. Returns the number of the answer, of `BadCall` if `attrs` isn't 0 to 255, or
-/// of `Closed`.
+/// Does `attron` of the set `attrs` in `window`. Returns the number of the answer, of `BadCall` if `attrs` isn't 0 to
+/// 255, or of `Closed`.
 #[unsafe(no_mangle)]
 pub extern "C" fn ticurses_raw_attron(
     alloc: Global,
@@ -216,8 +217,8 @@ pub extern "C" fn ticurses_raw_attron(
     code
 }
 
-/// Does `attroff` of the set `attrs` in `window`. Returns the number of the answer, of `BadCall` if `attrs` isn't 0 to 255, or
-/// of `Closed`.
+/// Does `attroff` of the set `attrs` in `window`. Returns the number of the answer, of `BadCall` if `attrs` isn't 0 to
+/// 255, or of `Closed`.
 #[unsafe(no_mangle)]
 pub extern "C" fn ticurses_raw_attroff(
     alloc: Global,
@@ -237,8 +238,8 @@ pub extern "C" fn ticurses_raw_attroff(
     code
 }
 
-/// Does `attrset` of the set `attrs` in `window`. Returns the number of the answer, of `BadCall` if `attrs` isn't 0 to 255, or
-/// of `Closed`.
+/// Does `attrset` of the set `attrs` in `window`. Returns the number of the answer, of `BadCall` if `attrs` isn't 0 to
+/// 255, or of `Closed`.
 #[unsafe(no_mangle)]
 pub extern "C" fn ticurses_raw_attrset(
     alloc: Global,

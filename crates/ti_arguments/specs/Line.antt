@@ -97,12 +97,15 @@ with_sarif_rule a = with_rule a (long_switch_rule (codes "sarif"))
 abbrev pub check_rules : App
 check_rules =
     with_size_rules
-    (with_rule (with_rule (with_source_rules (with_fix_rule (with_sarif_rule (with_report_rules (new_app (codes "check")))))) out_rule)
+    (with_rule
+    (with_rule
+    (with_source_rules (with_fix_rule (with_sarif_rule (with_report_rules (new_app (codes "check")))))) out_rule)
     (positional_rule (codes "ENTRY")))
 
 abbrev pub verify_rules : App
 verify_rules =
-    with_rule (with_size_rules (with_rule (with_source_rules (new_app (codes "verify"))) (positional_rule (codes "ENTRY"))))
+    with_rule
+    (with_size_rules (with_rule (with_source_rules (new_app (codes "verify"))) (positional_rule (codes "ENTRY"))))
     (positional_rule (codes "CERT"))
 
 -- the words of a run of a script

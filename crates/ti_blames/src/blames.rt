@@ -65,8 +65,8 @@ const ALONE: [Attributes; 7] = [
 enum Blame {
     /// These of the bytes that are sent.
     Sent(Stretch),
-    /// An attribute that isn't shown, by the digit of its parameter of `sgr`; and the bytes that change its mark all the
-    /// same, if any do.
+    /// An attribute that isn't shown, by the digit of its parameter of `sgr`; and the bytes that change its mark all
+    /// the same, if any do.
     Missing(u8, Option<Stretch>),
 }
 
@@ -90,8 +90,8 @@ fn params_of(alloc: Global, row: Row) -> Result<Vec<Param<'static>>, AllocError>
     Ok(params)
 }
 
-/// The looks by which the effect of the row's string is judged: of `sgr` what each attribute shows alone, otherwise what
-/// `effect` itself shows.
+/// The looks by which the effect of the row's string is judged: of `sgr` what each attribute shows alone, otherwise
+/// what `effect` itself shows.
 fn looks_for(alloc: Global, checked: &Checked<'_>, effect: &Effect) -> Result<Looks, AllocError> {
     match checked.row {
         Row::Sgr(_) => looks_of_sgr(alloc, checked),
@@ -127,9 +127,9 @@ fn effect_for(
     }
 }
 
-/// The blame for the `bytes` that the `checked` string sends: on bytes that are no whole control function, or on the first
-/// unit with which they have no effect record, or on that by which the first part of the effect differs from what is asked
-/// for.
+/// The blame for the `bytes` that the `checked` string sends: on bytes that are no whole control function, or on the
+/// first unit with which they have no effect record, or on that by which the first part of the effect differs from what
+/// is asked for.
 fn blame_of(
     alloc: Global,
     checked: &Checked<'_>,
@@ -200,7 +200,8 @@ impl Seen<'_> {
 }
 
 /// The stretch of the `checked` string that is at fault where its bytes aren't whole control functions, have no effect
-/// record, or have another effect than the one asked for. `None` if no such stretch is found, as where nothing has the wanted effect.
+/// record, or have another effect than the one asked for. `None` if no such stretch is found, as where nothing has the
+/// wanted effect.
 ///
 /// # Errors
 /// Out of memory.
@@ -234,8 +235,8 @@ fn found_by(
     sending_stretch(alloc, sender, bytes)
 }
 
-/// The conditional of the sender's string that tests the parameter with this `digit`; without one, the stretch that sends
-/// what changes the mark.
+/// The conditional of the sender's string that tests the parameter with this `digit`; without one, the stretch that
+/// sends what changes the mark.
 fn missing_in(
     alloc: Global,
     sender: &Sender<'_>,
@@ -251,8 +252,8 @@ fn missing_in(
     }
 }
 
-/// The stretch of the `checked` string that is at fault where it has this `fault`: the first code with which it has it; of a
-/// conditional without an end, its `%?`.
+/// The stretch of the `checked` string that is at fault where it has this `fault`: the first code with which it has it;
+/// of a conditional without an end, its `%?`.
 ///
 /// # Errors
 /// Out of memory.

@@ -1,5 +1,5 @@
-//! Which stretch of a checked string is at fault: the code, the control function or the parameter of one, or the part of
-//! a conditional that a maintainer has to look at.
+//! Which stretch of a checked string is at fault: the code, the control function or the parameter of one, or the part
+//! of a conditional that a maintainer has to look at.
 #![tactic(auto)]
 
 mod blames;

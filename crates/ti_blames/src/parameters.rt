@@ -5,8 +5,9 @@ use crate::units::moved;
 use ti_stretches::Stretch;
 use vt_effects::{Effect, Erasure, Move, Region};
 
-/// Which parameter of a control sequence with the final byte `last` gives a part what is asked of it in another way, counted
-/// from 0: of CUP, CHA and VPA the row or the column, of DECSTBM the first or the last line, and of ECH the cells.
+/// Which parameter of a control sequence with the final byte `last` gives a part what is asked of it in another way,
+/// counted from 0: of CUP, CHA and VPA the row or the column, of DECSTBM the first or the last line, and of ECH the
+/// cells.
 fn place_of(part: Part, last: u8, effect: &Effect, asked: &Effect) -> Option<usize> {
     match part {
         Part::Row => row_place(last, asked.row),
@@ -52,8 +53,8 @@ fn differing_line(seen: Region, wanted: Region) -> Option<usize> {
     }
 }
 
-/// The bytes of the parameter of the control sequence `token` with this number, counted from 0; `None` if it has no such
-/// parameter, or that is left out.
+/// The bytes of the parameter of the control sequence `token` with this number, counted from 0; `None` if it has no
+/// such parameter, or that is left out.
 fn parameter_in(token: &[u8], number: usize) -> Option<Stretch> {
     let mut from = 2;
     let mut passed = 0usize;

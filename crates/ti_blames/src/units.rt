@@ -48,8 +48,8 @@ fn push_token(
     Ok(())
 }
 
-/// Adds the units of the parameters of SGR, the `token` behind what was sent `before`. A parameter that is left out has the
-/// bytes of the whole token.
+/// Adds the units of the parameters of SGR, the `token` behind what was sent `before`. A parameter that is left out has
+/// the bytes of the whole token.
 fn push_parameters(
     alloc: Global,
     before: &[u8],

@@ -269,8 +269,8 @@ fn judged_table(alloc: Global, entry: &Entry, size: Size) -> Result<Table, Certi
     ensures few { IfOk result (λ table. total table.known.strings < limit) }
     ensures text { IfOk result (spec.HasText size.rows size.cols) }
     ensures acsc { IfOk result (λ table. table.acsc ≡ string_at entry.now entries.acsc) }
-    ensures lines { IfOk result (λ table. entries.EntryAgrees table.known.strings.rows table.known.strings.cols entry.now
-        (λ row. row_string table.known.strings row)) }
+    ensures lines { IfOk result (λ table. entries.EntryAgrees
+        table.known.strings.rows table.known.strings.cols entry.now (λ row. row_string table.known.strings row)) }
 {
     // only this call's contract says that the entry's strings fit
     let _ = entry.names();

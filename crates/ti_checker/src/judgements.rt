@@ -83,8 +83,8 @@ fn row_effect(
     }
 }
 
-/// Returns the effect `found` if it is the one that `row` asks for. `found` is `None` if the bytes have no single effect;
-/// `taught` has the looks from the rows before. The error is the fault of the effect.
+/// Returns the effect `found` if it is the one that `row` asks for. `found` is `None` if the bytes have no single
+/// effect; `taught` has the looks from the rows before. The error is the fault of the effect.
 #[tactic(auto, using(crate::proofs::Misjudgements::misfit_misjudged))]
 fn judged(row: Row, found: Option<Effect>, size: Size, taught: Looks) -> Result<Effect, Cause>
     requires { IsInRange size.rows size.cols row }

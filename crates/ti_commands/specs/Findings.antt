@@ -117,7 +117,8 @@ pub record IsFurtherFailure (held : Held) (bytes : List ℕ) (failure : Failure)
 abbrev pub FailsInSource : Held → List ℕ → Failure → Type 0
 FailsInSource held path failure =
     IsFileFailure path failure
-    ⊎ HasBytes (held.at path) longest_file (λ bytes. IsSourceFailure bytes failure ⊎ IsFurtherFailure held bytes failure)
+    ⊎ HasBytes (held.at path) longest_file
+    (λ bytes. IsSourceFailure bytes failure ⊎ IsFurtherFailure held bytes failure)
 
 abbrev pub FailsInFile : Held → List ℕ → Failure → Type 0
 FailsInFile held path failure =

@@ -99,8 +99,8 @@ pub(crate) fn find_in_source<F: Files>(
     })
 }
 
-/// Says which option would help if an entry that another one uses is in another file; the `asked` entry itself is sought
-/// in the file that the line names.
+/// Says which option would help if an entry that another one uses is in another file; the `asked` entry itself is
+/// sought in the file that the line names.
 fn hint_with(asked: &[u8], fault: &ResolveFault, remarks: &mut Remarks) {
     if let ResolveFault::NoSuchEntry(name) = fault {
         if name.as_slice() != asked {

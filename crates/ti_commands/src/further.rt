@@ -215,7 +215,8 @@ pub fn further_files<F: Files>(
     files: &mut F,
     remarks: &mut Remarks,
 ) -> Result<Vec<FurtherFile>, Failure>
-    ensures held { IfOk result (λ further. spec.AreHeld (F.holds files.old) (F.holds files.old).with_paths further.items) }
+    ensures held { IfOk result
+        (λ further. spec.AreHeld (F.holds files.old) (F.holds files.old).with_paths further.items) }
     ensures failure { IfErr result (λ e. spec.FailsReading (F.holds files.old).with_paths e ⊎ (e ≡ Failure.NoMemory)) }
     ensures kept { F.holds files.new ≡ F.holds files.old }
 {

@@ -1,5 +1,5 @@
-//! Resolving the entries of a source text that were read one by one, some of which may be unreadable, finding the use for
-//! which that fails, and the lines and the columns of their fields.
+//! Resolving the entries of a source text that were read one by one, some of which may be unreadable, finding the use
+//! for which that fails, and the lines and the columns of their fields.
 #![tactic(auto)]
 
 mod bad_uses;

@@ -148,8 +148,8 @@ fn numbers_of(alloc: Global, text: &[u8]) -> Result<Vec<Vec<usize>>, AllocError>
     Ok(all)
 }
 
-/// The lines of the fields of the first entry of `text`, if this number of lines comes `before` it. Reads the text up to
-/// the end of that entry.
+/// The lines of the fields of the first entry of `text`, if this number of lines comes `before` it. Reads the text up
+/// to the end of that entry.
 fn first_numbers(alloc: Global, before: usize, text: &[u8]) -> Result<Vec<usize>, AllocError>
     requires { before + length text.now ≤ 18446744073709551615 }
     ensures { IfOk result (λ own. own.items ≡ map (spec.line_behind before) (field_lines_of text.now 0)) }

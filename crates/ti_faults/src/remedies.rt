@@ -101,8 +101,8 @@ fn accepted(
     }
 }
 
-/// The string that is suggested for `cap` in `entry`, from which `mended` was made: the candidate for it, if `entry` has
-/// another string or none, the mended entry has this one, and no fault that is left there speaks against it. So all
+/// The string that is suggested for `cap` in `entry`, from which `mended` was made: the candidate for it, if `entry`
+/// has another string or none, the mended entry has this one, and no fault that is left there speaks against it. So all
 /// suggestions by one mended entry are right together. `cap` is at fault, or it is one of `enacs`, `smacs` and `rmacs`,
 /// which may be mended as one. `None` otherwise, also if there is no candidate, or if `cap` isn't a checked capability.
 pub fn suggestion(entry: &Entry, mended: &Mended, cap: Cap) -> Option<&'static [u8]>

@@ -88,8 +88,8 @@ fn cap_agrees<L: LinesByRow>(
     }
 }
 
-/// Checks that lines are just those that an entry sends: for each checked capability of the entry and each parameter list
-/// that `size` allows, a line with the bytes that its string sends, and no other line.
+/// Checks that lines are just those that an entry sends: for each checked capability of the entry and each parameter
+/// list that `size` allows, a line with the bytes that its string sends, and no other line.
 ///
 /// # Errors
 /// `Disagree` or `Unwanted` with a row for which this isn't true, or `NoMemory`.

@@ -25,7 +25,8 @@ pub record IsFieldOn (line : List ℕ) (columns : Columns) : Type 0 where
   pub ends : MayFollow behind
   pub columns_are : columns ≡ columns_of_part (length front) part
 
--- the line is one of the entry at a place: its names are on that line or before it, and those of the next entry behind it
+-- the line is one of the entry at a place: its names are on that line or before it, and those of the next entry behind
+-- it
 pub record IsLineOf (raws : List RawEntry) (place number : ℕ) : Type 0 where
   pub from : IfSome (slice_get raws place) (λ raw. raw.line ≤ number)
   pub before : IfSome (slice_get raws (place + 1)) (λ next. number < next.line)

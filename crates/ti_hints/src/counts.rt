@@ -6,9 +6,9 @@ use std::alloc::{AllocError, Global};
 use ti_caps::{Cap, Entry, by_name, name};
 use ti_words::Remarks;
 
-/// Adds a line for each piece of advice on strings of `entry` that aren't checked and on its flags, and then a line with
-/// the number of its strings that are checked, of those that were run once, and of those that were not looked at, with
-/// their names. Nothing is added if there is too little memory.
+/// Adds a line for each piece of advice on strings of `entry` that aren't checked and on its flags, and then a line
+/// with the number of its strings that are checked, of those that were run once, and of those that were not looked at,
+/// with their names. Nothing is added if there is too little memory.
 pub fn advise_unchecked(alloc: Global, entry: &Entry, remarks: &mut Remarks) {
     let _ = add_unchecked(alloc, entry, remarks);
 }
@@ -35,8 +35,8 @@ pub fn unchecked_advice(alloc: Global, entry: &Entry) -> Result<Vec<Vec<u8>>, Al
 }
 
 /// The advice on the flags `am` and `xenl` of `entry`, which say how a terminal goes on after the last column, and on
-/// its number of colors. An entry without `cols` says nothing of its terminal's lines, so that nothing is missing there.
-/// terminfo(5), "Predefined Capabilities".
+/// its number of colors. An entry without `cols` says nothing of its terminal's lines, so that nothing is missing
+/// there. terminfo(5), "Predefined Capabilities".
 fn flag_advice(alloc: Global, entry: &Entry) -> Result<Vec<Vec<u8>>, AllocError> {
     let is_whole = has_number(entry, b"cols");
     let wraps = has_flag(entry, b"am");

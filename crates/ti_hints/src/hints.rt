@@ -292,8 +292,8 @@ fn caret_place(fields: &[PlacedField<'_>], cap: Cap) -> Option<usize>
         .position(|it| it.field.name == name(cap) && it.field.has_caret())
 }
 
-/// The words that the string `cap` has `%^`: by the rules of escapes it is `%` and a control character, but some authors
-/// mean exclusive or.
+/// The words that the string `cap` has `%^`: by the rules of escapes it is `%` and a control character, but some
+/// authors mean exclusive or.
 pub(crate) fn caret_words(alloc: Global, cap: Cap) -> Result<Vec<u8>, AllocError> {
     let mut words = Vec::from_slice(alloc, b"in ")?;
     words.extend_from_slice(name(cap))?;

@@ -4,7 +4,8 @@ use std::alloc::{AllocError, Global};
 use ti_entries::place_named;
 use ti_source::{Field, RawEntry};
 
-/// The places among `raws` of the entry of this name and of those that it uses, in order; none if there is no such entry.
+/// The places among `raws` of the entry of this name and of those that it uses, in order; none if there is no such
+/// entry.
 ///
 /// # Errors
 /// Out of memory.

@@ -1,5 +1,6 @@
 -- Which byte of a text a byte of the joined text is.
-use Rattle.std.specs.Prelude.{◌≡◌, ◌≤◌, ◌+◌, ◌-◌, ℕ, List, [], ◌∷◌, Option, Some, None, drop, if◌then◌else◌, length, nat_lt, slice_get}
+use Rattle.std.specs.Prelude.{◌≡◌, ◌≤◌, ◌+◌, ◌-◌, ℕ, List, [], ◌∷◌, Option, Some, None, drop, if◌then◌else◌, length}
+use Rattle.std.specs.Prelude.{nat_lt, slice_get}
 use Rattle.ti_joins.specs.Joins.{joined_lines}
 use Rattle.ti_joins.specs.declared.places.Place.{Place}
 use Rattle.ti_joins.specs.declared.places.Region.{Region}

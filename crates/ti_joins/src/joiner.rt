@@ -23,9 +23,10 @@ struct Joiner {
     scan: Scan,
 }
 
-/// The source text `text` of terminfo(5) with each field on one line. Where a field isn't ended and the next line begins
-/// with white space and is neither blank nor a comment, that line continues the field, without its leading white space;
-/// it leaves a blank line behind. So each line keeps its number, and each field is on the line on which it begins.
+/// The source text `text` of terminfo(5) with each field on one line. Where a field isn't ended and the next line
+/// begins with white space and is neither blank nor a comment, that line continues the field, without its leading white
+/// space; it leaves a blank line behind. So each line keeps its number, and each field is on the line on which it
+/// begins.
 ///
 /// Goes over the text once. Fails only when out of memory.
 #[tactic(auto, unfolding(crate::specs::Joins::joined_text))]

@@ -169,7 +169,8 @@ fn place_behind(number: usize, past: usize, behind: &[&[u8]]) -> Place
 #[tactic(auto, using(crate::proofs::Origins::there))]
 fn line_there<'b>(lines: &[&'b [u8]], at: usize) -> &'b [u8]
     requires { at < length lines.now }
-    ensures { drop at (map (λ line. line.now) lines.now) ≡ result.now ∷ drop (at + 1) (map (λ line. line.now) lines.now) }
+    ensures { drop at (map (λ line. line.now) lines.now)
+        ≡ result.now ∷ drop (at + 1) (map (λ line. line.now) lines.now) }
 {
     lines[at]
 }

@@ -28,7 +28,8 @@ pub record IsRightAt (raws : List RawEntry) (rows cols place : ℕ) : Type 0 whe
 -- the entry at a place can't be resolved, or has a fault
 pub data IsWrongAt (raws : List RawEntry) (rows cols place : ℕ) : Type 0 where
   Unresolved : (fault : ResolveFault) → walk_at raws place ≡ Err fault → IsWrongAt raws rows cols place
-  AtFault : (entry : Content) → IsResolvedAt raws place entry → HasFault entry rows cols → IsWrongAt raws rows cols place
+  AtFault : (entry : Content) → IsResolvedAt raws place entry → HasFault entry rows cols
+      → IsWrongAt raws rows cols place
 
 -- whether the entry at a place has no fault
 abbrev pub Stands : List RawEntry → ℕ → ℕ → ℕ → Bool → Type 0

@@ -122,14 +122,13 @@ fn mended_source(
 }
 
 /// Replies with the source text that the `words` name, in which the suggestions for all faults of the entry are taken;
-/// it goes to a path, or to standard output. With files of `--with` suggestions are taken in these too, and each file in
-/// which a field was given another string goes to the folder that the words name, under its own name. A suggestion is
-/// left if its field isn't found, or if an entry of these files would lose its yes. The notes have a line for each
+/// it goes to a path, or to standard output. With files of `--with` suggestions are taken in these too, and each file
+/// in which a field was given another string goes to the folder that the words name, under its own name. A suggestion
+/// is left if its field isn't found, or if an entry of these files would lose its yes. The notes have a line for each
 /// suggestion and each fault that is left, and the reply fails with the first of these faults.
 ///
-/// # Errors
-/// The words give no size or no entry; `NoSource` for the entry of a compiled file; `SeveralFiles` with files of `--with`
-/// if the words name no folder; out of memory.
+/// # Errors The words give no size or no entry; `NoSource` for the entry of a compiled file; `SeveralFiles` with files
+/// of `--with` if the words name no folder; out of memory.
 pub fn fix_entry<F: Files>(
     alloc: Global,
     words: &CheckWords<'_>,

@@ -109,7 +109,8 @@ fn placed(alloc: Global, folder: &str, file: &Text) -> Result<NewFile, AllocErro
 
 /// The new files in `folder` for those of the `files` that have changed.
 fn new_files(alloc: Global, folder: &str, files: &[Text]) -> Result<Vec<NewFile>, AllocError>
-    ensures { IfOk result (λ news. AllZip (spec.IsPlaced folder.now) (spec.changed_ones (sheets files.now)) news.items) }
+    ensures { IfOk result
+        (λ news. AllZip (spec.IsPlaced folder.now) (spec.changed_ones (sheets files.now)) news.items) }
 {
     let mut news = Vec::new(alloc);
     for file in files {

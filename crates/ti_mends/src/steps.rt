@@ -129,7 +129,8 @@ pub fn mended_by_all(
     start: Mending,
 ) -> Result<Mending, AllocError>
     requires { spec.IsCurrent asked.name.now start }
-    ensures each { IfOk result (spec.TakesEach (spec.IsStep entry.now mended.now (spec.aim_of asked.entry)) caps.now start) }
+    ensures each { IfOk result
+        (spec.TakesEach (spec.IsStep entry.now mended.now (spec.aim_of asked.entry)) caps.now start) }
     ensures current { IfOk result (spec.IsCurrent asked.entry.name.now) }
 {
     let mut mending = start;

@@ -206,7 +206,8 @@ pub fn changed(
 ) -> Result<Option<Texts>, AllocError>
     requires { IsTrue (string_fits string.now) }
     ensures { IfOk result (λ found. IfSome found (λ new.
-        spec.IsChange cap string.now (spec.sheets texts.now.files.items) (spec.sheets new.files.items) new.raws.items)) }
+        spec.IsChange cap string.now (spec.sheets texts.now.files.items) (spec.sheets new.files.items)
+        new.raws.items)) }
 {
     let Some(spot) = spot_of(texts.counts.as_slice(), place) else {
         return Ok(None);

@@ -75,4 +75,5 @@ message_text kind report =
 -- the statement about an entry of a file, whatever line it is on
 abbrev pub statement_key : Kind → Data → List ℕ
 statement_key kind report =
-    text_in (codes "file") report ++ (codes ":" ++ (text_in (codes "entry_hex") report ++ (codes ":" ++ statement_text kind report)))
+    text_in (codes "file") report ++ (codes ":" ++ (text_in (codes "entry_hex") report
+    ++ (codes ":" ++ statement_text kind report)))

@@ -1,8 +1,10 @@
 -- The places of a file in the form of SARIF.
-use Rattle.std.specs.Prelude.{ℕ, ◌/◌, ◌%◌, ◌+◌, ◌==◌, ◌&&◌, ◌||◌, nat_le, nat_lt, Bool, List, [], ◌∷◌, Option, Some, None}
+use Rattle.std.specs.Prelude.{ℕ, ◌/◌, ◌%◌, ◌+◌, ◌==◌, ◌&&◌, ◌||◌, nat_le, nat_lt, Bool, List, [], ◌∷◌, Option, Some}
+use Rattle.std.specs.Prelude.{None}
 use Rattle.std.specs.Prelude.{codes, if◌then◌else◌, option_map}
 use Rattle.std.specs.List.{flat_map}
-use Rattle.serde_json.specs.Data.{Data, Members, array, item, member, no_items, no_members, number, object, put, string, unsigned}
+use Rattle.serde_json.specs.Data.{Data, Members, array, item, member, no_items, no_members, number, object, put, string}
+use Rattle.serde_json.specs.Data.{unsigned}
 use Rattle.ti_objects.specs.Members.{number_in, text_in}
 use Rattle.ti_objects.specs.Messages.{name_in}
 use Rattle.ti_objects.specs.declared.places.Span.{Span}

@@ -1,5 +1,6 @@
 -- A field of a source text, and below it marks under its value, or under the part of it that is at fault.
-use Rattle.std.specs.Prelude.{◌≡◌, ◌+◌, ◌-◌, ◌==◌, ◌||◌, ℕ, Bool, false, List, ◌∷◌, [], ◌++◌, Option, Some, None, IfSome}
+use Rattle.std.specs.Prelude.{◌≡◌, ◌+◌, ◌-◌, ◌==◌, ◌||◌, ℕ, Bool, false, List, ◌∷◌, [], ◌++◌, Option, Some, None}
+use Rattle.std.specs.Prelude.{IfSome}
 use Rattle.std.specs.Prelude.{codes, drop, if◌then◌else◌, length, replicate, slice_get, take, Ok}
 use Rattle.ti_caps.specs.Table.{name_at}
 use Rattle.ti_source.specs.Escapes.{unescaped}

@@ -23,8 +23,8 @@ pub struct Judged<'a> {
     pub size: Size,
 }
 
-/// The part of `value` that is at fault, where `fault` is about the string of this value; `None` if no smaller part is known
-/// than the whole.
+/// The part of `value` that is at fault, where `fault` is about the string of this value; `None` if no smaller part is
+/// known than the whole.
 ///
 /// # Errors
 /// Out of memory.

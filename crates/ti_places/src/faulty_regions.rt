@@ -40,8 +40,8 @@ pub(crate) fn faulty_region(
     origin: Origin,
     fault: &Judged<'_>,
 ) -> Result<Option<Region>, AllocError>
-    ensures { IfOk result (λ found. IfSome found (spec.IsFaultyRegion (map file_text originals.now) (put_files files.now)
-        fault.now.no.now.cap origin)) }
+    ensures { IfOk result (λ found. IfSome found (spec.IsFaultyRegion (map file_text originals.now)
+        (put_files files.now) fault.now.no.now.cap origin)) }
 {
     let Some(columns) = files.columns(origin, fault.no.cap) else {
         return Ok(None);

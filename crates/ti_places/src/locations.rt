@@ -88,8 +88,8 @@ fn origin_lines(
     fault: &Judged<'_>,
     origin: Origin,
 ) -> Result<Vec<u8>, AllocError>
-    ensures { IfOk result (λ lines. spec.TellsOrigin (map file_text originals.now) named.now.source.now fault.now.no.now.cap
-        (Some origin) lines.items) }
+    ensures { IfOk result (λ lines. spec.TellsOrigin (map file_text originals.now) named.now.source.now
+        fault.now.no.now.cap (Some origin) lines.items) }
 {
     let field = PutField {
         files: named.files,
@@ -239,7 +239,8 @@ fn shown_field(
     columns: Columns,
     part: Option<Stretch>,
 ) -> Result<Vec<u8>, AllocError>
-    requires { IsFaulty (value_in field.now.cap (piece_among (put_files field.now.files) columns field.now.origin)) part }
+    requires { IsFaulty
+        (value_in field.now.cap (piece_among (put_files field.now.files) columns field.now.origin)) part }
     ensures { IfOk result (λ lines. lines.items ≡ spec.piece_text (map file_text field.now.originals.now)
         (put_files field.now.files) field.now.cap field.now.origin part (Some columns)) }
 {

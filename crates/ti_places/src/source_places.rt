@@ -144,7 +144,8 @@ impl<'b> NamedSource<'_, 'b> {
     /// # Errors
     /// Out of memory.
     pub fn origin(&self, alloc: Global, cap: Cap) -> Result<Option<Origin>, AllocError>
-        ensures { IfOk result (λ found. IsOrigin self.now.source.now.raws.items self.now.source.now.name.now cap found) }
+        ensures { IfOk result
+            (λ found. IsOrigin self.now.source.now.raws.items self.now.source.now.name.now cap found) }
     {
         origin_named(alloc, self.index, self.source.name.as_bytes(), cap)
     }

@@ -1,5 +1,6 @@
 -- The reply of `survey --fix`.
-use Rattle.std.specs.Prelude.{ℕ, ◌≡◌, ◌≤◌, ◌⊎◌, ◌&&◌, not, Bool, true, false, List, [], ◌∷◌, ◌++◌, Option, Some, None, Ok}
+use Rattle.std.specs.Prelude.{ℕ, ◌≡◌, ◌≤◌, ◌⊎◌, ◌&&◌, not, Bool, true, false, List, [], ◌∷◌, ◌++◌, Option, Some, None}
+use Rattle.std.specs.Prelude.{Ok}
 use Rattle.std.specs.Prelude.{codes, length}
 use Rattle.ti_commands.specs.Contents.{AreBytesOf, HasBytes, Held, longest_file}
 use Rattle.ti_commands.specs.Failures.{IsFileFailure}

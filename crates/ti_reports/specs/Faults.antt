@@ -1,5 +1,6 @@
 -- The report on an entry: that it has a certificate, or each of its faults.
-use Rattle.std.specs.Prelude.{◌≡◌, ℕ, Bool, true, false, List, [], ◌∷◌, ◌++◌, Option, Some, None, IfSome, String, map, string_bytes}
+use Rattle.std.specs.Prelude.{◌≡◌, ℕ, Bool, true, false, List, [], ◌∷◌, ◌++◌, Option, Some, None, IfSome, String, map}
+use Rattle.std.specs.Prelude.{string_bytes}
 use Rattle.std.specs.declared.alloc.Global.{Global}
 use Rattle.ti_caps.specs.Entry.{Content, string_at}
 use Rattle.ti_caps.specs.Table.{name_at}
@@ -12,7 +13,8 @@ use Rattle.ti_members.specs.Names.{AreAliases, HasName}
 use Rattle.ti_reports.specs.Hints.{HintText, IsHintPlace, hint_text}
 use Rattle.ti_reports.specs.Reports.{IsNothing, report_line}
 use Rattle.ti_members.specs.Sent.{IsSentText}
-use Rattle.ti_members.specs.Sources.{ByName, ByPlace, IsFaultyAt, IsNowhere, IsValuePlace, Nowhere, Whereabouts, whereabouts_of}
+use Rattle.ti_members.specs.Sources.{ByName, ByPlace, IsFaultyAt, IsNowhere, IsValuePlace, Nowhere, Whereabouts}
+use Rattle.ti_members.specs.Sources.{whereabouts_of}
 use Rattle.ti_members.specs.Spellings.{IsSpelling}
 use Rattle.ti_members.specs.Suggestions.{AreFields, IsMendedFor, IsSuggested, is_judged, mended_with, other_kind}
 use Rattle.ti_members.specs.Texts.{IsShownAs}

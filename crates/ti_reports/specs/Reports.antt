@@ -108,7 +108,9 @@ abbrev pub names_hex_data : List Written → Data
 names_hex_data names = array (items_of (map (λ name. string (string_bytes name.hex)) names))
 
 abbrev pub size_data : ℕ → ℕ → Data
-size_data height width = object (member (codes "cols") (number (unsigned width)) (member (codes "rows") (number (unsigned height)) no_members))
+size_data height width =
+    object (member (codes "cols") (number (unsigned width))
+    (member (codes "rows") (number (unsigned height)) no_members))
 
 -- the name of the kind of finding: the cause of a no, one for all that can't be read, one for advice, and the kind of a
 -- hint

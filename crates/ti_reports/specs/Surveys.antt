@@ -76,7 +76,8 @@ pub record IsOfRefusal (height width : ℕ) (path : List ℕ) (stands : Option P
 -- that line, and nothing beside it
 abbrev pub ReportsLack : ℕ → ℕ → Refusing
 ReportsLack height width path stands name refusal told =
-    IsOfRefusal height width path stands name refusal told.lines × (told.places ≡ []) × (told.answers ≡ answers.Refused ∷ [])
+    IsOfRefusal height width path stands name refusal told.lines × (told.places ≡ [])
+    × (told.answers ≡ answers.Refused ∷ [])
 
 -- the line about a file that can't be read
 pub record IsUnreadLine (height width : ℕ) (path line : List ℕ) : Type 0 where

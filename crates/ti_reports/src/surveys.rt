@@ -40,7 +40,8 @@ pub fn survey_reports<F: Files, W: Watcher>(
     remarks: &mut Remarks,
 ) -> Result<Reply, Failure>
     ensures reply { IfOk result (λ reply. spec.AreSurveyed (map file_text survey.now.originals.now)
-        (F.holds files.old) survey.now.words.now remarks.new (Hears W.heard W.has_failed watcher.old watcher.new) reply) }
+        (F.holds files.old) survey.now.words.now remarks.new (Hears W.heard W.has_failed watcher.old watcher.new)
+        reply) }
     ensures failure { IfErr result (λ e. FailsToSurvey (F.holds files.old) survey.now.words.now.rows.now
         survey.now.words.now.cols.now e) }
     ensures kept { F.holds files.new ≡ F.holds files.old }

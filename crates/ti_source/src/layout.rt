@@ -105,8 +105,8 @@ pub(crate) fn trim_end(bytes: &[u8]) -> &[u8]
     rest
 }
 
-/// The place of the comma that ends the first field of `line`, a part of a line of source text; `None` if no comma ends it.
-/// A backslash takes the byte behind it, a comma too; a caret takes a backslash behind it (terminfo(5)).
+/// The place of the comma that ends the first field of `line`, a part of a line of source text; `None` if no comma ends
+/// it. A backslash takes the byte behind it, a comma too; a caret takes a backslash behind it (terminfo(5)).
 #[tactic(auto, unfolding(crate::specs::Scan::comma_in))]
 pub fn field_end(line: &[u8]) -> Option<usize>
     ensures place { result ≡ comma_in line.now }

@@ -1,5 +1,5 @@
--- The front of a parameter string, up to a place between two of its codes, as a string of its own. A conditional that is
--- open at the place is closed behind it by codes that write nothing.
+-- The front of a parameter string, up to a place between two of its codes, as a string of its own. A conditional that
+-- is open at the place is closed behind it by codes that write nothing.
 use Rattle.std.specs.Prelude.{ℕ, Bool, true, false, List, ◌++◌, codes, take}
 use Rattle.std.specs.List.{flat_map}
 

@@ -18,7 +18,8 @@ struct Conditional {
     tests: bool,
 }
 
-/// The conditionals that are open at a place, the outermost first, and the parameter that is sought in their conditions.
+/// The conditionals that are open at a place, the outermost first, and the parameter that is sought in their
+/// conditions.
 #[derive(Drop)]
 struct Nest<'a> {
     conditionals: Vec<Conditional>,
@@ -56,7 +57,8 @@ impl Nest<'_> {
     }
 }
 
-/// The innermost conditional behind a code in it. `is_sought` says whether the code pushes the parameter that is sought.
+/// The innermost conditional behind a code in it. `is_sought` says whether the code pushes the parameter that is
+/// sought.
 fn behind(innermost: Conditional, code: &[u8], is_sought: bool) -> Conditional {
     match code {
         b"%t" => Conditional {
@@ -74,7 +76,8 @@ fn behind(innermost: Conditional, code: &[u8], is_sought: bool) -> Conditional {
     }
 }
 
-/// The first conditional of `string` to end that has `%p` and `digit` in a condition of its own, from its `%?` to its `%;`.
+/// The first conditional of `string` to end that has `%p` and `digit` in a condition of its own, from its `%?` to its
+/// `%;`.
 ///
 /// # Errors
 /// Out of memory.

@@ -109,9 +109,9 @@ fn broken_code(string: &[u8], codes: &[Stretch]) -> Option<Stretch>
     }
 }
 
-/// The first code of `string` with which it has this fault, for `params` and with all static variables 0: its front up to
-/// the code's end has it. Of a code that is none, at most the first two bytes. `None` if there is no such code, as where a
-/// conditional has no end.
+/// The first code of `string` with which it has this fault, for `params` and with all static variables 0: its front up
+/// to the code's end has it. Of a code that is none, at most the first two bytes. `None` if there is no such code, as
+/// where a conditional has no end.
 ///
 /// # Errors
 /// Out of memory.

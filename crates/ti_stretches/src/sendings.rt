@@ -38,7 +38,8 @@ pub fn sent_bytes(
     string: &[u8],
     params: &[Param<'_>],
 ) -> Result<Option<Vec<u8>>, AllocError>
-    ensures sent { IfOk result (λ found. IfSome found (λ bytes. sent string.now (values_of params.now) ≡ Ok bytes.items)) }
+    ensures sent { IfOk result (λ found. IfSome found
+        (λ bytes. sent string.now (values_of params.now) ≡ Ok bytes.items)) }
     ensures none { IfOk result (λ found. IfNone found
         ((bytes : List ℕ) → sent string.now (values_of params.now) ≡ Ok bytes → ⊥)) }
 {
@@ -68,8 +69,8 @@ impl Sender<'_> {
     ghost use Rattle.ti_parm.specs.Value.{values_of};
     ghost use Rattle.ti_stretches.specs.Sendings.{AreCuts, HasSent, IsSending};
 
-    /// The cut at `place`, where the conditionals `nest` are open; `None` if the front of the string sends other bytes than
-    /// the whole string does, as it does within a delay.
+    /// The cut at `place`, where the conditionals `nest` are open; `None` if the front of the string sends other bytes
+    /// than the whole string does, as it does within a delay.
     fn cut(&self, alloc: Global, place: usize, nest: &Open) -> Result<Option<Cut>, AllocError>
         requires { place ≤ length self.now.string.now }
         ensures { IfOk result (λ found. IfSome found (λ cut.
@@ -123,9 +124,9 @@ impl Sender<'_> {
         Ok(cuts)
     }
 
-    /// The stretch of the string that sends `bytes`, between two of its `cuts`: the first one up to which all of them are
-    /// sent, and the last one before it up to which none is; or the one before that, where only a parameter is pushed
-    /// between the two, and a code begins behind it.
+    /// The stretch of the string that sends `bytes`, between two of its `cuts`: the first one up to which all of them
+    /// are sent, and the last one before it up to which none is; or the one before that, where only a parameter is
+    /// pushed between the two, and a code begins behind it.
     fn between(&self, cuts: &[Cut], bytes: Stretch) -> Option<Stretch>
         requires { AreCuts self.now.string.now (values_of self.now.params.now) self.now.bytes.now cuts.now }
         ensures { IfSome result
@@ -146,8 +147,8 @@ impl Sender<'_> {
     }
 }
 
-/// The cut `before` the `start` of a stretch, if a code at the start takes the parameter that is pushed between the two;
-/// otherwise the start.
+/// The cut `before` the `start` of a stretch, if a code at the start takes the parameter that is pushed between the
+/// two; otherwise the start.
 fn first_of(string: &[u8], before: Option<Cut>, start: Cut) -> Cut
     ensures { (result ≡ start) ⊎ (before ≡ Some result) }
 {

@@ -13,7 +13,8 @@ pub struct Stretch {
 }
 
 impl Stretch {
-    /// The part of `bytes` from the place `from` on, up to and without the one at `to`; `None` if it is empty or ends outside.
+    /// The part of `bytes` from the place `from` on, up to and without the one at `to`; `None` if it is empty or ends
+    /// outside.
     pub(crate) fn within(bytes: &[u8], from: usize, to: usize) -> Option<Stretch>
         ensures within { IfSome result (IsWithin bytes.now) }
         ensures from { IfSome result (λ found. found.from ≡ from) }

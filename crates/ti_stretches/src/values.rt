@@ -21,8 +21,8 @@ fn means(alloc: Global, text: &[u8], bytes: &[u8]) -> Result<bool, AllocError>
     }
 }
 
-/// Whether the first `count` of `bytes` are meant by what stands before `place` of `text`, and the others by what stands
-/// behind it.
+/// Whether the first `count` of `bytes` are meant by what stands before `place` of `text`, and the others by what
+/// stands behind it.
 fn is_cut(
     alloc: Global,
     text: &[u8],
@@ -40,8 +40,8 @@ fn is_cut(
     Ok(means(alloc, before, first)? && means(alloc, behind, others)?)
 }
 
-/// The first place of `text`, from `first` on, before which the first `count` of `bytes` are meant, and behind which the
-/// others are.
+/// The first place of `text`, from `first` on, before which the first `count` of `bytes` are meant, and behind which
+/// the others are.
 fn cut_from(
     alloc: Global,
     text: &[u8],
@@ -62,8 +62,9 @@ fn cut_from(
     Ok(None)
 }
 
-/// The part of the value `text` that means `stretch` of the string `bytes`. `None` if no part of the value does, as where
-/// the value means another string or an escape goes over an end of the stretch, or if the string has no such stretch.
+/// The part of the value `text` that means `stretch` of the string `bytes`. `None` if no part of the value does, as
+/// where the value means another string or an escape goes over an end of the stretch, or if the string has no such
+/// stretch.
 ///
 /// # Errors
 /// Out of memory.

@@ -29,9 +29,9 @@ use Rattle.ti_places.specs.Spots.{PutFiles, texts_of_files}
 abbrev pub Saying : Type 1
 Saying = List ℕ → Option PlaceInSource → List ℕ → Content → Told → Type 0
 
--- the statements allowed about an entry that can't be obtained, by the path of its file, its place in a source or that of
--- the entry that hides it, its name and the refusal that says why; or about a file that has no entries, without place and
--- name
+-- the statements allowed about an entry that can't be obtained, by the path of its file, its place in a source or that
+-- of the entry that hides it, its name and the refusal that says why; or about a file that has no entries, without
+-- place and name
 abbrev pub Refusing : Type 1
 Refusing = List ℕ → Option PlaceInSource → Option (List ℕ) → CommandRefusal → Told → Type 0
 
@@ -127,7 +127,8 @@ pub record HasEntries (Says : Saying) (Refuses : Refusing) (others : List Furthe
   pub all : AllApart
   pub together : ArePutApart own others all
   pub each : IsToldOfEach
-      (IsSourcePart Says Refuses path (files_beside path bytes others all.counts) all.raws all.faults) (range_with_len 0 (length own.raws)) said
+      (IsSourcePart Says Refuses path (files_beside path bytes others all.counts) all.raws all.faults)
+      (range_with_len 0 (length own.raws)) said
 
 -- the statement about a source text that is too long, or has a fault before its first entry
 pub record LacksEntries (Refuses : Refusing) (path bytes : List ℕ) (said : Told) : Type 0 where

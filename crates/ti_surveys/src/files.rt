@@ -207,8 +207,9 @@ fn apart_lines<'b, S: Speaker, W: Watcher>(
     watcher: &mut W,
 ) -> Result<Said, AllocError>
     requires { spec.IsAllRead text.now survey.now.further.now (all_in all.now) }
-    ensures told { IfOk result (λ said. spec.HasEntries (S.says survey.now.speaker.now) (S.refuses survey.now.speaker.now)
-        survey.now.further.now path.now text.now (told_of said)) }
+    ensures told { IfOk result (λ said. spec.HasEntries
+        (S.says survey.now.speaker.now) (S.refuses survey.now.speaker.now) survey.now.further.now
+        path.now text.now (told_of said)) }
     ensures heard { IfOk result (λ said. Hears W.heard W.has_failed watcher.old watcher.new said.lines.items) }
 {
     let index = Index::new(alloc, all.raws.as_slice())?;

@@ -28,8 +28,8 @@ pub struct FileEntry<'a, 'b> {
 pub struct Lacking<'a, 'b> {
     /// The file's path.
     pub path: &'a str,
-    /// The place of the entry among those of the file and of `--with`, or of the one that hides it; `None` if the file is
-    /// no source, or has no entries.
+    /// The place of the entry among those of the file and of `--with`, or of the one that hides it; `None` if the file
+    /// is no source, or has no entries.
     pub stands: &'a Option<SourcePlace<'a, 'b>>,
     /// The first of the names that the entry has there; `None` if the file has no entries.
     pub name: Option<&'a [u8]>,

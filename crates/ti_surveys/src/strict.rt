@@ -8,8 +8,8 @@ use ti_commands::{CommandRefusal, Failure};
 use ti_verdicts::Answer;
 
 /// The failure of a survey whose lines have these `answers`. The `failure` of a path that can't be read comes first;
-/// else, if the survey `is_strict`, it is refused as `Faulty` if some line doesn't say yes. An entry that is only there to
-/// be used counts as if it did.
+/// else, if the survey `is_strict`, it is refused as `Faulty` if some line doesn't say yes. An entry that is only there
+/// to be used counts as if it did.
 pub fn strict_failure(
     alloc: Global,
     is_strict: bool,

@@ -83,8 +83,8 @@ pub(crate) fn all_apart(
     requires fields { AllByRecursion FieldsFit own.raws.items }
     requires names { NamesFit own.raws.items own.faults.items }
     requires beside { length own.faults.items ≡ length own.raws.items }
-    ensures together { IfOk result (λ all. spec.ArePutApart (record { raws = own.raws.items; faults = own.faults.items })
-        further.now (spec.all_in all)) }
+    ensures together { IfOk result (λ all. spec.ArePutApart
+        (record { raws = own.raws.items; faults = own.faults.items }) further.now (spec.all_in all)) }
     ensures fit { IfOk result (λ all. AllByRecursion FieldsFit all.raws.items) }
     ensures named { IfOk result (λ all. NamesFit all.raws.items all.faults.items) }
     ensures beside { IfOk result (λ all. length all.faults.items ≡ length all.raws.items) }

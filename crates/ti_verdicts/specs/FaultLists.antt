@@ -64,8 +64,8 @@ EndsAsNo refusal None = ⊥
 
 -- The reply lists these faults, with the suggestions by the entry in which all of them are mended at once, and fails as
 -- the first does.
-pub record HasFaults (originals : List FileText) (entry : Content) (source : Option SourceText) (rows cols : ℕ) (first : No)
-    (others : List No) (reply : Reply) : Type 0 where
+pub record HasFaults (originals : List FileText) (entry : Content) (source : Option SourceText) (rows cols : ℕ)
+    (first : No) (others : List No) (reply : Reply) : Type 0 where
   pub mended : Mended
   pub best : IsBestMended entry rows cols (first ∷ others) mended
   pub text : IsFaultsText originals entry source mended (first ∷ others) reply.text.items

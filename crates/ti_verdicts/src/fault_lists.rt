@@ -78,8 +78,8 @@ fn reply_of(
     nos: &[No],
 ) -> Result<Reply, AllocError>
     ensures noted { IfOk result (λ reply. reply.notes ≡ notes) }
-    ensures told { IfOk result (λ reply. spec.TellsFaults (map file_text asked.now.originals.now) asked.now.found.now.entry
-        asked.now.found.now.source asked.now.size.rows asked.now.size.cols nos.now reply) }
+    ensures told { IfOk result (λ reply. spec.TellsFaults (map file_text asked.now.originals.now)
+        asked.now.found.now.entry asked.now.found.now.source asked.now.size.rows asked.now.size.cols nos.now reply) }
 {
     match nos {
         [] => Ok(Reply {
@@ -194,8 +194,8 @@ fn fault_lines(
     mended: &Mended,
     nos: &[No],
 ) -> Result<Vec<u8>, AllocError>
-    ensures { IfOk result (λ lines. HasParts (spec.HasFaultLines (map file_text found.now.originals.now) found.now.entry.now
-        (source_if found.now.source) mended.now nos.now) nos.now lines.items) }
+    ensures { IfOk result (λ lines. HasParts (spec.HasFaultLines (map file_text found.now.originals.now)
+        found.now.entry.now (source_if found.now.source) mended.now nos.now) nos.now lines.items) }
 {
     let mut lines = Vec::new(alloc);
     for no in nos {

@@ -1,5 +1,6 @@
 -- The changes by a run, in words.
-use Rattle.std.specs.Prelude.{ℕ, ◌+◌, ◌-◌, ◌==◌, ◌&&◌, ◌||◌, Bool, true, false, not, List, [], ◌∷◌, ◌++◌, Option, bytes_eq}
+use Rattle.std.specs.Prelude.{ℕ, ◌+◌, ◌-◌, ◌==◌, ◌&&◌, ◌||◌, Bool, true, false, not, List, [], ◌∷◌, ◌++◌, Option}
+use Rattle.std.specs.Prelude.{bytes_eq}
 use Rattle.std.specs.Prelude.{if◌then◌else◌, codes, length}
 use Rattle.std.specs.Fmt.{decimal}
 use Rattle.std.specs.List.{list_all}
@@ -88,7 +89,8 @@ same_rendition r s =
 
 abbrev pub same_charset : Charset → Charset → Bool
 same_charset c d =
-    same_flag c.g0_graphic d.g0_graphic && (same_flag c.g1_graphic d.g1_graphic && same_flag c.shifted_out d.shifted_out)
+    same_flag c.g0_graphic d.g0_graphic
+    && (same_flag c.g1_graphic d.g1_graphic && same_flag c.shifted_out d.shifted_out)
 
 abbrev pub same_region : Settings → Settings → Bool
 same_region one other = (one.top == other.top) && (one.bottom == other.bottom)

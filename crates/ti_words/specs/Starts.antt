@@ -25,7 +25,8 @@ has_mark r = r.bold || (r.faint || (r.underline || (r.blink || (r.negative || r.
 abbrev pub marks_text : Rendition → List ℕ
 marks_text r =
     if_so r.bold (codes " bold") ++ (if_so r.faint (codes " dim") ++ (if_so r.underline (codes " underlined")
-    ++ (if_so r.blink (codes " blinking") ++ (if_so r.negative (codes " reverse") ++ if_so r.concealed (codes " invisible")))))
+    ++ (if_so r.blink (codes " blinking") ++ (if_so r.negative (codes " reverse")
+    ++ if_so r.concealed (codes " invisible")))))
 
 abbrev pub color_name : Option Color → List ℕ
 color_name None = codes "default"
@@ -47,7 +48,8 @@ has_colors r = not (is_default r.foreground && is_default r.background)
 
 -- the colors, if one isn't the default
 abbrev pub colors_text : Rendition → List ℕ
-colors_text r = if_so (has_colors r) (codes " in " ++ (color_name r.foreground ++ (codes " on " ++ color_name r.background)))
+colors_text r =
+    if_so (has_colors r) (codes " in " ++ (color_name r.foreground ++ (codes " on " ++ color_name r.background)))
 
 unfoldable pub rendition_text : Rendition → List ℕ
 rendition_text r = (if has_mark r then marks_text r else codes " plain") ++ colors_text r

@@ -252,8 +252,8 @@ pub fn explain_look(
     Ok(())
 }
 
-/// Explains what is wrong with the bytes that were `sent` by running them on `terminal`, which must have their size. All
-/// of its cells must show the character `fill`.
+/// Explains what is wrong with the bytes that were `sent` by running them on `terminal`, which must have their size.
+/// All of its cells must show the character `fill`.
 pub fn explain_run(
     alloc: Global,
     sent: Sent<'_>,

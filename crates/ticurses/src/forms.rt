@@ -74,7 +74,8 @@ fn news_of<F: Files>(
     Ok(baseline.news(alloc, text_of(report))?)
 }
 
-/// The `failure` of a survey, if it still fails with only the lines `news`: a refusal is for something wrong among them.
+/// The `failure` of a survey, if it still fails with only the lines `news`: a refusal is for something wrong among
+/// them.
 fn failure_of(
     alloc: Global,
     news: &[u8],

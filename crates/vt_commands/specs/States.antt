@@ -36,7 +36,8 @@ fed_of plain bytes = if plain then plain_text bytes else bytes
 abbrev pub note_of : ℕ → ℕ → List ℕ
 note_of gone marks =
     if (gone == 0) && (marks == 0) then []
-    else codes "plain-text: " ++ (decimal gone ++ (codes " bytes of strings dropped, " ++ (decimal marks ++ codes " characters shown as ?\n")))
+    else codes "plain-text: " ++ (decimal gone ++ (codes " bytes of strings dropped, "
+    ++ (decimal marks ++ codes " characters shown as ?\n")))
 
 abbrev pub notes_of : Bool → List ℕ → List ℕ
 notes_of plain bytes =
@@ -94,7 +95,8 @@ pub record FileFails (held : Held) (words : FeedWords) (failure : Failure) : Typ
   pub height : ℕ
   pub width : ℕ
   pub given : SizeGiven words.rows.now words.cols.now height width
-  pub fails : HasBytes (held.at words.file.now) longest_file (λ bytes. FailsWith words.form height width (fed_of words.plain_text bytes) failure)
+  pub fails : HasBytes (held.at words.file.now) longest_file
+      (λ bytes. FailsWith words.form height width (fed_of words.plain_text bytes) failure)
 
 -- wrong words come first, then the size, then the file, then its bytes
 abbrev pub FailsToShow : Held → FeedWords → Failure → Type 0

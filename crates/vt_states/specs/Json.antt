@@ -80,7 +80,8 @@ set_value graphic = either graphic (codes "\"graphic\"") (codes "\"plain\"")
 
 unfoldable pub cursor_members : Screen → List ℕ
 cursor_members s =
-    member (codes "active") (either s.charset.shifted_out (codes "\"g1\"") (codes "\"g0\"")) ++ member (codes "autowrap") (truth s.autowrap)
+    member (codes "active") (either s.charset.shifted_out (codes "\"g1\"") (codes "\"g0\""))
+    ++ member (codes "autowrap") (truth s.autowrap)
     ++ member (codes "cursor") (pair s.row s.col)
 
 unfoldable pub set_members : Screen → List ℕ

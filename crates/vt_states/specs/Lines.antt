@@ -28,7 +28,8 @@ active_word shifted_out = either shifted_out (codes "g1") (codes "g0")
 
 unfoldable pub place_lines : Screen → List ℕ
 place_lines s =
-    line (codes "pending") (either s.pending (codes "yes") (codes "no")) ++ line (codes "margins") (margins_text s.top s.bottom)
+    line (codes "pending") (either s.pending (codes "yes") (codes "no"))
+    ++ line (codes "margins") (margins_text s.top s.bottom)
 
 unfoldable pub switch_lines : Screen → List ℕ
 switch_lines s =
