@@ -1,4 +1,5 @@
-"""Each crate's README has the one form, and names what the crate exports with the clauses of its sources.
+"""Each crate's README has the one form, and names what the crate exports with the clauses of its sources; and lines of
+code and definitions aren't too wide.
 
 readmes.py                    compares all READMEs with the sources; status 1 if one differs
 readmes.py --callers FOLDER   writes the READMEs' callers into a folder, as modules of a crate, and names the modules
@@ -23,6 +24,10 @@ HEADINGS = ["Contracts", "Words", "A caller", "Only tested", "Not done", "Truste
 NEEDED = ["Contracts", "A caller", "Only tested", "Trusted"]
 HEAD = "| call | clauses | what they say |"
 MOST_WORDS = 40
+MOST_COLUMNS = 120
+# what may make a line longer: printed text, and a list of lemmas, which the formatter joins
+TEXT = re.compile(r'"(?:[^"\\]|\\.)*"?')
+LEMMAS = "#[tactic("
 
 IMPL = r"^impl(?:<[^{\n]*?>)? (?:(\w+)(?:<[^{\n]*>)? for )?(\w+)[^{\n]*\{"
 KINDS = r"(fn|struct|enum|trait|const|type|static) (\w+)"
@@ -231,6 +236,16 @@ def top_faults():
             yield f"README.md: a cell has {len(cell.split())} words: {cell[:60]}.."
 
 
+def wide_lines(crate):
+    """Lines of a crate's code and definitions that have too many columns without printed text."""
+    for folder, ending in (("src", ".rt"), ("specs", ".antt")):
+        for name in files_of(crate, folder, ending):
+            path = f"crates/{crate}/{folder}/{name}{ending}"
+            for number, line in enumerate(read(f"{TOP}/{path}").splitlines(), 1):
+                if len(TEXT.sub("", line)) > MOST_COLUMNS and LEMMAS not in line:
+                    yield f"{path}:{number}: it has more than {MOST_COLUMNS} columns"
+
+
 # ---- what else it does
 
 
@@ -275,10 +290,12 @@ def main():
     if sys.argv[1:2] == ["--rows"]:
         return print_rows(sys.argv[2])
     crates, sources = listed(), words_of_sources()
-    found = [*top_faults(), *(fault for crate in sys.argv[1:] or crates for fault in faults(crate, sources))]
+    asked = sys.argv[1:] or crates
+    found = [*top_faults(), *(fault for crate in asked for fault in [*faults(crate, sources), *wide_lines(crate)])]
     if found:
         sys.exit("readmes: " + "\nreadmes: ".join(found))
     print(f"readmes: {len(crates)} READMEs have the form, and name what their crates export with its clauses")
+    print(f"readmes: lines of code and definitions have at most {MOST_COLUMNS} columns, but for printed text")
     return None
 
 
