@@ -1,4 +1,4 @@
--- What copies between grids need, and what they do.
+-- Requirements and effects of copies between grids.
 use Rattle.std.specs.Prelude.{◌+◌, ◌<◌, ◌≡◌}
 use Rattle.grids.specs.declared.areas.Area.{Area}
 use Rattle.cur_drawing.specs.Grids.{Fits, Grid, copied, moved_to, shape_of}

@@ -1,9 +1,9 @@
 //! Giving a capability of an entry another string, in the text.
 
-ghost use Rattle.std.specs.{Prelude.{◌≡◌, IfOk, IfSome, IsTrue, Ok}, List.{AllByRecursion}};
+ghost use Rattle.std.specs.{Prelude.{◌≡◌, Err, IfNone, IfOk, IfSome, IsTrue, Ok}, List.{AllByRecursion}};
 ghost use Rattle.ti_caps.specs.Fits.{string_fits};
 ghost use Rattle.ti_fixes.specs.Fixes.{Gives};
-ghost use Rattle.ti_source.specs.{Raw.{IsRaw}, Source.{source_of}};
+ghost use Rattle.ti_source.specs.{Raw.{IsRaw}, Source.{source_of}, declared.types.SourceFault.{SourceFault}};
 
 use crate::comparisons::are_given;
 use crate::places::find_piece;
@@ -25,6 +25,7 @@ pub struct Fixed {
 pub fn entries_of(alloc: Global, text: &[u8]) -> Result<Option<Vec<RawEntry>>, AllocError>
     ensures reads { IfOk result (λ found. IfSome found (λ raws. source_of text.now ≡ Ok raws.items)) }
     ensures fit { IfOk result (λ found. IfSome found (λ raws. AllByRecursion IsRaw raws.items)) }
+    ensures none { IfOk result (λ found. IfNone found ((fault : SourceFault) × (source_of text.now ≡ Err fault))) }
 {
     match read(alloc, text) {
         Ok(raws) => Ok(Some(raws)),
