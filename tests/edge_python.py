@@ -325,7 +325,8 @@ def check_types(work):
         print("edge: mypy is not installed, and what needs it is left out")
         return
     words = ["mypy", "--strict", "--cache-dir", f"{work}/types", f"{TOP}/bindings/python/ticurses"]
-    ran = subprocess.run(words, stdout=subprocess.PIPE, stderr=subprocess.STDOUT, text=True)
+    # not in tests/, whose curses.py mypy would take for the module `curses`
+    ran = subprocess.run(words, cwd=work, stdout=subprocess.PIPE, stderr=subprocess.STDOUT, text=True)
     if ran.returncode:
         sys.exit(f"edge: of Python: {ran.stdout}")
 
