@@ -31,68 +31,52 @@ use Rattle.cur_calls.specs.declared.groups.ScreenCall.{ScreenCall}
 use Rattle.cur_calls.specs.declared.groups.ScreenCall.TheVariants.{Doupdate, Beep, Endwin}
 
 abbrev pub part_name : PartCall → List ℕ
-part_name Subwin = codes "subwin"
-part_name Derwin = codes "derwin"
-part_name Subpad = codes "subpad"
+part_name = elim [ Subwin ↦ codes "subwin" | Derwin ↦ codes "derwin" | Subpad ↦ codes "subpad" ]
 
 abbrev pub plain_name : PlainCall → List ℕ
-plain_name Delwin = codes "delwin"
-plain_name Delch = codes "delch"
-plain_name Insertln = codes "insertln"
-plain_name Deleteln = codes "deleteln"
-plain_name Clrtoeol = codes "clrtoeol"
-plain_name Clrtobot = codes "clrtobot"
-plain_name Erase = codes "erase"
-plain_name Clear = codes "clear"
-plain_name Touchwin = codes "touchwin"
+plain_name = elim [
+  | Delwin ↦ codes "delwin"
+  | Delch ↦ codes "delch"
+  | Insertln ↦ codes "insertln"
+  | Deleteln ↦ codes "deleteln"
+  | Clrtoeol ↦ codes "clrtoeol"
+  | Clrtobot ↦ codes "clrtobot"
+  | Erase ↦ codes "erase"
+  | Clear ↦ codes "clear"
+  | Touchwin ↦ codes "touchwin"
+]
 
 abbrev pub number_name : NumberCall → List ℕ
-number_name Scroll = codes "scroll"
-number_name ColorSet = codes "color_set"
+number_name = elim [ Scroll ↦ codes "scroll" | ColorSet ↦ codes "color_set" ]
 
 abbrev pub numbers_name : NumbersCall → List ℕ
-numbers_name Mvwin = codes "mvwin"
-numbers_name Move = codes "move"
-numbers_name Setscrreg = codes "setscrreg"
-numbers_name Touchline = codes "touchline"
+numbers_name =
+    elim [ Mvwin ↦ codes "mvwin" | Move ↦ codes "move" | Setscrreg ↦ codes "setscrreg" | Touchline ↦ codes "touchline" ]
 
 abbrev pub flag_name : FlagCall → List ℕ
-flag_name Scrollok = codes "scrollok"
-flag_name Leaveok = codes "leaveok"
-flag_name Clearok = codes "clearok"
-flag_name Idlok = codes "idlok"
+flag_name =
+    elim [ Scrollok ↦ codes "scrollok" | Leaveok ↦ codes "leaveok" | Clearok ↦ codes "clearok" | Idlok ↦ codes "idlok" ]
 
 abbrev pub attrs_name : AttrsCall → List ℕ
-attrs_name Attron = codes "attron"
-attrs_name Attroff = codes "attroff"
-attrs_name Attrset = codes "attrset"
+attrs_name = elim [ Attron ↦ codes "attron" | Attroff ↦ codes "attroff" | Attrset ↦ codes "attrset" ]
 
 abbrev pub cell_name : CellCall → List ℕ
-cell_name Addch = codes "addch"
-cell_name Insch = codes "insch"
-cell_name Bkgdset = codes "bkgdset"
-cell_name Bkgd = codes "bkgd"
+cell_name = elim [ Addch ↦ codes "addch" | Insch ↦ codes "insch" | Bkgdset ↦ codes "bkgdset" | Bkgd ↦ codes "bkgd" ]
 
 abbrev pub line_name : LineCall → List ℕ
-line_name Hline = codes "hline"
-line_name Vline = codes "vline"
+line_name = elim [ Hline ↦ codes "hline" | Vline ↦ codes "vline" ]
 
 abbrev pub lay_name : LayCall → List ℕ
-lay_name Overlay = codes "overlay"
-lay_name Overwrite = codes "overwrite"
+lay_name = elim [ Overlay ↦ codes "overlay" | Overwrite ↦ codes "overwrite" ]
 
 abbrev pub show_name : ShowCall → List ℕ
-show_name Noutrefresh = codes "noutrefresh"
-show_name Refresh = codes "refresh"
+show_name = elim [ Noutrefresh ↦ codes "noutrefresh" | Refresh ↦ codes "refresh" ]
 
 abbrev pub pad_name : PadCall → List ℕ
-pad_name Pnoutrefresh = codes "pnoutrefresh"
-pad_name Prefresh = codes "prefresh"
+pad_name = elim [ Pnoutrefresh ↦ codes "pnoutrefresh" | Prefresh ↦ codes "prefresh" ]
 
 abbrev pub screen_name : ScreenCall → List ℕ
-screen_name Doupdate = codes "doupdate"
-screen_name Beep = codes "beep"
-screen_name Endwin = codes "endwin"
+screen_name = elim [ Doupdate ↦ codes "doupdate" | Beep ↦ codes "beep" | Endwin ↦ codes "endwin" ]
 
 abbrev pub call_name : Call → List ℕ
 call_name (Newwin _ _ _ _ _) = codes "newwin"

@@ -1,6 +1,6 @@
 -- The effect of a call on one window and the grid under it (X/Open Curses Issue 7, the reference pages of the calls
 -- named). A step is the canvas after it and the answer; after a refusal the changes made before it remain.
-use Rattle.std.specs.Prelude.{◌≡◌, ℕ, ◌+◌, ◌-◌, ◌%◌, ◌==◌, ◌&&◌, ◌||◌, zero, suc, min, nat_lt, List, [], ◌∷◌, true}
+use Rattle.std.specs.Prelude.{◌≡◌, ℕ, ◌+◌, ◌-◌, ◌%◌, ◌==◌, ◌≤◌, ◌&&◌, ◌||◌, zero, suc, min, nat_lt, List, [], ◌∷◌, true}
 use Rattle.std.specs.Prelude.{Result, Ok, Err, if◌then◌else◌, bit_xor, ℤ, pos, negsuc}
 use Rattle.grids.specs.declared.areas.Place.{Place}
 use Rattle.cur_drawing.specs.declared.puts.Put.{Put}
@@ -24,6 +24,11 @@ canvas g w = record { grid = g; window = w }
 pub record IsCanvas (g : Grid) (w : Window) : Type 0 where
   pub window : IsWindow w
   pub fits : Fits w.area g
+
+-- the window is on the grid, and has `height` lines from `from` on
+pub record HasLines (g : Grid) (w : Window) (from height : ℕ) : Type 0 where
+  pub canvas : IsCanvas g w
+  pub within : from + height ≤ w.area.rows
 
 -- after a step the window is at the same place, and the grid has the same shape
 pub record IsKept (g : Grid) (w : Window) (h : Grid) (v : Window) : Type 0 where
@@ -193,10 +198,10 @@ vertical p n s = if_accepted (checked_cell p) s
 
 abbrev pub checked_border : Border → Result (Unit {0}) Refusal
 checked_border b = checked
-    ((is_printed b.left.byte && is_printed b.right.byte && is_printed b.top.byte && is_printed b.bottom.byte)
+    ((is_printed b.left.byte && is_printed b.right.byte) && (is_printed b.top.byte && is_printed b.bottom.byte)
     && (is_printed b.top_left.byte && is_printed b.top_right.byte)
     && (is_printed b.bottom_left.byte && is_printed b.bottom_right.byte))
-    ((is_pair b.left.pair && is_pair b.right.pair && is_pair b.top.pair && is_pair b.bottom.pair)
+    ((is_pair b.left.pair && is_pair b.right.pair) && (is_pair b.top.pair && is_pair b.bottom.pair)
     && (is_pair b.top_left.pair && is_pair b.top_right.pair)
     && (is_pair b.bottom_left.pair && is_pair b.bottom_right.pair))
 

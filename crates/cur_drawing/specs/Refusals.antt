@@ -9,22 +9,24 @@ use Rattle.cur_drawing.specs.declared.refusals.Refusal.TheVariants.{BadPair}
 -- numbers first, then the kind of window, then the characters to write, then places and sizes, and finally a lack of
 -- the terminal or of memory
 abbrev pub rank : Refusal → ℕ
-rank Full = 0
-rank NumberUsed = 1
-rank NoWindow = 2
-rank PadKind = 3
-rank IsScreen = 4
-rank HasChildren = 5
-rank IsSub = 6
-rank BadCell = 7
-rank BadPair = 8
-rank BadRegion = 9
-rank OutOfScreen = 10
-rank OutOfWindow = 11
-rank NoScroll = 12
-rank NoCap = 13
-rank IsLost = 14
-rank NoMemory = 15
+rank = elim [
+  | Full ↦ 0
+  | NumberUsed ↦ 1
+  | NoWindow ↦ 2
+  | PadKind ↦ 3
+  | IsScreen ↦ 4
+  | HasChildren ↦ 5
+  | IsSub ↦ 6
+  | BadCell ↦ 7
+  | BadPair ↦ 8
+  | BadRegion ↦ 9
+  | OutOfScreen ↦ 10
+  | OutOfWindow ↦ 11
+  | NoScroll ↦ 12
+  | NoCap ↦ 13
+  | IsLost ↦ 14
+  | NoMemory ↦ 15
+]
 
 -- a refusal, and whether it applies
 abbrev pub Condition : Type 0

@@ -1,5 +1,5 @@
 -- One window: a rectangle of a grid with a cursor and options (X/Open Curses Issue 7, "Windows", "Attributes").
-use Rattle.std.specs.Prelude.{ℕ, ◌+◌, ◌-◌, ◌==◌, ◌&&◌, ◌≤◌, ◌<◌, nat_le, nat_lt, Bool, false, Option, Some, None}
+use Rattle.std.specs.Prelude.{ℕ, ◌≡◌, ◌+◌, ◌-◌, ◌==◌, ◌&&◌, ◌≤◌, ◌<◌, nat_le, nat_lt, Bool, false, Option, Some, None}
 use Rattle.std.specs.Prelude.{Result, Ok, Err, if◌then◌else◌, bit_or, ℤ, pos, negsuc}
 use Rattle.grids.specs.declared.areas.Area.{Area}
 use Rattle.grids.specs.declared.areas.Place.{Place}
@@ -23,6 +23,11 @@ pub record IsWindow (w : Window) : Type 0 where
   pub pair : w.pair < pair_count
   pub height : w.area.top + w.area.rows ≤ most_lines
   pub width : w.area.left + w.area.cols ≤ most_lines
+
+-- after a call on a window alone it has the same rectangle, with the cursor and the region in it
+pub record StaysInPlace (w v : Window) : Type 0 where
+  pub legal : IsWindow v
+  pub area : v.area ≡ w.area
 
 -- a new window: the cursor at its corner, spaces as background, all options off
 abbrev pub fresh : Area → Window

@@ -112,8 +112,8 @@ impl Window {
         ensures value { step grid.new self.now result ≡ vertical put n (canvas grid.old self.now) }
         ensures shape { shape_of grid.new ≡ shape_of grid.old }
     {
-        put.check_cell()?;
         let n = count_to(n, self.area.rows - self.row);
+        put.check_cell()?;
         grid.fill(self.column(self.row, self.col, n), self.content(put));
         Ok(())
     }
@@ -172,12 +172,10 @@ impl Window {
         ensures value { grid.new ≡ sides border.now self.now grid.old }
         ensures shape { shape_of grid.new ≡ shape_of grid.old }
     {
-        let last = self.area.rows - 1;
-        let right = self.area.cols - 1;
         self.fill_lines(grid, 0, 1, self.content(border.top));
-        self.fill_lines(grid, last, 1, self.content(border.bottom));
+        self.fill_lines(grid, self.area.rows - 1, 1, self.content(border.bottom));
         self.fill_column(grid, 0, self.content(border.left));
-        self.fill_column(grid, right, self.content(border.right));
+        self.fill_column(grid, self.area.cols - 1, self.content(border.right));
     }
 
     fn draw_corners(&self, grid: &mut Grid<Cell>, border: &Border)

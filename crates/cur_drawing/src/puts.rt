@@ -167,21 +167,17 @@ impl Border {
         ensures value { result ≡ checked_border self.now }
         ensures good { OnOk result (IsBorder self.now) }
     {
-        let sides = self.left.is_printed()
-            & self.right.is_printed()
-            & self.top.is_printed()
-            & self.bottom.is_printed();
+        let beside = self.left.is_printed() & self.right.is_printed();
+        let across = self.top.is_printed() & self.bottom.is_printed();
         let upper = self.top_left.is_printed() & self.top_right.is_printed();
         let lower = self.bottom_left.is_printed() & self.bottom_right.is_printed();
-        let side_pairs = self.left.has_pair()
-            & self.right.has_pair()
-            & self.top.has_pair()
-            & self.bottom.has_pair();
+        let beside_pairs = self.left.has_pair() & self.right.has_pair();
+        let across_pairs = self.top.has_pair() & self.bottom.has_pair();
         let upper_pairs = self.top_left.has_pair() & self.top_right.has_pair();
         let lower_pairs = self.bottom_left.has_pair() & self.bottom_right.has_pair();
         check(
-            sides & upper & lower,
-            side_pairs & upper_pairs & lower_pairs,
+            beside & across & upper & lower,
+            beside_pairs & across_pairs & upper_pairs & lower_pairs,
         )
     }
 }

@@ -4,7 +4,7 @@ ghost use Rattle.cur_drawing.specs.Windows.{IsWindow, lines_of, cells_of, column
 ghost use Rattle.cur_drawing.specs.Grids.{shifted, filled, shape_of};
 ghost use Rattle.cur_drawing.specs.Calls.{IsCanvas, place, canvas, done, lines_up, lines_down, inserted, deleted};
 ghost use Rattle.cur_drawing.specs.Calls.{line_cleared, bottom_cleared, insert_line, delete_line, delete_char};
-ghost use Rattle.cur_drawing.specs.Calls.{clear_line, clear_bottom};
+ghost use Rattle.cur_drawing.specs.Calls.{HasLines, clear_line, clear_bottom};
 
 use crate::cells::Cell;
 use crate::windows::Window;
@@ -82,8 +82,7 @@ impl Window {
     // Of `height` lines from `from` on, drops the upper `n`, moves the others up, and fills those
     // below with the background.
     pub(crate) fn lines_up(&self, grid: &mut Grid<Cell>, from: u16, height: u16, n: u16)
-        requires canvas { IsCanvas grid.old self.now }
-        requires within { from + height ≤ self.now.area.rows }
+        requires { HasLines grid.old self.now from height }
         ensures value { grid.new ≡ lines_up self.now from height n grid.old }
         ensures shape { shape_of grid.new ≡ shape_of grid.old }
     {
@@ -95,8 +94,7 @@ impl Window {
     // Of `height` lines from `from` on, drops the lower `n`, moves the others down, and fills those
     // above with the background.
     pub(crate) fn lines_down(&self, grid: &mut Grid<Cell>, from: u16, height: u16, n: u16)
-        requires canvas { IsCanvas grid.old self.now }
-        requires within { from + height ≤ self.now.area.rows }
+        requires { HasLines grid.old self.now from height }
         ensures value { grid.new ≡ lines_down self.now from height n grid.old }
         ensures shape { shape_of grid.new ≡ shape_of grid.old }
     {

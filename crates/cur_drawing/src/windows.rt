@@ -4,7 +4,7 @@ ghost use Rattle.std.specs.Prelude.{if◌then◌else◌};
 ghost use Rattle.cur_drawing.specs.{Cells.{IsPrinted}, Grids.{is_in}};
 ghost use Rattle.cur_drawing.specs.Windows.{IsWindow, fresh, lines_of, cells_of, column_of, place_below, count_to};
 ghost use Rattle.cur_drawing.specs.Windows.{first_pair, content, as_is, move_to, part_cursor, set_region, set_pair};
-ghost use Rattle.cur_drawing.specs.Windows.{set_background, is_printed, is_pair};
+ghost use Rattle.cur_drawing.specs.Windows.{StaysInPlace, set_background, is_printed, is_pair};
 
 use crate::cells::{Attrs, Cell, PAIRS};
 use crate::puts::Put;
@@ -73,13 +73,10 @@ impl Window {
     pub fn move_to(&mut self, y: i32, x: i32) -> Result<(), Refusal>
         requires { IsWindow self.old }
         ensures value { (self.new, result) ≡ move_to y x self.old }
-        ensures legal { IsWindow self.new }
-        ensures area { self.new.area ≡ self.old.area }
+        ensures kept { StaysInPlace self.old self.new }
     {
-        let (Some(row), Some(col)) = (
-            place_below(y, self.area.rows),
-            place_below(x, self.area.cols),
-        ) else {
+        let Area { rows, cols, .. } = self.area;
+        let (Some(row), Some(col)) = (place_below(y, rows), place_below(x, cols)) else {
             return Err(Refusal::OutOfWindow);
         };
         self.row = row;
@@ -92,13 +89,10 @@ impl Window {
     pub fn set_region(&mut self, top: i32, bottom: i32) -> Result<(), Refusal>
         requires { IsWindow self.old }
         ensures value { (self.new, result) ≡ set_region top bottom self.old }
-        ensures legal { IsWindow self.new }
-        ensures area { self.new.area ≡ self.old.area }
+        ensures kept { StaysInPlace self.old self.new }
     {
-        let (Some(top), Some(bottom)) = (
-            place_below(top, self.area.rows),
-            place_below(bottom, self.area.rows),
-        ) else {
+        let rows = self.area.rows;
+        let (Some(top), Some(bottom)) = (place_below(top, rows), place_below(bottom, rows)) else {
             return Err(Refusal::BadRegion);
         };
         if bottom < top {
@@ -114,8 +108,7 @@ impl Window {
     pub fn set_pair(&mut self, pair: i32) -> Result<(), Refusal>
         requires { IsWindow self.old }
         ensures value { (self.new, result) ≡ set_pair pair self.old }
-        ensures legal { IsWindow self.new }
-        ensures area { self.new.area ≡ self.old.area }
+        ensures kept { StaysInPlace self.old self.new }
     {
         let Some(pair) = place_below(pair, PAIRS as u16) else {
             return Err(Refusal::BadPair);
@@ -129,8 +122,7 @@ impl Window {
     pub fn set_background(&mut self, put: Put) -> Result<(), Refusal>
         requires { IsWindow self.old }
         ensures value { (self.new, result) ≡ set_background put self.old }
-        ensures legal { IsWindow self.new }
-        ensures area { self.new.area ≡ self.old.area }
+        ensures kept { StaysInPlace self.old self.new }
     {
         put.check_cell()?;
         self.background = Cell::new(put.byte, put.attrs, put.pair);
@@ -193,11 +185,11 @@ impl Window {
         requires within { from + n ≤ self.now.area.rows }
         ensures { result ≡ column_of self.now from col n }
     {
+        let lines = self.lines(from, n);
         Area {
-            top: self.area.top + from,
             left: self.area.left + col,
-            rows: n,
             cols: 1,
+            ..lines
         }
     }
 }

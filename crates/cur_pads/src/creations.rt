@@ -5,7 +5,7 @@ ghost use Rattle.cur_pads.specs.Creations as spec;
 
 use crate::checks::pad_size;
 use cur_drawing::{Geometry, LONGEST, area_within};
-use cur_windows::{Desk, Refusal, in_range};
+use cur_windows::{Answer, Desk, Refusal, in_range};
 
 /// Makes pad `n` of 1 to 1000 lines and 1 to 1000 columns (X/Open Curses, `newpad`). `Full` for a number above
 /// 63, `NumberUsed`, `BadRegion` for any other size; `NoMemory` if memory runs out. Nothing has then changed.
@@ -26,15 +26,7 @@ pub fn newpad(desk: &mut Desk, n: usize, lines: i32, cols: i32) -> Result<(), Re
 /// Makes pad `n` as a part of pad `id`, whose cells it shares; the place is relative to the corner of `id`,
 /// and 0 lines or columns mean all up to its edge (`subpad`). `Full`, `NumberUsed`, `NoWindow`, `PadKind` for
 /// a window, `BadRegion` for a negative size, `OutOfWindow` if it isn't within `id`. Nothing has then changed.
-pub fn subpad(
-    desk: &mut Desk,
-    n: usize,
-    id: usize,
-    lines: i32,
-    cols: i32,
-    y: i32,
-    x: i32,
-) -> Result<(), Refusal>
+pub fn subpad(desk: &mut Desk, n: usize, id: usize, lines: i32, cols: i32, y: i32, x: i32) -> Answer
     ensures { step desk.new result ≡ spec.subpad desk.old n id lines cols y x }
 {
     in_range(n, id)?;

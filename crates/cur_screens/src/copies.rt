@@ -9,6 +9,8 @@ use crate::marks::Marks;
 use cur_drawing::{Cell, SkipSpaces};
 use grids::{Area, Grid, Place};
 
+type Cells = Grid<Cell>;
+
 /// A copy to the rectangle `area` of a grid: it gets the cells of a grid from the place `from` on.
 #[derive(Clone, Copy)]
 pub struct AreaCopy {
@@ -24,7 +26,7 @@ pub struct Patch {
 }
 
 /// Copies the cells of `source` into the rectangle of `patch`. Both rectangles must be in their grids.
-pub fn overlay_from(grid: &mut Grid<Cell>, source: &Grid<Cell>, patch: Patch)
+pub fn overlay_from(grid: &mut Cells, source: &Cells, patch: Patch)
     requires target { Fits patch.copy.area grid.old }
     requires source { Fits (moved_to patch.copy.area patch.copy.from) source.now }
     ensures value { grid.new ≡ overlaid patch.copy.area patch.copy.from patch.skip source.now grid.old }
@@ -39,7 +41,7 @@ pub fn overlay_from(grid: &mut Grid<Cell>, source: &Grid<Cell>, patch: Patch)
 
 /// Copies the grid's own cells into the rectangle of `patch`, as if all were read first. Both
 /// rectangles must be in the grid.
-pub fn overlay_shift(grid: &mut Grid<Cell>, patch: Patch)
+pub fn overlay_shift(grid: &mut Cells, patch: Patch)
     requires target { Fits patch.copy.area grid.old }
     requires source { Fits (moved_to patch.copy.area patch.copy.from) grid.old }
     ensures value { grid.new ≡ overlaid patch.copy.area patch.copy.from patch.skip grid.old grid.old }
@@ -56,8 +58,8 @@ pub fn overlay_shift(grid: &mut Grid<Cell>, patch: Patch)
 /// `touched`. In each line only the cells from the first one that differs to the last one are
 /// written, and these are added to `marks`.
 pub fn copy_changed(
-    grid: &mut Grid<Cell>,
-    source: &Grid<Cell>,
+    grid: &mut Cells,
+    source: &Cells,
     copy: AreaCopy,
     touched: &Marks,
     marks: &mut Marks,
@@ -80,17 +82,11 @@ pub fn copy_changed(
             ..from
         },
     };
-    copy_changed_lines(grid, source, lines, touched, marks);
+    copy_lines(grid, source, lines, touched, marks);
 }
 
 // Copies and marks as `copy_changed` does, line by line.
-fn copy_changed_lines(
-    grid: &mut Grid<Cell>,
-    source: &Grid<Cell>,
-    copy: AreaCopy,
-    touched: &Marks,
-    marks: &mut Marks,
-)
+fn copy_lines(grid: &mut Cells, source: &Cells, copy: AreaCopy, touched: &Marks, marks: &mut Marks)
     requires target { Fits copy.area grid.old }
     requires from { IsFrom copy source.now }
     requires touched { IsCopiedBut touched.now copy.area copy.from source.now grid.old }
@@ -117,7 +113,7 @@ fn copy_changed_lines(
 }
 
 // Copies and marks as `copy_changed` does, in a rectangle of one line whose cells may all differ.
-fn copy_changed_line(grid: &mut Grid<Cell>, source: &Grid<Cell>, copy: AreaCopy, marks: &mut Marks)
+fn copy_changed_line(grid: &mut Cells, source: &Cells, copy: AreaCopy, marks: &mut Marks)
     requires one { copy.area.rows ≡ 1 }
     requires target { Fits copy.area grid.old }
     requires from { IsFrom copy source.now }
@@ -147,7 +143,7 @@ fn copy_changed_line(grid: &mut Grid<Cell>, source: &Grid<Cell>, copy: AreaCopy,
 
 /// Copies the cells of `source` at the same places into the rectangle `area`, which must begin at the
 /// first column. The grids must have equal cells there outside `marks`; only marked cells are written.
-pub fn copy_marked(grid: &mut Grid<Cell>, area: Area, source: &Grid<Cell>, marks: &Marks)
+pub fn copy_marked(grid: &mut Cells, area: Area, source: &Cells, marks: &Marks)
     requires both { IsInBoth area source.now grid.old }
     requires marked { AreSame marks.now grid.old source.now }
     ensures value { grid.new ≡ copied area (place area.top area.left) source.now grid.old }
@@ -164,7 +160,7 @@ pub fn copy_marked(grid: &mut Grid<Cell>, area: Area, source: &Grid<Cell>, marks
 }
 
 // Copies as `copy_marked` does, row by row.
-fn copy_marked_rows(grid: &mut Grid<Cell>, area: Area, source: &Grid<Cell>, marks: &Marks)
+fn copy_marked_rows(grid: &mut Cells, area: Area, source: &Cells, marks: &Marks)
     requires both { IsInBoth area source.now grid.old }
     requires marked { AreSame marks.now grid.old source.now }
     ensures value { grid.new ≡ copied area (place area.top area.left) source.now grid.old }
@@ -176,7 +172,7 @@ fn copy_marked_rows(grid: &mut Grid<Cell>, area: Area, source: &Grid<Cell>, mark
 }
 
 // Copies the row `k` of the rectangle.
-fn copy_marked_row(grid: &mut Grid<Cell>, area: Area, k: u16, source: &Grid<Cell>, marks: &Marks)
+fn copy_marked_row(grid: &mut Cells, area: Area, k: u16, source: &Cells, marks: &Marks)
     requires both { IsInBoth area source.now grid.old }
     requires within { k < area.rows }
     requires marked { IsSameIn marks.now (area.top + k) grid.old source.now }
@@ -197,7 +193,7 @@ fn copy_marked_row(grid: &mut Grid<Cell>, area: Area, k: u16, source: &Grid<Cell
 }
 
 // Copies cells of `source` as `copy` says; one cell without a loop.
-fn copy_cells(grid: &mut Grid<Cell>, source: &Grid<Cell>, copy: AreaCopy)
+fn copy_cells(grid: &mut Cells, source: &Cells, copy: AreaCopy)
     requires target { Fits copy.area grid.old }
     requires source { Fits (moved_to copy.area copy.from) source.now }
     ensures value { grid.new ≡ copied copy.area copy.from source.now grid.old }
@@ -211,7 +207,7 @@ fn copy_cells(grid: &mut Grid<Cell>, source: &Grid<Cell>, copy: AreaCopy)
 }
 
 // Copies a cell of `source` into a rectangle of one place.
-fn copy_cell(grid: &mut Grid<Cell>, source: &Grid<Cell>, copy: AreaCopy)
+fn copy_cell(grid: &mut Cells, source: &Cells, copy: AreaCopy)
     requires rows { copy.area.rows ≡ 1 }
     requires cols { copy.area.cols ≡ 1 }
     requires target { Fits copy.area grid.old }

@@ -10,7 +10,7 @@ ghost use Rattle.cur_drawing.specs.{Calls.{IsCanvas}, Windows.{IsWindow}};
 
 use crate::marks::Marks;
 use crate::slots::{Extent, Origin, Slot, WINDOWS};
-use cur_drawing::{Area, Put, Refusal, Window};
+use cur_drawing::{Answer, Area, Put, Refusal, Window};
 use std::alloc::{AllocError, Global};
 use std::marker::Model;
 
@@ -130,13 +130,7 @@ fn touch(touched: &mut Touched, slot: &Slot, origin: Origin, first: u16)
 
 /// As `touch`, after a call with this `answer`. Nothing is marked if the call was refused before it
 /// wrote; `NoScroll` may come after it has written.
-fn touch_unless_refused(
-    touched: &mut Touched,
-    slot: &Slot,
-    origin: Origin,
-    first: u16,
-    answer: &Result<(), Refusal>,
-)
+fn touch_if_written(touched: &mut Touched, slot: &Slot, origin: Origin, first: u16, answer: &Answer)
     requires window { IsWindow (slot.now).window }
     requires within { origin.pad ≡ false → LiesWithin origin (slot.now).window.area }
     ensures touched { IsTouched touched.old touched.new slot.now origin first
@@ -230,13 +224,13 @@ fn are_printed(text: &[u8]) -> bool
 }
 
 /// Marks the changes of a call that wrote a character from `start` on, with this `answer`: one
-/// cell, or as `touch_unless_refused` does.
+/// cell, or as `touch_if_written` does.
 pub fn touch_written(
     touched: &mut Touched,
     slot: &Slot,
     origin: Origin,
     start: WrittenFrom,
-    answer: &Result<(), Refusal>,
+    answer: &Answer,
 )
     requires window { IsWindow (slot.now).window }
     requires within { origin.pad ≡ false → LiesWithin origin (slot.now).window.area }
@@ -253,7 +247,7 @@ pub fn touch_written(
         touch_cells(touched, slot, origin, start.col, start.cells);
         return;
     }
-    touch_unless_refused(touched, slot, origin, start.row, answer);
+    touch_if_written(touched, slot, origin, start.row, answer);
 }
 
 /// Marks the changes of a call that wrote a string from `start` on: its cells, or as `touch` does.

@@ -26,21 +26,29 @@ use Rattle.cur_scripts.specs.Numbers.{number_in, window_in, flag_in, zero_in}
 use Rattle.cur_scripts.specs.Cells.{cell_in, cell_or, attrs_in}
 use Rattle.cur_scripts.specs.Words.{first, ended, rest, two_numbers, four_numbers, two_windows}
 
+-- the number of a window, what `read` reads after it, and no more
+abbrev pub with_window : {A : Type 0} → (List (List ℕ) → Option (A × List (List ℕ))) → (ℕ → A → Call) → List (List ℕ)
+    → Option Call
+with_window read made words = do
+  a ← first window_in words
+  b ← read a.1
+  _ ← ended b.1
+  Some (made a.0 b.0)
+
+-- the number of a window, and no more
+abbrev pub only_window : (ℕ → Call) → List (List ℕ) → Option Call
+only_window made words = do
+  a ← first window_in words
+  _ ← ended a.1
+  Some (made a.0)
+
 -- newwin n l c y x
 abbrev pub newwin : List (List ℕ) → Option Call
-newwin words = do
-  a ← first window_in words
-  b ← four_numbers a.1
-  _ ← ended b.1
-  Some (Newwin a.0 b.0.0 b.0.1 b.0.2 b.0.3)
+newwin words = with_window four_numbers (λ window b. Newwin window b.0 b.1 b.2 b.3) words
 
 -- newpad n l c
 abbrev pub newpad : List (List ℕ) → Option Call
-newpad words = do
-  a ← first window_in words
-  b ← two_numbers a.1
-  _ ← ended b.1
-  Some (Newpad a.0 b.0.0 b.0.1)
+newpad words = with_window two_numbers (λ window b. Newpad window b.0 b.1) words
 
 -- subwin n w l c y x
 abbrev pub part : PartCall → List (List ℕ) → Option Call
@@ -59,50 +67,27 @@ dupwin words = do
 
 -- erase w
 abbrev pub plain : PlainCall → List (List ℕ) → Option Call
-plain call words = do
-  a ← first window_in words
-  _ ← ended a.1
-  Some (Plain call a.0)
+plain call words = only_window (Plain call) words
 
 -- scroll w n
 abbrev pub number : NumberCall → List (List ℕ) → Option Call
-number call words = do
-  a ← first window_in words
-  b ← first number_in a.1
-  _ ← ended b.1
-  Some (Number call a.0 b.0)
+number call words = with_window (first number_in) (Number call) words
 
 -- move w y x
 abbrev pub numbers : NumbersCall → List (List ℕ) → Option Call
-numbers call words = do
-  a ← first window_in words
-  b ← two_numbers a.1
-  _ ← ended b.1
-  Some (Numbers call a.0 b.0.0 b.0.1)
+numbers call words = with_window two_numbers (λ window b. Numbers call window b.0 b.1) words
 
 -- scrollok w f
 abbrev pub flag : FlagCall → List (List ℕ) → Option Call
-flag call words = do
-  a ← first window_in words
-  b ← first flag_in a.1
-  _ ← ended b.1
-  Some (Flag call a.0 b.0)
+flag call words = with_window (first flag_in) (Flag call) words
 
 -- attron w A
 abbrev pub attributes : AttrsCall → List (List ℕ) → Option Call
-attributes call words = do
-  a ← first window_in words
-  b ← first attrs_in a.1
-  _ ← ended b.1
-  Some (Attributes call a.0 b.0)
+attributes call words = with_window (first attrs_in) (Attributes call) words
 
 -- addch w cell
 abbrev pub cell : CellCall → List (List ℕ) → Option Call
-cell call words = do
-  a ← first window_in words
-  b ← first cell_in a.1
-  _ ← ended b.1
-  Some (Cell call a.0 b.0)
+cell call words = with_window (first cell_in) (Cell call) words
 
 -- addstr w TEXT
 abbrev pub addstr : List (List ℕ) → Option Call
@@ -180,10 +165,7 @@ copywin words = do
 
 -- refresh w
 abbrev pub show : ShowCall → List (List ℕ) → Option Call
-show call words = do
-  a ← first window_in words
-  _ ← ended a.1
-  Some (Show call a.0)
+show call words = only_window (Show call) words
 
 -- prefresh w pr pc sr sc er ec
 abbrev pub show_pad : PadCall → List (List ℕ) → Option Call

@@ -31,54 +31,31 @@ call_in (row ∷ rows) name words = if bytes_eq name row.0 then row.1 words else
 
 abbrev pub table : List Row
 table =
-    (codes "addch", cell Addch) ∷
-    (codes "addstr", addstr) ∷
-    (codes "attroff", attributes Attroff) ∷
-    (codes "attron", attributes Attron) ∷
-    (codes "attrset", attributes Attrset) ∷
-    (codes "beep", beep) ∷
-    (codes "bkgd", cell Bkgd) ∷
-    (codes "bkgdset", cell Bkgdset) ∷
-    (codes "border", draw_border) ∷
-    (codes "box", draw_box) ∷
-    (codes "clear", plain Clear) ∷
-    (codes "clearok", flag Clearok) ∷
-    (codes "clrtobot", plain Clrtobot) ∷
-    (codes "clrtoeol", plain Clrtoeol) ∷
-    (codes "color_set", number ColorSet) ∷
-    (codes "copywin", copywin) ∷
+    (codes "addch", cell Addch) ∷ (codes "addstr", addstr) ∷ (codes "attroff", attributes Attroff) ∷
+    (codes "attron", attributes Attron) ∷ (codes "attrset", attributes Attrset) ∷
+    (codes "beep", beep) ∷ (codes "bkgd", cell Bkgd) ∷ (codes "bkgdset", cell Bkgdset) ∷
+    (codes "border", draw_border) ∷ (codes "box", draw_box) ∷
+    (codes "clear", plain Clear) ∷ (codes "clearok", flag Clearok) ∷
+    (codes "clrtobot", plain Clrtobot) ∷ (codes "clrtoeol", plain Clrtoeol) ∷
+    (codes "color_set", number ColorSet) ∷ (codes "copywin", copywin) ∷
     (codes "curs_set", curs_set) ∷
-    (codes "delch", plain Delch) ∷
-    (codes "deleteln", plain Deleteln) ∷
-    (codes "delwin", plain Delwin) ∷
-    (codes "derwin", part Derwin) ∷
-    (codes "doupdate", bare Doupdate) ∷
-    (codes "dupwin", dupwin) ∷
-    (codes "endwin", bare Endwin) ∷
-    (codes "erase", plain Erase) ∷
+    (codes "delch", plain Delch) ∷ (codes "deleteln", plain Deleteln) ∷
+    (codes "delwin", plain Delwin) ∷ (codes "derwin", part Derwin) ∷
+    (codes "doupdate", bare Doupdate) ∷ (codes "dupwin", dupwin) ∷
+    (codes "endwin", bare Endwin) ∷ (codes "erase", plain Erase) ∷
     (codes "hline", line Hline) ∷
-    (codes "idlok", flag Idlok) ∷
-    (codes "init_pair", init_pair) ∷
-    (codes "insch", cell Insch) ∷
+    (codes "idlok", flag Idlok) ∷ (codes "init_pair", init_pair) ∷ (codes "insch", cell Insch) ∷
     (codes "insertln", plain Insertln) ∷
     (codes "leaveok", flag Leaveok) ∷
-    (codes "move", numbers Move) ∷
-    (codes "mvwin", numbers Mvwin) ∷
-    (codes "newpad", newpad) ∷
-    (codes "newwin", newwin) ∷
-    (codes "noutrefresh", show Noutrefresh) ∷
-    (codes "overlay", lay Overlay) ∷
-    (codes "overwrite", lay Overwrite) ∷
-    (codes "pnoutrefresh", show_pad Pnoutrefresh) ∷
-    (codes "prefresh", show_pad Prefresh) ∷
+    (codes "move", numbers Move) ∷ (codes "mvwin", numbers Mvwin) ∷
+    (codes "newpad", newpad) ∷ (codes "newwin", newwin) ∷ (codes "noutrefresh", show Noutrefresh) ∷
+    (codes "overlay", lay Overlay) ∷ (codes "overwrite", lay Overwrite) ∷
+    (codes "pnoutrefresh", show_pad Pnoutrefresh) ∷ (codes "prefresh", show_pad Prefresh) ∷
     (codes "refresh", show Refresh) ∷
-    (codes "scroll", number Scroll) ∷
-    (codes "scrollok", flag Scrollok) ∷
-    (codes "setscrreg", numbers Setscrreg) ∷
-    (codes "subpad", part Subpad) ∷
+    (codes "scroll", number Scroll) ∷ (codes "scrollok", flag Scrollok) ∷
+    (codes "setscrreg", numbers Setscrreg) ∷ (codes "subpad", part Subpad) ∷
     (codes "subwin", part Subwin) ∷
-    (codes "touchline", numbers Touchline) ∷
-    (codes "touchwin", plain Touchwin) ∷
+    (codes "touchline", numbers Touchline) ∷ (codes "touchwin", plain Touchwin) ∷
     (codes "vline", line Vline) ∷ []
 
 abbrev pub call_with : List ℕ → List (List ℕ) → Option Call

@@ -10,6 +10,14 @@ use cur_calls::Text;
 use cur_drawing::{Attrs, Put};
 use std::marker::Model;
 
+// What `$read` reads in the next one of `$words`, and the words after it.
+macro_rules! first {
+    ($words:expr, $read:expr) => {{
+        let (word, words) = $words.next()?;
+        Some(($read(word)?, words))
+    }};
+}
+
 /// The remaining words of a line. The functions that read numbers and cells are inlined, so that the
 /// slice stays in registers.
 #[derive(Drop)]
@@ -94,8 +102,7 @@ impl<'a> Words<'a> {
         if let Some((number, words)) = self.short_number() {
             return Some((number as i32, words));
         }
-        let (word, words) = self.next()?;
-        Some((number_in(word)?, words))
+        first!(self, number_in)
     }
 
     /// A number of a few digits without a sign, whose end is found as it is read; `None` also for
@@ -129,24 +136,21 @@ impl<'a> Words<'a> {
         if let Some((number, words)) = self.short_number() {
             return Some((number as usize, words));
         }
-        let (word, words) = self.next()?;
-        Some((window_in(word)?, words))
+        first!(self, window_in)
     }
 
     /// A flag: 0 or 1.
     pub(crate) fn flag(self) -> Option<(bool, Words<'a>)>
         ensures { result ≡ spec.first flag_in self.entry }
     {
-        let (word, words) = self.next()?;
-        Some((flag_in(word)?, words))
+        first!(self, flag_in)
     }
 
     /// The number 0.
     pub(crate) fn zero(self) -> Option<((), Words<'a>)>
         ensures { result ≡ spec.first zero_in self.entry }
     {
-        let (word, words) = self.next()?;
-        Some((zero_in(word)?, words))
+        first!(self, zero_in)
     }
 
     /// A cell.
@@ -154,8 +158,7 @@ impl<'a> Words<'a> {
     pub(crate) fn cell(self) -> Option<(Put, Words<'a>)>
         ensures { result ≡ spec.first cell_in self.entry }
     {
-        let (word, words) = self.next()?;
-        Some((cell_in(word)?, words))
+        first!(self, cell_in)
     }
 
     /// A cell, or a dash for `default`.
@@ -170,8 +173,7 @@ impl<'a> Words<'a> {
     pub(crate) fn attrs(self) -> Option<(Attrs, Words<'a>)>
         ensures { result ≡ spec.first attrs_in self.entry }
     {
-        let (word, words) = self.next()?;
-        Some((attrs_in(word)?, words))
+        first!(self, attrs_in)
     }
 
     /// Two numbers.

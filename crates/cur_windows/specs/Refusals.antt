@@ -154,13 +154,13 @@ scroll d n =
 -- a cell can hold the byte of each part of the border
 abbrev pub border_printed : Border → Bool
 border_printed b =
-    (is_printed b.left.byte && is_printed b.right.byte && is_printed b.top.byte && is_printed b.bottom.byte)
+    (is_printed b.left.byte && is_printed b.right.byte) && (is_printed b.top.byte && is_printed b.bottom.byte)
     && (is_printed b.top_left.byte && is_printed b.top_right.byte)
     && (is_printed b.bottom_left.byte && is_printed b.bottom_right.byte)
 
 abbrev pub border_pairs : Border → Bool
 border_pairs b =
-    (is_pair b.left.pair && is_pair b.right.pair && is_pair b.top.pair && is_pair b.bottom.pair)
+    (is_pair b.left.pair && is_pair b.right.pair) && (is_pair b.top.pair && is_pair b.bottom.pair)
     && (is_pair b.top_left.pair && is_pair b.top_right.pair)
     && (is_pair b.bottom_left.pair && is_pair b.bottom_right.pair)
 

@@ -7,7 +7,7 @@ ghost use Rattle.cur_windows.specs.Creations as make;
 ghost use Rattle.cur_screens.specs.Slots.{whole_area};
 
 use crate::desks::Desk;
-use cur_drawing::{Cell, Geometry, Refusal, Window, area_within, start_within};
+use cur_drawing::{Answer, Cell, Geometry, Refusal, Window, area_within, start_within};
 use cur_screens::{Origin, Slot, WINDOWS, blank_grid, whole_area};
 use grids::{Area, Grid, Place};
 
@@ -34,35 +34,19 @@ impl Desk {
     /// Makes window `n` as a part of window `id`, whose cells it shares; the place is relative to the corner
     /// of `id`, and 0 lines or columns mean all up to its edge (`derwin`). `Full`, `NumberUsed`, `NoWindow`,
     /// `PadKind` for a pad, `BadRegion` for a negative size, `OutOfWindow` if it isn't within `id`.
-    pub fn derwin(
-        &mut self,
-        n: usize,
-        id: usize,
-        lines: i32,
-        cols: i32,
-        y: i32,
-        x: i32,
-    ) -> Result<(), Refusal>
+    pub fn derwin(&mut self, n: usize, id: usize, lines: i32, cols: i32, y: i32, x: i32) -> Answer
         ensures { spec.step self.new result ≡ make.derwin self.old n id lines cols y x }
     {
+        let geometry = Geometry::new(lines, cols, y, x);
         in_range(n, id)?;
         self.check_free(n)?;
         let slot = self.find(id)?;
         self.check_window(&slot)?;
-        let geometry = Geometry::new(lines, cols, y, x);
         self.make_subwindow(n, id, &slot, geometry)
     }
 
     /// Makes window `n` as `derwin` does, at a place relative to the screen's corner (`subwin`).
-    pub fn subwin(
-        &mut self,
-        n: usize,
-        id: usize,
-        lines: i32,
-        cols: i32,
-        y: i32,
-        x: i32,
-    ) -> Result<(), Refusal>
+    pub fn subwin(&mut self, n: usize, id: usize, lines: i32, cols: i32, y: i32, x: i32) -> Answer
         ensures { spec.step self.new result ≡ make.subwin self.old n id lines cols y x }
     {
         in_range(n, id)?;

@@ -122,11 +122,7 @@ fn screen_origins(alloc: Global) -> Result<Vec<Origin>, AllocError>
         left: 0,
         pad: false,
     };
-    let mut origins = Vec::with_capacity(alloc, WINDOWS)?;
-    for _k in 0..WINDOWS {
-        origins.push(corner)?;
-    }
-    Ok(origins)
+    vec![in alloc; corner; WINDOWS]
 }
 
 fn no_windows(alloc: Global) -> Result<Vec<Option<Slot>>, AllocError>

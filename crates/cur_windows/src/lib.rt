@@ -17,7 +17,7 @@ mod views;
 
 pub use copies::in_order;
 pub use creations::in_range;
-pub use cur_drawing::{Area, Attrs, Border, Cell, Place, Put, Refusal, Window};
+pub use cur_drawing::{Answer, Area, Attrs, Border, Cell, Place, Put, Refusal, Window};
 pub use cur_screens::{Hint, Marks, Touched, Virtual, WINDOWS, first_diff, last_diff};
 pub use desks::Desk;
 pub use lines::WindowLines;

@@ -3,14 +3,14 @@ use Rattle.cur_screens.proofs.ChangedRows.{rows_copied}
 use Rattle.cur_screens.proofs.MarkFacts.{copied_but_lines, unmarked_lines}
 use Rattle.cur_screens.proofs.copies.copy_changed.Goals as goal
 
-pub copy_changed_lines-requires-clause-touched : goal.copy_changed_lines-requires-clause-touched
-copy_changed_lines-requires-clause-touched c =
+pub copy_lines-requires-clause-touched : goal.copy_lines-requires-clause-touched
+copy_lines-requires-clause-touched c =
     copied_but_lines c.args.copy.area c.args.copy.from c.rows_from-rows.result c.args.source.now c.args.grid.now c.args.touched.now c.rows_from-rows.ensures.within c.requires.touched
 
 pub returns : goal.returns
 returns c =
     let s = c.rows_from-rows.result in
-    let lines = c.copy_changed_lines.ensures.copied in
+    let lines = c.copy_lines.ensures.copied in
     record {
       copied = record {
         value = lines.value

@@ -2,4 +2,4 @@ use Rattle.cur_windows.proofs.Closures.{closes_window}
 use Rattle.cur_windows.proofs.desks.Desk.setscrreg.Goals as goal
 
 pub invariant_of-self : goal.invariant_of-self
-invariant_of-self c = closes_window _ _ c.args.id _ _ c.self.view_is c.self.invariant c.in_ok-slot.ensures.there c.set_region-answer.ensures.area c.set_region-answer.ensures.legal
+invariant_of-self c = closes_window _ _ c.args.id _ _ c.self.view_is c.self.invariant c.in_ok-slot.ensures.there c.set_region-answer.ensures.kept.area c.set_region-answer.ensures.kept.legal

@@ -5,7 +5,7 @@ use Rattle.grids.proofs.Drawings.{drawn_in_none, drawn_join, fits_same}
 use Rattle.grids.proofs.Rectangles.{top_rows, no_rows, next_row, row_apart}
 use Rattle.cur_screens.proofs.ChangedRows.{part_fits, row_copied}
 use Rattle.cur_screens.proofs.MarkFacts.{equal_beside_touched, marks_only_none, marks_only_then, row_by_row}
-use Rattle.cur_screens.proofs.copies.copy_changed_lines.Goals as goal
+use Rattle.cur_screens.proofs.copies.copy_lines.Goals as goal
 
 pub loop-k-init : goal.loop-k-init
 loop-k-init c = record {

@@ -3,7 +3,7 @@ use Rattle.std.proofs.Common.{◌≡◌}
 use Rattle.cur_drawing.specs.Grids.{drawn_in, taken, shape_of}
 use Rattle.cur_screens.specs.Marks.{Keeps, MarksOnly}
 use Rattle.grids.proofs.Rectangles.{top_rows}
-use Rattle.cur_screens.proofs.copies.copy_changed_lines.Given as goal
+use Rattle.cur_screens.proofs.copies.copy_lines.Given as goal
 
 abbrev pub invariant-loop-k : goal.invariant-loop-k
 invariant-loop-k l = record {
