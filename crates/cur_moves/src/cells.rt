@@ -2,9 +2,9 @@
 ghost use Rattle.std.specs.Prelude.{◌≡◌, ◌<◌, ◌≤◌, ℕ, length, true, Some, None, OnOk, IfOk};
 ghost use Rattle.ti_rows.specs.declared.rows.Row.TheVariants.{Sgr0};
 ghost use Rattle.ti_conforms.specs.Certified.{IsChecked, cell_limit, text_of};
-ghost use Rattle.cur_steps.specs.Inks.{CanShow, IsInk, IsColored, put_at, plain_brush};
+ghost use Rattle.cur_steps.specs.Inks.{CanShow, IsInk, IsColored, in_default_colors, put_at, plain_brush};
 ghost use Rattle.cur_steps.specs.Beliefs.{IsNext, plain_limit, colors_limit, brush_limit, ready_limit, stamp_limit};
-ghost use Rattle.cur_steps.specs.{Beliefs.{ink_limit}, Steps.{IsGoal, Keeps, KeepsFrom, Makes, MakesFrom}};
+ghost use Rattle.cur_steps.specs.{Beliefs.{ink_limit}, Steps.{IsGoal, KeepsFrom, KeepsWithin, Makes, MakesFrom}};
 
 use crate::routes::is_alike;
 use crate::targets::Target;
@@ -72,11 +72,9 @@ impl<C: Certificate, N: Picture> Target<'_, C, N> {
 /// resets the colors.
 fn plainly_as<C: Certificate, W: Wire>(checked: &C, pen: &mut Pen<W>, wanted: Attributes) -> Sent
     requires checked { IsChecked (C.table checked.now) }
-    ensures brush { OnOk result
-        (pen.new.belief.brush ≡ record { attributes = wanted; foreground = None; background = None }) }
+    ensures brush { OnOk result (pen.new.belief.brush ≡ in_default_colors wanted) }
     ensures place { OnOk result (pen.new.belief.place ≡ pen.old.belief.place) }
-    ensures step { Keeps W.went W.failures pen.old pen.new result (C.table checked.now)
-        (plain_limit (C.table checked.now)) }
+    ensures step { KeepsWithin W.went W.failures pen.old pen.new result (C.table checked.now) plain_limit }
     ensures mode { OnOk result (pen.new.belief.mode ≡ pen.old.belief.mode) }
 {
     match resetting_line(checked, pen.belief.brush, wanted) {
@@ -98,8 +96,7 @@ fn colors_as<C: Certificate, W: Wire>(checked: &C, pen: &mut Pen<W>, wanted: Bru
     requires colored { IsColored (C.table checked.now) wanted }
     ensures brush { OnOk result (pen.new.belief.brush ≡ wanted) }
     ensures place { OnOk result (pen.new.belief.place ≡ pen.old.belief.place) }
-    ensures step { Keeps W.went W.failures pen.old pen.new result (C.table checked.now)
-        (colors_limit (C.table checked.now)) }
+    ensures step { KeepsWithin W.went W.failures pen.old pen.new result (C.table checked.now) colors_limit }
     ensures mode { OnOk result (pen.new.belief.mode ≡ pen.old.belief.mode) }
 {
     pen.color_as(checked, Ground::Fore, wanted.foreground)?;
@@ -137,8 +134,7 @@ pub fn brush_as<C: Certificate, W: Wire>(checked: &C, pen: &mut Pen<W>, wanted: 
     requires colored { IsColored (C.table checked.now) wanted }
     ensures brush { OnOk result (pen.new.belief.brush ≡ wanted) }
     ensures place { OnOk result (pen.new.belief.place ≡ pen.old.belief.place) }
-    ensures step { Keeps W.went W.failures pen.old pen.new result (C.table checked.now)
-        (brush_limit (C.table checked.now)) }
+    ensures step { KeepsWithin W.went W.failures pen.old pen.new result (C.table checked.now) brush_limit }
     ensures mode { OnOk result (pen.new.belief.mode ≡ pen.old.belief.mode) }
 {
     if is_recolored(pen.belief.brush, wanted) {
@@ -174,8 +170,7 @@ pub fn make_plain<C: Certificate, W: Wire>(checked: &C, pen: &mut Pen<W>) -> Sen
     requires checked { IsChecked (C.table checked.now) }
     ensures brush { OnOk result (pen.new.belief.brush ≡ plain_brush) }
     ensures place { OnOk result (pen.new.belief.place ≡ pen.old.belief.place) }
-    ensures step { Keeps W.went W.failures pen.old pen.new result (C.table checked.now)
-        (plain_limit (C.table checked.now)) }
+    ensures step { KeepsWithin W.went W.failures pen.old pen.new result (C.table checked.now) plain_limit }
     ensures mode { OnOk result (pen.new.belief.mode ≡ pen.old.belief.mode) }
 {
     if looks_plain(checked, pen.belief.brush) || !has_short_plain(checked) {

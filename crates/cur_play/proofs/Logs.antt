@@ -113,12 +113,7 @@ none_counted went failures laws a n = record { inner = laws.nothing a.now; count
 
 last_sized : (o : Emission) (answer : Answer) (last v : Screen) (n : ℕ) (f : Screen → ℕ) → f last ≡ n → f v ≡ n → f (last_after o answer last v) ≡ n
 last_sized Update Done last v n f e h = h
-last_sized Update (Was k) last v n f e h = e
-last_sized Update (Refused r) last v n f e h = e
-last_sized Update WireFailed last v n f e h = e
-last_sized Nothing answer last v n f e h = e
-last_sized Bell answer last v n f e h = e
-last_sized End answer last v n f e h = e
+last_sized o answer last v n f e h = e
 
 -- the screen shown last is the same whether it is taken from the drawing or from the scene after the call
 last_same : {C : Type 0} (t : Table) (partners : ℕ → Option ℕ) (o : Emission) (answer : Answer) (p : Painted C) (last : Screen) (d a : Scene) → (is_shown o answer ≡ true → a ≡ shown_scene d)
@@ -126,12 +121,7 @@ last_same : {C : Type 0} (t : Table) (partners : ℕ → Option ℕ) (o : Emissi
 last_same t partners Update Done p last d a e h =
     let P : Scene → Type 0 = λ x. ink_at t partners d.screen ≡ ink_at t partners x.screen in
     λ k. h k ∙ subst P (sym (e refl)) refl
-last_same t partners Update (Was n) p last d a e h = h
-last_same t partners Update (Refused r) p last d a e h = h
-last_same t partners Update WireFailed p last d a e h = h
-last_same t partners Nothing answer p last d a e h = h
-last_same t partners Bell answer p last d a e h = h
-last_same t partners End answer p last d a e h = h
+last_same t partners o answer p last d a e h = h
 
 -- the mode shown last is the same whether it is taken from the drawing or from the scene after the call
 settled_same : {C : Type 0} (o : Emission) (answer : Answer) (p : Painted C) (last_mode : Mode) (d a : Scene) → (is_shown o answer ≡ true → a ≡ shown_scene d)
@@ -139,12 +129,7 @@ settled_same : {C : Type 0} (o : Emission) (answer : Answer) (p : Painted C) (la
 settled_same Update Done p last_mode d a e h =
     let P : Scene → Type 0 = λ x. IsSettled p x.mode in
     subst P (sym (e refl)) h
-settled_same Update (Was n) p last_mode d a e h = h
-settled_same Update (Refused r) p last_mode d a e h = h
-settled_same Update WireFailed p last_mode d a e h = h
-settled_same Nothing answer p last_mode d a e h = h
-settled_same Bell answer p last_mode d a e h = h
-settled_same End answer p last_mode d a e h = h
+settled_same o answer p last_mode d a e h = h
 
 -- ---- one more call
 

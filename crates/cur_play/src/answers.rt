@@ -17,8 +17,11 @@ pub enum Answer {
     WireFailed,
 }
 
+/// The outcome of a call before anything is sent: it was done, or refused.
+pub(crate) type Outcome = Result<(), Refusal>;
+
 /// The answer to a call that was done or refused.
-pub(crate) fn answer_of(outcome: Result<(), Refusal>) -> Answer
+pub(crate) fn answer_of(outcome: Outcome) -> Answer
     ensures { result ≡ answer_of outcome }
 {
     match outcome {

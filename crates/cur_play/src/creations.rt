@@ -2,12 +2,13 @@
 ghost use Rattle.cur_play.specs.Groups.{Makes, making};
 ghost use Rattle.cur_play.specs.Windows as spec;
 
+use crate::answers::Outcome;
 use cur_calls::{Call, PartCall};
 use cur_pads::{newpad, subpad};
-use cur_windows::{Desk, Refusal};
+use cur_windows::Desk;
 
 /// Makes a window in `desk`, if that is what `call` does; `None` for any other call.
-pub(crate) fn make(desk: &mut Desk, call: &Call<'_>) -> Option<Result<(), Refusal>>
+pub(crate) fn make(desk: &mut Desk, call: &Call<'_>) -> Option<Outcome>
     ensures { Makes desk.old desk.new result (spec.takes_memory call.now) (making desk.old call.now) }
 {
     match call {

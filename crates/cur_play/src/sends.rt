@@ -32,24 +32,14 @@ pub(crate) fn output_of(call: &Call<'_>) -> Emission
         Call::Show { call, .. } => shown_window(*call),
         Call::ShowPad { call, .. } => shown_pad(*call),
         Call::Screen(call) => screen_output(*call),
-        Call::Newwin { .. }
-        | Call::Newpad { .. }
-        | Call::Part { .. }
-        | Call::Dupwin { .. }
-        | Call::Plain { .. }
-        | Call::Number { .. }
-        | Call::Numbers { .. }
-        | Call::Flag { .. }
-        | Call::Attributes { .. }
-        | Call::Cell { .. }
-        | Call::Addstr { .. }
-        | Call::Line { .. }
-        | Call::DrawBorder { .. }
-        | Call::DrawBox { .. }
-        | Call::Lay { .. }
-        | Call::Copywin { .. }
-        | Call::CursSet { .. }
-        | Call::InitPair { .. } => Emission::Nothing,
+        Call::Newwin { .. } | Call::Newpad { .. } => Emission::Nothing,
+        Call::Part { .. } | Call::Dupwin { .. } => Emission::Nothing,
+        Call::Plain { .. } | Call::Number { .. } | Call::Numbers { .. } => Emission::Nothing,
+        Call::Flag { .. } | Call::Attributes { .. } | Call::Cell { .. } => Emission::Nothing,
+        Call::Addstr { .. } | Call::Line { .. } => Emission::Nothing,
+        Call::DrawBorder { .. } | Call::DrawBox { .. } => Emission::Nothing,
+        Call::Lay { .. } | Call::Copywin { .. } => Emission::Nothing,
+        Call::CursSet { .. } | Call::InitPair { .. } => Emission::Nothing,
     }
 }
 

@@ -5,20 +5,17 @@ ghost use Rattle.cur_windows.specs.Desks as desks;
 ghost use Rattle.cur_play.specs.Groups.{Does, changing, shaping};
 ghost use Rattle.cur_play.specs.Windows as spec;
 
+use crate::answers::Outcome;
 use cur_calls::{
     Attrs, AttrsCall, Call, CellCall, FlagCall, LayCall, LineCall, NumberCall, NumbersCall,
     PlainCall, Put,
 };
 use cur_screens::Touched;
-use cur_windows::{Desk, Refusal};
+use cur_windows::Desk;
 
 /// Does a call that changes windows; `None` for a call that doesn't, or that does more. Marks in `touched` the places
 /// where a grid or its position may have changed.
-pub(crate) fn change(
-    desk: &mut Desk,
-    touched: &mut Touched,
-    call: &Call<'_>,
-) -> Option<Result<(), Refusal>>
+pub(crate) fn change(desk: &mut Desk, touched: &mut Touched, call: &Call<'_>) -> Option<Outcome>
     ensures does { Does desk.old desk.new result (changing desk.old call.now) }
     ensures touched { KeepsShown touched.old desk.old touched.new desk.new }
 {
@@ -52,11 +49,7 @@ pub(crate) fn change(
 }
 
 /// As `shape`; also marks in `touched` every place that `call` may change.
-fn shape_marked(
-    desk: &mut Desk,
-    touched: &mut Touched,
-    call: &Call<'_>,
-) -> Option<Result<(), Refusal>>
+fn shape_marked(desk: &mut Desk, touched: &mut Touched, call: &Call<'_>) -> Option<Outcome>
     ensures does { Does desk.old desk.new result (shaping desk.old call.now) }
     ensures touched { KeepsShown touched.old desk.old touched.new desk.new }
 {
@@ -86,7 +79,7 @@ fn shape_marked(
 }
 
 /// Does `call` in `desk` if it draws lines or copies from one window to another; `None` for any other call.
-fn shape(desk: &mut Desk, call: &Call<'_>) -> Option<Result<(), Refusal>>
+fn shape(desk: &mut Desk, call: &Call<'_>) -> Option<Outcome>
     ensures { Does desk.old desk.new result (shaping desk.old call.now) }
 {
     match call {
@@ -127,12 +120,7 @@ fn shape(desk: &mut Desk, call: &Call<'_>) -> Option<Result<(), Refusal>>
 }
 
 /// As `plain`; also marks in `touched` every place that the call may change.
-fn plain_marked(
-    desk: &mut Desk,
-    touched: &mut Touched,
-    call: PlainCall,
-    window: usize,
-) -> Result<(), Refusal>
+fn plain_marked(desk: &mut Desk, touched: &mut Touched, call: PlainCall, window: usize) -> Outcome
     ensures step { desks.step desk.new result ≡ spec.plain_step call desk.old window }
     ensures touched { KeepsShown touched.old desk.old touched.new desk.new }
 {
@@ -144,7 +132,7 @@ fn plain_marked(
     plain(desk, call, window)
 }
 
-fn plain(desk: &mut Desk, call: PlainCall, window: usize) -> Result<(), Refusal>
+fn plain(desk: &mut Desk, call: PlainCall, window: usize) -> Outcome
     ensures { desks.step desk.new result ≡ spec.plain_step call desk.old window }
 {
     match call {
@@ -166,7 +154,7 @@ pub(crate) fn number_call(
     call: NumberCall,
     window: usize,
     number: i32,
-) -> Result<(), Refusal>
+) -> Outcome
     ensures step { desks.step desk.new result ≡ spec.number_step call desk.old window number }
     ensures touched { KeepsShown touched.old desk.old touched.new desk.new }
 {
@@ -185,7 +173,7 @@ pub(crate) fn numbers_call(
     call: NumbersCall,
     window: usize,
     numbers: (i32, i32),
-) -> Result<(), Refusal>
+) -> Outcome
     ensures step { desks.step desk.new result ≡ spec.numbers_step call desk.old window numbers.0 numbers.1 }
     ensures touched { KeepsShown touched.old desk.old touched.new desk.new }
 {
@@ -201,7 +189,7 @@ pub(crate) fn numbers_call(
     }
 }
 
-fn flag(desk: &mut Desk, call: FlagCall, window: usize, on: bool) -> Result<(), Refusal>
+fn flag(desk: &mut Desk, call: FlagCall, window: usize, on: bool) -> Outcome
     ensures { desks.step desk.new result ≡ spec.flag_step call desk.old window on }
 {
     match call {
@@ -212,12 +200,7 @@ fn flag(desk: &mut Desk, call: FlagCall, window: usize, on: bool) -> Result<(), 
     }
 }
 
-pub(crate) fn attributes(
-    desk: &mut Desk,
-    call: AttrsCall,
-    window: usize,
-    attrs: Attrs,
-) -> Result<(), Refusal>
+pub(crate) fn attributes(desk: &mut Desk, call: AttrsCall, window: usize, attrs: Attrs) -> Outcome
     ensures { desks.step desk.new result ≡ spec.attributes_step call desk.old window attrs }
 {
     match call {
@@ -227,13 +210,7 @@ pub(crate) fn attributes(
     }
 }
 
-fn cell(
-    desk: &mut Desk,
-    touched: &mut Touched,
-    call: CellCall,
-    window: usize,
-    put: Put,
-) -> Result<(), Refusal>
+fn cell(desk: &mut Desk, touched: &mut Touched, call: CellCall, window: usize, put: Put) -> Outcome
     ensures step { desks.step desk.new result ≡ spec.cell_step call desk.old window put }
     ensures touched { KeepsShown touched.old desk.old touched.new desk.new }
 {
@@ -251,7 +228,7 @@ fn cell(
     }
 }
 
-fn line(desk: &mut Desk, call: LineCall, window: usize, put: Put, count: i32) -> Result<(), Refusal>
+fn line(desk: &mut Desk, call: LineCall, window: usize, put: Put, count: i32) -> Outcome
     ensures { desks.step desk.new result ≡ spec.line_step call desk.old window put count }
 {
     match call {
@@ -260,7 +237,7 @@ fn line(desk: &mut Desk, call: LineCall, window: usize, put: Put, count: i32) ->
     }
 }
 
-fn lay(desk: &mut Desk, call: LayCall, source: usize, target: usize) -> Result<(), Refusal>
+fn lay(desk: &mut Desk, call: LayCall, source: usize, target: usize) -> Outcome
     ensures { desks.step desk.new result ≡ common_part (spec.skips call) desk.old source target }
 {
     match call {

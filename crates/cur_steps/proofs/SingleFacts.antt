@@ -47,6 +47,15 @@ by_rendition t g b a row f none keeps starts wants is = record {
       ∙ ap (λ (r : Rendition). record s.screen { rendition = r; charset = u.screen.charset }) is));
 }
 
+-- the line of an attribute that adds one mark
+by_mark : (t : Table) (g : ℕ → ℕ → Ink) (b : Belief) (row : Row) (put : Rendition → Bool → Rendition) (of : Marks → Bool) (l : Bool) → b.graphic ≡ None → settles row ≡ true
+    → ((s : State) → IsReady t s → Starts t.rows t.cols row s.screen) → ((s u : Screen) → Wants t.looks row s u → Renders (put s.rendition true) s u)
+    → put (rendition_of t.looks b.brush) (l || (b.brush.attributes.standout && of t.looks.standout)) ≡ rendition_of t.looks (record b.brush { attributes = turned_on row b.brush.attributes }) → l ≡ true
+    → Turns t row g b g (with_attributes b (turned_on row b.brush.attributes))
+by_mark t g b row put of l none keeps starts wants is seen =
+    by_rendition t g b (turned_on row b.brush.attributes) row (λ r. put r true) none keeps starts wants
+    (ap (λ (x : Bool). put (rendition_of t.looks b.brush) (x || (b.brush.attributes.standout && of t.looks.standout))) (sym seen) ∙ is)
+
 joined : (x y z : Bool) → (x || (y || (z && x))) ≡ (y || x)
 joined true true z = refl
 joined true false z = refl
@@ -79,24 +88,12 @@ standout_joined l x =
 
 pub single_set : (t : Table) → HasSingles t → (wanted : Attributes) (row : Row) → has_single row wanted ≡ true → has t row ≡ true → (g : ℕ → ℕ → Ink) (b : Belief) → b.graphic ≡ None
     → Turns t row g b g (with_attributes b (turned_on row b.brush.attributes))
-single_set t k wanted Smul on there g b none =
-    by_rendition t g b (turned_on Smul b.brush.attributes) Smul (λ r. record r { underline = true }) none refl (free_of t) (λ s u w. w)
-    (ap (λ (x : Bool). record (rendition_of t.looks b.brush) { underline = x || (b.brush.attributes.standout && t.looks.standout.underline) }) (sym (k.underline ∙ there)))
-single_set t k wanted Rev on there g b none =
-    by_rendition t g b (turned_on Rev b.brush.attributes) Rev (λ r. record r { negative = true }) none refl (free_of t) (λ s u w. w)
-    (ap (λ (x : Bool). record (rendition_of t.looks b.brush) { negative = x || (b.brush.attributes.standout && t.looks.standout.negative) }) (sym (k.reverse ∙ there)))
-single_set t k wanted Blink on there g b none =
-    by_rendition t g b (turned_on Blink b.brush.attributes) Blink (λ r. record r { blink = true }) none refl (free_of t) (λ s u w. w)
-    (ap (λ (x : Bool). record (rendition_of t.looks b.brush) { blink = x || (b.brush.attributes.standout && t.looks.standout.blink) }) (sym (k.blink ∙ there)))
-single_set t k wanted Dim on there g b none =
-    by_rendition t g b (turned_on Dim b.brush.attributes) Dim (λ r. record r { faint = true }) none refl (free_of t) (λ s u w. w)
-    (ap (λ (x : Bool). record (rendition_of t.looks b.brush) { faint = x || (b.brush.attributes.standout && t.looks.standout.faint) }) (sym (k.dim ∙ there)))
-single_set t k wanted Bold on there g b none =
-    by_rendition t g b (turned_on Bold b.brush.attributes) Bold (λ r. record r { bold = true }) none refl (free_of t) (λ s u w. w)
-    (ap (λ (x : Bool). record (rendition_of t.looks b.brush) { bold = x || (b.brush.attributes.standout && t.looks.standout.bold) }) (sym (k.bold ∙ there)))
-single_set t k wanted Invis on there g b none =
-    by_rendition t g b (turned_on Invis b.brush.attributes) Invis (λ r. record r { concealed = true }) none refl (free_of t) (λ s u w. w)
-    (ap (λ (x : Bool). record (rendition_of t.looks b.brush) { concealed = x || (b.brush.attributes.standout && t.looks.standout.concealed) }) (sym (k.invisible ∙ there)))
+single_set t k wanted Smul on there g b none = by_mark t g b Smul (λ r x. record r { underline = x }) (λ m. m.underline) t.looks.underline none refl (free_of t) (λ s u w. w) refl (k.underline ∙ there)
+single_set t k wanted Rev on there g b none = by_mark t g b Rev (λ r x. record r { negative = x }) (λ m. m.negative) t.looks.reverse none refl (free_of t) (λ s u w. w) refl (k.reverse ∙ there)
+single_set t k wanted Blink on there g b none = by_mark t g b Blink (λ r x. record r { blink = x }) (λ m. m.blink) t.looks.blink none refl (free_of t) (λ s u w. w) refl (k.blink ∙ there)
+single_set t k wanted Dim on there g b none = by_mark t g b Dim (λ r x. record r { faint = x }) (λ m. m.faint) t.looks.dim none refl (free_of t) (λ s u w. w) refl (k.dim ∙ there)
+single_set t k wanted Bold on there g b none = by_mark t g b Bold (λ r x. record r { bold = x }) (λ m. m.bold) t.looks.bold none refl (free_of t) (λ s u w. w) refl (k.bold ∙ there)
+single_set t k wanted Invis on there g b none = by_mark t g b Invis (λ r x. record r { concealed = x }) (λ m. m.concealed) t.looks.invisible none refl (free_of t) (λ s u w. w) refl (k.invisible ∙ there)
 single_set t k wanted Smso on there g b none =
     by_rendition t g b (turned_on Smso b.brush.attributes) Smso (λ r. adding t.looks.standout r) none refl (free_of t) (λ s u w. w) (standout_joined t.looks b.brush)
 single_set t k wanted row on there g b none = absurd (false≢true on)

@@ -4,7 +4,7 @@ use Rattle.std.proofs.lemmas.Bool.{false≢true}
 use Rattle.std.proofs.lemmas.Bool.Decides.{nat_tests}
 use Rattle.vt_term.specs.Look.{Rendition, Look, space}
 use Rattle.vt_term.specs.Grid.{Grid, line_at, look_at, drawn}
-use Rattle.vt_term.specs.Screen.{Screen, State, IsOfSize, is_graphic}
+use Rattle.vt_term.specs.Screen.{Screen, State, Charset, IsOfSize, is_graphic}
 use Rattle.vt_term.specs.Color.{Color}
 use Rattle.grids.proofs.Drawings.{cell_at-drawn}
 use Rattle.grids.specs.Grids.{is_in, one}
@@ -18,7 +18,7 @@ use Rattle.ti_rows.specs.Looks.{shown}
 use Rattle.ti_conforms.specs.Certified.{Table, IsReady, IsChecked, has, limit_of}
 use Rattle.cur_steps.specs.Inks.{rendition_of, look_of, IsColored}
 use Rattle.cur_steps.specs.Pieces.{paints}
-use Rattle.cur_steps.specs.Beliefs.{Agrees, Belief, CanHide, Place, Passes, Turns, IsHere, set_row, Mode, Hidden, Normal, Prominent, IsSeen, is_shown, mode_row}
+use Rattle.cur_steps.specs.Beliefs.{Agrees, Belief, CanHide, Place, Passes, Turns, IsHere, set_row, Mode, Hidden, Normal, Prominent, IsSo, IsSeen, is_shown, mode_row}
 use Rattle.cur_steps.specs.Grounds.{Ground, Fore, Back, color_limit, color_of, color_row, with_color}
 
 pub look_at-drawn : (f : ℕ → ℕ → Look → Look) (g : Grid) (i j : ℕ) → j < length (line_at g i) → look_at (drawn f g) i j ≡ f i j (look_at g i j)
@@ -74,20 +74,26 @@ moved t g b r c lc = record {
   ends = λ s u h sized closed w. placed t g b r c lc s u h sized closed w.wants;
 }
 
+-- a ready state is ready under another rendition, with another settled charset, and with the cursor shown or not
+ready_as : (t : Table) (s : State) (r : Rendition) (c : Charset) (v : Bool) → IsReady t s → t.settled c ≡ true → (has t Cnorm ≡ false → v ≡ true)
+    → IsOfSize t.rows t.cols (record { screen = record s.screen { rendition = r; charset = c; visible = v }; rest = [] })
+    → IsReady t (record { screen = record s.screen { rendition = r; charset = c; visible = v }; rest = [] })
+ready_as t s r c v h settled needed k =
+    record { sized = k; rest = refl; tame = record { autowrap = h.tame.autowrap; inserting = h.tame.inserting }; whole = record { top = h.whole.top; bottom = h.whole.bottom }; settled = settled; visible = needed }
+
+-- unchanged cells and an unmoved cursor, under another rendition, with another active set, or with the cursor shown
+-- otherwise
+restyled : (t : Table) (g : ℕ → ℕ → Ink) (b : Belief) (x : Brush) (o : Option Bool) (m : Option Mode) (c : Charset) (v : Bool) → IsColored t x → t.settled c ≡ true → IsSo o (is_graphic c) → (has t Cnorm ≡ false → v ≡ true) → IsSeen m v
+    → (s u : State) → Agrees t g b s → IsOfSize t.rows t.cols u → u.rest ≡ [] → u.screen ≡ record s.screen { rendition = rendition_of t.looks x; charset = c; visible = v }
+    → Agrees t g (record b { brush = x; graphic = o; mode = m }) u
+restyled t g b x o m c v colored settled set needed seen s u h sized closed e =
+    by_screen t (Agrees t g (record b { brush = x; graphic = o; mode = m })) u (record s.screen { rendition = rendition_of t.looks x; charset = c; visible = v }) sized closed e
+    (λ k. record { ready = ready_as t s (rendition_of t.looks x) c v h.ready settled needed k; cells = h.cells; place = h.place; brush = refl; colored = colored; set = set; seen = seen })
+
 -- unchanged cells under another rendition, with the sets as they were
 inked : (t : Table) (g : ℕ → ℕ → Ink) (b : Belief) (x : Brush) → IsColored t x → (s u : State) → Agrees t g b s → IsOfSize t.rows t.cols u → u.rest ≡ []
     → u.screen ≡ record s.screen { rendition = rendition_of t.looks x } → Agrees t g (record b { brush = x }) u
-inked t g b x colored s u h sized closed e =
-    by_screen t (Agrees t g (record b { brush = x })) u (record s.screen { rendition = rendition_of t.looks x }) sized closed e
-    (λ k. record {
-      ready = record { sized = k; rest = refl; tame = record { autowrap = h.ready.tame.autowrap; inserting = h.ready.tame.inserting }; whole = record { top = h.ready.whole.top; bottom = h.ready.whole.bottom }; settled = h.ready.settled; visible = h.ready.visible };
-      cells = h.cells;
-      place = h.place;
-      brush = refl;
-      colored = colored;
-      set = h.set;
-      seen = h.seen;
-    })
+inked t g b x colored s u h sized closed e = restyled t g b x b.graphic b.mode s.screen.charset s.screen.visible colored h.ready.settled h.set h.ready.visible h.seen s u h sized closed e
 
 colored_with : (t : Table) (b : Brush) → has t Op ≡ true → IsColored t b
 colored_with t b e = record { foreground = λ f. absurd (cc); background = λ f. absurd (cc) }
@@ -139,17 +145,7 @@ either t a b s e f k u (inr h) = h
 -- unchanged cells under another rendition, with the sets settled
 pub rendered : (t : Table) (g : ℕ → ℕ → Ink) (b : Belief) (x : Brush) → IsColored t x → (s u : State) → Agrees t g b s → IsOfSize t.rows t.cols u → u.rest ≡ [] → t.settled u.screen.charset ≡ true
     → u.screen ≡ record s.screen { rendition = rendition_of t.looks x; charset = u.screen.charset } → Agrees t g (record b { brush = x; graphic = None }) u
-rendered t g b x colored s u h sized closed settled e =
-    by_screen t (Agrees t g (record b { brush = x; graphic = None })) u (record s.screen { rendition = rendition_of t.looks x; charset = u.screen.charset }) sized closed e
-    (λ j. record {
-      ready = record { sized = j; rest = refl; tame = record { autowrap = h.ready.tame.autowrap; inserting = h.ready.tame.inserting }; whole = record { top = h.ready.whole.top; bottom = h.ready.whole.bottom }; settled = settled; visible = h.ready.visible };
-      cells = h.cells;
-      place = h.place;
-      brush = refl;
-      colored = colored;
-      set = tt;
-      seen = h.seen;
-    })
+rendered t g b x colored s u h sized closed settled e = restyled t g b x None b.mode u.screen.charset s.screen.visible colored settled tt h.ready.visible h.seen s u h sized closed e
 
 pub attributes_set : (t : Table) (g : ℕ → ℕ → Ink) (b : Belief) (a : Attributes) → b.brush.foreground ≡ None → b.brush.background ≡ None
     → Turns t (Sgr a) g b g (record b { brush = record { attributes = a; foreground = None; background = None }; graphic = None })
@@ -163,16 +159,8 @@ attributes_set t g b a f k = record {
 active_as : (t : Table) (g : ℕ → ℕ → Ink) (b : Belief) (x : Bool) (s u : State) → Agrees t g b s → IsOfSize t.rows t.cols u → u.rest ≡ [] → u.screen ≡ record s.screen { charset = u.screen.charset }
     → t.settled u.screen.charset ≡ true → is_graphic u.screen.charset ≡ x → Agrees t g (record b { graphic = Some x }) u
 active_as t g b x s u h sized closed e settled is =
-    by_screen t (Agrees t g (record b { graphic = Some x })) u (record s.screen { charset = u.screen.charset }) sized closed e
-    (λ k. record {
-      ready = record { sized = k; rest = refl; tame = record { autowrap = h.ready.tame.autowrap; inserting = h.ready.tame.inserting }; whole = record { top = h.ready.whole.top; bottom = h.ready.whole.bottom }; settled = settled; visible = h.ready.visible };
-      cells = h.cells;
-      place = h.place;
-      brush = h.brush;
-      colored = h.colored;
-      set = is;
-      seen = h.seen;
-    })
+    restyled t g b b.brush (Some x) b.mode u.screen.charset s.screen.visible h.colored settled is h.ready.visible h.seen s u h sized closed
+    (e ∙ ap (λ (r : Rendition). record s.screen { rendition = r; charset = u.screen.charset }) h.brush)
 
 pub set_chosen : (t : Table) (g : ℕ → ℕ → Ink) (b : Belief) (x : Bool) → Turns t (set_row x) g b g (record b { graphic = Some x })
 set_chosen t g b true = record {
@@ -231,16 +219,8 @@ set_absent t checked false f e g b s h = set_plain t checked e g b s h
 visible_as : (t : Table) (g : ℕ → ℕ → Ink) (b : Belief) (m : Mode) → (has t Cnorm ≡ false → is_shown m ≡ true) → (s u : State) → Agrees t g b s → IsOfSize t.rows t.cols u → u.rest ≡ [] → u.screen ≡ record s.screen { visible = is_shown m }
     → Agrees t g (record b { mode = Some m }) u
 visible_as t g b m needed s u h sized closed e =
-    by_screen t (Agrees t g (record b { mode = Some m })) u (record s.screen { visible = is_shown m }) sized closed e
-    (λ k. record {
-      ready = record { sized = k; rest = refl; tame = record { autowrap = h.ready.tame.autowrap; inserting = h.ready.tame.inserting }; whole = record { top = h.ready.whole.top; bottom = h.ready.whole.bottom }; settled = h.ready.settled; visible = needed };
-      cells = h.cells;
-      place = h.place;
-      brush = h.brush;
-      colored = h.colored;
-      set = h.set;
-      seen = refl;
-    })
+    restyled t g b b.brush b.graphic (Some m) s.screen.charset (is_shown m) h.colored h.ready.settled h.set needed refl s u h sized closed
+    (e ∙ ap (λ (r : Rendition). record s.screen { rendition = r; visible = is_shown m }) h.brush)
 
 hidden : (t : Table) → has t Cnorm ≡ true → (g : ℕ → ℕ → Ink) (b : Belief) → Turns t Civis g b g (record b { mode = Some Hidden })
 hidden t is g b = record {

@@ -24,6 +24,10 @@ look_of l x = record { byte = x.byte; graphic = x.graphic && nat_le 95 x.byte; r
 abbrev pub plain_brush : Brush
 plain_brush = record { attributes = no_attributes; foreground = None; background = None }
 
+-- these attributes in the default colors
+abbrev pub in_default_colors : Attributes → Brush
+in_default_colors a = record { attributes = a; foreground = None; background = None }
+
 abbrev pub blank_ink : Ink
 blank_ink = record { byte = 32; graphic = false; brush = plain_brush }
 

@@ -41,6 +41,11 @@ abbrev pub Keeps : {W T E : Type 0} → (W → W → List ℕ → Type 0) → (W
 Keeps went failures before after answer t limit =
     (g : ℕ → ℕ → Ink) → ActsWith went failures before after answer t limit g g
 
+-- all cells stay, whatever they are, within a limit that the table sets
+abbrev pub KeepsWithin : {W T E : Type 0} → (W → W → List ℕ → Type 0) → (W → ℕ) → Pen W → Pen W → Result T E → Table
+    → (Table → ℕ) → Type 0
+KeepsWithin went failures before after answer t limit = Keeps went failures before after answer t (limit t)
+
 -- all cells stay, whatever they are, and exactly this text goes out if nothing fails
 abbrev pub KeepsBy : {W T E : Type 0} → (W → W → List ℕ → Type 0) → (W → ℕ) → Pen W → Pen W → Result T E → Table → ℕ
     → List ℕ → Type 0

@@ -2,7 +2,8 @@
 ghost use Rattle.std.specs.Prelude.{◌≡◌, ◌<◌, ℕ, false, Option, Some, None, OnOk, length};
 ghost use Rattle.ti_rows.specs.declared.rows.Row.TheVariants.{Sgr, Sgr0};
 ghost use Rattle.ti_conforms.specs.Certified.{IsChecked, has, text_of, lengths};
-ghost use Rattle.cur_steps.specs.{Inks.{no_attributes, plain_brush}, declared.inks.Brush.{Brush}};
+ghost use Rattle.cur_steps.specs.Inks.{in_default_colors, no_attributes, plain_brush};
+ghost use Rattle.cur_steps.specs.declared.inks.Brush.{Brush};
 ghost use Rattle.cur_steps.specs.Singles as spec;
 ghost use Rattle.cur_steps.specs.Steps.{Keeps};
 
@@ -163,8 +164,7 @@ impl<W: Wire> Pen<W> {
     ) -> Sent
         requires checked { IsChecked (C.table checked.now) }
         requires sgr { (C.table checked.now).line_of (Sgr wanted) ≡ None }
-        ensures brush { OnOk result
-            (self.new.belief.brush ≡ record { attributes = wanted; foreground = None; background = None }) }
+        ensures brush { OnOk result (self.new.belief.brush ≡ in_default_colors wanted) }
         ensures place { OnOk result (self.new.belief.place ≡ self.old.belief.place) }
         ensures step { Keeps W.went W.failures self.old self.new result (C.table checked.now)
             (C.table checked.now).longest.sgr }

@@ -4,7 +4,7 @@ ghost use Rattle.std.specs.Prelude.{◌≡◌, ◌+◌, ℕ, Bool, true, false, 
 ghost use Rattle.vt_term.specs.{Color.{Color}, Look.{IsPrinted}};
 ghost use Rattle.ti_rows.specs.declared.rows.Row.TheVariants.{Op, Sgr, Smacs};
 ghost use Rattle.ti_conforms.specs.Certified.{IsChecked, has};
-ghost use Rattle.cur_steps.specs.{Inks.{put_at}, Beliefs.{moves, IsNext, set_row}};
+ghost use Rattle.cur_steps.specs.{Inks.{in_default_colors, put_at}, Beliefs.{moves, IsNext, set_row}};
 ghost use Rattle.cur_steps.specs.Grounds.{color_limit, color_of, color_row, with_color};
 ghost use Rattle.cur_steps.specs.{Sets.{EndsUncolored, FixesRendition}, declared.inks.Brush.{Brush}};
 ghost use Rattle.cur_steps.specs.Steps.{IsGoal, Keeps, Makes};
@@ -44,8 +44,7 @@ impl<W: Wire> Pen<W> {
         requires checked { IsChecked (C.table checked.now) }
         requires foreground { self.old.belief.brush.foreground ≡ None }
         requires background { self.old.belief.brush.background ≡ None }
-        ensures brush { OnOk result
-            (self.new.belief.brush ≡ record { attributes = wanted; foreground = None; background = None }) }
+        ensures brush { OnOk result (self.new.belief.brush ≡ in_default_colors wanted) }
         ensures place { OnOk result (self.new.belief.place ≡ self.old.belief.place) }
         ensures step { Keeps W.went W.failures self.old self.new result (C.table checked.now)
             (C.table checked.now).longest.sgr }
@@ -72,8 +71,7 @@ impl<W: Wire> Pen<W> {
         requires checked { IsChecked (C.table checked.now) }
         requires line { (C.table checked.now).line_of (Sgr wanted) ≡ Some line.now }
         requires colors { EndsUncolored (C.table checked.now) line.now self.old.belief.brush }
-        ensures brush { self.new.belief.brush
-            ≡ record { attributes = wanted; foreground = None; background = None } }
+        ensures brush { self.new.belief.brush ≡ in_default_colors wanted }
         ensures place { self.new.belief.place ≡ self.old.belief.place }
         ensures step { Keeps W.went W.failures self.old self.new result (C.table checked.now)
             (C.table checked.now).longest.sgr }

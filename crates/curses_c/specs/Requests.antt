@@ -139,66 +139,34 @@ Row = ℕ × (Request → Option Call)
 -- making, moving and deleting windows
 abbrev pub rows_made : List Row
 rows_made =
-    (1, newwin) ∷
-    (2, newpad) ∷
-    (3, part Subwin) ∷
-    (4, part Derwin) ∷
-    (5, part Subpad) ∷
-    (6, dupwin) ∷
-    (7, plain Delwin) ∷
-    (8, numbers Mvwin) ∷ []
+    (1, newwin) ∷ (2, newpad) ∷
+    (3, part Subwin) ∷ (4, part Derwin) ∷ (5, part Subpad) ∷ (6, dupwin) ∷
+    (7, plain Delwin) ∷ (8, numbers Mvwin) ∷ []
 
 -- characters, lines and borders
 abbrev pub rows_written : List Row
 rows_written =
-    (9, numbers Move) ∷
-    (10, cell Addch) ∷
-    (11, cell Insch) ∷
-    (12, plain Delch) ∷
-    (13, plain Insertln) ∷
-    (14, plain Deleteln) ∷
-    (15, plain Clrtoeol) ∷
-    (16, plain Clrtobot) ∷
-    (17, plain Erase) ∷
-    (18, plain Clear) ∷
-    (19, line Hline) ∷
-    (20, line Vline) ∷
-    (21, draw_border) ∷
-    (22, draw_box) ∷
-    (23, number Scroll) ∷
-    (24, numbers Setscrreg) ∷ []
+    (9, numbers Move) ∷ (10, cell Addch) ∷ (11, cell Insch) ∷
+    (12, plain Delch) ∷ (13, plain Insertln) ∷ (14, plain Deleteln) ∷
+    (15, plain Clrtoeol) ∷ (16, plain Clrtobot) ∷ (17, plain Erase) ∷ (18, plain Clear) ∷
+    (19, line Hline) ∷ (20, line Vline) ∷ (21, draw_border) ∷ (22, draw_box) ∷
+    (23, number Scroll) ∷ (24, numbers Setscrreg) ∷ []
 
 -- attributes and backgrounds, and copying from window to window
 abbrev pub rows_styled : List Row
 rows_styled =
-    (25, attributes Attron) ∷
-    (26, attributes Attroff) ∷
-    (27, attributes Attrset) ∷
-    (28, number ColorSet) ∷
-    (29, cell Bkgdset) ∷
-    (30, cell Bkgd) ∷
-    (31, lay Overlay) ∷
-    (32, lay Overwrite) ∷
-    (33, copywin) ∷ []
+    (25, attributes Attron) ∷ (26, attributes Attroff) ∷ (27, attributes Attrset) ∷ (28, number ColorSet) ∷
+    (29, cell Bkgdset) ∷ (30, cell Bkgd) ∷
+    (31, lay Overlay) ∷ (32, lay Overwrite) ∷ (33, copywin) ∷ []
 
 -- options, and showing
 abbrev pub rows_shown : List Row
 rows_shown =
-    (34, flag Scrollok) ∷
-    (35, flag Leaveok) ∷
-    (36, flag Clearok) ∷
-    (37, flag Idlok) ∷
-    (38, plain Touchwin) ∷
-    (39, numbers Touchline) ∷
-    (40, show Noutrefresh) ∷
-    (41, show Refresh) ∷
-    (42, screen Doupdate) ∷
-    (43, show_pad Pnoutrefresh) ∷
-    (44, show_pad Prefresh) ∷
-    (45, curs_set) ∷
-    (46, init_pair) ∷
-    (47, screen Beep) ∷
-    (48, screen Endwin) ∷ []
+    (34, flag Scrollok) ∷ (35, flag Leaveok) ∷ (36, flag Clearok) ∷ (37, flag Idlok) ∷
+    (38, plain Touchwin) ∷ (39, numbers Touchline) ∷
+    (40, show Noutrefresh) ∷ (41, show Refresh) ∷ (42, screen Doupdate) ∷
+    (43, show_pad Pnoutrefresh) ∷ (44, show_pad Prefresh) ∷
+    (45, curs_set) ∷ (46, init_pair) ∷ (47, screen Beep) ∷ (48, screen Endwin) ∷ []
 
 -- the call of the first row of this kind
 abbrev pub call_in : List Row → Request → Option Call

@@ -148,10 +148,7 @@ impl<'a> Asked<'a> {
             Asked::File(packed) => packed.get_string(cap),
             Asked::Text(entry) => entry.get_string(cap),
         };
-        match found {
-            Some(text) => Ok(text),
-            None => Err(Failure::NoCap),
-        }
+        found.ok_or(Failure::NoCap)
     }
 
     /// The number of the capability `cap`. Fails with `NoCap` if the entry has none.
@@ -163,10 +160,7 @@ impl<'a> Asked<'a> {
             Asked::File(packed) => packed.get_number(cap),
             Asked::Text(entry) => entry.get_number(cap),
         };
-        match found {
-            Some(number) => Ok(number),
-            None => Err(Failure::NoCap),
-        }
+        found.ok_or(Failure::NoCap)
     }
 
     /// Whether the entry has the flag `cap`.

@@ -9,48 +9,46 @@ use cur_windows::Refusal;
 /// All was done.
 pub const OK: i32 = 0;
 
-/// The reason why there is no session, no certificate or no answer for a program.
+/// The wire failed.
+const WIRE_FAILED: i32 = 17;
+
+/// A line of a script isn't a call.
+const BAD_LINE: i32 = 18;
+
+/// A script or a line of it is too long.
+const TOO_LONG: i32 = 19;
+
+/// The reason why there is no session, no certificate or no answer for a program, and its number.
 #[derive(Clone, Copy)]
 pub enum Failure {
     /// Out of memory.
-    NoMemory,
+    NoMemory = 12,
     /// The handle has no session open.
-    Closed,
+    Closed = 20,
     /// No terminal has this size.
-    BadSize,
+    BadSize = 21,
     /// The entry can't be read.
-    BadEntry,
+    BadEntry = 22,
     /// The certificate isn't one of the entry for the size.
-    BadCertificate,
+    BadCertificate = 23,
     /// The entry has no certificate for the size.
-    NoCertificate,
+    NoCertificate = 24,
     /// The caller's room is too small.
-    NoRoom,
+    NoRoom = 25,
+    // 26 is the header's own
     /// The numbers encode no call.
-    BadCall,
+    BadCall = 27,
     /// No capability of the kind has the name.
-    BadName,
+    BadName = 28,
     /// The entry has no such capability.
-    NoCap,
+    NoCap = 14,
 }
 
 /// The number of a failure.
 pub fn failure_code(failure: Failure) -> i32
     ensures { result ≡ spec.failure_code failure }
 {
-    match failure {
-        Failure::NoMemory => 12,
-        Failure::NoCap => 14,
-        Failure::Closed => 20,
-        Failure::BadSize => 21,
-        Failure::BadEntry => 22,
-        Failure::BadCertificate => 23,
-        Failure::NoCertificate => 24,
-        Failure::NoRoom => 25,
-        // 26 is the header's own
-        Failure::BadCall => 27,
-        Failure::BadName => 28,
-    }
+    failure as i32
 }
 
 /// The number of a call's answer.
@@ -61,7 +59,7 @@ pub fn answer_code(answer: Answer) -> i32
         Answer::Done => OK,
         Answer::Was(_) => OK,
         Answer::Refused(refusal) => refusal_code(refusal),
-        Answer::WireFailed => 17,
+        Answer::WireFailed => WIRE_FAILED,
     }
 }
 
@@ -94,8 +92,8 @@ pub fn script_code(kind: ScriptFaultKind) -> i32
     ensures { result ≡ spec.script_code kind }
 {
     match kind {
-        ScriptFaultKind::BadLine => 18,
-        ScriptFaultKind::TooLong => 19,
-        ScriptFaultKind::NoMemory => 12,
+        ScriptFaultKind::BadLine => BAD_LINE,
+        ScriptFaultKind::TooLong => TOO_LONG,
+        ScriptFaultKind::NoMemory => failure_code(Failure::NoMemory),
     }
 }

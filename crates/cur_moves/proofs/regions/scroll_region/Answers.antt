@@ -9,17 +9,17 @@ use Rattle.cur_moves.proofs.FrameFacts.{region_enough}
 use Rattle.cur_moves.proofs.regions.scroll_region.Goals as goal
 
 pub returns-in_err-set_frame : goal.returns-in_err-set_frame
-returns-in_err-set_frame g c = record {
-  step = λ f b. (
-      let e = err_from_is_err_and c.from_residual.result c.from_residual.ensures.1 in
-      let t = g.C.Certificate.table c.args.checked.now in
-      let x = c.args.scroll in
-      let k : ℕ = t.longest.scroll + t.longest.cup in
-      let n : ℕ = (x.count + 2) * t.longest.scroll + 2 * t.longest.cup in
-      let enough : k + x.count * t.longest.scroll + k ≤ n = region_enough x.count t.longest.scroll t.longest.cup in
-      rw e.1 (steps_fail g.W.Wire.went g.W.Wire.failures c.args.wire.now c.set_frame.new.wire _ _ (IsPaint t) k n (IsLost t)
-      (Framed t f b) (Framed t (framed x.top x.bottom f.cells c.edge.result) b) (Framed t (whole t (shifted x f.cells) c.args.row) b) (omega (arith, enough)) (c.in_err-set_frame.ensures.step f b)));
-}
+returns-in_err-set_frame g c =
+    let e = err_from_is_err_and c.from_residual.result c.from_residual.ensures.1 in
+    let t = g.C.Certificate.table c.args.checked.now in
+    let x = c.args.scroll in
+    let k : ℕ = t.longest.scroll + t.longest.cup in
+    let n : ℕ = (x.count + 2) * t.longest.scroll + 2 * t.longest.cup in
+    let enough : k + x.count * t.longest.scroll + k ≤ n = region_enough x.count t.longest.scroll t.longest.cup in
+    record {
+      step = λ f b. rw e.1 (steps_fail g.W.Wire.went g.W.Wire.failures c.args.wire.now c.set_frame.new.wire _ _ (IsPaint t) k n (IsLost t)
+          (Framed t f b) (Framed t (framed x.top x.bottom f.cells c.edge.result) b) (Framed t (whole t (shifted x f.cells) c.args.row) b) (omega (arith, enough)) (c.in_err-set_frame.ensures.step f b));
+    }
 
 pub returns-in_err-scroll_at_edge : goal.returns-in_err-scroll_at_edge
 returns-in_err-scroll_at_edge g c = record {

@@ -16,8 +16,7 @@ loop-n-preserved-then-shows g c =
 
 pub print_cell-requires-clause-changed : goal.print_cell-requires-clause-changed
 print_cell-requires-clause-changed g c =
-    let p = c.loop-n.self.screens.now in
-    found_different (g.O.Picture.cells p.old.now) (g.N.Picture.cells p.new.now) c.args.cells.row (c.args.cells.from + c.loop-n.n) c.at-ink.result c.at-ink.ensures.value c.if-shows.ensures.value
+    found_different (g.O.Picture.cells c.loop-n.self.screens.now.old.now) (g.N.Picture.cells c.loop-n.self.screens.now.new.now) c.args.cells.row (c.args.cells.from + c.loop-n.n) c.at-ink.result c.at-ink.ensures.value c.if-shows.ensures.value
 
 pub returns-in_err-print_cell : goal.returns-in_err-print_cell
 returns-in_err-print_cell g c =

@@ -63,7 +63,7 @@ returns-in_default g c =
     rw (← c.self.view_is) (record {
       step = all.step;
       carries = all.carries;
-      stage = stage_kept g.C.Certificate.table s.painter drew.new.painter s.desk drew.new.desk s.screen drew.new.screen c.self.invariant.0 all.sizes all.certificate;
-      checked = checked_kept g.C.Certificate.table s.painter drew.new.painter c.self.invariant.1 all.certificate;
-      certificate = all.certificate;
+      stage = stage_kept g.C.Certificate.table s.painter drew.new.painter s.desk drew.new.desk s.screen drew.new.screen c.self.invariant.0 drew.ensures.sizes drew.ensures.certificate;
+      checked = checked_kept g.C.Certificate.table s.painter drew.new.painter c.self.invariant.1 drew.ensures.certificate;
+      certificate = drew.ensures.certificate;
     })
