@@ -8,16 +8,20 @@ use Rattle.ti_blames.specs.declared.parts.Part.TheVariants.{Background, Sets, Ma
 use Rattle.ti_rows.specs.declared.rows.Attributes.{Attributes}
 use Rattle.ti_rows.specs.declared.rows.Looks.{Looks}
 use Rattle.vt_effects.specs.declared.effects.Effect.{Effect}
+use Rattle.vt_effects.specs.declared.effects.Rendering.{Rendering}
 use Rattle.vt_effects.specs.declared.effects.Switch.{Switch}
 
--- the change of a mark by an effect
+-- the change of a mark by a change of the rendition, and by an effect
+abbrev pub switch_in : Mark → Rendering → Switch
+switch_in Bold rendition = rendition.bold
+switch_in Faint rendition = rendition.faint
+switch_in Underline rendition = rendition.underline
+switch_in Blink rendition = rendition.blink
+switch_in Negative rendition = rendition.negative
+switch_in Concealed rendition = rendition.concealed
+
 abbrev pub switch_of : Mark → Effect → Switch
-switch_of Bold effect = effect.rendition.bold
-switch_of Faint effect = effect.rendition.faint
-switch_of Underline effect = effect.rendition.underline
-switch_of Blink effect = effect.rendition.blink
-switch_of Negative effect = effect.rendition.negative
-switch_of Concealed effect = effect.rendition.concealed
+switch_of mark effect = switch_in mark effect.rendition
 
 -- two effects are the same in a part
 abbrev pub AreSame : Part → Effect → Effect → Type 0

@@ -11,8 +11,8 @@ use std::alloc::{AllocError, Global};
 use ti_parm::{Param, ParmFault};
 use ti_rows::{Attributes, Looks, NO_ATTRIBUTES, NO_LOOKS, Row};
 use ti_stretches::{
-    CodeFault, Sender, Stretch, conditional_on, faulty_code, open_conditional, sending_stretch,
-    sent_bytes,
+    CodeFault, Found, Sender, Stretch, conditional_on, faulty_code, open_conditional,
+    sending_stretch, sent_bytes,
 };
 use vt_effects::{Effect, Switch};
 use vt_term::Size;
@@ -205,7 +205,7 @@ impl Seen<'_> {
 ///
 /// # Errors
 /// Out of memory.
-pub fn sent_stretch(alloc: Global, checked: &Checked<'_>) -> Result<Option<Stretch>, AllocError>
+pub fn sent_stretch(alloc: Global, checked: &Checked<'_>) -> Found
     ensures { IfOk result (IsWithinIf checked.now.string.now) }
 {
     let params = params_of(alloc, checked.row)?;
@@ -225,11 +225,7 @@ pub fn sent_stretch(alloc: Global, checked: &Checked<'_>) -> Result<Option<Stret
 }
 
 /// The stretch of the sender's string that sends this stretch of its bytes.
-fn found_by(
-    alloc: Global,
-    sender: &Sender<'_>,
-    bytes: Stretch,
-) -> Result<Option<Stretch>, AllocError>
+fn found_by(alloc: Global, sender: &Sender<'_>, bytes: Stretch) -> Found
     ensures { IfOk result (IsWithinIf sender.now.string.now) }
 {
     sending_stretch(alloc, sender, bytes)
@@ -237,12 +233,7 @@ fn found_by(
 
 /// The conditional of the sender's string that tests the parameter with this `digit`; without one, the stretch that
 /// sends what changes the mark.
-fn missing_in(
-    alloc: Global,
-    sender: &Sender<'_>,
-    digit: u8,
-    change: Option<Stretch>,
-) -> Result<Option<Stretch>, AllocError>
+fn missing_in(alloc: Global, sender: &Sender<'_>, digit: u8, change: Option<Stretch>) -> Found
     ensures { IfOk result (IsWithinIf sender.now.string.now) }
 {
     match (conditional_on(alloc, sender.string, digit)?, change) {
@@ -257,11 +248,7 @@ fn missing_in(
 ///
 /// # Errors
 /// Out of memory.
-pub fn code_stretch(
-    alloc: Global,
-    checked: &Checked<'_>,
-    fault: CodeFault,
-) -> Result<Option<Stretch>, AllocError>
+pub fn code_stretch(alloc: Global, checked: &Checked<'_>, fault: CodeFault) -> Found
     ensures { IfOk result (IsWithinIf checked.now.string.now) }
 {
     let params = params_of(alloc, checked.row)?;

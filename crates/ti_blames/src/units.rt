@@ -24,28 +24,22 @@ pub(crate) fn units(alloc: Global, tokens: &[Token]) -> Result<Vec<Unit>, AllocE
         if let Function::SelectRendition(_) = token.function() {
             push_parameters(alloc, front.as_slice(), token.bytes(), &mut units)?;
         } else {
-            push_token(alloc, front.as_slice(), token.bytes(), &mut units)?;
+            units.push(whole_unit(alloc, front.as_slice(), token.bytes())?)?;
         }
         front.extend_from_slice(token.bytes())?;
     }
     Ok(units)
 }
 
-/// Adds the unit of a whole `token` behind what was sent `before`.
-fn push_token(
-    alloc: Global,
-    before: &[u8],
-    token: &[u8],
-    units: &mut Vec<Unit>,
-) -> Result<(), AllocError> {
+/// The unit of a whole `token` behind what was sent `before`.
+fn whole_unit(alloc: Global, before: &[u8], token: &[u8]) -> Result<Unit, AllocError> {
     let mut front = Vec::from_slice(alloc, before)?;
     front.extend_from_slice(token)?;
     let bytes = Stretch {
         from: before.len(),
         to: front.len(),
     };
-    units.push(Unit { bytes, front })?;
-    Ok(())
+    Ok(Unit { bytes, front })
 }
 
 /// Adds the units of the parameters of SGR, the `token` behind what was sent `before`. A parameter that is left out has

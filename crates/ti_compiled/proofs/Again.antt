@@ -83,16 +83,33 @@ pub nul_again : (bytes behind : List ℕ) → list_any is_nul (bytes ++ 0 ∷ be
 nul_again [] behind = refl
 nul_again (b ∷ bytes) behind = or_right (is_nul b) (nul_again bytes behind)
 
+both : {a b : Bool} → a ≡ true → b ≡ true → (a && b) ≡ true
+both h k = rw h k
+
+consed : (v w : Option Value) {vs ws : List (Option Value)} → w ≡ v → vs ≡ ws → (w ∷ vs) ≡ (v ∷ ws)
+consed v w e f = cc
+
+-- numbers that encode values are judged and read as these, if each one is
+each_again : (Is : ℕ → Option Value → Type 0) (holds : ℕ → Bool) (read : ℕ → Option Value)
+    → ((number : ℕ) (value : Option Value) → Is number value → (holds number ≡ true) × (read number ≡ value))
+    → (numbers : List ℕ) (values : List (Option Value)) → Each Is numbers values → (list_all holds numbers ≡ true) × (map read numbers ≡ values)
+each_again Is holds read one [] [] h = (refl, refl)
+each_again Is holds read one [] (v ∷ values) h = absurd h
+each_again Is holds read one (n ∷ numbers) [] h = absurd h
+each_again Is holds read one (n ∷ numbers) (v ∷ values) h =
+    let first = one n v h.0 in
+    let more = each_again Is holds read one numbers values h.1 in
+    (both first.0 more.0, consed v (read n) first.1 more.1)
+
 -- flags
+flag_again : (byte : ℕ) (value : Option Value) → IsFlag byte value → (is_flag byte ≡ true) × (flag_value byte ≡ value)
+flag_again byte (Some Flag) h = rw h (refl, refl)
+flag_again byte (Some (Number n)) h = absurd h
+flag_again byte (Some (String s)) h = absurd h
+flag_again byte None h = elim h [ inl e ↦ rw e (refl, refl) | inr e ↦ rw e (refl, refl) ]
+
 flags_again : (flags : List ℕ) (values : List (Option Value)) → Each IsFlag flags values → (list_all is_flag flags ≡ true) × (map flag_value flags ≡ values)
-flags_again [] [] h = (refl, refl)
-flags_again [] (v ∷ values) h = absurd h
-flags_again (b ∷ flags) [] h = absurd h
-flags_again (b ∷ flags) (Some Flag ∷ values) h = let more = flags_again flags values h.1 in rw h.0 (more.0, ap (λ vs. Some Flag ∷ vs) more.1)
-flags_again (b ∷ flags) (Some (Number n) ∷ values) h = absurd h.0
-flags_again (b ∷ flags) (Some (String s) ∷ values) h = absurd h.0
-flags_again (b ∷ flags) (None ∷ values) h = let more = flags_again flags values h.1 in
-    elim h.0 [ inl e ↦ rw e (more.0, ap (λ vs. None ∷ vs) more.1) | inr e ↦ rw e (more.0, ap (λ vs. None ∷ vs) more.1) ]
+flags_again flags values h = each_again IsFlag is_flag flag_value flag_again flags values h
 
 -- numbers
 number_kept : (h n : ℕ) → n < h → (is_number h n ≡ true) × (nat_lt n h ≡ true)
@@ -105,31 +122,24 @@ half_big : (form : Form) → 2 ≤ half form
 half_big Legacy = omega arith
 half_big Wide = omega arith
 
-both : {a b : Bool} → a ≡ true → b ≡ true → (a && b) ≡ true
-both h k = rw h k
-
-consed : (v w : Option Value) {vs ws : List (Option Value)} → w ≡ v → vs ≡ ws → (w ∷ vs) ≡ (v ∷ ws)
-consed v w e f = cc
-
 number_gone : (form : Form) (n : ℕ) → IsNumber form n None → (is_number (half form) n ≡ true) × (nat_lt n (half form) ≡ false)
 number_gone form n h = let big = half_big form in
     elim h [ inl e ↦ number_absent (half form) n (omega arith) (omega arith) big | inr e ↦ number_absent (half form) n (omega arith) (omega arith) big ]
 
+number_again : (form : Form) (number : ℕ) (value : Option Value) → IsNumber form number value
+    → (is_number (half form) number ≡ true) × (number_value (half form) number ≡ value)
+number_again form number (Some Flag) h = absurd h
+number_again form number (Some (String s)) h = absurd h
+number_again form number (Some (Number m)) h =
+    let kept = number_kept (half form) number h.1 in
+    (kept.0, rw kept.1 (ap (λ k. Some (Number k)) h.0))
+number_again form number None h =
+    let absent = number_gone form number h in
+    (absent.0, rw absent.1 refl)
+
 numbers_judged_again : (form : Form) (numbers : List ℕ) (values : List (Option Value)) → Each (IsNumber form) numbers values
     → (list_all (is_number (half form)) numbers ≡ true) × (map (number_value (half form)) numbers ≡ values)
-numbers_judged_again form [] [] h = (refl, refl)
-numbers_judged_again form [] (v ∷ values) h = absurd h
-numbers_judged_again form (n ∷ numbers) [] h = absurd h
-numbers_judged_again form (n ∷ numbers) (Some Flag ∷ values) h = absurd h.0
-numbers_judged_again form (n ∷ numbers) (Some (String s) ∷ values) h = absurd h.0
-numbers_judged_again form (n ∷ numbers) (Some (Number m) ∷ values) h =
-    let more = numbers_judged_again form numbers values h.1 in
-    let kept = number_kept (half form) n h.0.1 in
-    (both kept.0 more.0, consed (Some (Number m)) (number_value (half form) n) (rw kept.1 (ap (λ k. Some (Number k)) h.0.0)) more.1)
-numbers_judged_again form (n ∷ numbers) (None ∷ values) h =
-    let more = numbers_judged_again form numbers values h.1 in
-    let absent = number_gone form n h.0 in
-    (both absent.0 more.0, consed None (number_value (half form) n) (rw absent.1 refl) more.1)
+numbers_judged_again form numbers values h = each_again (IsNumber form) (is_number (half form)) (number_value (half form)) (number_again form) numbers values h
 
 -- strings
 string_kept : (table : List ℕ) (offset : ℕ) → offset < 32768 → offset < length table → list_any is_nul (drop offset table) ≡ true

@@ -12,12 +12,12 @@ use ti_caps::{FLAGS, NUMBERS, STRINGS};
 
 /// The sizes in a header: bytes of the names, numbers of flags, numbers and offsets, and bytes of the table.
 #[derive(Clone, Copy)]
-pub(crate) struct Sizes {
-    pub(crate) names: u16,
-    pub(crate) flags: u16,
-    pub(crate) numbers: u16,
-    pub(crate) offsets: u16,
-    pub(crate) table: u16,
+struct Sizes {
+    names: u16,
+    flags: u16,
+    numbers: u16,
+    offsets: u16,
+    table: u16,
 }
 
 /// The sections of a file, each a slice of it.

@@ -28,13 +28,11 @@ struct FieldStep {
     step: Step,
 }
 
+/// Where a use leads, if that is no entry that can be resolved.
+type Stepped = Result<Option<Step>, AllocError>;
+
 /// Where the use of `name` leads, if that is no entry that can be resolved; `way` has the entries on the way to it.
-fn use_step(
-    alloc: Global,
-    index: &Index<'_>,
-    way: &[usize],
-    name: &[u8],
-) -> Result<Option<Step>, AllocError>
+fn use_step(alloc: Global, index: &Index<'_>, way: &[usize], name: &[u8]) -> Stepped
     ensures { IfOk result (λ found. IfSome found (spec.IsStep index.now.raws.now way.now name.now)) }
 {
     let Some(at) = place_named(index.raws, name) else {
@@ -53,12 +51,7 @@ fn use_step(
 }
 
 /// Where the `field` leads, if it is a use that leads to no entry that can be resolved.
-fn field_step(
-    alloc: Global,
-    index: &Index<'_>,
-    way: &[usize],
-    field: &Field,
-) -> Result<Option<Step>, AllocError>
+fn field_step(alloc: Global, index: &Index<'_>, way: &[usize], field: &Field) -> Stepped
     ensures { IfOk result (λ found. IfSome found (spec.IsFieldStep index.now.raws.now way.now (Some field.now))) }
 {
     match field {

@@ -18,9 +18,15 @@ pub enum ApartFault {
     Unresolved(ResolveFault),
 }
 
+/// The fault of each entry that can't be read, in their order.
+pub type Faults<'a> = &'a [Option<SourceFault>];
+
+/// The entry with all that it uses, or why it can't be resolved.
+pub type Resolved = Result<Entry, ApartFault>;
+
 /// The fault of the entry at `place`; `None` if it can be read.
 #[tactic(auto, using(std::proofs::lemmas::Option::slice_get_read))]
-fn own_fault(faults: &[Option<SourceFault>], place: usize) -> Option<SourceFault>
+fn own_fault(faults: Faults<'_>, place: usize) -> Option<SourceFault>
     requires { place < length faults.now }
     ensures { slice_get faults.now place ≡ Some result }
 {
@@ -28,7 +34,7 @@ fn own_fault(faults: &[Option<SourceFault>], place: usize) -> Option<SourceFault
 }
 
 /// The fault of the entry at `place`; `None` if it can be read, or if there is no such entry.
-fn fault_in(faults: &[Option<SourceFault>], place: usize) -> Option<SourceFault>
+fn fault_in(faults: Faults<'_>, place: usize) -> Option<SourceFault>
     ensures { result ≡ fault_in faults.now place }
 {
     match faults.get(place) {
@@ -39,7 +45,7 @@ fn fault_in(faults: &[Option<SourceFault>], place: usize) -> Option<SourceFault>
 
 /// The fault of the first entry among these `places` that can't be read.
 #[tactic(auto, using(ti_resolve::proofs::OriginFacts::first_more, ti_resolve::proofs::OriginFacts::first_found))]
-fn first_fault(faults: &[Option<SourceFault>], places: &[usize]) -> Option<SourceFault>
+fn first_fault(faults: Faults<'_>, places: &[usize]) -> Option<SourceFault>
     ensures { result ≡ first_fault faults.now places.now }
 {
     for place in places {
@@ -51,12 +57,7 @@ fn first_fault(faults: &[Option<SourceFault>], places: &[usize]) -> Option<Sourc
 }
 
 /// The entry at `place`, which must be readable, with all that it uses.
-fn resolve_read(
-    alloc: Global,
-    index: &Index<'_>,
-    faults: &[Option<SourceFault>],
-    place: usize,
-) -> Result<Entry, ApartFault>
+fn resolve_read(alloc: Global, index: &Index<'_>, faults: Faults<'_>, place: usize) -> Resolved
     requires fit { AllByRecursion FieldsFit index.now.raws.now }
     requires names { NamesFit index.now.raws.now faults.now }
     requires there { place < length index.now.raws.now }
@@ -83,12 +84,7 @@ fn resolve_read(
 /// # Errors
 /// `Unread` if the entry or one that it uses can't be read, with the first such fault in the order of the walk;
 /// `Unresolved` with the first fault of the walk, or if memory ran out.
-pub fn resolve_apart(
-    alloc: Global,
-    index: &Index<'_>,
-    faults: &[Option<SourceFault>],
-    place: usize,
-) -> Result<Entry, ApartFault>
+pub fn resolve_apart(alloc: Global, index: &Index<'_>, faults: Faults<'_>, place: usize) -> Resolved
     requires fit { AllByRecursion FieldsFit index.now.raws.now }
     requires names { NamesFit index.now.raws.now faults.now }
     requires there { place < length index.now.raws.now }

@@ -1,16 +1,11 @@
 -- The row of a capability, found by trying all places; and no two places have one capability.
-use Rattle.std.proofs.Common.{◌≡◌, ◌≢◌, ◌⊎◌, inl, inr, ◌<◌, ◌≤◌, ◌+◌, ℕ, List, Option, Some, is_some, true, sym, ap, ◌∙◌, arith}
+use Rattle.std.proofs.Common.{◌≡◌, ◌≢◌, ◌⊎◌, inl, inr, ◌<◌, ◌≤◌, ◌+◌, ℕ, Option, Some, is_some, true, sym, ap, ◌∙◌, arith}
 use Rattle.std.proofs.Math.Nat.{eq-or-lt_of_le}
-use Rattle.std.specs.Cmp.Lexicographic.{slice_cmp}
-use Rattle.std.specs.Ordering.{nat_cmp, is_eq}
-use Rattle.std.specs.declared.cmp.Ordering.TheVariants.{Less}
-use Rattle.std.proofs.lemmas.Map.Text.{is_eq-slice_cmp}
-use Rattle.std.proofs.lemmas.Slice.Eq.{bytes_eq-Decides}
-use Rattle.std.proofs.lemmas.Bool.{true≢false, cases_order}
 use Rattle.ti_rows.specs.declared.rows.Row.{Row}
 use Rattle.ti_caps.specs.Table.{name_at}
 use Rattle.ti_rows.specs.Names.{cap_of, name_of, order, first_in_order, string_in_order, capabilities}
-use Rattle.ti_rows.proofs.NameFacts.{firsts_in_order, named, names_rise, orders_small}
+use Rattle.ti_rows.proofs.NameFacts.{firsts_in_order, named, orders_small}
+use Rattle.ti_lines.proofs.LinesRead.{same_name}
 
 pub has_first : (place : ℕ) (found : Option Row) → place < capabilities → found ≡ first_in_order place → is_some found ≡ true
 has_first place found lt e = let f = firsts_in_order place lt in ap (λ (o : Option Row). is_some o) (e ∙ f.is_first)
@@ -38,15 +33,8 @@ all_apart cap place all before row = let small : order row < capabilities = orde
 
 -- ---- capabilities differ from place to place
 
-not_itself : (xs ys : List ℕ) → slice_cmp nat_cmp xs ys ≡ Less → xs ≡ ys → ⊥
-not_itself xs ys h e = true≢false (sym ((bytes_eq-Decides xs ys).1 e) ∙ sym (is_eq-slice_cmp xs ys) ∙ ap is_eq h)
-
 pub same_place : (a b : Row) → cap_of a ≡ cap_of b → order a ≡ order b
-same_place a b e = elim (cases_order (order a) (order b)) [
-  | inl same ↦ same
-  | inr (inl lt) ↦ absurd (not_itself (name_of a) (name_of b) (names_rise (order a) (order b) lt (orders_small b)) one_name)
-  | inr (inr lt) ↦ absurd (not_itself (name_of b) (name_of a) (names_rise (order b) (order a) lt (orders_small a)) (sym one_name))
-]
+same_place a b e = same_name a b one_name
   where
     one_name : name_of a ≡ name_of b
     one_name = sym (named (order a) (orders_small a)) ∙ (ap (λ (cap : ℕ). name_at cap) e ∙ named (order b) (orders_small b))

@@ -19,14 +19,16 @@ pub(crate) enum Way {
     Shifting,
 }
 
-/// The way by SO and SI if `shifts`, else by designating G0.
-fn way_by(shifts: bool) -> Way
-    ensures { result ≡ spec.way_by shifts }
-{
-    if shifts {
-        Way::Shifting
-    } else {
-        Way::Designating
+impl Way {
+    /// The way by SO and SI if `shifts`, else by designating G0.
+    fn shifting_if(shifts: bool) -> Way
+        ensures { result ≡ spec.way_by shifts }
+    {
+        if shifts {
+            Way::Shifting
+        } else {
+            Way::Designating
+        }
     }
 }
 
@@ -46,9 +48,9 @@ fn way_of(entry: &Entry, number: u8) -> Way
     if number < singles {
         Way::Single
     } else if number == singles {
-        way_by(shifts(entry))
+        Way::shifting_if(shifts(entry))
     } else {
-        way_by(!shifts(entry))
+        Way::shifting_if(!shifts(entry))
     }
 }
 

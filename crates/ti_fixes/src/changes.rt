@@ -27,6 +27,20 @@ pub struct Change {
 }
 
 impl Change {
+    /// The change that gives `cap` a copy of this string in the entry at `place`.
+    ///
+    /// # Errors
+    /// Out of memory.
+    pub fn of(place: usize, cap: Cap, string: &Bytes) -> Result<Change, AllocError>
+        ensures { IfOk result (λ change. change ≡ record { place = place; cap = cap; string = string.now }) }
+    {
+        Ok(Change {
+            place,
+            cap,
+            string: string.try_copy()?,
+        })
+    }
+
     /// A copy of the change.
     ///
     /// # Errors
@@ -34,11 +48,7 @@ impl Change {
     pub fn try_copy(&self) -> Result<Change, AllocError>
         ensures { IfOk result (λ copy. copy ≡ self.now) }
     {
-        Ok(Change {
-            place: self.place,
-            cap: self.cap,
-            string: self.string.try_copy()?,
-        })
+        Change::of(self.place, self.cap, &self.string)
     }
 }
 

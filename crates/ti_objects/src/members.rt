@@ -4,7 +4,10 @@ ghost use Rattle.std.specs.Prelude.{◌≡◌, option_map};
 ghost use Rattle.serde_json.specs.View.{items_view, view};
 ghost use Rattle.ti_objects.specs.Members as spec;
 
-use serde_json::Value;
+use serde_json::{Map, Value};
+
+/// The values of an object under their names.
+pub(crate) type Members = Map<String, Value>;
 
 /// The text under `key`, if there is one.
 pub(crate) fn text_if<'a>(report: &'a Value, key: &str) -> Option<&'a str>

@@ -4,7 +4,7 @@ ghost use Rattle.std.specs.Prelude.{◌≡◌, ◌<◌, ◌++◌, ◌∷◌, [],
 ghost use Rattle.serde_json.specs.View.{members_view, view};
 ghost use Rattle.ti_objects.specs.Places as spec;
 
-use crate::members::{number_in, text_in};
+use crate::members::{Members, number_in, text_in};
 use crate::messages::name_in;
 use serde_json::{Map, Value, json, put};
 use std::alloc::{AllocError, Global};
@@ -160,11 +160,7 @@ fn region_in(alloc: Global, report: &Value) -> Result<Option<Value>, AllocError>
 }
 
 /// Puts the region of the field of `report` into `members`, as far as it is known.
-fn put_region(
-    alloc: Global,
-    report: &Value,
-    members: &mut Map<String, Value>,
-) -> Result<(), AllocError>
+fn put_region(alloc: Global, report: &Value, members: &mut Members) -> Result<(), AllocError>
     ensures { OnOk result (members_view members.new.entries
         ≡ spec.with_region (spec.region_in (view report.now)) (members_view members.old.entries)) }
 {

@@ -7,7 +7,7 @@ ghost use Rattle.ti_objects.specs.Results as spec;
 
 use crate::escapes::printable_json;
 use crate::kinds::{Kind, kind_of, level_of};
-use crate::members::{items_in, text_if, text_in};
+use crate::members::{Members, items_in, text_if, text_in};
 use crate::messages::{message_text, statement_key};
 use crate::places::{Span, artifact_value, location_value, span_in, whole_region};
 use serde_json::{Map, Value, json, put};
@@ -87,11 +87,7 @@ fn sole_suggestion(report: &Value) -> Option<&str>
 }
 
 /// Puts the fix of `report` into `members`, if there is one.
-fn put_fix(
-    alloc: Global,
-    report: &Value,
-    members: &mut Map<String, Value>,
-) -> Result<(), AllocError>
+fn put_fix(alloc: Global, report: &Value, members: &mut Members) -> Result<(), AllocError>
     ensures { OnOk result (members_view members.new.entries
         ≡ spec.with_fix (spec.fix_in (view report.now)) (members_view members.old.entries)) }
 {
@@ -145,7 +141,7 @@ fn put_result(
     alloc: Global,
     kind: Kind,
     report: &Value,
-    members: &mut Map<String, Value>,
+    members: &mut Members,
 ) -> Result<(), AllocError>
     ensures { OnOk result (members_view members.new.entries
         ≡ spec.with_result kind (view report.now) (members_view members.old.entries)) }

@@ -26,6 +26,10 @@ use Rattle.ti_reach.specs.declared.MissKind.TheVariants.{Parm, Token, Misses, Un
 pub between_ends : (way : Move) (count to : ℕ) → moved way 0 ≡ to → moved way (count - 1) ≡ to → spec.LeadsAll way count to
 between_ends way count to low high from lt = omega (arith, low, high, moved_in_order way 0 from (omega arith), moved_in_order way from (count - 1) (omega (arith, lt)))
 
+-- the cursor is on the screen
+inside : (rows cols : ℕ) (s : State) → IsOfSize rows cols s → (s.screen.row < rows) × (s.screen.col < cols)
+inside rows cols s size = (omega (arith, size.state.screen.row, size.rows), omega (arith, size.state.screen.col, size.cols))
+
 -- the start allows every state at rest
 rest_allowed : (rows cols : ℕ) (s : State) → IsOfSize rows cols s → IsAtRest s → Allows rows cols (spec.at_rest rows cols) s.screen
 rest_allowed rows cols s size rest = record {
@@ -33,9 +37,9 @@ rest_allowed rows cols s size rest = record {
   rows = size.rows;
   cols = size.cols;
   row_from = omega arith;
-  row_to = omega (arith, size.state.screen.row, size.rows);
+  row_to = omega (arith, (inside rows cols s size).0);
   col_from = omega arith;
-  col_to = omega (arith, size.state.screen.col, size.cols);
+  col_to = omega (arith, (inside rows cols s size).1);
   pending = λ h. cc;
   margins = (rest.top, rest.bottom);
   autowrap = rest.autowrap;
@@ -50,8 +54,8 @@ effect_reaches rows cols tokens e row col says there bytes split before size res
       after = record { screen = applied e before.screen; rest = [] };
       runs = runs;
       size = run_keeps rows cols before _ bytes size runs;
-      at_row = there.row_there before.screen.row (omega (arith, size.state.screen.row, size.rows));
-      at_col = there.col_there before.screen.col (omega (arith, size.state.screen.col, size.cols));
+      at_row = there.row_there before.screen.row (inside rows cols before size).0;
+      at_col = there.col_there before.screen.col (inside rows cols before size).1;
     }
 
 -- a state at rest with the cursor at this place

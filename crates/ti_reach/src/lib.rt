@@ -39,6 +39,12 @@ pub struct Miss {
     pub kind: MissKind,
 }
 
+/// Nothing if all these places are reached, or else the first one that isn't known to be.
+pub type Reached = Result<(), Miss>;
+
+/// Nothing if a place is reached, or else the reason why it isn't known to be.
+type Hit = Result<(), MissKind>;
+
 /// A place of the screen.
 #[derive(Clone, Copy)]
 struct Place {
@@ -54,7 +60,7 @@ struct Place {
 /// the cursor there. The errors `Parm`, `Token` and `Misses` are proved too, each for its place, and all places
 /// before that one are reached. `Undecided` says that the tokens have no effect record from all states at rest, and
 /// that the last one isn't CUP.
-pub fn reach_cup(alloc: Global, string: &[u8], size: Size) -> Result<(), Miss>
+pub fn reach_cup(alloc: Global, string: &[u8], size: Size) -> Reached
     ensures reached { OnOk result (spec.ServesAsCup string.now size.rows size.cols) }
     ensures row { IfErr result (λ miss. miss.row < size.rows) }
     ensures col { IfErr result (λ miss. miss.col < size.cols) }
@@ -69,13 +75,7 @@ pub fn reach_cup(alloc: Global, string: &[u8], size: Size) -> Result<(), Miss>
 }
 
 /// Checks that the string reaches each place of one row. `bytes` is room for the bytes sent for one place.
-fn reach_row(
-    alloc: Global,
-    string: &[u8],
-    size: Size,
-    row: usize,
-    bytes: &mut Vec<u8>,
-) -> Result<(), Miss>
+fn reach_row(alloc: Global, string: &[u8], size: Size, row: usize, bytes: &mut Vec<u8>) -> Reached
     requires { row < size.rows }
     ensures reached { OnOk result (spec.ReachesInRow string.now size.rows size.cols row size.cols) }
     ensures row { IfErr result (λ miss. miss.row ≡ row) }
@@ -93,13 +93,7 @@ fn reach_row(
 }
 
 /// Checks that the string reaches one place.
-fn reach_place(
-    alloc: Global,
-    string: &[u8],
-    size: Size,
-    place: Place,
-    bytes: &mut Vec<u8>,
-) -> Result<(), MissKind>
+fn reach_place(alloc: Global, string: &[u8], size: Size, place: Place, bytes: &mut Vec<u8>) -> Hit
     requires row_in { place.row < size.rows }
     requires col_in { place.col < size.cols }
     ensures reached { OnOk result (spec.StringReaches string.now size.rows size.cols place.row place.col) }
@@ -110,7 +104,7 @@ fn reach_place(
 }
 
 /// Replaces the contents of `bytes` by what the string sends for one place.
-fn send(alloc: Global, string: &[u8], place: Place, bytes: &mut Vec<u8>) -> Result<(), MissKind>
+fn send(alloc: Global, string: &[u8], place: Place, bytes: &mut Vec<u8>) -> Hit
     requires row_in { place.row < 500 }
     requires col_in { place.col < 500 }
     ensures sends { OnOk result (sent string.now (spec.place place.row place.col) ≡ Ok bytes.new.items) }
@@ -129,7 +123,7 @@ fn send(alloc: Global, string: &[u8], place: Place, bytes: &mut Vec<u8>) -> Resu
 }
 
 /// Checks that the bytes `sent` are whole tokens that leave the cursor at the place.
-fn check_bytes(alloc: Global, sent: &[u8], size: Size, place: Place) -> Result<(), MissKind>
+fn check_bytes(alloc: Global, sent: &[u8], size: Size, place: Place) -> Hit
     requires row_in { place.row < size.rows }
     requires col_in { place.col < size.cols }
     ensures whole { OnOk result (spec.IsWhole sent.now) }
@@ -146,7 +140,7 @@ fn check_bytes(alloc: Global, sent: &[u8], size: Size, place: Place) -> Result<(
 }
 
 /// Checks that these tokens leave the cursor at the place, by their effect from rest, or else by the last one.
-fn check_tokens(tokens: &[Token], size: Size, place: Place) -> Result<(), MissKind>
+fn check_tokens(tokens: &[Token], size: Size, place: Place) -> Hit
     ensures leads { OnOk result (spec.TokensReach size.rows size.cols tokens.now place.row place.col) }
     ensures why { IfErr result (λ kind. spec.TokensMiss size.rows size.cols tokens.now place.row place.col kind) }
 {
@@ -161,7 +155,7 @@ fn check_tokens(tokens: &[Token], size: Size, place: Place) -> Result<(), MissKi
 }
 
 /// Checks that an effect leaves every cursor at the place.
-fn check_effect(effect: &Effect, size: Size, place: Place) -> Result<(), MissKind>
+fn check_effect(effect: &Effect, size: Size, place: Place) -> Hit
     ensures reached { OnOk result (spec.EndsThere size.rows size.cols effect.now place.row place.col) }
     ensures why { IfErr result (λ kind. spec.EndsElsewhere size.rows size.cols effect.now place.row place.col kind) }
 {

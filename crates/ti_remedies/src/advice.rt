@@ -41,6 +41,9 @@ impl Remedy {
     }
 }
 
+/// Whether something is so of entries, unless memory ran out.
+pub type Judged = Result<bool, AllocError>;
+
 /// Judges entries, and advises strings for those that aren't right.
 pub trait Adviser {
     /// The relation of an entry and whether it is right.
@@ -50,7 +53,7 @@ pub trait Adviser {
     ghost advises: { Self → Content → List Advice → Type 0 };
 
     /// Whether the entry is right.
-    fn judge(&self, alloc: Global, entry: &Entry) -> Result<bool, AllocError>
+    fn judge(&self, alloc: Global, entry: &Entry) -> Judged
         ensures { IfOk result (λ is_right. judges self.now entry.now is_right) };
 
     /// The strings that are advised for the entry.

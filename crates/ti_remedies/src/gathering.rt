@@ -33,23 +33,15 @@ fn placed(
     ensures walk { IfErr result (λ fault. FailsBy fault (walk_at index.now.raws.now root)) }
 {
     let origin = origin_from(alloc, index, root, advice.cap)?;
-    Ok(Remedy {
-        root,
-        change: Change {
-            place: place_or(root, origin),
-            cap: advice.cap,
-            string: advice.string.try_copy()?,
-        },
-    })
+    let change = Change::of(place_or(root, origin), advice.cap, &advice.string)?;
+    Ok(Remedy { root, change })
 }
 
+/// The remedies for an entry, or why it can't be resolved.
+type Found = Result<Vec<Remedy>, ResolveFault>;
+
 /// The remedies by which the entry at `root` gets the advised strings.
-fn all_placed(
-    alloc: Global,
-    index: &Index<'_>,
-    root: usize,
-    advices: &[Advice],
-) -> Result<Vec<Remedy>, ResolveFault>
+fn all_placed(alloc: Global, index: &Index<'_>, root: usize, advices: &[Advice]) -> Found
     requires there { root < length index.now.raws.now }
     requires fits { AllByRecursion (λ one. IsTrue (string_fits one.string)) advices.now }
     ensures placed { IfOk result (λ remedies. spec.ArePlaced index.now.raws.now root advices.now remedies.items) }
@@ -66,12 +58,7 @@ fn all_placed(
 
 /// The remedies for the entry at `root`, which can be resolved.
 #[tactic(auto, using(ti_resolve::proofs::Taken::raws_fields, ti_resolve::proofs::Taken::names_fit_at))]
-fn found<A: Adviser>(
-    alloc: Global,
-    adviser: &A,
-    index: &Index<'_>,
-    root: usize,
-) -> Result<Vec<Remedy>, ResolveFault>
+fn found<A: Adviser>(alloc: Global, adviser: &A, index: &Index<'_>, root: usize) -> Found
     requires fit { AllByRecursion IsRaw index.now.raws.now }
     requires there { root < length index.now.raws.now }
     ensures advised { IfOk result
@@ -84,6 +71,9 @@ fn found<A: Adviser>(
     all_placed(alloc, index, root, advices.as_slice())
 }
 
+/// The remedies for entries, unless memory ran out.
+pub type Advised = Result<Vec<Remedy>, AllocError>;
+
 /// The remedies for the entry at `root`; none if it can't be resolved.
 ///
 /// # Errors
@@ -93,7 +83,7 @@ pub fn remedies_at<A: Adviser>(
     adviser: &A,
     index: &Index<'_>,
     root: usize,
-) -> Result<Vec<Remedy>, AllocError>
+) -> Advised
     requires fit { AllByRecursion IsRaw index.now.raws.now }
     requires there { root < length index.now.raws.now }
     ensures advised { IfOk result
@@ -113,11 +103,7 @@ pub fn remedies_at<A: Adviser>(
 ///
 /// # Errors
 /// Out of memory.
-pub fn all_remedies<A: Adviser>(
-    alloc: Global,
-    adviser: &A,
-    index: &Index<'_>,
-) -> Result<Vec<Remedy>, AllocError>
+pub fn all_remedies<A: Adviser>(alloc: Global, adviser: &A, index: &Index<'_>) -> Advised
     requires { AllByRecursion IsRaw index.now.raws.now }
     ensures advised { IfOk result
         (λ remedies. spec.AreAdvised (A.advises adviser.now) index.now.raws.now remedies.items) }

@@ -5,8 +5,8 @@ ghost use Rattle.ti_remedies.specs.Among.{IsAmong};
 ghost use Rattle.ti_remedies.specs.Treated as spec;
 ghost use Rattle.ti_source.specs.Raw.{IsRaw};
 
-use crate::advice::Remedy;
-use crate::treated::{Reason, Treated};
+use crate::advice::Judged;
+use crate::treated::{Reason, Treated, Treatment};
 use std::alloc::{AllocError, Global};
 use ti_caps::{Cap, Entry};
 use ti_resolve::{Index, ResolveFault, resolve_from};
@@ -39,13 +39,7 @@ fn has_same_string(one: &Entry, other: &Entry, cap: Cap) -> bool {
 }
 
 /// Whether the entry at `place` has another string of the capability in the new entries.
-fn is_touched(
-    alloc: Global,
-    olds: &Index<'_>,
-    news: &Index<'_>,
-    place: usize,
-    cap: Cap,
-) -> Result<bool, AllocError>
+fn is_touched(alloc: Global, olds: &Index<'_>, news: &Index<'_>, place: usize, cap: Cap) -> Judged
     requires fit { AllByRecursion IsRaw olds.now.raws.now }
     requires fit_too { AllByRecursion IsRaw news.now.raws.now }
 {
@@ -56,20 +50,20 @@ fn is_touched(
     }
 }
 
-/// The first of the `places` whose entry is touched by the remedy.
+/// The first of the `places` whose entry has another string of the capability in the new entries.
 fn loss_of(
     alloc: Global,
     olds: &Index<'_>,
     news: &Index<'_>,
     places: &[usize],
-    remedy: &Remedy,
+    cap: Cap,
 ) -> Result<Option<usize>, AllocError>
     requires fit { AllByRecursion IsRaw olds.now.raws.now }
     requires fit_too { AllByRecursion IsRaw news.now.raws.now }
     ensures { IfOk result (λ found. IfSome found (λ place. IsAmong place places.now)) }
 {
     for place in places {
-        let touched = is_touched(alloc, olds, news, *place, remedy.change.cap)?;
+        let touched = is_touched(alloc, olds, news, *place, cap)?;
         if touched {
             return Ok(Some(*place));
         }
@@ -91,7 +85,7 @@ fn left_if_lost(
 {
     match one.kept {
         Some(_reason) => one.try_copy(),
-        None => match loss_of(alloc, olds, news, places, &one.remedy)? {
+        None => match loss_of(alloc, olds, news, places, one.remedy.change.cap)? {
             Some(place) => Treated::of(&one.remedy, Some(Reason::Lost(place))),
             None => one.try_copy(),
         },
@@ -105,7 +99,7 @@ pub fn without_lost(
     news: &Index<'_>,
     places: &[usize],
     treated: &[Treated],
-) -> Result<Vec<Treated>, AllocError>
+) -> Treatment
     requires fit { AllByRecursion IsRaw olds.now.raws.now }
     requires fit_too { AllByRecursion IsRaw news.now.raws.now }
     ensures { IfOk result (λ next. spec.AreLeft (spec.IsLeftIfLost places.now) treated.now next.items) }
@@ -137,11 +131,7 @@ fn left_at(place: usize, one: &Treated) -> Result<Treated, AllocError>
 }
 
 /// The remedies, of which those that change the entry at `place` are left as ones without a place.
-pub fn without_unplaced(
-    alloc: Global,
-    place: usize,
-    treated: &[Treated],
-) -> Result<Vec<Treated>, AllocError>
+pub fn without_unplaced(alloc: Global, place: usize, treated: &[Treated]) -> Treatment
     ensures { IfOk result (λ next. spec.AreLeft spec.IsLeftUnplaced treated.now next.items) }
 {
     let mut next = Vec::new(alloc);
@@ -153,7 +143,7 @@ pub fn without_unplaced(
 }
 
 /// The remedies, all of them left as ones without a place.
-pub fn without_all(alloc: Global, treated: &[Treated]) -> Result<Vec<Treated>, AllocError>
+pub fn without_all(alloc: Global, treated: &[Treated]) -> Treatment
     ensures left { IfOk result (λ next. spec.AreLeft spec.IsLeftUnplaced treated.now next.items) }
     ensures none { IfOk result (λ next. spec.changes_of next.items ≡ []) }
 {

@@ -4,7 +4,7 @@ ghost use Rattle.std.specs.{Prelude.{◌≡◌, true, false, IfOk, MatchOption, 
 ghost use Rattle.ti_remedies.specs.Treated as spec;
 
 use crate::advice::Remedy;
-use crate::treated::{Reason, Treated};
+use crate::treated::{Reason, Treated, Treatment};
 use std::alloc::{AllocError, Global};
 
 /// Whether both are about the same field.
@@ -64,7 +64,7 @@ fn unrivaled(remedies: &[Remedy], one: &Remedy) -> Result<Treated, AllocError>
 }
 
 /// Each of the remedies, taken unless some entry wants another string in its field.
-pub fn without_rivals(alloc: Global, remedies: &[Remedy]) -> Result<Vec<Treated>, AllocError>
+pub fn without_rivals(alloc: Global, remedies: &[Remedy]) -> Treatment
     ensures all { IfOk result (λ treated. map (λ one. one.remedy) treated.items ≡ remedies.now) }
     ensures each { IfOk result (λ treated. AllByRecursion (spec.IsUnrivaled remedies.now) treated.items) }
 {

@@ -10,7 +10,7 @@ use crate::advice::{Adviser, Remedy};
 use crate::losses::{without_all, without_lost, without_unplaced};
 use crate::rivals::without_rivals;
 use crate::standings::{losers, standings};
-use crate::treated::{Treated, changes_of};
+use crate::treated::{Treated, Treatment, changes_of};
 use std::alloc::{AllocError, Global};
 use ti_fixes::{ChangeFault, Fixed, give_all};
 use ti_resolve::Index;
@@ -60,20 +60,14 @@ fn lost<A: Adviser>(
     losers(alloc, adviser, stood, &news)
 }
 
-/// The remedies, of which those are left that touch the entries at these `places`.
-fn left(
-    alloc: Global,
-    source: &Fixed,
-    fixed: &Fixed,
-    places: &[usize],
-    treated: &[Treated],
-) -> Result<Vec<Treated>, AllocError>
-    requires fit { AllByRecursion IsRaw source.now.raws.items }
-    requires fit_too { AllByRecursion IsRaw fixed.now.raws.items }
+/// The remedies, of which those are left that touch the entries at these `places`, by the old text and the new one.
+fn left(alloc: Global, old: &Fixed, new: &Fixed, places: &[usize], treated: &[Treated]) -> Treatment
+    requires fit { AllByRecursion IsRaw old.now.raws.items }
+    requires fit_too { AllByRecursion IsRaw new.now.raws.items }
     ensures { IfOk result (λ next. spec.AreLeft (spec.IsLeftIfLost places.now) treated.now next.items) }
 {
-    let olds = Index::new(alloc, source.raws.as_slice())?;
-    let news = Index::new(alloc, fixed.raws.as_slice())?;
+    let olds = Index::new(alloc, old.raws.as_slice())?;
+    let news = Index::new(alloc, new.raws.as_slice())?;
     without_lost(alloc, &olds, &news, places, treated)
 }
 
@@ -138,7 +132,7 @@ fn take_together<A: Adviser>(
 }
 
 /// A copy of these.
-fn copied(alloc: Global, treated: &[Treated]) -> Result<Vec<Treated>, AllocError>
+fn copied(alloc: Global, treated: &[Treated]) -> Treatment
     ensures { IfOk result (λ copy. copy.items ≡ treated.now) }
 {
     let mut copy = Vec::new(alloc);

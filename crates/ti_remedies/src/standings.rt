@@ -5,18 +5,13 @@ ghost use Rattle.std.specs.List.{AllByRecursion};
 ghost use Rattle.ti_remedies.specs.Standings as spec;
 ghost use Rattle.ti_source.specs.Raw.{IsRaw};
 
-use crate::advice::Adviser;
+use crate::advice::{Adviser, Judged};
 use std::alloc::{AllocError, Global};
 use ti_resolve::{Index, ResolveFault, resolve_from};
 
 /// Whether the entry at `place` is right.
 #[tactic(auto, using(ti_resolve::proofs::Taken::raws_fields, ti_resolve::proofs::Taken::names_fit_at))]
-fn stands<A: Adviser>(
-    alloc: Global,
-    adviser: &A,
-    index: &Index<'_>,
-    place: usize,
-) -> Result<bool, AllocError>
+fn stands<A: Adviser>(alloc: Global, adviser: &A, index: &Index<'_>, place: usize) -> Judged
     requires fit { AllByRecursion IsRaw index.now.raws.now }
     requires there { place < length index.now.raws.now }
     ensures { IfOk result (spec.Stands (A.judges adviser.now) index.now.raws.now place) }
@@ -54,7 +49,7 @@ fn keeps_yes<A: Adviser>(
     stood: bool,
     news: &Index<'_>,
     place: usize,
-) -> Result<bool, AllocError>
+) -> Judged
     requires fit { AllByRecursion IsRaw news.now.raws.now }
     requires there { place < length news.now.raws.now }
     ensures { IfOk result (spec.KeepsOrLoses (A.judges adviser.now) stood news.now.raws.now place) }

@@ -46,6 +46,9 @@ impl Treated {
     }
 }
 
+/// The remedies of a source text, each taken or left, unless memory ran out.
+pub(crate) type Treatment = Result<Vec<Treated>, AllocError>;
+
 /// Appends the change of the remedy, if it is taken.
 fn push_change(changes: &mut Vec<Change>, one: &Treated) -> Result<(), AllocError>
     ensures { OnOk result (changes.new.items ≡ changes.old.items ++ change_if one.now.remedy one.now.kept) }

@@ -7,5 +7,5 @@ mod request;
 
 pub use feeds::{FeedForm, FeedWords};
 pub use request::{
-    CheckWords, ExpandWords, FaultsWords, Request, ScriptWords, SurveyWords, VerifyWords,
+    CheckWords, ExpandWords, FaultsWords, Request, ScriptWords, SurveyWords, VerifyWords, Words,
 };

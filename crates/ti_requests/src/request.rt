@@ -2,6 +2,9 @@
 
 use crate::feeds::FeedWords;
 
+/// Words of which a command takes any number.
+pub type Words<'a> = Vec<&'a str>;
+
 /// The words of `expand`.
 #[derive(Debug, Drop)]
 pub struct ExpandWords<'a> {
@@ -14,7 +17,7 @@ pub struct ExpandWords<'a> {
     /// The terminal's columns, a decimal number.
     pub cols: &'a str,
     /// The string's parameters: decimal numbers, or `s:` and a text.
-    pub params: Vec<&'a str>,
+    pub params: Words<'a>,
 }
 
 /// The words of `check`.
@@ -83,7 +86,7 @@ pub struct SurveyWords<'a> {
     /// The terminal's columns, a decimal number.
     pub cols: &'a str,
     /// The paths of the files.
-    pub paths: Vec<&'a str>,
+    pub paths: Words<'a>,
 }
 
 /// A command and its words. Each command decides what a word means (a number, a path, an entry).

@@ -4,7 +4,7 @@ ghost use Rattle.std.specs.Prelude.{IfOk, IfSome};
 ghost use Rattle.ti_stretches.specs.Stretches.{IsWithin};
 
 use crate::codes::codes;
-use crate::stretches::Stretch;
+use crate::stretches::{Found, Stretch};
 use std::alloc::{AllocError, Global};
 
 /// A conditional that is open.
@@ -81,11 +81,7 @@ fn behind(innermost: Conditional, code: &[u8], is_sought: bool) -> Conditional {
 ///
 /// # Errors
 /// Out of memory.
-pub fn conditional_on(
-    alloc: Global,
-    string: &[u8],
-    digit: u8,
-) -> Result<Option<Stretch>, AllocError>
+pub fn conditional_on(alloc: Global, string: &[u8], digit: u8) -> Found
     ensures { IfOk result (λ found. IfSome found (IsWithin string.now)) }
 {
     let codes = codes(alloc, string)?;
@@ -109,7 +105,7 @@ pub fn conditional_on(
 ///
 /// # Errors
 /// Out of memory.
-pub fn open_conditional(alloc: Global, string: &[u8]) -> Result<Option<Stretch>, AllocError>
+pub fn open_conditional(alloc: Global, string: &[u8]) -> Found
     ensures { IfOk result (λ found. IfSome found (IsWithin string.now)) }
 {
     let codes = codes(alloc, string)?;

@@ -2,12 +2,11 @@
 
 ghost use Rattle.std.specs.Prelude.{◌≡◌, ◌≤◌, IfOk, IfSome, length, true};
 ghost use Rattle.ti_parm.specs.Value.{values_of};
-ghost use Rattle.ti_stretches.specs.Stretches.{IsWithin};
-ghost use Rattle.ti_stretches.specs.FaultyCodes as spec;
+ghost use Rattle.ti_stretches.specs.{FaultyCodes.{HasFault, IsFaulty}, Stretches.{IsWithin}};
 
 use crate::codes::codes;
 use crate::prefixes::Open;
-use crate::stretches::Stretch;
+use crate::stretches::{Found, Stretch};
 use std::alloc::{AllocError, Global};
 use ti_parm::{Param, ParmFault, reads_unset};
 
@@ -27,7 +26,7 @@ fn has_fault(
     params: &[Param<'_>],
     fault: CodeFault,
 ) -> Result<bool, AllocError>
-    ensures { IfOk result (λ so. so ≡ true → spec.HasFault fault string.now (values_of params.now)) }
+    ensures { IfOk result (λ so. so ≡ true → HasFault fault string.now (values_of params.now)) }
 {
     match (reads_unset(alloc, string, params), fault) {
         (Err(ParmFault::NoMemory), CodeFault::Parm(_) | CodeFault::StaticRead) => Err(AllocError),
@@ -50,13 +49,7 @@ impl Given<'_> {
     ghost use Rattle.ti_stretches.specs.{FaultyCodes.{IsFaulty}, Stretches.{IsWithin}};
 
     /// `code`, if the front of the string up to its end, where the conditionals `nest` are open, has this fault.
-    fn if_faulty(
-        &self,
-        alloc: Global,
-        fault: CodeFault,
-        code: Stretch,
-        nest: &Open,
-    ) -> Result<Option<Stretch>, AllocError>
+    fn if_faulty(&self, alloc: Global, fault: CodeFault, code: Stretch, nest: &Open) -> Found
         requires { IsWithin self.now.string.now code }
         ensures { IfOk result (λ found. IfSome found
             (IsFaulty fault self.now.string.now (values_of self.now.params.now))) }
@@ -70,12 +63,7 @@ impl Given<'_> {
     }
 
     /// The first of the `codes` of the string with which it has this fault.
-    fn first_faulty(
-        &self,
-        alloc: Global,
-        fault: CodeFault,
-        codes: &[Stretch],
-    ) -> Result<Option<Stretch>, AllocError>
+    fn first_faulty(&self, alloc: Global, fault: CodeFault, codes: &[Stretch]) -> Found
         requires { All (IsWithin self.now.string.now) codes.now }
         ensures { IfOk result (λ found. IfSome found
             (IsFaulty fault self.now.string.now (values_of self.now.params.now))) }
@@ -115,13 +103,8 @@ fn broken_code(string: &[u8], codes: &[Stretch]) -> Option<Stretch>
 ///
 /// # Errors
 /// Out of memory.
-pub fn faulty_code(
-    alloc: Global,
-    string: &[u8],
-    params: &[Param<'_>],
-    fault: CodeFault,
-) -> Result<Option<Stretch>, AllocError>
-    ensures { IfOk result (λ found. IfSome found (spec.IsFaulty fault string.now (values_of params.now))) }
+pub fn faulty_code(alloc: Global, string: &[u8], params: &[Param<'_>], fault: CodeFault) -> Found
+    ensures { IfOk result (λ found. IfSome found (IsFaulty fault string.now (values_of params.now))) }
 {
     let given = Given { string, params };
     let codes = codes(alloc, string)?;

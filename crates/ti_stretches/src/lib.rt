@@ -13,5 +13,5 @@ mod values;
 pub use conditionals::{conditional_on, open_conditional};
 pub use faulty_codes::{CodeFault, faulty_code};
 pub use sendings::{Sender, sending_stretch, sent_bytes};
-pub use stretches::Stretch;
+pub use stretches::{Found, Stretch};
 pub use values::meant_stretch;

@@ -7,7 +7,7 @@ ghost use Rattle.ti_stretches.specs.Sendings as spec;
 
 use crate::codes::codes;
 use crate::prefixes::Open;
-use crate::stretches::Stretch;
+use crate::stretches::{Found, Stretch};
 use std::alloc::{AllocError, Global};
 use ti_parm::{Param, ParmFault, sent};
 
@@ -172,11 +172,7 @@ fn is_push(string: &[u8], cut: Cut, start: Cut) -> bool {
 ///
 /// # Errors
 /// Out of memory.
-pub fn sending_stretch(
-    alloc: Global,
-    sender: &Sender<'_>,
-    bytes: Stretch,
-) -> Result<Option<Stretch>, AllocError>
+pub fn sending_stretch(alloc: Global, sender: &Sender<'_>, bytes: Stretch) -> Found
     ensures { IfOk result (λ found. IfSome found (spec.IsSending sender.now.string.now
         (values_of sender.now.params.now) sender.now.bytes.now bytes)) }
 {

@@ -3,6 +3,8 @@
 ghost use Rattle.std.specs.Prelude.{◌≡◌, IfSome};
 ghost use Rattle.ti_stretches.specs.Stretches.{IsWithin};
 
+use std::alloc::AllocError;
+
 /// A part of some bytes: those from the place `from` on, up to and without the one at `to`. Places count from 0.
 #[derive(Clone, Copy, Debug, PartialEq, Eq)]
 pub struct Stretch {
@@ -27,3 +29,6 @@ impl Stretch {
         }
     }
 }
+
+/// The stretch that was looked for, if there is one, unless memory ran out.
+pub type Found = Result<Option<Stretch>, AllocError>;

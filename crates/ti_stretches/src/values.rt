@@ -5,7 +5,7 @@ ghost use Rattle.ti_source.specs.Escapes.{unescaped};
 ghost use Rattle.ti_stretches.specs.Stretches.{IsWithin};
 ghost use Rattle.ti_stretches.specs.Values as spec;
 
-use crate::stretches::Stretch;
+use crate::stretches::{Found, Stretch};
 use std::alloc::{AllocError, Global};
 use ti_source::{EscapeFault, unescape};
 
@@ -68,12 +68,7 @@ fn cut_from(
 ///
 /// # Errors
 /// Out of memory.
-pub fn meant_stretch(
-    alloc: Global,
-    text: &[u8],
-    bytes: &[u8],
-    stretch: Stretch,
-) -> Result<Option<Stretch>, AllocError>
+pub fn meant_stretch(alloc: Global, text: &[u8], bytes: &[u8], stretch: Stretch) -> Found
     ensures part { IfOk result (λ found. IfSome found (spec.IsMeaning text.now bytes.now stretch)) }
     ensures none { IfOk result (λ found. IfNone found ((part : Stretch) → IsWithin bytes.now stretch
         → spec.IsMeaning text.now bytes.now stretch part → ⊥)) }

@@ -8,6 +8,18 @@ use std::alloc::{AllocError, Global};
 use vt_screen::{ends_run, run_start, style_text};
 use vt_term::{Cell, Terminal};
 
+/// The outcome of adding to a text, for which memory may run out.
+type Added = Result<(), AllocError>;
+
+/// Cells of a row that are shown alike.
+#[derive(Clone, Copy)]
+struct Run {
+    row: usize,
+    /// The columns of the first cell and the last one.
+    first: usize,
+    last: usize,
+}
+
 /// The rows of a terminal, each as a text in quotes, with commas between them.
 pub(crate) fn row_items(alloc: Global, terminal: &Terminal) -> Result<Vec<u8>, AllocError>
     ensures { IfOk result (λ items. items.items ≡ spec.rows_behind [] terminal.now.screen.grid) }
@@ -32,7 +44,7 @@ pub(crate) fn look_items(alloc: Global, terminal: &Terminal) -> Result<Vec<u8>, 
 }
 
 /// Adds a comma if there are items already.
-fn begin_item(items: &mut Vec<u8>) -> Result<(), AllocError>
+fn begin_item(items: &mut Vec<u8>) -> Added
     ensures { OnOk result (items.new.items ≡ spec.before_next items.old.items) }
 {
     if !items.is_empty() {
@@ -41,7 +53,7 @@ fn begin_item(items: &mut Vec<u8>) -> Result<(), AllocError>
     Ok(())
 }
 
-fn push_row(items: &mut Vec<u8>, cells: &[Cell]) -> Result<(), AllocError>
+fn push_row(items: &mut Vec<u8>, cells: &[Cell]) -> Added
     ensures { OnOk result (items.new.items ≡ items.old.items ++ spec.row_item cells.now) }
 {
     items.push(b'"')?;
@@ -50,7 +62,7 @@ fn push_row(items: &mut Vec<u8>, cells: &[Cell]) -> Result<(), AllocError>
     Ok(())
 }
 
-fn push_characters(items: &mut Vec<u8>, cells: &[Cell]) -> Result<(), AllocError>
+fn push_characters(items: &mut Vec<u8>, cells: &[Cell]) -> Added
     ensures { OnOk result (items.new.items ≡ items.old.items ++ flat_map (λ x. spec.escaped x.byte) cells.now) }
 {
     for cell in cells {
@@ -60,7 +72,7 @@ fn push_characters(items: &mut Vec<u8>, cells: &[Cell]) -> Result<(), AllocError
 }
 
 /// Adds a character of a text in quotes.
-pub(crate) fn push_escaped(items: &mut Vec<u8>, byte: u8) -> Result<(), AllocError>
+pub(crate) fn push_escaped(items: &mut Vec<u8>, byte: u8) -> Added
     ensures { OnOk result (items.new.items ≡ items.old.items ++ spec.escaped byte) }
 {
     if byte == b'"' || byte == b'\\' {
@@ -70,86 +82,56 @@ pub(crate) fn push_escaped(items: &mut Vec<u8>, byte: u8) -> Result<(), AllocErr
     Ok(())
 }
 
-fn push_runs(
-    alloc: Global,
-    items: &mut Vec<u8>,
-    row: usize,
-    cells: &[Cell],
-) -> Result<(), AllocError>
+fn push_runs(alloc: Global, items: &mut Vec<u8>, row: usize, cells: &[Cell]) -> Added
     ensures { OnOk result (items.new.items ≡ spec.runs_behind items.old.items row cells.now (length cells.now)) }
 {
-    let mut start = 0;
-    for col in 0..cells.len() {
-        start = run_start(cells, col, start);
-        push_run(alloc, items, row, start, cells, col)?;
+    let mut first = 0;
+    for last in 0..cells.len() {
+        first = run_start(cells, last, first);
+        push_run(alloc, items, Run { row, first, last }, cells)?;
     }
     Ok(())
 }
 
-/// Adds the run that ends in the column `col`, if one does.
-fn push_run(
-    alloc: Global,
-    items: &mut Vec<u8>,
-    row: usize,
-    first: usize,
-    cells: &[Cell],
-    col: usize,
-) -> Result<(), AllocError>
-    requires within { col < length cells.now }
-    requires first { first ≡ shown.run_start cells.now col }
-    ensures { OnOk result (items.new.items ≡ spec.run_behind items.old.items row cells.now col) }
+/// Adds the run, if its last cell ends one.
+fn push_run(alloc: Global, items: &mut Vec<u8>, run: Run, cells: &[Cell]) -> Added
+    requires within { run.last < length cells.now }
+    requires first { run.first ≡ shown.run_start cells.now run.last }
+    ensures { OnOk result (items.new.items ≡ spec.run_behind items.old.items run.row cells.now run.last) }
 {
-    if ends_run(cells, col) {
-        push_look(alloc, items, row, first, col, &cells[col])
+    if ends_run(cells, run.last) {
+        push_look(alloc, items, run, &cells[run.last])
     } else {
         Ok(())
     }
 }
 
-fn push_look(
-    alloc: Global,
-    items: &mut Vec<u8>,
-    row: usize,
-    first: usize,
-    last: usize,
-    cell: &Cell,
-) -> Result<(), AllocError>
+fn push_look(alloc: Global, items: &mut Vec<u8>, run: Run, cell: &Cell) -> Added
     ensures { OnOk result (items.new.items ≡
-        spec.look_behind items.old.items row first last (shown.style_text cell.now)) }
+        spec.look_behind items.old.items run.row run.first run.last (shown.style_text cell.now)) }
 {
     let style = style_text(alloc, cell)?;
     if style.is_empty() {
         return Ok(());
     }
     begin_item(items)?;
-    push_look_item(alloc, items, row, first, last, style.as_slice())
+    push_look_item(alloc, items, run, style.as_slice())
 }
 
-fn push_look_item(
-    alloc: Global,
-    items: &mut Vec<u8>,
-    row: usize,
-    first: usize,
-    last: usize,
-    style: &[u8],
-) -> Result<(), AllocError>
-    ensures { OnOk result (items.new.items ≡ items.old.items ++ spec.look_item row first last style.now) }
+fn push_look_item(alloc: Global, items: &mut Vec<u8>, run: Run, style: &[u8]) -> Added
+    ensures { OnOk result (items.new.items ≡
+        items.old.items ++ spec.look_item run.row run.first run.last style.now) }
 {
-    push_place(alloc, items, row, first, last)?;
+    push_place(alloc, items, run)?;
     items.extend_from_slice(style)?;
     items.extend_from_slice(b"\"]")?;
     Ok(())
 }
 
-fn push_place(
-    alloc: Global,
-    items: &mut Vec<u8>,
-    row: usize,
-    first: usize,
-    last: usize,
-) -> Result<(), AllocError>
-    ensures { OnOk result (items.new.items ≡ items.old.items ++ spec.look_place row first last) }
+fn push_place(alloc: Global, items: &mut Vec<u8>, run: Run) -> Added
+    ensures { OnOk result (items.new.items ≡ items.old.items ++ spec.look_place run.row run.first run.last) }
 {
+    let Run { row, first, last } = run;
     let place = format!(in alloc; "[{row},{first},{last},\"")?;
     items.extend_from_slice(place.as_bytes())
 }
