@@ -8,33 +8,17 @@ pub(crate) fn does_all(function: Function<'_>) -> bool {
         Function::Ignored => false,
         Function::SelectRendition(numbers) => knows_renditions(numbers.as_slice()),
         Function::Modes(kind, _, numbers) => knows_modes(kind, numbers.as_slice()),
-        Function::Print(_)
-        | Function::LineFeed
-        | Function::CarriageReturn
-        | Function::Backspace
-        | Function::Tab
-        | Function::ShiftOut
-        | Function::ShiftIn
-        | Function::ReverseIndex
-        | Function::NextLine
-        | Function::CursorUp(_)
-        | Function::CursorDown(_)
-        | Function::CursorForward(_)
-        | Function::CursorBack(_)
-        | Function::CursorColumn(_)
-        | Function::CursorRow(_)
-        | Function::CursorPosition(_, _)
-        | Function::EraseLine(_)
-        | Function::EraseDisplay(_)
-        | Function::EraseCells(_)
-        | Function::InsertCells(_)
-        | Function::DeleteCells(_)
-        | Function::InsertLines(_)
-        | Function::DeleteLines(_)
-        | Function::ScrollUp(_)
-        | Function::ScrollDown(_)
-        | Function::Margins(_, _)
-        | Function::Designate(_, _) => true,
+        Function::Print(_) | Function::LineFeed | Function::CarriageReturn => true,
+        Function::Backspace | Function::Tab | Function::ShiftOut | Function::ShiftIn => true,
+        Function::ReverseIndex | Function::NextLine => true,
+        Function::CursorUp(_) | Function::CursorDown(_) => true,
+        Function::CursorForward(_) | Function::CursorBack(_) => true,
+        Function::CursorColumn(_) | Function::CursorRow(_) | Function::CursorPosition(_, _) => true,
+        Function::EraseLine(_) | Function::EraseDisplay(_) | Function::EraseCells(_) => true,
+        Function::InsertCells(_) | Function::DeleteCells(_) => true,
+        Function::InsertLines(_) | Function::DeleteLines(_) => true,
+        Function::ScrollUp(_) | Function::ScrollDown(_) | Function::Margins(_, _) => true,
+        Function::Designate(_, _) => true,
     }
 }
 

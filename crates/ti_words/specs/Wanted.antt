@@ -1,4 +1,4 @@
--- The results that programs want from each checked string, in words. Each row is in one of four groups, whose words it
+-- The results that programs want from each checked string, in words. Each row is in one of three groups, whose words it
 -- gets.
 use Rattle.std.specs.Prelude.{ℕ, List, [], ◌∷◌, ◌++◌, codes}
 use Rattle.std.specs.Fmt.{decimal}
@@ -83,7 +83,11 @@ listed_text names =
 abbrev pub attributes_text : Attributes → List ℕ
 attributes_text a = listed_text (or_none (names_text a))
 
--- renditions and colors without parameters
+abbrev pub around : List ℕ
+around = codes "cells change by one erasure at most, and the scrolling region and the cursor's visibility stay"
+
+-- renditions and colors without parameters, character sets, the cursor's visibility, and the strings that begin and end
+-- a program's screen
 abbrev pub fixed_look_text : Row → List ℕ
 fixed_look_text Sgr0 = codes "no rendition is on, both colors are default, and cells and cursor stay"
 fixed_look_text Op = codes "both colors are default, and nothing else changes"
@@ -94,26 +98,19 @@ fixed_look_text Dim = codes "dim is on, and no other rendition changes"
 fixed_look_text Bold = codes "bold is on, and no other rendition changes"
 fixed_look_text Invis = codes "invisible is on, and no other rendition changes"
 fixed_look_text Smso = codes "renditions may go on and none goes off, and colors, cells and cursor stay"
+fixed_look_text Enacs = codes "nothing but the character sets changes"
+fixed_look_text Smacs = codes "the line drawing set is active, and nothing but the character sets changes"
+fixed_look_text Rmacs = codes "the plain set is active, and nothing but the character sets changes"
+fixed_look_text Civis = codes "the cursor is hidden, and nothing else changes"
+fixed_look_text Cnorm = codes "the cursor is visible, and nothing else changes"
+fixed_look_text Cvvis = codes "nothing changes, but that the cursor may become visible"
+fixed_look_text Smcup = around
+fixed_look_text Rmcup = around
 fixed_look_text _ = []
 
 abbrev pub look_text : Row → List ℕ
 look_text (Sgr a) = attributes_text a
 look_text row = fixed_look_text row
 
--- character sets, the cursor's visibility, and the strings that begin and end a program's screen
-abbrev pub around : List ℕ
-around = codes "cells change by one erasure at most, and the scrolling region and the cursor's visibility stay"
-
-abbrev pub mode_text : Row → List ℕ
-mode_text Enacs = codes "nothing but the character sets changes"
-mode_text Smacs = codes "the line drawing set is active, and nothing but the character sets changes"
-mode_text Rmacs = codes "the plain set is active, and nothing but the character sets changes"
-mode_text Civis = codes "the cursor is hidden, and nothing else changes"
-mode_text Cnorm = codes "the cursor is visible, and nothing else changes"
-mode_text Cvvis = codes "nothing changes, but that the cursor may become visible"
-mode_text Smcup = around
-mode_text Rmcup = around
-mode_text _ = []
-
 abbrev pub wanted_text : Row → List ℕ
-wanted_text row = numbered_text row ++ (fixed_text row ++ (look_text row ++ mode_text row))
+wanted_text row = numbered_text row ++ (fixed_text row ++ look_text row)

@@ -3,8 +3,9 @@
 use crate::checked_strings::{explain_absent, explain_flag, explain_pairs};
 use crate::numbers::push_numbers;
 use crate::remarks::Remarks;
+use crate::results::{Made, Pushed};
 use crate::seen::{SHOWN, Seen};
-use std::alloc::{AllocError, Global};
+use std::alloc::Global;
 use ti_caps::{Cap, Entry, name};
 use ti_conforms::{Unfit, first_unfit};
 use ti_rows::Params;
@@ -19,7 +20,7 @@ pub fn explain_line(
     seen: &Seen,
     wanted: &[u8],
     remarks: &mut Remarks,
-) -> Result<(), AllocError> {
+) -> Pushed {
     match seen.line(number) {
         Some(line) => {
             let cut = cut_words(line);
@@ -88,7 +89,7 @@ fn cut_words(line: &[u8]) -> &'static str {
     if line.len() > SHOWN { " .." } else { "" }
 }
 
-fn joined(alloc: Global, one: &[u8], other: &[u8]) -> Result<Vec<u8>, AllocError> {
+fn joined(alloc: Global, one: &[u8], other: &[u8]) -> Made {
     let mut all = Vec::new(alloc);
     all.extend_from_slice(one)?;
     all.extend_from_slice(other)?;
@@ -96,7 +97,7 @@ fn joined(alloc: Global, one: &[u8], other: &[u8]) -> Result<Vec<u8>, AllocError
 }
 
 /// The first line of a certificate for `size`.
-pub fn first_line_words(alloc: Global, size: Size) -> Result<Vec<u8>, AllocError> {
+pub fn first_line_words(alloc: Global, size: Size) -> Made {
     let rows = size.rows;
     let cols = size.cols;
     let words = format!(in alloc;
@@ -106,7 +107,7 @@ pub fn first_line_words(alloc: Global, size: Size) -> Result<Vec<u8>, AllocError
 }
 
 /// The words that the line of `cap` with `params` must come here.
-pub fn missing_line_words(alloc: Global, cap: Cap, params: &Params) -> Result<Vec<u8>, AllocError> {
+pub fn missing_line_words(alloc: Global, cap: Cap, params: &Params) -> Made {
     let mut words = Vec::from_slice(alloc, b"the line of `")?;
     words.extend_from_slice(name(cap))?;
     push_numbers(alloc, params.as_slice(), &mut words)?;

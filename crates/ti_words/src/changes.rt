@@ -3,7 +3,8 @@
 ghost use Rattle.std.specs.Prelude.{◌≡◌, ◌++◌, [], ◌∷◌, IfOk, OnOk};
 ghost use Rattle.ti_words.specs.Seen as spec;
 
-use crate::starts::has_look;
+use crate::results::Pushed;
+use crate::starts::{chosen, has_look, push_place};
 use std::alloc::{AllocError, Global};
 use vt_term::{Cell, Terminal};
 
@@ -34,12 +35,7 @@ pub fn changed_cells(
 }
 
 /// Appends the changed ones of the `cells` of a row.
-fn push_changes(
-    fill: u8,
-    row: usize,
-    cells: &[Cell],
-    changes: &mut Vec<Change>,
-) -> Result<(), AllocError>
+fn push_changes(fill: u8, row: usize, cells: &[Cell], changes: &mut Vec<Change>) -> Pushed
     ensures { OnOk result (changes.new.items ≡ changes.old.items ++ spec.changes_in fill row 0 cells.now) }
 {
     for col in 0..cells.len() {
@@ -49,13 +45,7 @@ fn push_changes(
 }
 
 /// Appends the `cell` at this place, if it has changed.
-fn push_change(
-    fill: u8,
-    row: usize,
-    col: usize,
-    cell: Cell,
-    changes: &mut Vec<Change>,
-) -> Result<(), AllocError>
+fn push_change(fill: u8, row: usize, col: usize, cell: Cell, changes: &mut Vec<Change>) -> Pushed
     ensures { OnOk result (changes.new.items ≡ changes.old.items ++ spec.change_if fill row col cell) }
 {
     if is_other(cell, fill) {
@@ -75,31 +65,20 @@ fn is_other(cell: Cell, fill: u8) -> bool
 }
 
 /// Appends the number of the `changes`, the first and the last one, and whether all are blank.
-pub fn push_changed(
-    alloc: Global,
-    changes: &[Change],
-    words: &mut Vec<u8>,
-) -> Result<(), AllocError>
+pub fn push_changed(alloc: Global, changes: &[Change], words: &mut Vec<u8>) -> Pushed
     ensures { OnOk result (words.new.items ≡ words.old.items ++ spec.changed_text changes.now) }
 {
     match changes {
         [] => words.extend_from_slice(b"no cell has changed"),
-        [one] => push_one(alloc, *one, now_words(changes), words),
+        [one] => {
+            let now = now_words(changes);
+            push_cell(alloc, b"the cell at ", *one, b" is ", now, words)
+        }
         [first, others @ ..] => {
             let last = last_of(*first, others);
             push_several(alloc, changes, *first, last, words)
         }
     }
-}
-
-/// Appends the words for the only changed cell, which is `now` in this state.
-fn push_one(alloc: Global, one: Change, now: &[u8], words: &mut Vec<u8>) -> Result<(), AllocError>
-    ensures { OnOk result (words.new.items ≡ words.old.items ++ spec.one_text one now.now) }
-{
-    words.extend_from_slice(b"the cell at ")?;
-    push_place(alloc, one, words)?;
-    words.extend_from_slice(b" is ")?;
-    words.extend_from_slice(now)
 }
 
 /// Appends the words for several `changes`, from the `first` to the `last` one.
@@ -109,52 +88,44 @@ fn push_several(
     first: Change,
     last: Change,
     words: &mut Vec<u8>,
-) -> Result<(), AllocError>
+) -> Pushed
     ensures { OnOk result (words.new.items ≡ words.old.items ++ spec.several_text changes.now first last) }
 {
     push_first(alloc, changes.len(), first, words)?;
-    push_last(alloc, last, now_words(changes), words)
+    push_cell(alloc, b" to ", last, b" are ", now_words(changes), words)
 }
 
 /// Appends the number of the changed cells, and the `first` of them.
-fn push_first(
-    alloc: Global,
-    count: usize,
-    first: Change,
-    words: &mut Vec<u8>,
-) -> Result<(), AllocError>
+fn push_first(alloc: Global, count: usize, first: Change, words: &mut Vec<u8>) -> Pushed
     ensures { OnOk result (words.new.items ≡ words.old.items ++ spec.first_text count first) }
 {
     push_count(alloc, count, words)?;
-    push_place(alloc, first, words)
+    push_place(alloc, first.row, first.col, words)
 }
 
 #[tactic(auto, unfolding(crate::specs::Seen::count_text))]
-fn push_count(alloc: Global, count: usize, words: &mut Vec<u8>) -> Result<(), AllocError>
+fn push_count(alloc: Global, count: usize, words: &mut Vec<u8>) -> Pushed
     ensures { OnOk result (words.new.items ≡ words.old.items ++ spec.count_text count) }
 {
     let front = format!(in alloc; "{count} cells from ")?;
     words.extend_from_slice(front.as_bytes())
 }
 
-/// Appends the `last` of the changed cells, which are `now` in this state.
-fn push_last(alloc: Global, last: Change, now: &[u8], words: &mut Vec<u8>) -> Result<(), AllocError>
-    ensures { OnOk result (words.new.items ≡ words.old.items ++ spec.last_text last now.now) }
+/// Appends `front`, the place of a changed `cell`, and by the verb `are` what the changed cells are `now`.
+fn push_cell(
+    alloc: Global,
+    front: &[u8],
+    cell: Change,
+    are: &[u8],
+    now: &[u8],
+    words: &mut Vec<u8>,
+) -> Pushed
+    ensures { OnOk result (words.new.items ≡ words.old.items ++ spec.cell_text front.now cell are.now now.now) }
 {
-    words.extend_from_slice(b" to ")?;
-    push_place(alloc, last, words)?;
-    words.extend_from_slice(b" are ")?;
+    words.extend_from_slice(front)?;
+    push_place(alloc, cell.row, cell.col, words)?;
+    words.extend_from_slice(are)?;
     words.extend_from_slice(now)
-}
-
-/// Appends the place of a changed cell.
-fn push_place(alloc: Global, change: Change, words: &mut Vec<u8>) -> Result<(), AllocError>
-    ensures { OnOk result (words.new.items ≡ words.old.items ++ spec.place_text change) }
-{
-    let row = change.row;
-    let col = change.col;
-    let place = format!(in alloc; "row {row}, column {col}")?;
-    words.extend_from_slice(place.as_bytes())
 }
 
 /// The last of the changes `first` and `others`.
@@ -172,11 +143,7 @@ fn last_of(first: Change, others: &[Change]) -> Change
 fn now_words(changes: &[Change]) -> &'static [u8]
     ensures { result.now ≡ spec.now_text changes.now }
 {
-    if are_blank(changes) {
-        b"blank"
-    } else {
-        b"other than before"
-    }
+    chosen(are_blank(changes), b"blank", b"other than before")
 }
 
 fn are_blank(changes: &[Change]) -> bool

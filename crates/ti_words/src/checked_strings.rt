@@ -4,6 +4,7 @@
 use crate::escapes::push_spelled;
 use crate::numbers::push_numbers;
 use crate::remarks::Remarks;
+use crate::results::{Made, Pushed};
 use crate::starts::{push_rendition, start_words};
 use crate::states::seen_words;
 use crate::strings::parm_words;
@@ -83,11 +84,7 @@ pub fn explain_absent(cap: Cap, remarks: &mut Remarks) {
 
 /// Explains to which letter of line drawing `pairs`, the value of `acsc`, give a character that can't be printed. Adds
 /// nothing if there is no such letter.
-pub fn explain_pairs(
-    alloc: Global,
-    pairs: Option<&[u8]>,
-    remarks: &mut Remarks,
-) -> Result<(), AllocError> {
+pub fn explain_pairs(alloc: Global, pairs: Option<&[u8]>, remarks: &mut Remarks) -> Pushed {
     let Some(letter) = misfit(pairs.unwrap_or(&[])) else {
         return Ok(());
     };
@@ -163,7 +160,7 @@ pub fn explain_field(
 }
 
 /// The field of a source text that has `string` for `row`.
-fn field_words(alloc: Global, row: Row, string: &[u8]) -> Result<Vec<u8>, AllocError> {
+fn field_words(alloc: Global, row: Row, string: &[u8]) -> Made {
     let mut words = Vec::from_slice(alloc, row.name())?;
     words.extend_from_slice(b"=")?;
     push_spelled(&mut words, string)?;
@@ -171,7 +168,7 @@ fn field_words(alloc: Global, row: Row, string: &[u8]) -> Result<Vec<u8>, AllocE
 }
 
 /// The first of the entry's `names`, and the parameters of `row`.
-fn place_words(alloc: Global, names: &[u8], row: Row) -> Result<Vec<u8>, AllocError> {
+fn place_words(alloc: Global, names: &[u8], row: Row) -> Made {
     let mut words = Vec::from_slice(alloc, b" of ")?;
     words.extend_from_slice(first_name(names))?;
     match row.param_count() {
@@ -209,11 +206,7 @@ pub struct Sent<'a> {
 
 /// Explains that the bytes that were `sent` weren't judged right, though nothing wrong was found: because of their
 /// string alone, or, at `clear`, because of all strings of the entry together.
-pub fn explain_unshown(
-    alloc: Global,
-    sent: Sent<'_>,
-    remarks: &mut Remarks,
-) -> Result<(), AllocError> {
+pub fn explain_unshown(alloc: Global, sent: Sent<'_>, remarks: &mut Remarks) -> Pushed {
     if sent.row == Row::Clear && does_its_own(alloc, sent) {
         remarks.add_words(NOT_TOGETHER);
         return Ok(());
@@ -236,11 +229,7 @@ fn does_its_own(alloc: Global, sent: Sent<'_>) -> bool {
 }
 
 /// Explains which renditions the bytes that were `sent` turn on. Their row must be one that turns on one attribute.
-pub fn explain_look(
-    alloc: Global,
-    sent: Sent<'_>,
-    remarks: &mut Remarks,
-) -> Result<(), AllocError> {
+pub fn explain_look(alloc: Global, sent: Sent<'_>, remarks: &mut Remarks) -> Pushed {
     let mut terminal = Terminal::new(alloc, sent.size)?;
     let _ = terminal.feed(sent.bytes);
     let wanted = wanted_line(alloc, sent.row)?;
@@ -260,7 +249,7 @@ pub fn explain_run(
     mut terminal: Terminal,
     fill: u8,
     remarks: &mut Remarks,
-) -> Result<(), AllocError> {
+) -> Pushed {
     let start = terminal.settings();
     if terminal.feed(sent.bytes).is_err() {
         return Ok(());

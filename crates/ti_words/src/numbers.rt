@@ -3,10 +3,11 @@
 ghost use Rattle.std.specs.{Prelude.{◌≡◌, ◌++◌, ◌∷◌, OnOk}, Fmt.{decimal}};
 ghost use Rattle.ti_words.specs.Numbers.{numbers_text};
 
-use std::alloc::{AllocError, Global};
+use crate::results::Pushed;
+use std::alloc::Global;
 
 /// Appends each of the `numbers` to `words`, in decimal and after a space.
-pub fn push_numbers(alloc: Global, numbers: &[u16], words: &mut Vec<u8>) -> Result<(), AllocError>
+pub fn push_numbers(alloc: Global, numbers: &[u16], words: &mut Vec<u8>) -> Pushed
     ensures { OnOk result (words.new.items ≡ words.old.items ++ numbers_text numbers.now) }
 {
     for number in numbers {
@@ -16,7 +17,7 @@ pub fn push_numbers(alloc: Global, numbers: &[u16], words: &mut Vec<u8>) -> Resu
 }
 
 /// Appends a space and `number` to `words`.
-fn push_number(alloc: Global, number: u16, words: &mut Vec<u8>) -> Result<(), AllocError>
+fn push_number(alloc: Global, number: u16, words: &mut Vec<u8>) -> Pushed
     ensures { OnOk result (words.new.items ≡ words.old.items ++ (32 ∷ decimal number)) }
 {
     let digits = format!(in alloc; " {number}")?;

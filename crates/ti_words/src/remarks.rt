@@ -5,7 +5,8 @@ ghost use Rattle.std.specs.List.{AllByRecursion, ends_with};
 ghost use Rattle.ti_words.specs.Remarks.{IsPrintable, IsRemark, MayAdd, quoted, suggestion_end};
 ghost use Rattle.ti_words.specs.Shown.{shown, shown_byte};
 
-use std::alloc::{AllocError, Global};
+use crate::results::{Made, Pushed};
+use std::alloc::Global;
 use std::io;
 use std::io::Write;
 use std::marker::Model;
@@ -105,7 +106,7 @@ fn ends_as_suggestion(line: &[u8]) -> bool
 }
 
 /// The line of these `words`.
-fn shown_line(alloc: Global, words: &[u8]) -> Result<Vec<u8>, AllocError>
+fn shown_line(alloc: Global, words: &[u8]) -> Made
     ensures words { IfOk result (λ line. line.items ≡ shown words.now) }
     ensures printable { IfOk result (λ line. AllByRecursion IsPrintable line.items) }
 {
@@ -115,7 +116,7 @@ fn shown_line(alloc: Global, words: &[u8]) -> Result<Vec<u8>, AllocError>
 }
 
 /// The line of `subject` in quotes and the `words` about it.
-fn quoted_line(alloc: Global, subject: &[u8], words: &[u8]) -> Result<Vec<u8>, AllocError>
+fn quoted_line(alloc: Global, subject: &[u8], words: &[u8]) -> Made
     ensures words { IfOk result (λ line. line.items ≡ quoted (shown subject.now) (shown words.now)) }
     ensures printable { IfOk result (λ line. AllByRecursion IsPrintable line.items) }
 {
@@ -128,7 +129,7 @@ fn quoted_line(alloc: Global, subject: &[u8], words: &[u8]) -> Result<Vec<u8>, A
 
 /// Appends `bytes` to `text` so that no terminal takes them for a sequence: each byte outside 32 to 126 as a backslash
 /// and three octal digits.
-pub fn push_shown(text: &mut Vec<u8>, bytes: &[u8]) -> Result<(), AllocError>
+pub fn push_shown(text: &mut Vec<u8>, bytes: &[u8]) -> Pushed
     ensures shown { OnOk result (text.new.items ≡ text.old.items ++ shown bytes.now) }
     ensures printable { OnOk result (AllByRecursion IsPrintable (shown bytes.now)) }
 {
@@ -138,7 +139,7 @@ pub fn push_shown(text: &mut Vec<u8>, bytes: &[u8]) -> Result<(), AllocError>
     Ok(())
 }
 
-fn push_byte(text: &mut Vec<u8>, byte: u8) -> Result<(), AllocError>
+fn push_byte(text: &mut Vec<u8>, byte: u8) -> Pushed
     ensures shown { OnOk result (text.new.items ≡ text.old.items ++ shown_byte byte) }
     ensures printable { AllByRecursion IsPrintable (shown_byte byte) }
 {

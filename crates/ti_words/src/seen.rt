@@ -2,7 +2,8 @@
 
 ghost use Rattle.std.specs.Prelude.{◌≤◌, length, IfSome};
 
-use std::alloc::{AllocError, Global};
+use crate::results::Pushed;
+use std::alloc::Global;
 
 /// The most bytes of a line that are shown.
 pub const SHOWN: usize = 200;
@@ -42,7 +43,7 @@ impl Seen {
         Some(())
     }
 
-    fn push(&mut self, piece: &[u8]) -> Result<(), AllocError> {
+    fn push(&mut self, piece: &[u8]) -> Pushed {
         self.tail.extend_from_slice(piece)
     }
 

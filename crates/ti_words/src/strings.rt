@@ -1,6 +1,7 @@
 //! Explanations why a string can't be read, expanded or run, and of a wrong size or length.
 
 use crate::remarks::Remarks;
+use crate::results::Pushed;
 use std::alloc::{AllocError, Global};
 use ti_parm::ParmFault;
 use ti_source::EscapeFault;
@@ -43,7 +44,7 @@ pub fn explain_token(alloc: Global, sent: &[u8], fault: TokenFault, remarks: &mu
 }
 
 /// Explains why the bytes `sent` by a checked string are not whole. Adds nothing if they are.
-pub fn explain_whole(alloc: Global, sent: &[u8], remarks: &mut Remarks) -> Result<(), AllocError> {
+pub fn explain_whole(alloc: Global, sent: &[u8], remarks: &mut Remarks) -> Pushed {
     let fault = match tokens(alloc, sent) {
         Ok(_) => return Ok(()),
         Err(fault) => fault,

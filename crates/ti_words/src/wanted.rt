@@ -4,24 +4,24 @@ ghost use Rattle.std.specs.{Prelude.{◌≡◌, ◌++◌, IfOk, OnOk, codes}, Fm
 ghost use Rattle.ti_words.specs.Starts.{if_so};
 ghost use Rattle.ti_words.specs.Wanted as spec;
 
-use crate::starts::push_if;
-use std::alloc::{AllocError, Global};
+use crate::results::{Made, Pushed};
+use crate::starts::{push_flags, push_if};
+use std::alloc::Global;
 use ti_rows::{Attributes, Row};
 
 /// The result that programs want from the string for `row`, in words.
-pub fn wanted_words(alloc: Global, row: Row) -> Result<Vec<u8>, AllocError>
+pub fn wanted_words(alloc: Global, row: Row) -> Made
     ensures { IfOk result (λ words. words.items ≡ spec.wanted_text row) }
 {
     let mut words = Vec::new(alloc);
     push_numbered(alloc, row, &mut words)?;
     words.extend_from_slice(fixed_words(row))?;
     push_look(alloc, row, &mut words)?;
-    words.extend_from_slice(mode_words(row))?;
     Ok(words)
 }
 
 /// The line that states the result that programs want from the string for `row`.
-pub fn wanted_line(alloc: Global, row: Row) -> Result<Vec<u8>, AllocError>
+pub fn wanted_line(alloc: Global, row: Row) -> Made
     ensures { IfOk result (λ line. line.items ≡ codes "wanted: " ++ spec.wanted_text row) }
 {
     let mut line = Vec::from_slice(alloc, b"wanted: ")?;
@@ -32,11 +32,11 @@ pub fn wanted_line(alloc: Global, row: Row) -> Result<Vec<u8>, AllocError>
 const NO_MORE: &[u8] = b", and nothing else changes";
 
 /// Appends the wanted result of a string with parameters, except for `sgr`; nothing for other rows.
-fn push_numbered(alloc: Global, row: Row, words: &mut Vec<u8>) -> Result<(), AllocError>
+fn push_numbered(alloc: Global, row: Row, words: &mut Vec<u8>) -> Pushed
     ensures { OnOk result (words.new.items ≡ words.old.items ++ spec.numbered_text row) }
 {
     match row {
-        Row::Cup(line, col) => push_place(alloc, line, col, words),
+        Row::Cup(line, col) => push_cursor(alloc, line, col, words),
         Row::Csr(top, bottom) => push_region(alloc, top, bottom, words),
         Row::Hpa(col) => push_number(alloc, b"the cursor is in column ", col, IN_ROW, words),
         Row::Vpa(line) => push_number(alloc, b"the cursor is in row ", line, IN_COLUMN, words),
@@ -76,7 +76,7 @@ fn push_number(
     number: u16,
     behind: &[u8],
     words: &mut Vec<u8>,
-) -> Result<(), AllocError>
+) -> Pushed
     ensures { OnOk result (words.new.items ≡ words.old.items ++ spec.number_text front.now number behind.now) }
 {
     let digits = format!(in alloc; "{number}")?;
@@ -85,7 +85,7 @@ fn push_number(
     words.extend_from_slice(behind)
 }
 
-fn push_place(alloc: Global, row: u16, col: u16, words: &mut Vec<u8>) -> Result<(), AllocError>
+fn push_cursor(alloc: Global, row: u16, col: u16, words: &mut Vec<u8>) -> Pushed
     ensures { OnOk result (words.new.items ≡ words.old.items ++ spec.place_text row col) }
 {
     let text = format!(in alloc;
@@ -94,7 +94,7 @@ fn push_place(alloc: Global, row: u16, col: u16, words: &mut Vec<u8>) -> Result<
     words.extend_from_slice(text.as_bytes())
 }
 
-fn push_region(alloc: Global, top: u16, bottom: u16, words: &mut Vec<u8>) -> Result<(), AllocError>
+fn push_region(alloc: Global, top: u16, bottom: u16, words: &mut Vec<u8>) -> Pushed
     ensures { OnOk result (words.new.items ≡ words.old.items ++ spec.region_text top bottom) }
 {
     let text = format!(in alloc;
@@ -136,8 +136,8 @@ fn fixed_words(row: Row) -> &'static [u8]
     }
 }
 
-/// Appends the wanted result of `sgr` and of renditions and colors without parameters; nothing for other rows.
-fn push_look(alloc: Global, row: Row, words: &mut Vec<u8>) -> Result<(), AllocError>
+/// Appends the wanted result of `sgr` and of the rows of `look_words`; nothing for other rows.
+fn push_look(alloc: Global, row: Row, words: &mut Vec<u8>) -> Pushed
     ensures { OnOk result (words.new.items ≡ words.old.items ++ spec.look_text row) }
 {
     match row {
@@ -159,11 +159,7 @@ fn push_look(alloc: Global, row: Row, words: &mut Vec<u8>) -> Result<(), AllocEr
 }
 
 /// Appends the wanted result of `sgr` with these `attributes`.
-fn push_attributes(
-    alloc: Global,
-    attributes: Attributes,
-    words: &mut Vec<u8>,
-) -> Result<(), AllocError>
+fn push_attributes(alloc: Global, attributes: Attributes, words: &mut Vec<u8>) -> Pushed
     ensures { OnOk result (words.new.items ≡ words.old.items ++ spec.attributes_text attributes) }
 {
     let names = names_or_none(alloc, attributes)?;
@@ -171,7 +167,7 @@ fn push_attributes(
 }
 
 /// Appends the words that only the renditions of the attributes with these `names` are on.
-fn push_listed(names: &[u8], words: &mut Vec<u8>) -> Result<(), AllocError>
+fn push_listed(names: &[u8], words: &mut Vec<u8>) -> Pushed
     ensures { OnOk result (words.new.items ≡ words.old.items ++ spec.listed_text names.now) }
 {
     words.extend_from_slice(b"just the renditions of these attributes are on:")?;
@@ -180,7 +176,7 @@ fn push_listed(names: &[u8], words: &mut Vec<u8>) -> Result<(), AllocError>
 }
 
 /// The names of `attributes`, or the word for none.
-fn names_or_none(alloc: Global, attributes: Attributes) -> Result<Vec<u8>, AllocError>
+fn names_or_none(alloc: Global, attributes: Attributes) -> Made
     ensures { IfOk result (λ names. names.items ≡ spec.or_none (spec.names_text attributes)) }
 {
     let mut names = Vec::new(alloc);
@@ -192,19 +188,18 @@ fn names_or_none(alloc: Global, attributes: Attributes) -> Result<Vec<u8>, Alloc
 }
 
 #[tactic(auto, unfolding(crate::specs::Wanted::names_text))]
-fn push_names(attributes: Attributes, names: &mut Vec<u8>) -> Result<(), AllocError>
+fn push_names(attributes: Attributes, names: &mut Vec<u8>) -> Pushed
     ensures { OnOk result (names.new.items ≡ names.old.items ++ spec.names_text attributes) }
 {
-    push_if(attributes.standout, b" standout", names)?;
-    push_if(attributes.underline, b" underline", names)?;
-    push_if(attributes.reverse, b" reverse", names)?;
-    push_if(attributes.blink, b" blink", names)?;
-    push_if(attributes.dim, b" dim", names)?;
-    push_if(attributes.bold, b" bold", names)?;
-    push_if(attributes.invisible, b" invisible", names)
+    push_flags!(attributes, names;
+        standout b" standout", underline b" underline", reverse b" reverse", blink b" blink",
+        dim b" dim", bold b" bold", invisible b" invisible"
+    );
+    Ok(())
 }
 
-/// The wanted result of renditions and colors without parameters; empty for other rows.
+/// The wanted result of renditions and colors without parameters, of character sets, of the cursor's visibility, and of
+/// the strings that begin and end a program's screen; empty for other rows.
 fn look_words(row: Row) -> &'static [u8]
     ensures { result.now ≡ spec.fixed_look_text row }
 {
@@ -218,24 +213,6 @@ fn look_words(row: Row) -> &'static [u8]
         Row::Bold => b"bold is on, and no other rendition changes",
         Row::Invis => b"invisible is on, and no other rendition changes",
         Row::Smso => b"renditions may go on and none goes off, and colors, cells and cursor stay",
-        Row::Cup(_, _) | Row::Csr(_, _) | Row::Hpa(_) | Row::Vpa(_) | Row::Cub(_) => b"",
-        Row::Cuf(_) | Row::Cuu(_) | Row::Cud(_) | Row::Ech(_) | Row::Setaf(_) => b"",
-        Row::Setab(_) | Row::Clear | Row::Home | Row::Cr | Row::Cub1 | Row::Cuf1 => b"",
-        Row::Cuu1 | Row::Cud1 | Row::El | Row::El1 | Row::Ed | Row::Ind | Row::Ri => b"",
-        Row::Bel | Row::Sgr(_) | Row::Enacs | Row::Smacs | Row::Rmacs | Row::Civis => b"",
-        Row::Cnorm | Row::Cvvis | Row::Smcup | Row::Rmcup => b"",
-    }
-}
-
-const AROUND: &[u8] =
-    b"cells change by one erasure at most, and the scrolling region and the cursor's visibility stay";
-
-/// The wanted result of character sets, of the cursor's visibility, and of the strings that begin and end a program's
-/// screen; empty for other rows.
-fn mode_words(row: Row) -> &'static [u8]
-    ensures { result.now ≡ spec.mode_text row }
-{
-    match row {
         Row::Enacs => b"nothing but the character sets changes",
         Row::Smacs => b"the line drawing set is active, and nothing but the character sets changes",
         Row::Rmacs => b"the plain set is active, and nothing but the character sets changes",
@@ -247,7 +224,9 @@ fn mode_words(row: Row) -> &'static [u8]
         Row::Cuf(_) | Row::Cuu(_) | Row::Cud(_) | Row::Ech(_) | Row::Setaf(_) => b"",
         Row::Setab(_) | Row::Clear | Row::Home | Row::Cr | Row::Cub1 | Row::Cuf1 => b"",
         Row::Cuu1 | Row::Cud1 | Row::El | Row::El1 | Row::Ed | Row::Ind | Row::Ri => b"",
-        Row::Bel | Row::Sgr(_) | Row::Sgr0 | Row::Op | Row::Smul | Row::Rev | Row::Blink => b"",
-        Row::Dim | Row::Bold | Row::Invis | Row::Smso => b"",
+        Row::Bel | Row::Sgr(_) => b"",
     }
 }
+
+const AROUND: &[u8] =
+    b"cells change by one erasure at most, and the scrolling region and the cursor's visibility stay";

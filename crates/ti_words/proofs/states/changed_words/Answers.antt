@@ -1,6 +1,6 @@
 use Rattle.std.proofs.Common.{◌≡◌, ◌++◌, subst}
 use Rattle.vt_term.specs.Screen.{Settings}
-use Rattle.ti_words.specs.Seen.{settings_text}
+use Rattle.ti_words.specs.Starts.{settings_text}
 use Rattle.ti_words.proofs.Joins.{in_three}
 use Rattle.ti_words.proofs.states.changed_words.Goals as goal
 
