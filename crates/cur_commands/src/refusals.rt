@@ -4,11 +4,13 @@ ghost use Rattle.cur_commands.specs.Shows as spec;
 
 use cur_play::{Answer, LogEntry};
 use cur_windows::Refusal;
-use std::alloc::{AllocError, Global};
+use std::alloc::Global;
+use ti_commands::variant_name;
+use ti_verdicts::{Added, Lines};
 
 /// A line for each call that was refused; calls are counted from 1.
 #[tactic(auto, using(crate::proofs::Answers::lines_more))]
-pub fn refusal_lines(alloc: Global, log: &[LogEntry]) -> Result<Vec<u8>, AllocError>
+pub fn refusal_lines(alloc: Global, log: &[LogEntry]) -> Lines
     ensures { IfOk result (λ lines. lines.items ≡ spec.refusals_text 0 log.now) }
 {
     let mut lines = Vec::new(alloc);
@@ -18,12 +20,7 @@ pub fn refusal_lines(alloc: Global, log: &[LogEntry]) -> Result<Vec<u8>, AllocEr
     Ok(lines)
 }
 
-fn push_answer(
-    alloc: Global,
-    number: usize,
-    answer: Answer,
-    lines: &mut Vec<u8>,
-) -> Result<(), AllocError>
+fn push_answer(alloc: Global, number: usize, answer: Answer, lines: &mut Vec<u8>) -> Added
     ensures { OnOk result (lines.new.items ≡ lines.old.items ++ spec.answer_line number answer) }
 {
     match answer {
@@ -36,7 +33,7 @@ fn push_answer(
 }
 
 /// `call N: NAME`
-fn refusal_line(alloc: Global, number: usize, refusal: Refusal) -> Result<Vec<u8>, AllocError>
+fn refusal_line(alloc: Global, number: usize, refusal: Refusal) -> Lines
     ensures { IfOk result (λ line. line.items ≡ spec.refusal_line number refusal) }
 {
     let mut line = Vec::new(alloc);
@@ -50,22 +47,8 @@ fn refusal_line(alloc: Global, number: usize, refusal: Refusal) -> Result<Vec<u8
 fn refusal_name(refusal: Refusal) -> &'static [u8]
     ensures { result.now ≡ spec.refusal_name refusal }
 {
-    match refusal {
-        Refusal::NoWindow => b"NoWindow",
-        Refusal::OutOfWindow => b"OutOfWindow",
-        Refusal::OutOfScreen => b"OutOfScreen",
-        Refusal::HasChildren => b"HasChildren",
-        Refusal::IsSub => b"IsSub",
-        Refusal::PadKind => b"PadKind",
-        Refusal::NoScroll => b"NoScroll",
-        Refusal::BadRegion => b"BadRegion",
-        Refusal::NumberUsed => b"NumberUsed",
-        Refusal::BadCell => b"BadCell",
-        Refusal::Full => b"Full",
-        Refusal::NoMemory => b"NoMemory",
-        Refusal::IsScreen => b"IsScreen",
-        Refusal::NoCap => b"NoCap",
-        Refusal::IsLost => b"IsLost",
-        Refusal::BadPair => b"BadPair",
-    }
+    variant_name!(refusal; Refusal:
+        NoWindow, OutOfWindow, OutOfScreen, HasChildren, IsSub, PadKind, NoScroll, BadRegion,
+        NumberUsed, BadCell, Full, NoMemory, IsScreen, NoCap, IsLost, BadPair
+    )
 }

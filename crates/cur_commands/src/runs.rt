@@ -10,6 +10,9 @@ use std::alloc::Global;
 use ti_commands::{Failure, Output};
 use ti_conforms::Certificate;
 
+/// Nothing, from a run; or why it was not all played.
+pub type Played = Result<(), Failure>;
+
 /// Plays `calls`, one after another, in a session of their own on the terminal of `checked`, and writes the bytes that
 /// they send to `out`: the bytes of a call are passed on before the next call, in one piece if there are at most 65536.
 ///
@@ -21,7 +24,7 @@ pub fn play_calls<C: Certificate + Drop, O: Output>(
     checked: C,
     calls: &[Call<'_>],
     out: &mut O,
-) -> Result<(), Failure>
+) -> Played
     ensures ran { OnOk result (RanThrough (C.table checked) (C.partners checked) (O.contents out.old)
         (O.contents out.new) calls.now) }
     ensures failure { IfErr result (λ e. IsUnplayed O.has_failed out.old out.new e) }
@@ -41,7 +44,7 @@ fn play_held<C: Certificate + Drop, O: Output>(
     checked: C,
     calls: &[Call<'_>],
     held: &mut Held<'_, O>,
-) -> Result<(), Failure>
+) -> Played
     requires nothing { held.old.buffer.now ≡ [] }
     requires unfailed { held.old.failures ≡ 0 }
     ensures ran { OnOk result (RanThrough (C.table checked) (C.partners checked) (O.contents held.old.output.now)

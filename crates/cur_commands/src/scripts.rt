@@ -6,7 +6,7 @@ ghost use Rattle.cur_commands.specs.Scripts as spec;
 use cur_calls::Call;
 use cur_scripts::{ScriptFault, ScriptFaultKind, read_script};
 use std::alloc::{AllocError, Global};
-use ti_commands::{CommandRefusal, Failure};
+use ti_commands::{CommandRefusal, Failure, variant_name};
 use ti_words::Remarks;
 
 /// The most bytes of a line that are shown.
@@ -58,11 +58,7 @@ fn fault_words(alloc: Global, fault: ScriptFault) -> Result<Vec<u8>, AllocError>
 fn kind_name(kind: ScriptFaultKind) -> &'static [u8]
     ensures { result.now ≡ spec.kind_name kind }
 {
-    match kind {
-        ScriptFaultKind::BadLine => b"BadLine",
-        ScriptFaultKind::TooLong => b"TooLong",
-        ScriptFaultKind::NoMemory => b"NoMemory",
-    }
+    variant_name!(kind; ScriptFaultKind: BadLine, TooLong, NoMemory)
 }
 
 /// The line that is no call, in plain words.

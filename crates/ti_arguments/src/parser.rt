@@ -181,13 +181,12 @@ fn all_words<'a>(
 fn expand_request<'a>(alloc: Global, words: &ArgMatches<'a>) -> Result<Request<'a>, AllocError>
     ensures { IfOk result (λ request. AsksFor (codes "expand") (rows_of (found_of words.now)) request) }
 {
-    let params = words.get_strs("PARAM").unwrap_or(&[]);
     Ok(Request::Expand(ExpandWords {
         judges_cup: is_on(words, "cup"),
         string: word(words, "STRING"),
         rows: word(words, "ROWS"),
         cols: word(words, "COLS"),
-        params: Vec::from_slice(alloc, params)?,
+        params: all_words(alloc, words, "PARAM")?,
     }))
 }
 

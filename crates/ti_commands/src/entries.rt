@@ -38,13 +38,16 @@ pub struct Found {
     pub entry: Result<Entry, CommandRefusal>,
 }
 
+/// The result of a search for an entry: what it found, or why the files couldn't be read.
+type Finding = Result<Found, Failure>;
+
 /// Reads the file that `word` names, and finds or unpacks its entry.
 pub fn find_entry<F: Files>(
     alloc: Global,
     files: &mut F,
     word: &str,
     remarks: &mut Remarks,
-) -> Result<Found, Failure>
+) -> Finding
     ensures found { IfOk result
         (λ found. Finds (F.holds files.old) word.now found.notes.items found.entry) }
     ensures failure { IfErr result (λ e. FailsToFind (F.holds files.old) word.now e) }
@@ -71,7 +74,7 @@ pub(crate) fn find_in_source<F: Files>(
     path: &str,
     name: &str,
     remarks: &mut Remarks,
-) -> Result<Found, Failure>
+) -> Finding
     ensures found { IfOk result (λ found. HasBytes ((F.holds files.old).at path.now) longest_file
         (λ bytes. IsOfSource (F.holds files.old) bytes name.now found.notes.items found.entry)) }
     ensures text { IfOk result (λ found. IsOfText (F.holds files.old) path.now name.now found.text.items
@@ -122,14 +125,13 @@ fn own_entries(
     ensures fit { IfOk result (λ raws. AllByRecursion IsRaw raws.items) }
     ensures failure { IfErr result (λ e. IsSourceFailure text.now e) }
 {
-    match read(alloc, text) {
-        Ok(raws) => Ok(raws),
-        Err(fault) => {
-            fault.kind.must_claim()?;
-            explain_source(alloc, path, text, fault, remarks);
-            Err(Failure::Refused(CommandRefusal::Source(fault)))
-        }
-    }
+    let fault = match read(alloc, text) {
+        Ok(raws) => return Ok(raws),
+        Err(fault) => fault,
+    };
+    fault.kind.must_claim()?;
+    explain_source(alloc, path, text, fault, remarks);
+    Err(Failure::Refused(CommandRefusal::Source(fault)))
 }
 
 /// The entry named `name` in `raws`, or the reason why there is none.
@@ -208,12 +210,7 @@ fn note_name(kind: NoteKind) -> &'static str
 }
 
 /// Reads the compiled file at `path`, and unpacks its entry.
-fn unpack<F: Files>(
-    alloc: Global,
-    files: &mut F,
-    path: &str,
-    remarks: &mut Remarks,
-) -> Result<Found, Failure>
+fn unpack<F: Files>(alloc: Global, files: &mut F, path: &str, remarks: &mut Remarks) -> Finding
     ensures found { IfOk result (λ found. HasBytes ((F.holds files.old).at path.now) 131072
         (λ bytes. IsOfFile bytes found.notes.items found.entry)) }
     ensures failure { IfErr result (λ e. FailsInFile (F.holds files.old) path.now e) }

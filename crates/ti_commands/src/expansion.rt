@@ -9,7 +9,7 @@ ghost use Rattle.ti_commands.specs.Failures.{IsUsageError, WrongParam, param_usa
 ghost use Rattle.ti_commands.specs.Words.{GiveParams, GivesParam, texts_of};
 
 use crate::decimal::decimal_number;
-use crate::failure::{CommandRefusal, Failure, Reply};
+use crate::failure::{CommandRefusal, Failure, Replied, Reply};
 use crate::sizes::{number_word, size_of};
 use smallvec::SmallVec;
 use std::alloc::{AllocError, Global};
@@ -25,11 +25,7 @@ type Params<'a> = SmallVec<Param<'a>, 9>;
 
 /// Expands the string of the `words` and shows where it leaves the cursor of a blank terminal. Further lines go to
 /// `remarks`.
-pub fn expand_string(
-    alloc: Global,
-    words: &ExpandWords<'_>,
-    remarks: &mut Remarks,
-) -> Result<Reply, Failure>
+pub fn expand_string(alloc: Global, words: &ExpandWords<'_>, remarks: &mut Remarks) -> Replied
     ensures reply { IfOk result (λ reply. IsExpanded words.now reply) }
     ensures failure { IfErr result (λ e. FailsToExpand words.now e) }
 {

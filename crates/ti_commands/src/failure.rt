@@ -41,6 +41,9 @@ impl Reply {
     }
 }
 
+/// The result of a command: its reply, or why it has none.
+pub type Replied = Result<Reply, Failure>;
+
 /// A request that was understood but can't be met.
 #[derive(Debug, Drop, Error)]
 pub enum CommandRefusal {

@@ -11,6 +11,16 @@ use ti_resolve::ResolveFault;
 use ti_source::{EscapeFault, FaultKind, SourceFault};
 use vt_term::{TokenFault, TokenFaultKind};
 
+/// The name of the variant of `$kind` that `$value` is, in bytes. The names are those of all variants.
+#[macro_export]
+macro_rules! variant_name {
+    ($value:expr; $kind:ident: $($name:ident),*) => {
+        match $value {
+            $($kind::$name => stringify!($name).as_bytes(),)*
+        }
+    };
+}
+
 /// The words of `refusal` after `refused: `: its kind, and the place or the name that it is about.
 /// A name has the bytes that it has in its source.
 pub fn refusal_words(alloc: Global, refusal: &CommandRefusal) -> Result<Vec<u8>, AllocError>
@@ -85,56 +95,31 @@ fn named(alloc: Global, kind: &[u8], name: &[u8]) -> Result<Vec<u8>, AllocError>
 fn escape_name(fault: EscapeFault) -> &'static [u8]
     ensures { result.now ≡ spec.escape_name fault }
 {
-    match fault {
-        EscapeFault::BadEscape => b"BadEscape",
-        EscapeFault::TooLong => b"TooLong",
-        EscapeFault::NoMemory => b"NoMemory",
-    }
+    variant_name!(fault; EscapeFault: BadEscape, TooLong, NoMemory)
 }
 
 /// The name of a fault of parameters.
 pub fn parm_name(fault: ParmFault) -> &'static [u8]
     ensures { result.now ≡ spec.parm_name fault }
 {
-    match fault {
-        ParmFault::Underflow => b"Underflow",
-        ParmFault::BadNest => b"BadNest",
-        ParmFault::BadCode => b"BadCode",
-        ParmFault::Overflow => b"Overflow",
-        ParmFault::BadChar => b"BadChar",
-        ParmFault::WrongKind => b"WrongKind",
-        ParmFault::NoMemory => b"NoMemory",
-    }
+    variant_name!(fault; ParmFault:
+        Underflow, BadNest, BadCode, Overflow, BadChar, WrongKind, NoMemory
+    )
 }
 
 fn source_name(kind: FaultKind) -> &'static [u8]
     ensures { result.now ≡ spec.source_name kind }
 {
-    match kind {
-        FaultKind::NoName => b"NoName",
-        FaultKind::WrongKind => b"WrongKind",
-        FaultKind::BadNumber => b"BadNumber",
-        FaultKind::NumberRange => b"NumberRange",
-        FaultKind::OpenField => b"OpenField",
-        FaultKind::BadEscape => b"BadEscape",
-        FaultKind::TooLong => b"TooLong",
-        FaultKind::NoMemory => b"NoMemory",
-    }
+    variant_name!(kind; FaultKind:
+        NoName, WrongKind, BadNumber, NumberRange, OpenField, BadEscape, TooLong, NoMemory
+    )
 }
 
 fn pack_name(fault: PackFault) -> &'static [u8]
     ensures { result.now ≡ spec.pack_name fault }
 {
-    match fault {
-        PackFault::Short => b"Short",
-        PackFault::BadMagic => b"BadMagic",
-        PackFault::BadCount => b"BadCount",
-        PackFault::BadFlag => b"BadFlag",
-        PackFault::BadNumber => b"BadNumber",
-        PackFault::BadOffset => b"BadOffset",
-        PackFault::NoNul => b"NoNul",
-        PackFault::TooLarge => b"TooLarge",
-        PackFault::NoMemory => b"NoMemory",
-        PackFault::BadNames => b"BadNames",
-    }
+    variant_name!(fault; PackFault:
+        Short, BadMagic, BadCount, BadFlag, BadNumber, BadOffset, NoNul, TooLarge, NoMemory,
+        BadNames
+    )
 }

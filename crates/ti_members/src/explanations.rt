@@ -1,9 +1,9 @@
 //! A run in words, as the lines for people have them.
 
-ghost use Rattle.std.specs.Prelude.{◌≡◌, IfOk, None, string_bytes};
+ghost use Rattle.std.specs.Prelude.{IfOk, string_bytes};
 ghost use Rattle.ti_members.specs.Texts.{IsShownAs};
 ghost use Rattle.ti_members.specs.Explanations as spec;
-ghost use Rattle.ti_words.specs.Wanted as told;
+ghost use Rattle.ti_words.specs.Wanted.{wanted_text};
 
 use crate::ran::{Telling, ran_text};
 use crate::sent::row_of;
@@ -27,20 +27,8 @@ pub struct Explanation {
     pub seen: Option<String>,
 }
 
-impl Explanation {
-    /// No run.
-    pub fn none() -> Explanation
-        ensures start { result.start ≡ None }
-        ensures wanted { result.wanted ≡ None }
-        ensures seen { result.seen ≡ None }
-    {
-        Explanation {
-            start: None,
-            wanted: None,
-            seen: None,
-        }
-    }
-}
+/// Words, if there is something to say; or that memory ran out.
+type SomeWords = Result<Option<String>, AllocError>;
 
 /// The words about the run that shows the `no` of `entry`.
 pub fn explained(
@@ -59,7 +47,7 @@ pub fn explained(
 }
 
 /// The state from which it goes wrong, if one shows the `cause`.
-fn start_of(alloc: Global, size: Size, cause: Cause) -> Result<Option<String>, AllocError>
+fn start_of(alloc: Global, size: Size, cause: Cause) -> SomeWords
     ensures { IfOk result (λ start. spec.HasStart size.rows cause start) }
 {
     match cause {
@@ -75,7 +63,7 @@ fn start_of(alloc: Global, size: Size, cause: Cause) -> Result<Option<String>, A
 }
 
 /// The words for the wanted effect of the row that `no` is about, if its cause is that this isn't so.
-fn wanted_of(alloc: Global, no: &No) -> Result<Option<String>, AllocError>
+fn wanted_of(alloc: Global, no: &No) -> SomeWords
     ensures { IfOk result (λ wanted. spec.IsWanted no.now.cause no.now wanted) }
 {
     match no.cause {
@@ -87,7 +75,7 @@ fn wanted_of(alloc: Global, no: &No) -> Result<Option<String>, AllocError>
 }
 
 /// The words for the wanted effect of the row that `no` is about; `None` if it is about none.
-fn wanted_of_row(alloc: Global, no: &No) -> Result<Option<String>, AllocError>
+fn wanted_of_row(alloc: Global, no: &No) -> SomeWords
     ensures { IfOk result (λ wanted. spec.IsOfItsRow no.now wanted) }
 {
     let row = row_of(no);
@@ -96,7 +84,7 @@ fn wanted_of_row(alloc: Global, no: &No) -> Result<Option<String>, AllocError>
 }
 
 /// The words for the wanted effect of `row`, if there is one.
-fn wanted_text(alloc: Global, row: Option<Row>) -> Result<Option<String>, AllocError>
+fn wanted_text(alloc: Global, row: Option<Row>) -> SomeWords
     ensures { IfOk result (λ wanted. spec.HasWanted row wanted) }
 {
     match row {
@@ -106,14 +94,14 @@ fn wanted_text(alloc: Global, row: Option<Row>) -> Result<Option<String>, AllocE
 }
 
 fn row_text(alloc: Global, row: Row) -> Result<String, AllocError>
-    ensures { IfOk result (λ text. IsShownAs (told.wanted_text row) (string_bytes text)) }
+    ensures { IfOk result (λ text. IsShownAs (wanted_text row) (string_bytes text)) }
 {
     let words = wanted_words(alloc, row)?;
     text_of(alloc, words.as_slice())
 }
 
 /// The words for the effect of the string of `entry` that `no` is about, if a run showed its cause.
-fn seen_of(alloc: Global, entry: &Entry, size: Size, no: &No) -> Result<Option<String>, AllocError>
+fn seen_of(alloc: Global, entry: &Entry, size: Size, no: &No) -> SomeWords
     ensures { IfOk result (λ seen. spec.IsSeen no.now.cause entry.now size.rows size.cols no.now seen) }
 {
     match no.cause {

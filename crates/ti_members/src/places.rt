@@ -18,6 +18,9 @@ use ti_places::{
 use ti_resolve::Origin;
 use ti_source::RawEntry;
 
+/// The region of the part of a value that is at fault, if it is known; or that memory ran out.
+pub type FaultyPart = Result<Option<Region>, AllocError>;
+
 /// The origin of an entry.
 #[derive(Clone, Copy)]
 pub enum Standing<'a, 'b> {
@@ -152,11 +155,7 @@ pub fn value_place(
 
 /// The region of the part of the value that `fault` is about, in the source of the entry whose origin is `stands`;
 /// `None` if there is no source or no value, or no smaller part is known than the whole value.
-pub fn faulty_region(
-    alloc: Global,
-    stands: &Standing<'_, '_>,
-    fault: &Judged<'_>,
-) -> Result<Option<Region>, AllocError>
+pub fn faulty_region(alloc: Global, stands: &Standing<'_, '_>, fault: &Judged<'_>) -> FaultyPart
     requires { spec.IsThere stands.now }
     ensures { IfOk result (λ found. IfSome found
         (spec.IsFaultyAt (spec.whereabouts_of stands.now) fault.now.no.now.cap)) }
@@ -174,7 +173,7 @@ fn faulty_in(
     named: &NamedSource<'_, '_>,
     originals: &[LinedFile<'_>],
     fault: &Judged<'_>,
-) -> Result<Option<Region>, AllocError>
+) -> FaultyPart
     ensures { IfOk result (λ found. IfSome found
         (spec.IsFaultyIn (map file_text originals.now) named.now.source.now fault.now.no.now.cap)) }
 {
@@ -190,7 +189,7 @@ fn faulty_at(
     there: &SourcePlace<'_, '_>,
     originals: &[LinedFile<'_>],
     fault: &Judged<'_>,
-) -> Result<Option<Region>, AllocError>
+) -> FaultyPart
     requires { there.now.place < length there.now.raws.now }
     ensures { IfOk result (λ found. IfSome found
         (spec.IsFaultyOf (map file_text originals.now) (place_in there.now) fault.now.no.now.cap)) }

@@ -15,7 +15,11 @@ use ti_caps::{Cap, Entry, name};
 use ti_checker::{Cause, No};
 use ti_faults::{Mended, is_of_another_kind, suggestion};
 use ti_rows::Row;
+use ti_verdicts::Added;
 use vt_term::Size;
+
+/// The fields that a function makes, as in a source, or that memory ran out.
+pub type Fields = Result<Vec<String>, AllocError>;
 
 /// The `entry` in which the faults `nos` are mended at once, if `lists_all`, that is, if they are all of its faults.
 pub fn mended_if(
@@ -57,7 +61,7 @@ pub fn suggested_with(
     mended: &Option<Mended>,
     nos: &[No],
     cap: Cap,
-) -> Result<Vec<String>, AllocError>
+) -> Fields
     ensures { IfOk result (λ fields. spec.AreFields entry.now mended.now nos.now (spec.mended_with cap)
         (map string_bytes fields.items)) }
 {
@@ -109,7 +113,7 @@ fn fields_of(
     mended: &Option<Mended>,
     nos: &[No],
     caps: &[Cap],
-) -> Result<Vec<String>, AllocError>
+) -> Fields
     ensures { IfOk result (λ fields. spec.AreFields entry.now mended.now nos.now caps.now
         (map string_bytes fields.items)) }
 {
@@ -123,12 +127,7 @@ fn fields_of(
 
 /// Adds the field that gives `cap` the string that was `found` for it to `fields`.
 #[tactic(auto, using(crate::proofs::FieldFacts::no_field))]
-fn add_field(
-    alloc: Global,
-    fields: &mut Vec<String>,
-    cap: Cap,
-    found: Option<&[u8]>,
-) -> Result<(), AllocError>
+fn add_field(alloc: Global, fields: &mut Vec<String>, cap: Cap, found: Option<&[u8]>) -> Added
     requires { IfSome found (λ bytes. IsTrue (string_fits bytes.now)) }
     ensures { OnOk result (spec.AddsField cap (option_copied found.entry) (map string_bytes fields.old.items)
         (map string_bytes fields.new.items)) }
@@ -141,12 +140,7 @@ fn add_field(
 
 /// Adds the field that gives `cap` this `string` to `fields`.
 #[tactic(auto, using(crate::proofs::FieldFacts::field_added))]
-fn push_field(
-    alloc: Global,
-    fields: &mut Vec<String>,
-    cap: Cap,
-    string: &[u8],
-) -> Result<(), AllocError>
+fn push_field(alloc: Global, fields: &mut Vec<String>, cap: Cap, string: &[u8]) -> Added
     requires { IsTrue (string_fits string.now) }
     ensures { OnOk result (spec.AddsField cap (Some string.now) (map string_bytes fields.old.items)
         (map string_bytes fields.new.items)) }

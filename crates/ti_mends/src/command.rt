@@ -15,11 +15,10 @@ use std::alloc::{AllocError, Global};
 use ti_caps::Entry;
 use ti_checker::No;
 use ti_commands::{
-    CommandRefusal, Failure, Files, Reply, SourceText, Sourced, size_words, sourced_entry,
+    CommandRefusal, Failure, Files, Replied, SourceText, Sourced, World, size_words, sourced_entry,
 };
 use ti_faults::{Mended, faults, is_of_another_kind};
 use ti_requests::CheckWords;
-use ti_words::Remarks;
 use vt_term::Size;
 
 /// The failure for a compiled entry, which has no source.
@@ -132,29 +131,31 @@ fn mended_source(
 pub fn fix_entry<F: Files>(
     alloc: Global,
     words: &CheckWords<'_>,
-    files: &mut F,
-    remarks: &mut Remarks,
-) -> Result<Reply, Failure>
-    ensures reply { IfOk result (λ reply. spec.IsFixed (F.holds files.old) (F.holds files.new) words.now reply) }
-    ensures failure { IfErr result (λ e. spec.FailsToFix (F.holds files.old) words.now e) }
-    ensures kept { OnErr result (F.holds files.new ≡ F.holds files.old) }
+    world: &mut World<'_, F>,
+) -> Replied
+    ensures reply { IfOk result (λ reply. spec.IsFixed (F.holds world.old.files.now) (F.holds world.new.files.now)
+        words.now reply) }
+    ensures failure { IfErr result (λ e. spec.FailsToFix (F.holds world.old.files.now) words.now e) }
+    ensures kept { OnErr result (F.holds world.new.files.now ≡ F.holds world.old.files.now) }
 {
-    let size = size_words(alloc, words.rows, words.cols, remarks)?;
-    let Sourced { entry, source } = sourced_entry(alloc, files, words.entry, remarks)?;
+    let size = size_words(alloc, words.rows, words.cols, world.remarks)?;
+    let Sourced { entry, source } = sourced_entry(alloc, world.files, words.entry, world.remarks)?;
     let Some(source) = source else {
-        remarks.add_words(b"--fix mends the text of a source file: name the entry as FILE:NAME");
+        world.remarks.add_words(
+            b"--fix mends the text of a source file: name the entry as FILE:NAME",
+        );
         return Err(sourceless(alloc));
     };
     if source.further.is_empty() {
         let mended = mended_source(alloc, size, &entry, source)?;
-        return Ok(handed_over(alloc, mended, words.out, files, remarks)?);
+        return Ok(handed_over(alloc, mended, words.out, world.files, world.remarks)?);
     }
     let Some(folder) = words.out else {
-        remarks.add_words(
+        world.remarks.add_words(
             b"--fix with --with stores each changed file in the folder that --out names: there is no --out",
         );
         return Err(several(alloc));
     };
     let mended = mended_source(alloc, size, &entry, source)?;
-    Ok(stored_in(alloc, mended, folder, files, remarks)?)
+    Ok(stored_in(alloc, mended, folder, world.files, world.remarks)?)
 }

@@ -4,15 +4,16 @@ ghost use Rattle.std.specs.{Prelude.{◌≡◌, ◌++◌, IfOk, OnOk}, List.{fla
 ghost use Rattle.ti_mends.specs.Notes as spec;
 
 use crate::mendings::{Kept, Reason};
-use std::alloc::{AllocError, Global};
+use std::alloc::Global;
 use ti_caps::name;
 use ti_checker::No;
 use ti_places::{first_name, names_of, no_words};
 use ti_source::RawEntry;
+use ti_verdicts::{Added, Lines};
 use ti_words::push_shown;
 
 /// Appends why a suggestion is left.
-fn push_reason(lines: &mut Vec<u8>, raws: &[RawEntry], reason: Reason) -> Result<(), AllocError>
+fn push_reason(lines: &mut Vec<u8>, raws: &[RawEntry], reason: Reason) -> Added
     ensures { OnOk result (lines.new.items ≡ lines.old.items ++ spec.reason_text raws.now reason) }
 {
     match reason {
@@ -25,7 +26,7 @@ fn push_reason(lines: &mut Vec<u8>, raws: &[RawEntry], reason: Reason) -> Result
 }
 
 /// Appends the line of a suggestion that is left.
-fn push_kept(lines: &mut Vec<u8>, raws: &[RawEntry], kept: Kept) -> Result<(), AllocError>
+fn push_kept(lines: &mut Vec<u8>, raws: &[RawEntry], kept: Kept) -> Added
     ensures { OnOk result (lines.new.items ≡ lines.old.items ++ spec.kept_line raws.now kept) }
 {
     lines.extend_from_slice(b"kept ")?;
@@ -37,7 +38,7 @@ fn push_kept(lines: &mut Vec<u8>, raws: &[RawEntry], kept: Kept) -> Result<(), A
 }
 
 /// Appends the line of a fault that is left.
-fn push_left(alloc: Global, lines: &mut Vec<u8>, no: &No) -> Result<(), AllocError>
+fn push_left(alloc: Global, lines: &mut Vec<u8>, no: &No) -> Added
     ensures { OnOk result (lines.new.items ≡ lines.old.items ++ spec.left_line no.now) }
 {
     let words = no_words(alloc, no)?;
@@ -48,7 +49,7 @@ fn push_left(alloc: Global, lines: &mut Vec<u8>, no: &No) -> Result<(), AllocErr
 }
 
 /// The lines of the suggestions that are left.
-fn kept_lines(alloc: Global, raws: &[RawEntry], kept: &[Kept]) -> Result<Vec<u8>, AllocError>
+fn kept_lines(alloc: Global, raws: &[RawEntry], kept: &[Kept]) -> Lines
     ensures { IfOk result (λ lines. lines.items ≡ flat_map (spec.kept_line raws.now) kept.now) }
 {
     let mut lines = Vec::new(alloc);
@@ -59,7 +60,7 @@ fn kept_lines(alloc: Global, raws: &[RawEntry], kept: &[Kept]) -> Result<Vec<u8>
 }
 
 /// The lines of the faults that are left.
-fn left_lines(alloc: Global, nos: &[No]) -> Result<Vec<u8>, AllocError>
+fn left_lines(alloc: Global, nos: &[No]) -> Lines
     ensures { IfOk result (λ lines. lines.items ≡ flat_map spec.left_line nos.now) }
 {
     let mut lines = Vec::new(alloc);
@@ -70,12 +71,7 @@ fn left_lines(alloc: Global, nos: &[No]) -> Result<Vec<u8>, AllocError>
 }
 
 /// A line for each suggestion that is left, and then one for each fault.
-pub fn fix_notes(
-    alloc: Global,
-    raws: &[RawEntry],
-    kept: &[Kept],
-    nos: &[No],
-) -> Result<Vec<u8>, AllocError>
+pub fn fix_notes(alloc: Global, raws: &[RawEntry], kept: &[Kept], nos: &[No]) -> Lines
     ensures { IfOk result (λ lines. lines.items ≡ spec.fix_notes raws.now kept.now nos.now) }
 {
     let mut lines = kept_lines(alloc, raws, kept)?;

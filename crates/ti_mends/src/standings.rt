@@ -55,73 +55,77 @@ fn are_equal(one: &Entry, other: &Entry, cap: Cap) -> bool
     }
 }
 
-/// Whether the entry at `place` has the same string of `cap` in both texts.
-#[tactic(auto, using(ti_resolve::proofs::Taken::raws_fields, ti_resolve::proofs::Taken::names_fit_at))]
-fn has_same_string(
-    alloc: Global,
-    olds: &Index<'_>,
-    news: &Index<'_>,
+/// Entries in which the string of a capability changes somewhere.
+#[derive(Drop)]
+struct Change<'a, 'b> {
+    /// The entries before.
+    olds: &'a Index<'b>,
+    /// The entries behind it, as many.
+    news: &'a Index<'b>,
+    /// The capability.
     cap: Cap,
-    place: usize,
-) -> Result<bool, AllocError>
-    requires fit { AllByRecursion IsRaw olds.now.raws.now }
-    requires fit_too { AllByRecursion IsRaw news.now.raws.now }
-    requires there { place < length olds.now.raws.now }
-    requires there_too { place < length news.now.raws.now }
-    ensures { IfOk result (λ same. OnTrue same (spec.HasSameString olds.now.raws.now news.now.raws.now cap place)) }
-{
-    let Ok(old) = resolve_from(alloc, olds, place) else {
-        return Ok(false);
-    };
-    let Ok(new) = resolve_from(alloc, news, place) else {
-        return Ok(false);
-    };
-    Ok(are_equal(&old, &new, cap))
 }
 
-/// Whether the entry at `place` keeps its yes, if it has one, when the string of `cap` changes somewhere.
+/// Whether the entry at `place` has the same string of the capability before the `change` and behind it.
+#[tactic(auto, using(ti_resolve::proofs::Taken::raws_fields, ti_resolve::proofs::Taken::names_fit_at))]
+fn has_same_string(alloc: Global, change: &Change<'_, '_>, place: usize) -> Result<bool, AllocError>
+    requires fit { AllByRecursion IsRaw change.now.olds.now.raws.now }
+    requires fit_too { AllByRecursion IsRaw change.now.news.now.raws.now }
+    requires there { place < length change.now.olds.now.raws.now }
+    requires there_too { place < length change.now.news.now.raws.now }
+    ensures { IfOk result (λ same. OnTrue same (spec.HasSameString change.now.olds.now.raws.now
+        change.now.news.now.raws.now change.now.cap place)) }
+{
+    let Ok(old) = resolve_from(alloc, change.olds, place) else {
+        return Ok(false);
+    };
+    let Ok(new) = resolve_from(alloc, change.news, place) else {
+        return Ok(false);
+    };
+    Ok(are_equal(&old, &new, change.cap))
+}
+
+/// Whether the entry at `place` keeps its yes with the `change`, if it has one.
 fn keeps_yes(
     alloc: Global,
-    olds: &Index<'_>,
-    news: &Index<'_>,
+    change: &Change<'_, '_>,
     size: Size,
-    cap: Cap,
     place: usize,
 ) -> Result<bool, AllocError>
-    requires fit { AllByRecursion IsRaw olds.now.raws.now }
-    requires fit_too { AllByRecursion IsRaw news.now.raws.now }
-    requires there { place < length olds.now.raws.now }
-    requires there_too { place < length news.now.raws.now }
-    ensures { IfOk result (spec.KeepsOrLoses olds.now.raws.now news.now.raws.now size.rows size.cols cap place) }
+    requires fit { AllByRecursion IsRaw change.now.olds.now.raws.now }
+    requires fit_too { AllByRecursion IsRaw change.now.news.now.raws.now }
+    requires there { place < length change.now.olds.now.raws.now }
+    requires there_too { place < length change.now.news.now.raws.now }
+    ensures { IfOk result (spec.KeepsOrLoses change.now.olds.now.raws.now change.now.news.now.raws.now
+        size.rows size.cols change.now.cap place) }
 {
-    let same = has_same_string(alloc, olds, news, cap, place)?;
+    let same = has_same_string(alloc, change, place)?;
     if same {
         return Ok(true);
     }
-    let stood = stands(alloc, olds, size, place)?;
+    let stood = stands(alloc, change.olds, size, place)?;
     if !stood {
         return Ok(true);
     }
-    stands(alloc, news, size, place)
+    stands(alloc, change.news, size, place)
 }
 
-/// The place of the first entry that loses its yes.
+/// The place of the first entry that loses its yes with the `change`.
 fn first_loser(
     alloc: Global,
-    olds: &Index<'_>,
-    news: &Index<'_>,
+    change: &Change<'_, '_>,
     size: Size,
-    cap: Cap,
 ) -> Result<Option<usize>, AllocError>
-    requires fit { AllByRecursion IsRaw olds.now.raws.now }
-    requires fit_too { AllByRecursion IsRaw news.now.raws.now }
-    requires as_many { length news.now.raws.now ≡ length olds.now.raws.now }
+    requires fit { AllByRecursion IsRaw change.now.olds.now.raws.now }
+    requires fit_too { AllByRecursion IsRaw change.now.news.now.raws.now }
+    requires as_many { length change.now.news.now.raws.now ≡ length change.now.olds.now.raws.now }
     ensures { IfOk result (λ found. MatchOption found
-        (spec.AllKeepYes olds.now.raws.now news.now.raws.now size.rows size.cols cap)
-        (λ place. spec.LosesYes olds.now.raws.now news.now.raws.now size.rows size.cols place)) }
+        (spec.AllKeepYes change.now.olds.now.raws.now change.now.news.now.raws.now size.rows size.cols change.now.cap)
+        (λ place. spec.LosesYes change.now.olds.now.raws.now change.now.news.now.raws.now
+        size.rows size.cols place)) }
 {
-    for place in 0..olds.raws.len() {
-        let keeps = keeps_yes(alloc, olds, news, size, cap, place)?;
+    for place in 0..change.olds.raws.len() {
+        let keeps = keeps_yes(alloc, change, size, place)?;
         if !keeps {
             return Ok(Some(place));
         }
@@ -130,10 +134,10 @@ fn first_loser(
 }
 
 /// The place of the first entry that loses its yes when the entries `olds` become `news`.
-pub fn loser(
+pub fn loser<'x>(
     alloc: Global,
-    olds: &[RawEntry],
-    news: &[RawEntry],
+    olds: &'x [RawEntry],
+    news: &'x [RawEntry],
     size: Size,
     cap: Cap,
 ) -> Result<Option<usize>, AllocError>
@@ -145,7 +149,12 @@ pub fn loser(
 {
     let olds = Index::new(alloc, olds)?;
     let news = Index::new(alloc, news)?;
-    first_loser(alloc, &olds, &news, size, cap)
+    let change = Change {
+        olds: &olds,
+        news: &news,
+        cap,
+    };
+    first_loser(alloc, &change, size)
 }
 
 /// Whether the entry has just this string of `cap`.

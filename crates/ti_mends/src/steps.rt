@@ -13,8 +13,11 @@ use ti_caps::{Cap, Entry};
 use ti_checker::No;
 use ti_faults::{Mended, listed_with, suggestion};
 
+/// The files after a step, or that memory ran out.
+pub type Treated = Result<Mending, AllocError>;
+
 /// The files as they were, with the capability listed.
-fn listed(mending: Mending, cap: Cap, reason: Reason) -> Result<Mending, AllocError>
+fn listed(mending: Mending, cap: Cap, reason: Reason) -> Treated
     ensures { IfOk result (spec.LeavesOut cap reason mending) }
 {
     let Mending { texts, entry, kept } = mending;
@@ -24,13 +27,7 @@ fn listed(mending: Mending, cap: Cap, reason: Reason) -> Result<Mending, AllocEr
 }
 
 /// The files as they were: the string for `cap` isn't taken, for this reason.
-fn leave(
-    asked: Asked<'_>,
-    cap: Cap,
-    string: &[u8],
-    mending: Mending,
-    reason: Reason,
-) -> Result<Mending, AllocError>
+fn leave(asked: Asked<'_>, cap: Cap, string: &[u8], mending: Mending, reason: Reason) -> Treated
     requires { spec.HoldsBack (spec.aim_of asked) cap string.now mending.texts reason }
     ensures { IfOk result (spec.IsTreated (spec.aim_of asked.entry) cap string.now mending) }
 {
@@ -45,7 +42,7 @@ fn weigh(
     string: &[u8],
     mending: Mending,
     next: Texts,
-) -> Result<Mending, AllocError>
+) -> Treated
     requires current { spec.IsCurrent asked.name.now mending }
     requires change { spec.IsNext cap string.now mending.texts next }
     ensures { IfOk result (spec.IsTreated (spec.aim_of asked.entry) cap string.now mending) }
@@ -68,13 +65,7 @@ fn weigh(
 }
 
 /// Takes the string for `cap`, or leaves the files as they were.
-fn take(
-    alloc: Global,
-    asked: Asked<'_>,
-    cap: Cap,
-    string: &[u8],
-    mending: Mending,
-) -> Result<Mending, AllocError>
+fn take(alloc: Global, asked: Asked<'_>, cap: Cap, string: &[u8], mending: Mending) -> Treated
     requires fits { IsTrue (string_fits string.now) }
     requires current { spec.IsCurrent asked.name.now mending }
     ensures { IfOk result (spec.IsTreated (spec.aim_of asked.entry) cap string.now mending) }
@@ -94,7 +85,7 @@ fn step(
     mended: &Mended,
     cap: Cap,
     mending: Mending,
-) -> Result<Mending, AllocError>
+) -> Treated
     requires { spec.IsCurrent asked.name.now mending }
     ensures { IfOk result (spec.IsStep entry.now mended.now (spec.aim_of asked.entry) cap mending) }
 {
@@ -127,7 +118,7 @@ pub fn mended_by_all(
     mended: &Mended,
     caps: &[Cap],
     start: Mending,
-) -> Result<Mending, AllocError>
+) -> Treated
     requires { spec.IsCurrent asked.name.now start }
     ensures each { IfOk result
         (spec.TakesEach (spec.IsStep entry.now mended.now (spec.aim_of asked.entry)) caps.now start) }

@@ -15,6 +15,9 @@ use ti_fixes::give;
 use ti_further::{FurtherFault, FurtherFile, raws_of, spot_of};
 use ti_source::RawEntry;
 
+/// The files with a change, or `None` if it can't be made; or that memory ran out.
+pub type NewTexts = Result<Option<Texts>, AllocError>;
+
 /// The entries of a file that isn't read as a source; `None` if it can't be read.
 fn further_entries(alloc: Global, bytes: &[u8]) -> Result<Option<Vec<RawEntry>>, AllocError>
     ensures reads { IfOk result (λ found. IfSome found (λ raws. spec.IsReadBy false bytes.now raws.items)) }
@@ -80,7 +83,7 @@ impl Entries {
 }
 
 /// The files with their entries put together; `None` if one of them can't be read.
-fn put_together(alloc: Global, files: Vec<Text>) -> Result<Option<Texts>, AllocError>
+fn put_together(alloc: Global, files: Vec<Text>) -> NewTexts
     ensures { IfOk result (λ found. IfSome found (spec.IsPut files.items)) }
 {
     match all_entries(alloc, files.as_slice())? {
@@ -179,7 +182,7 @@ fn changed_behind(
     place: usize,
     cap: Cap,
     string: &[u8],
-) -> Result<Option<Texts>, AllocError>
+) -> NewTexts
     requires { IsTrue (string_fits string.now) }
     ensures { IfOk result (λ found. IfSome found (λ texts.
         spec.IsChange cap string.now (spec.sheets front.now ++ spec.sheets rest.now) (spec.sheets texts.files.items)
@@ -197,13 +200,7 @@ fn changed_behind(
 }
 
 /// The files with the string given to `cap` in the entry at `place` among all of them; `None` if that can't be done.
-pub fn changed(
-    alloc: Global,
-    texts: &Texts,
-    place: usize,
-    cap: Cap,
-    string: &[u8],
-) -> Result<Option<Texts>, AllocError>
+pub fn changed(alloc: Global, texts: &Texts, place: usize, cap: Cap, string: &[u8]) -> NewTexts
     requires { IsTrue (string_fits string.now) }
     ensures { IfOk result (λ found. IfSome found (λ new.
         spec.IsChange cap string.now (spec.sheets texts.now.files.items) (spec.sheets new.files.items)

@@ -4,10 +4,10 @@ ghost use Rattle.std.specs.Prelude.{◌≡◌, ◌≤◌, ◌++◌, IfOk, OnOk, 
 ghost use Rattle.ti_places.specs.Excerpts as spec;
 ghost use Rattle.ti_words.specs.Shown.{shown};
 
-use std::alloc::{AllocError, Global};
+use std::alloc::Global;
 use ti_caps::{Cap, name};
 use ti_stretches::Stretch;
-use ti_words::push_shown;
+use ti_words::{Made, Pushed, push_shown};
 
 /// Whether `byte`, which is behind the name of a capability, begins a value.
 fn begins_value(byte: Option<&u8>) -> bool
@@ -34,7 +34,7 @@ fn before_value(cap: Cap, field: &[u8]) -> usize
 }
 
 /// Appends `byte` to `text` as often as `count` says.
-fn push_repeated(text: &mut Vec<u8>, byte: u8, count: usize) -> Result<(), AllocError>
+fn push_repeated(text: &mut Vec<u8>, byte: u8, count: usize) -> Pushed
     ensures { OnOk result (text.new.items ≡ text.old.items ++ replicate count byte) }
 {
     for _ in 0..count {
@@ -44,7 +44,7 @@ fn push_repeated(text: &mut Vec<u8>, byte: u8, count: usize) -> Result<(), Alloc
 }
 
 /// The `bytes`, as far as they can be shown.
-pub(crate) fn shown_bytes(alloc: Global, bytes: &[u8]) -> Result<Vec<u8>, AllocError>
+pub(crate) fn shown_bytes(alloc: Global, bytes: &[u8]) -> Made
     ensures { IfOk result (λ text. text.items ≡ shown bytes.now) }
 {
     let mut text = Vec::new(alloc);
@@ -83,12 +83,7 @@ fn part_of(value: &[u8], part: Option<Stretch>) -> &[u8]
 
 /// The `line`, and below it the line of the marks under the bytes `marked`, which come after those `before`.
 #[tactic(auto, unfolding(crate::specs::Excerpts::underlined))]
-pub(crate) fn underlined(
-    alloc: Global,
-    line: &[u8],
-    before: &[u8],
-    marked: &[u8],
-) -> Result<Vec<u8>, AllocError>
+pub(crate) fn underlined(alloc: Global, line: &[u8], before: &[u8], marked: &[u8]) -> Made
     ensures { IfOk result (λ text. text.items ≡ spec.underlined line.now before.now marked.now) }
 {
     let mut text = Vec::from_slice(alloc, b"    ")?;
@@ -102,7 +97,7 @@ pub(crate) fn underlined(
 }
 
 /// The bytes of both parts, one after the other, as far as they can be shown.
-fn shown_both(alloc: Global, front: &[u8], back: &[u8]) -> Result<Vec<u8>, AllocError>
+fn shown_both(alloc: Global, front: &[u8], back: &[u8]) -> Made
     ensures { IfOk result (λ text. text.items ≡ shown (front.now ++ back.now)) }
 {
     let mut bytes = Vec::from_slice(alloc, front)?;
@@ -113,12 +108,7 @@ fn shown_both(alloc: Global, front: &[u8], back: &[u8]) -> Result<Vec<u8>, Alloc
 /// The line of `field`, which is about `cap`, as far as it can be shown, and below it the marks under the `part` of its
 /// value that is at fault, or under all of it if no part is known.
 #[tactic(auto, unfolding(crate::specs::Excerpts::excerpt))]
-pub(crate) fn excerpt(
-    alloc: Global,
-    cap: Cap,
-    field: &[u8],
-    part: Option<Stretch>,
-) -> Result<Vec<u8>, AllocError>
+pub(crate) fn excerpt(alloc: Global, cap: Cap, field: &[u8], part: Option<Stretch>) -> Made
     requires { spec.IsFaulty (spec.value_in cap field.now) part }
     ensures { IfOk result (λ text. text.items ≡ spec.excerpt cap part field.now) }
 {

@@ -25,7 +25,7 @@ use ti_joins::Region;
 use ti_resolve::Origin;
 use ti_source::RawEntry;
 use ti_stretches::Stretch;
-use ti_words::push_shown;
+use ti_words::{Made, push_shown};
 
 /// The end of the first of `names`, if another follows.
 fn name_end(names: &[u8]) -> Option<usize>
@@ -70,7 +70,7 @@ fn location_in(
     named: &NamedSource<'_, '_>,
     originals: &[LinedFile<'_>],
     fault: &Judged<'_>,
-) -> Result<Vec<u8>, AllocError>
+) -> Made
     ensures { IfOk result (λ lines.
         spec.IsLocatedIn (map file_text originals.now) named.now.source.now fault.now.no.now.cap lines.items) }
 {
@@ -87,7 +87,7 @@ fn origin_lines(
     originals: &[LinedFile<'_>],
     fault: &Judged<'_>,
     origin: Origin,
-) -> Result<Vec<u8>, AllocError>
+) -> Made
     ensures { IfOk result (λ lines. spec.TellsOrigin (map file_text originals.now) named.now.source.now
         fault.now.no.now.cap (Some origin) lines.items) }
 {
@@ -135,11 +135,7 @@ struct PutField<'a, 'b> {
 
 /// The line with the place of `field`, and the field below it, with marks under the `part` of its value that is at
 /// fault.
-fn field_lines(
-    alloc: Global,
-    field: &PutField<'_, '_>,
-    part: Option<Stretch>,
-) -> Result<Vec<u8>, AllocError>
+fn field_lines(alloc: Global, field: &PutField<'_, '_>, part: Option<Stretch>) -> Made
     requires { IsFaulty (value_at (put_files field.now.files) field.now.cap field.now.origin) part }
     ensures { IfOk result (λ lines. lines.items ≡ spec.field_text (map file_text field.now.originals.now)
         (put_files field.now.files)
@@ -156,7 +152,7 @@ fn field_lines(
 
 /// `FILE:LINE:COLUMN: CAP of NAME` of `field`.
 #[tactic(auto, unfolding(crate::specs::Locations::place_text))]
-fn place_words(alloc: Global, field: &PutField<'_, '_>) -> Result<Vec<u8>, AllocError>
+fn place_words(alloc: Global, field: &PutField<'_, '_>) -> Made
     ensures { IfOk result (λ words. words.items ≡ spec.place_text (map file_text field.now.originals.now)
         (put_files field.now.files)
         field.now.raws.now field.now.cap field.now.origin) }
@@ -176,7 +172,7 @@ fn numbered_words(
     region: Option<Region>,
     cap: Cap,
     names: &[u8],
-) -> Result<Vec<u8>, AllocError>
+) -> Made
     ensures { IfOk result (λ words. words.items ≡ spec.numbered_text (line_of place.entry) region cap names.now) }
 {
     let mut words = Vec::from_slice(alloc, place.path.as_bytes())?;
@@ -190,7 +186,7 @@ fn numbered_words(
 }
 
 /// A colon and the number of a line; nothing for 0, in a file without lines.
-fn number_words(alloc: Global, number: usize) -> Result<Vec<u8>, AllocError>
+fn number_words(alloc: Global, number: usize) -> Made
     ensures { IfOk result (λ words. words.items ≡ spec.number_text number) }
 {
     if number == 0 {
@@ -200,7 +196,7 @@ fn number_words(alloc: Global, number: usize) -> Result<Vec<u8>, AllocError>
 }
 
 /// A colon and the first column of the `region`; nothing if it isn't known.
-fn column_words(alloc: Global, region: Option<Region>) -> Result<Vec<u8>, AllocError>
+fn column_words(alloc: Global, region: Option<Region>) -> Made
     ensures { IfOk result (λ words. words.items ≡ spec.column_text region) }
 {
     match region {
@@ -215,11 +211,7 @@ fn column_words(alloc: Global, region: Option<Region>) -> Result<Vec<u8>, AllocE
 /// The bytes of `field` in its file, with marks under the `part` of its value that is at fault; nothing if no line has
 /// it.
 #[tactic(auto, unfolding(crate::specs::Locations::excerpt_text, crate::specs::Locations::value_at))]
-fn excerpt_lines(
-    alloc: Global,
-    field: &PutField<'_, '_>,
-    part: Option<Stretch>,
-) -> Result<Vec<u8>, AllocError>
+fn excerpt_lines(alloc: Global, field: &PutField<'_, '_>, part: Option<Stretch>) -> Made
     requires { IsFaulty (value_at (put_files field.now.files) field.now.cap field.now.origin) part }
     ensures { IfOk result (λ lines. lines.items ≡ spec.excerpt_text (map file_text field.now.originals.now)
         (put_files field.now.files)
@@ -238,7 +230,7 @@ fn shown_field(
     field: &PutField<'_, '_>,
     columns: Columns,
     part: Option<Stretch>,
-) -> Result<Vec<u8>, AllocError>
+) -> Made
     requires { IsFaulty
         (value_in field.now.cap (piece_among (put_files field.now.files) columns field.now.origin)) part }
     ensures { IfOk result (λ lines. lines.items ≡ spec.piece_text (map file_text field.now.originals.now)
@@ -360,12 +352,7 @@ fn placed_at(
 
 /// A space, the words of `no`, the end of the line, and the `field` with marks under the `part` of its value that is at
 /// fault.
-fn fault_lines(
-    alloc: Global,
-    field: &PutField<'_, '_>,
-    no: &No,
-    part: Option<Stretch>,
-) -> Result<Vec<u8>, AllocError>
+fn fault_lines(alloc: Global, field: &PutField<'_, '_>, no: &No, part: Option<Stretch>) -> Made
     requires cap { field.now.cap ≡ no.now.cap }
     requires part { IsFaulty (value_at (put_files field.now.files) field.now.cap field.now.origin) part }
     ensures { IfOk result (λ lines. lines.items ≡ shown (codes " " ++ no_text no.now)

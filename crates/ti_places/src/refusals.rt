@@ -8,7 +8,7 @@ use ti_caps::{Cap, name};
 use ti_cert::{CertFault, CertFaultKind};
 use ti_checker::{Cause, No};
 use ti_commands::{CommandRefusal, Failure, parm_name};
-use ti_words::push_numbers;
+use ti_words::{Pushed, push_numbers};
 
 /// `line N: KIND` of `fault`, and the capability that the kind has.
 pub fn fault_words(alloc: Global, fault: &CertFault) -> Result<Vec<u8>, AllocError>
@@ -116,7 +116,7 @@ fn kind_name(kind: &CertFaultKind) -> &'static [u8]
 }
 
 /// Appends the capability that `kind` has, with its parameters, to `words`.
-fn push_cap(alloc: Global, kind: &CertFaultKind, words: &mut Vec<u8>) -> Result<(), AllocError>
+fn push_cap(alloc: Global, kind: &CertFaultKind, words: &mut Vec<u8>) -> Pushed
     ensures { OnOk result (words.new.items ≡ words.old.items ++ spec.kind_cap kind.now) }
 {
     match kind {

@@ -6,10 +6,11 @@ ghost use Rattle.ti_places.specs.Rows as spec;
 ghost use Rattle.ti_words.specs.Shown.{shown};
 
 use crate::excerpts::{shown_bytes, underlined};
-use std::alloc::{AllocError, Global};
+use std::alloc::Global;
 use ti_entries::{Columns, LinedText, line_at};
 use ti_joins::Region;
 use ti_source::skip_white;
+use ti_words::{Made, Pushed};
 
 /// The column at which `region` begins on `line`, the one with this `number`.
 #[tactic(auto, using(ti_joins::proofs::Origins::skip_shorter))]
@@ -60,7 +61,7 @@ fn front_of_row<'b>(text: &LinedText<'b>, region: Region, part: Region) -> &'b [
 }
 
 /// Adds the `bytes` to `lines`, as far as they can be shown, on a line of their own.
-fn push_row(alloc: Global, lines: &mut Vec<u8>, bytes: &[u8]) -> Result<(), AllocError>
+fn push_row(alloc: Global, lines: &mut Vec<u8>, bytes: &[u8]) -> Pushed
     ensures { OnOk result (lines.new.items ≡ lines.old.items ++ deeper (shown bytes.now)) }
 {
     let row = shown_bytes(alloc, bytes)?;
@@ -71,12 +72,7 @@ fn push_row(alloc: Global, lines: &mut Vec<u8>, bytes: &[u8]) -> Result<(), Allo
 }
 
 /// The bytes of `region` on its lines in `text` before the one with the number `end`, each on a line of its own.
-fn rows_of(
-    alloc: Global,
-    text: &LinedText<'_>,
-    region: Region,
-    end: usize,
-) -> Result<Vec<u8>, AllocError>
+fn rows_of(alloc: Global, text: &LinedText<'_>, region: Region, end: usize) -> Made
     ensures { IfOk result (λ lines. lines.items ≡ spec.rows_of text.now region (end - region.line)) }
 {
     let mut lines = Vec::new(alloc);
@@ -90,12 +86,7 @@ fn rows_of(
 /// The lines of `region` in `text` up to the one on which a `part` of it begins, and below that the marks under this
 /// part, up to the end of the line.
 #[tactic(auto, unfolding(crate::specs::Rows::marked_rows))]
-pub(crate) fn marked_rows(
-    alloc: Global,
-    text: &LinedText<'_>,
-    region: Region,
-    part: Region,
-) -> Result<Vec<u8>, AllocError>
+pub(crate) fn marked_rows(alloc: Global, text: &LinedText<'_>, region: Region, part: Region) -> Made
     ensures { IfOk result (λ lines. lines.items ≡ spec.marked_rows text.now region part) }
 {
     let mut lines = rows_of(alloc, text, region, part.line)?;

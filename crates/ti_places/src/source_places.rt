@@ -16,6 +16,9 @@ use ti_joins::Region;
 use ti_resolve::{Index, Origin, origin_from};
 use ti_source::RawEntry;
 
+/// The result of a search for the field that gives a value: `None` if there is none; or memory ran out.
+type FoundOrigin = Result<Option<Origin>, AllocError>;
+
 /// The place of an entry in a source text.
 #[derive(Drop)]
 pub struct SourcePlace<'a, 'b> {
@@ -104,12 +107,7 @@ impl<'b> SourcePlace<'_, 'b> {
 }
 
 /// The field that gives `cap` its value in the entry at `place`, which was resolved before.
-fn origin_by(
-    alloc: Global,
-    index: &Index<'_>,
-    place: usize,
-    cap: Cap,
-) -> Result<Option<Origin>, AllocError>
+fn origin_by(alloc: Global, index: &Index<'_>, place: usize, cap: Cap) -> FoundOrigin
     requires { place < length index.now.raws.now }
     ensures { IfOk result (λ found. IsOriginAt index.now.raws.now place cap found) }
 {
@@ -193,12 +191,7 @@ impl<'b> NamedSource<'_, 'b> {
 }
 
 /// The field that gives `cap` its value in the entry named `name`, which was resolved before.
-fn origin_named(
-    alloc: Global,
-    index: &Index<'_>,
-    name: &[u8],
-    cap: Cap,
-) -> Result<Option<Origin>, AllocError>
+fn origin_named(alloc: Global, index: &Index<'_>, name: &[u8], cap: Cap) -> FoundOrigin
     ensures { IfOk result (λ found. IsOrigin index.now.raws.now name.now cap found) }
 {
     match place_named(index.raws, name) {

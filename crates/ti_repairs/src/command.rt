@@ -13,7 +13,9 @@ use crate::notes::kept_lines;
 use crate::suggestions::Suggestions;
 use crate::words::FixWords;
 use std::alloc::{AllocError, Global};
-use ti_commands::{CommandRefusal, Failure, Files, LONGEST_FILE, Reply, read_whole, size_words};
+use ti_commands::{
+    CommandRefusal, Failure, Files, LONGEST_FILE, Replied, Reply, World, read_whole, size_words,
+};
 use ti_fixes::Fixed;
 use ti_hints::explain_source;
 use ti_remedies::{Remedy, all_remedies, take_all};
@@ -22,6 +24,9 @@ use ti_source::{RawEntry, read};
 use ti_verdicts::store_text;
 use ti_words::Remarks;
 use vt_term::Size;
+
+/// A source text with its entries, or why there is none.
+type Source = Result<Fixed, Failure>;
 
 /// A text with suggestions taken, what standard error says about it, and its last lines, those about what is left.
 #[derive(Drop)]
@@ -47,12 +52,7 @@ fn entries_of(alloc: Global, text: &[u8]) -> Result<Vec<RawEntry>, Failure>
 }
 
 /// Reads the source text at `path`.
-fn read_source<F: Files>(
-    alloc: Global,
-    files: &mut F,
-    path: &str,
-    remarks: &mut Remarks,
-) -> Result<Fixed, Failure>
+fn read_source<F: Files>(alloc: Global, files: &mut F, path: &str, remarks: &mut Remarks) -> Source
     ensures stands { IfOk result
         (λ source. spec.IsSourceAt (F.holds files.old) path.now source.text.items source.raws.items) }
     ensures fit { IfOk result (λ source. AllByRecursion IsRaw source.raws.items) }
@@ -198,15 +198,15 @@ fn handed_over<F: Files>(
 pub fn fix_survey<F: Files>(
     alloc: Global,
     words: &FixWords<'_>,
-    files: &mut F,
-    remarks: &mut Remarks,
-) -> Result<Reply, Failure>
-    ensures reply { IfOk result (λ reply. spec.IsFixed (F.holds files.old) (F.holds files.new) words.now reply) }
-    ensures failure { IfErr result (λ e. spec.FailsToFix (F.holds files.old) words.now e) }
-    ensures kept { OnErr result (F.holds files.new ≡ F.holds files.old) }
+    world: &mut World<'_, F>,
+) -> Replied
+    ensures reply { IfOk result (λ reply. spec.IsFixed (F.holds world.old.files.now) (F.holds world.new.files.now)
+        words.now reply) }
+    ensures failure { IfErr result (λ e. spec.FailsToFix (F.holds world.old.files.now) words.now e) }
+    ensures kept { OnErr result (F.holds world.new.files.now ≡ F.holds world.old.files.now) }
 {
-    let size = size_words(alloc, words.rows, words.cols, remarks)?;
-    let source = read_source(alloc, files, words.path, remarks)?;
+    let size = size_words(alloc, words.rows, words.cols, world.remarks)?;
+    let source = read_source(alloc, world.files, words.path, world.remarks)?;
     let repaired = repaired_text(alloc, size, source)?;
-    Ok(handed_over(alloc, repaired, words, files, remarks))
+    Ok(handed_over(alloc, repaired, words, world.files, world.remarks))
 }

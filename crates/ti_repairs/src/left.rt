@@ -15,16 +15,12 @@ use ti_faults::faults;
 use ti_places::no_words;
 use ti_resolve::{Index, ResolveFault, resolve_from};
 use ti_source::RawEntry;
+use ti_verdicts::{Added, Lines};
 use ti_words::push_shown;
 use vt_term::Size;
 
 /// Appends the line of an entry's name and the words about it.
-fn push_left(
-    alloc: Global,
-    lines: &mut Vec<u8>,
-    name: &[u8],
-    words: &[u8],
-) -> Result<(), AllocError>
+fn push_left(alloc: Global, lines: &mut Vec<u8>, name: &[u8], words: &[u8]) -> Added
     ensures { OnOk result (lines.new.items ≡ lines.old.items ++ spec.left_line name.now words.now) }
 {
     let mut line = Vec::from_slice(alloc, name)?;
@@ -37,7 +33,7 @@ fn push_left(
 }
 
 /// A line for each of the faults.
-fn fault_lines(alloc: Global, name: &[u8], nos: &[No]) -> Result<Vec<u8>, AllocError>
+fn fault_lines(alloc: Global, name: &[u8], nos: &[No]) -> Lines
     ensures { IfOk result (λ lines. lines.items ≡ flat_map (λ no. spec.left_line name.now (no_text no)) nos.now) }
 {
     let mut lines = Vec::new(alloc);
@@ -49,7 +45,7 @@ fn fault_lines(alloc: Global, name: &[u8], nos: &[No]) -> Result<Vec<u8>, AllocE
 }
 
 /// A line for each fault of the entry.
-fn entry_lines(alloc: Global, name: &[u8], entry: &Entry, size: Size) -> Result<Vec<u8>, AllocError>
+fn entry_lines(alloc: Global, name: &[u8], entry: &Entry, size: Size) -> Lines
     ensures { IfOk result (λ text. spec.HasFaultLines name.now size.rows size.cols entry.now text.items) }
 {
     let nos = faults(alloc, entry, size)?;
@@ -57,7 +53,7 @@ fn entry_lines(alloc: Global, name: &[u8], entry: &Entry, size: Size) -> Result<
 }
 
 /// The line of an entry that can't be resolved.
-fn refused_line(alloc: Global, name: &[u8], refusal: &CommandRefusal) -> Result<Vec<u8>, AllocError>
+fn refused_line(alloc: Global, name: &[u8], refusal: &CommandRefusal) -> Lines
     ensures { IfOk result
         (λ lines. lines.items ≡ spec.left_line name.now (codes "refused: " ++ refusal_text_of refusal.now)) }
 {
@@ -88,12 +84,7 @@ fn entry_at(
 }
 
 /// The lines about an entry, if it can be resolved, or the reason why it can't.
-fn lines_of(
-    alloc: Global,
-    name: &[u8],
-    size: Size,
-    found: Result<Entry, CommandRefusal>,
-) -> Result<Vec<u8>, AllocError>
+fn lines_of(alloc: Global, name: &[u8], size: Size, found: Result<Entry, CommandRefusal>) -> Lines
     ensures { IfOk result (λ text. spec.IsLeftOf name.now size.rows size.cols found text.items) }
 {
     match found {
@@ -103,12 +94,7 @@ fn lines_of(
 }
 
 /// The lines about what is left of the entry at `place`.
-fn left_at(
-    alloc: Global,
-    index: &Index<'_>,
-    size: Size,
-    place: usize,
-) -> Result<Vec<u8>, AllocError>
+fn left_at(alloc: Global, index: &Index<'_>, size: Size, place: usize) -> Lines
     requires fit { AllByRecursion IsRaw index.now.raws.now }
     requires there { place < length index.now.raws.now }
     ensures { IfOk result (λ text. spec.IsLeftAt index.now.raws.now size.rows size.cols place text.items) }
@@ -118,7 +104,7 @@ fn left_at(
 }
 
 /// The lines about what is left of all entries of the index.
-fn all_left(alloc: Global, index: &Index<'_>, size: Size) -> Result<Vec<u8>, AllocError>
+fn all_left(alloc: Global, index: &Index<'_>, size: Size) -> Lines
     requires { AllByRecursion IsRaw index.now.raws.now }
     ensures { IfOk result (λ text. spec.AreLeft index.now.raws.now size.rows size.cols text.items) }
 {
@@ -131,7 +117,7 @@ fn all_left(alloc: Global, index: &Index<'_>, size: Size) -> Result<Vec<u8>, All
 }
 
 /// The lines about what is left of all entries.
-pub fn left_lines(alloc: Global, raws: &[RawEntry], size: Size) -> Result<Vec<u8>, AllocError>
+pub fn left_lines(alloc: Global, raws: &[RawEntry], size: Size) -> Lines
     requires { AllByRecursion IsRaw raws.now }
     ensures { IfOk result (λ text. spec.AreLeft raws.now size.rows size.cols text.items) }
 {

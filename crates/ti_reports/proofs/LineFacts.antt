@@ -6,9 +6,9 @@ use Rattle.ti_checker.specs.declared.causes.No.{No}
 use Rattle.ti_faults.specs.declared.mended.Mended.{Mended}
 use Rattle.ti_hints.specs.Places.{IsHintOf}
 use Rattle.ti_hints.specs.declared.hints.FieldHint.{FieldHint}
-use Rattle.ti_reports.specs.Faults.{AreLinesOf, Finds, HasWords, IsCapIf, IsReportLine, IsReportOn, NoLine, OneMore, ReportsAdvice, ReportsFault, ReportsHint, ReportsYes, SaysWords, of_subject}
+use Rattle.ti_reports.specs.Faults.{AreLinesOf, Finds, HasWords, IsCapIf, IsReportLine, IsReportOn, NoLine, OneMore, ReportsAdvice, ReportsFault, ReportsHint, ReportsYes, of_subject}
 use Rattle.ti_reports.specs.Hints.{HintText, IsHintPlace}
-use Rattle.ti_reports.specs.Reports.{IsNothing, report_line}
+use Rattle.ti_reports.specs.Reports.{IsNothing, SaysWords, report_line}
 use Rattle.ti_members.specs.Sources.{IsNowhere}
 use Rattle.ti_reports.specs.declared.faults.Subject.{Subject}
 use Rattle.ti_reports.specs.declared.reports.Finding.{Finding}

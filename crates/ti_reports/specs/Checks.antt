@@ -4,7 +4,6 @@ use Rattle.ti_caps.specs.Entry.{Content}
 use Rattle.ti_checker.specs.declared.causes.No.{No}
 use Rattle.ti_commands.specs.Contents.{Held}
 use Rattle.ti_commands.specs.Findings.{LacksEntry}
-use Rattle.ti_commands.specs.Sizes.{SizeGiven}
 use Rattle.ti_commands.specs.Sources.{IsSourced}
 use Rattle.ti_commands.specs.declared.failure.Failure.{Failure}
 use Rattle.ti_commands.specs.declared.failure.Reply.{Reply}
@@ -12,6 +11,7 @@ use Rattle.ti_commands.specs.declared.sources.SourceText.{SourceText}
 use Rattle.ti_reports.specs.Faults.{AreFoundLines}
 use Rattle.ti_reports.specs.Findings.{AreFaults}
 use Rattle.ti_reports.specs.Lacks.{ReportsLackOf, is_alone}
+use Rattle.ti_reports.specs.Sizes.{AtSize}
 use Rattle.ti_members.specs.Sources.{Whereabouts, by_name}
 use Rattle.ti_places.specs.Spots.{FileText}
 use Rattle.ti_requests.specs.declared.request.FaultsWords.{FaultsWords}
@@ -35,10 +35,7 @@ pub record TellsFound (entry : Content) (height width : ℕ) (all : Bool) (file 
   pub ends : EndsAsFirst nos reply.failure
 
 -- The word gives no entry: the reply reports that, for this size, and fails for the reason.
-pub record ReportsMissing (held : Held) (words : FaultsWords) (reply : Reply) : Type 0 where
-  pub height : ℕ
-  pub width : ℕ
-  pub given : SizeGiven words.rows.now words.cols.now height width
+pub record ReportsMissing (held : Held) (words : FaultsWords) (reply : Reply) (height width : ℕ) : Type 0 where
   pub failure : Failure
   pub lacks : LacksEntry held words.entry.now failure
   pub tells : ReportsLackOf height width (is_alone held.with_paths) words.entry.now failure reply
@@ -53,18 +50,16 @@ pub record ReportsEntry (originals : List FileText) (entry : Content) (source : 
   pub found : AreFaults lists_all entry height width nos
   pub tells : TellsFound entry height width lists_all file (by_name originals source) nos reply
 
--- the reply reports on the entry that the word gives, at the size that the words give
+-- the reply reports on the entry that the word gives, at this size
 pub record ReportsOn (originals : List FileText) (held : Held) (lists_all : Bool) (words : FaultsWords) (reply : Reply)
-    : Type 0 where
-  pub height : ℕ
-  pub width : ℕ
-  pub given : SizeGiven words.rows.now words.cols.now height width
+    (height width : ℕ) : Type 0 where
   pub entry : Content
   pub source : Option SourceText
   pub gives : IsSourced held words.entry.now entry source
   pub tells : ReportsEntry originals entry source height width lists_all words.entry.now reply
 
--- a report on the entry, or that there is none
+-- a report on the entry, or that there is none, at the size that the words give
 abbrev pub Replies : List FileText → Held → Bool → FaultsWords → Reply → Type 0
 Replies originals held lists_all words reply =
-    ReportsOn originals held lists_all words reply ⊎ ReportsMissing held words reply
+    AtSize words.rows.now words.cols.now (ReportsOn originals held lists_all words reply)
+    ⊎ AtSize words.rows.now words.cols.now (ReportsMissing held words reply)

@@ -11,7 +11,7 @@ use Rattle.ti_hints.specs.declared.hints.FieldHint.{FieldHint}
 use Rattle.ti_members.specs.Explanations.{IsExplained}
 use Rattle.ti_members.specs.Names.{AreAliases, HasName}
 use Rattle.ti_reports.specs.Hints.{HintText, IsHintPlace, hint_text}
-use Rattle.ti_reports.specs.Reports.{IsNothing, report_line}
+use Rattle.ti_reports.specs.Reports.{IsNothing, SaysWords, report_line}
 use Rattle.ti_members.specs.Sent.{IsSentText}
 use Rattle.ti_members.specs.Sources.{ByName, ByPlace, IsFaultyAt, IsNowhere, IsValuePlace, Nowhere, Whereabouts}
 use Rattle.ti_members.specs.Sources.{whereabouts_of}
@@ -112,20 +112,6 @@ abbrev pub AreVerdictLines : Content → ℕ → ℕ → Bool → List ℕ → W
 AreVerdictLines entry height width all file stands [] lines = IsReportLine (ReportsYes entry height width file) lines
 AreVerdictLines entry height width all file stands (first ∷ others) lines =
     AreFaultLines entry height width all file stands (first ∷ others) lines
-
--- nothing is said but a capability, a place and words
-pub record SaysWords (finding : Finding) : Type 0 where
-  pub parameters : finding.parameters.items ≡ []
-  pub bytes : finding.bytes ≡ None
-  pub faulty_region : finding.faulty_region ≡ None
-  pub string_is : finding.string ≡ None
-  pub suggestion : finding.suggestion ≡ None
-  pub suggested_with : finding.suggested_with.items ≡ []
-  pub start : finding.run.start ≡ None
-  pub wanted : finding.run.wanted ≡ None
-  pub seen : finding.run.seen ≡ None
-  pub judged : finding.judged ≡ None
-  pub another_kind : finding.another_kind ≡ None
 
 -- there is advice on the entry, whatever it is, at no place
 pub record ReportsAdvice (entry : Content) (height width : ℕ) (file : List ℕ) (report : Report) : Type 0 where

@@ -4,4 +4,5 @@ pub mod Findings
 pub mod Hints
 pub mod Lacks
 pub mod Reports
+pub mod Sizes
 pub mod Surveys

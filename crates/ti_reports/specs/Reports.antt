@@ -30,13 +30,12 @@ hint_rule Duplicate = codes "Duplicate"
 hint_rule OddEscape = codes "OddEscape"
 hint_rule PercentCaret = codes "PercentCaret"
 
--- nothing is said of a fault, but perhaps where something is
-pub record IsBare (finding : Finding) : Type 0 where
-  pub capability : finding.capability ≡ None
+-- nothing is said but a capability, a place and words
+pub record SaysWords (finding : Finding) : Type 0 where
   pub parameters : finding.parameters.items ≡ []
   pub bytes : finding.bytes ≡ None
   pub faulty_region : finding.faulty_region ≡ None
-  pub string : finding.string ≡ None
+  pub string_is : finding.string ≡ None
   pub suggestion : finding.suggestion ≡ None
   pub suggested_with : finding.suggested_with.items ≡ []
   pub start : finding.run.start ≡ None
@@ -44,6 +43,11 @@ pub record IsBare (finding : Finding) : Type 0 where
   pub seen : finding.run.seen ≡ None
   pub judged : finding.judged ≡ None
   pub another_kind : finding.another_kind ≡ None
+
+-- nothing is said of a fault, but perhaps where something is
+pub record IsBare (finding : Finding) : Type 0 where
+  pub capability : finding.capability ≡ None
+  pub silent : SaysWords finding
   pub explanation : finding.explanation.items ≡ []
 
 -- nothing is said of a fault

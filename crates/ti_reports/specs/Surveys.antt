@@ -4,7 +4,6 @@ use Rattle.ti_caps.specs.Entry.{Content}
 use Rattle.ti_checker.specs.declared.causes.No.{No}
 use Rattle.ti_commands.specs.Contents.{Held}
 use Rattle.ti_commands.specs.Refusals.{refusal_text_of}
-use Rattle.ti_commands.specs.Sizes.{SizeGiven}
 use Rattle.ti_commands.specs.Words.{texts_of}
 use Rattle.ti_commands.specs.declared.failure.CommandRefusal.{CommandRefusal}
 use Rattle.ti_commands.specs.declared.failure.Failure.{Failure}
@@ -13,6 +12,7 @@ use Rattle.ti_reports.specs.Faults.{AreFoundLines, HasWords, IsReportLine}
 use Rattle.ti_reports.specs.Findings.{AreFaults}
 use Rattle.ti_members.specs.Names.{IsNameIf}
 use Rattle.ti_reports.specs.Reports.{IsBare}
+use Rattle.ti_reports.specs.Sizes.{AtSize}
 use Rattle.ti_members.specs.Sources.{IsNowhere, IsRefusalPlace, Whereabouts, by_place, fault_file}
 use Rattle.ti_members.specs.declared.places.ValuePlace.{ValuePlace}
 use Rattle.ti_reports.specs.declared.reports.Report.{Report}
@@ -94,11 +94,8 @@ ReportsUnread height width path told =
 
 -- The lines of each path are heard, also of one that can't be read, and the reply has no text. It fails if a path can't
 -- be read, or, if the words ask for it, if a line has a verdict other than yes.
-pub record AreSurveyed (originals : List FileText) (held : Held) (words : SurveyWords) (remarks : List (List ℕ))
-    (AreHeard : List ℕ → Type 0) (reply : Reply) : Type 0 where
-  pub height : ℕ
-  pub width : ℕ
-  pub given : SizeGiven words.rows.now words.cols.now height width
+pub record AreSurveyedAt (originals : List FileText) (held : Held) (words : SurveyWords) (remarks : List (List ℕ))
+    (AreHeard : List ℕ → Type 0) (reply : Reply) (height width : ℕ) : Type 0 where
   pub told : Told
   pub failed : Option Failure
   pub ends : EndsPaths (AreLines (Reports height width words.lists_all originals) (ReportsLack height width))
@@ -107,3 +104,8 @@ pub record AreSurveyed (originals : List FileText) (held : Held) (words : Survey
   pub places : reply.notes.items ≡ places_text told.places
   pub heard : AreHeard told.lines
   pub no_text : reply.text.items ≡ []
+
+-- that, at the size that the words give
+abbrev pub AreSurveyed : List FileText → Held → SurveyWords → List (List ℕ) → (List ℕ → Type 0) → Reply → Type 0
+AreSurveyed originals held words remarks AreHeard reply =
+    AtSize words.rows.now words.cols.now (AreSurveyedAt originals held words remarks AreHeard reply)

@@ -3,6 +3,7 @@
 ghost use Rattle.std.specs.Prelude.{IfOk};
 ghost use Rattle.ti_members.specs.Sources.{IsNowhere};
 ghost use Rattle.ti_reports.specs.Faults as spec;
+ghost use Rattle.ti_reports.specs.Reports.{SaysWords};
 
 use crate::faults::{Subject, report_on};
 use crate::reports::{Finding, Report, Verdict, report_line};
@@ -73,7 +74,7 @@ fn advice_report(
 /// The capability with which the advice `text` begins, and the words behind it.
 fn advice_finding(alloc: Global, text: &[u8]) -> Result<Finding, AllocError>
     ensures nowhere { IfOk result (λ finding. IsNowhere finding.place) }
-    ensures says { IfOk result (λ finding. spec.SaysWords finding) }
+    ensures says { IfOk result (λ finding. SaysWords finding) }
 {
     let end = text
         .iter()

@@ -14,7 +14,9 @@ use crate::lacks::lack_reply;
 use std::alloc::{AllocError, Global};
 use ti_caps::Entry;
 use ti_checker::No;
-use ti_commands::{Failure, Files, Reply, SourceText, Sourced, size_words, sourced_entry};
+use ti_commands::{
+    Failure, Files, Replied, Reply, SourceText, Sourced, World, size_words, sourced_entry,
+};
 use ti_members::Standing;
 use ti_places::{LinedFile, LinedFiles, NamedSource, no_failure, source_files};
 use ti_requests::FaultsWords;
@@ -22,6 +24,9 @@ use ti_resolve::Index;
 use ti_verdicts::{explain_no, notes_on};
 use ti_words::Remarks;
 use vt_term::Size;
+
+/// The reply that a function makes, or that memory ran out.
+type Answered = Result<Reply, AllocError>;
 
 /// A check with reports that is wanted.
 #[derive(Drop)]
@@ -36,28 +41,28 @@ pub struct Check<'a> {
 
 /// Replies with the notes on the entry that the words of `check` give and, in JSON, with its faults, the first one or
 /// all of them; or with the report that it has a certificate. The reply fails as the first fault does. If the words
-/// give no entry, it reports that, and fails so. Further lines go to `remarks`.
+/// give no entry, it reports that, and fails so. Further lines go to
+/// the remarks of the `world`.
 pub fn check_reports<F: Files>(
     alloc: Global,
     check: &Check<'_>,
-    files: &mut F,
-    remarks: &mut Remarks,
-) -> Result<Reply, Failure>
-    ensures reply { IfOk result (λ reply. spec.Replies (map file_text check.now.originals.now) (F.holds files.old)
-        check.now.lists_all check.now.words.now reply) }
+    world: &mut World<'_, F>,
+) -> Replied
+    ensures reply { IfOk result (λ reply. spec.Replies (map file_text check.now.originals.now)
+        (F.holds world.old.files.now) check.now.lists_all check.now.words.now reply) }
     ensures failure { IfErr result (λ e. LacksSize check.now.words.now.rows.now check.now.words.now.cols.now e) }
-    ensures kept { F.holds files.new ≡ F.holds files.old }
+    ensures kept { F.holds world.new.files.now ≡ F.holds world.old.files.now }
 {
     let words = check.words;
-    let size = size_words(alloc, words.rows, words.cols, remarks)?;
+    let size = size_words(alloc, words.rows, words.cols, world.remarks)?;
     let asked = Asked {
         size,
         lists_all: check.lists_all,
         originals: check.originals,
     };
-    match sourced_entry(alloc, files, words.entry, remarks) {
-        Ok(found) => Ok(entry_reply(alloc, asked, words.entry, &found, remarks)?),
-        Err(failure) => lack_reply(alloc, size, is_alone(files), words.entry, failure),
+    match sourced_entry(alloc, world.files, words.entry, world.remarks) {
+        Ok(found) => Ok(entry_reply(alloc, asked, words.entry, &found, world.remarks)?),
+        Err(failure) => lack_reply(alloc, size, is_alone(world.files), words.entry, failure),
     }
 }
 
@@ -78,7 +83,7 @@ fn entry_reply(
     word: &str,
     found: &Sourced<'_>,
     remarks: &mut Remarks,
-) -> Result<Reply, AllocError>
+) -> Answered
     ensures { IfOk result (λ reply. spec.ReportsEntry (map file_text asked.entry.originals.now) found.now.entry
         found.now.source asked.entry.size.rows asked.entry.size.cols asked.entry.lists_all word.now reply) }
 {
@@ -100,7 +105,7 @@ fn located_reply<'x>(
     found: &'x Sourced<'x>,
     notes: Vec<u8>,
     nos: &[No],
-) -> Result<Reply, AllocError>
+) -> Answered
     ensures noted { IfOk result (λ reply. reply.notes ≡ notes) }
     ensures told { IfOk result (λ reply. spec.TellsFound found.now.entry asked.entry.size.rows asked.entry.size.cols
         asked.entry.lists_all (spec.file_of found.now.source word.now)
@@ -129,7 +134,7 @@ fn source_reply<'x>(
     source: &'x SourceText<'x>,
     notes: Vec<u8>,
     nos: &[No],
-) -> Result<Reply, AllocError>
+) -> Answered
     ensures noted { IfOk result (λ reply. reply.notes ≡ notes) }
     ensures told { IfOk result (λ reply. spec.TellsFound entry.now asked.entry.size.rows asked.entry.size.cols
         asked.entry.lists_all source.now.path.now (by_name (map file_text asked.entry.originals.now) (Some source.now))
@@ -157,7 +162,7 @@ fn named_reply<'x, 'y>(
     named: &'x NamedSource<'x, 'y>,
     notes: Vec<u8>,
     nos: &[No],
-) -> Result<Reply, AllocError>
+) -> Answered
     ensures noted { IfOk result (λ reply. reply.notes ≡ notes) }
     ensures told { IfOk result (λ reply. spec.TellsFound entry.now asked.entry.size.rows asked.entry.size.cols
         asked.entry.lists_all named.now.source.now.path.now
@@ -174,12 +179,7 @@ fn named_reply<'x, 'y>(
 }
 
 /// The reply with `notes` that says that `nos` are the faults of the `subject`.
-fn reply_of(
-    alloc: Global,
-    subject: &Subject<'_, '_>,
-    notes: Vec<u8>,
-    nos: &[No],
-) -> Result<Reply, AllocError>
+fn reply_of(alloc: Global, subject: &Subject<'_, '_>, notes: Vec<u8>, nos: &[No]) -> Answered
     requires { IsThere subject.now.stands }
     ensures noted { IfOk result (λ reply. reply.notes ≡ notes) }
     ensures told { IfOk result (λ reply. spec.TellsFound subject.now.entry.now

@@ -21,9 +21,12 @@ use ti_members::{
 };
 use ti_places::{Judged, cause_name};
 use ti_surveys::is_part;
-use ti_verdicts::explain_no;
+use ti_verdicts::{Lines, explain_no};
 use ti_words::{NO_RESYNC, Remarks};
 use vt_term::Size;
+
+/// The report that a function makes, or that memory ran out.
+pub(crate) type Reported = Result<Report, AllocError>;
 
 /// An entry that is reported on.
 #[derive(Drop)]
@@ -43,11 +46,7 @@ pub struct Subject<'a, 'b> {
 /// The lines of the faults `nos` of the `subject`, or the line that it has a certificate if there are none; and then
 /// those of the advice on it and of the hints about its fields. If all faults are reported, what is suggested is right
 /// with all of them mended.
-pub fn found_lines(
-    alloc: Global,
-    subject: &Subject<'_, '_>,
-    nos: &[No],
-) -> Result<Vec<u8>, AllocError>
+pub fn found_lines(alloc: Global, subject: &Subject<'_, '_>, nos: &[No]) -> Lines
     requires { IsThere subject.now.stands }
     ensures { IfOk result (λ lines. spec.AreFoundLines subject.now.entry.now
         subject.now.size.rows subject.now.size.cols subject.now.lists_all subject.now.file.now
@@ -62,7 +61,7 @@ pub fn found_lines(
 }
 
 /// The lines of the faults `nos` of the `subject`, or the line that it has a certificate if there are none.
-fn judged_lines(alloc: Global, subject: &Subject<'_, '_>, nos: &[No]) -> Result<Vec<u8>, AllocError>
+fn judged_lines(alloc: Global, subject: &Subject<'_, '_>, nos: &[No]) -> Lines
     requires { IsThere subject.now.stands }
     ensures { IfOk result (λ lines. spec.AreVerdictLines subject.now.entry.now
         subject.now.size.rows subject.now.size.cols subject.now.lists_all subject.now.file.now
@@ -75,53 +74,54 @@ fn judged_lines(alloc: Global, subject: &Subject<'_, '_>, nos: &[No]) -> Result<
 }
 
 /// A line for each of the faults `nos` of the `subject`.
-fn lines_of(alloc: Global, subject: &Subject<'_, '_>, nos: &[No]) -> Result<Vec<u8>, AllocError>
+fn lines_of(alloc: Global, subject: &Subject<'_, '_>, nos: &[No]) -> Lines
     requires { IsThere subject.now.stands }
     ensures { IfOk result (λ lines. spec.AreFaultLines subject.now.entry.now
         subject.now.size.rows subject.now.size.cols subject.now.lists_all subject.now.file.now
         (whereabouts_of subject.now.stands) nos.now lines.items) }
 {
     let mended = mended_if(alloc, subject.lists_all, subject.entry, subject.size, nos)?;
-    let lines = fault_lines(alloc, subject, &mended, nos)?;
+    let faults = Faults {
+        nos,
+        mended: &mended,
+    };
+    let lines = fault_lines(alloc, subject, &faults)?;
     Ok(lines)
 }
 
-/// A line for each of the faults `nos` of the `subject`, which is `mended`, in their order.
-fn fault_lines(
-    alloc: Global,
-    subject: &Subject<'_, '_>,
-    mended: &Option<Mended>,
-    nos: &[No],
-) -> Result<Vec<u8>, AllocError>
+/// Faults of an entry, and the entry with all of them mended, if they are all that it has.
+#[derive(Drop)]
+struct Faults<'a> {
+    nos: &'a [No],
+    mended: &'a Option<Mended>,
+}
+
+/// A line for each of the `faults` of the `subject`, in their order.
+fn fault_lines(alloc: Global, subject: &Subject<'_, '_>, faults: &Faults<'_>) -> Lines
     requires { IsThere subject.now.stands }
     ensures { IfOk result (λ lines. HasParts
-        (spec.IsFaultLine (spec.of_subject subject.now nos.now mended.now) subject.now.file.now) nos.now lines.items) }
+        (spec.IsFaultLine (spec.of_subject subject.now faults.now.nos.now faults.now.mended.now) subject.now.file.now)
+        faults.now.nos.now lines.items) }
 {
     let mut lines = Vec::new(alloc);
-    for no in nos {
-        lines.extend_from_slice(fault_line(alloc, subject, mended, nos, no)?.as_slice())?;
+    for no in faults.nos {
+        lines.extend_from_slice(fault_line(alloc, subject, faults, no)?.as_slice())?;
     }
     Ok(lines)
 }
 
-/// The line of `no`, one of the faults `nos` of the `subject`, which is `mended`.
-fn fault_line(
-    alloc: Global,
-    subject: &Subject<'_, '_>,
-    mended: &Option<Mended>,
-    nos: &[No],
-    no: &No,
-) -> Result<Vec<u8>, AllocError>
+/// The line of `no`, one of the `faults` of the `subject`.
+fn fault_line(alloc: Global, subject: &Subject<'_, '_>, faults: &Faults<'_>, no: &No) -> Lines
     requires { IsThere subject.now.stands }
-    ensures { IfOk result (λ line. spec.IsFaultLine (spec.of_subject subject.now nos.now mended.now)
-        subject.now.file.now no.now line.items) }
+    ensures { IfOk result (λ line. spec.IsFaultLine
+        (spec.of_subject subject.now faults.now.nos.now faults.now.mended.now) subject.now.file.now no.now line.items) }
 {
-    let report = fault_report(alloc, subject, mended, nos, no)?;
+    let report = fault_report(alloc, subject, faults, no)?;
     report_line(alloc, &report)
 }
 
 /// The line that the `subject` has a certificate.
-fn yes_line(alloc: Global, subject: &Subject<'_, '_>) -> Result<Vec<u8>, AllocError>
+fn yes_line(alloc: Global, subject: &Subject<'_, '_>) -> Lines
     ensures { IfOk result (λ line. spec.IsReportLine (spec.ReportsYes subject.now.entry.now
         subject.now.size.rows subject.now.size.cols subject.now.file.now) line.items) }
 {
@@ -130,7 +130,7 @@ fn yes_line(alloc: Global, subject: &Subject<'_, '_>) -> Result<Vec<u8>, AllocEr
 }
 
 /// The report that the `subject` has a certificate.
-fn yes_report(alloc: Global, subject: &Subject<'_, '_>) -> Result<Report, AllocError>
+fn yes_report(alloc: Global, subject: &Subject<'_, '_>) -> Reported
     ensures { IfOk result (λ report. spec.ReportsYes subject.now.entry.now
         subject.now.size.rows subject.now.size.cols subject.now.file.now report) }
 {
@@ -144,7 +144,7 @@ pub(crate) fn report_on(
     verdict: Verdict,
     cause: Option<String>,
     finding: Finding,
-) -> Result<Report, AllocError>
+) -> Reported
     ensures { IfOk result (spec.IsReportOn subject.now verdict cause finding) }
 {
     Ok(Report {
@@ -160,33 +160,27 @@ pub(crate) fn report_on(
     })
 }
 
-/// The report of `no`, one of the faults `nos` of the `subject`, which is `mended`.
-fn fault_report(
-    alloc: Global,
-    subject: &Subject<'_, '_>,
-    mended: &Option<Mended>,
-    nos: &[No],
-    no: &No,
-) -> Result<Report, AllocError>
+/// The report of `no`, one of the `faults` of the `subject`.
+fn fault_report(alloc: Global, subject: &Subject<'_, '_>, faults: &Faults<'_>, no: &No) -> Reported
     requires { IsThere subject.now.stands }
-    ensures { IfOk result (λ report. spec.ReportsFault (spec.of_subject subject.now nos.now mended.now)
-        subject.now.file.now no.now report) }
+    ensures { IfOk result (λ report. spec.ReportsFault
+        (spec.of_subject subject.now faults.now.nos.now faults.now.mended.now) subject.now.file.now no.now report) }
 {
     let cause = cause_text(alloc, no.cause)?;
-    let finding = finding_of(alloc, subject, mended, nos, no)?;
+    let finding = finding_of(alloc, subject, faults, no)?;
     report_on(alloc, subject, Verdict::No, Some(cause), finding)
 }
 
-/// The finding about `no`, one of the faults `nos` of the `subject`, which is `mended`.
+/// The finding about `no`, one of the `faults` of the `subject`.
 fn finding_of(
     alloc: Global,
     subject: &Subject<'_, '_>,
-    mended: &Option<Mended>,
-    nos: &[No],
+    faults: &Faults<'_>,
     no: &No,
 ) -> Result<Finding, AllocError>
     requires { IsThere subject.now.stands }
-    ensures { IfOk result (λ finding. spec.Finds (spec.of_subject subject.now nos.now mended.now) no.now finding) }
+    ensures { IfOk result (λ finding. spec.Finds
+        (spec.of_subject subject.now faults.now.nos.now faults.now.mended.now) no.now finding) }
 {
     let entry = subject.entry;
     let fault = Judged {
@@ -200,11 +194,11 @@ fn finding_of(
         place: value_place(alloc, &subject.stands, no.cap)?,
         faulty_region: faulty_region(alloc, &subject.stands, &fault)?,
         string: own_string(alloc, entry, no.cap)?,
-        suggestion: suggested(alloc, entry, mended, nos, no.cap)?,
-        suggested_with: suggested_with(alloc, entry, mended, nos, no.cap)?,
+        suggestion: suggested(alloc, entry, faults.mended, faults.nos, no.cap)?,
+        suggested_with: suggested_with(alloc, entry, faults.mended, faults.nos, no.cap)?,
         run: explained(alloc, entry, subject.size, no)?,
         judged: Some(is_judged(no.cause)),
-        another_kind: other_kind(mended, nos),
+        another_kind: other_kind(faults.mended, faults.nos),
         explanation: explanation_of(alloc, entry, subject.size, no)?,
     })
 }

@@ -3,6 +3,7 @@
 ghost use Rattle.std.specs.{Prelude.{◌≡◌, IfOk, OnOk, map, option_map}, List.{AllByRecursion}};
 ghost use Rattle.ti_hints.specs.Places.{IsHintOf};
 ghost use Rattle.ti_reports.specs.Hints.{IsHintPlace, hint_text, line_hinted, region_hinted, text_in};
+ghost use Rattle.ti_reports.specs.Reports.{SaysWords};
 ghost use Rattle.ti_reports.specs.Faults as spec;
 ghost use Rattle.ti_members.specs.Sources.{whereabouts_of};
 ghost use Rattle.ti_source.specs.Layout.{lines_of};
@@ -201,7 +202,7 @@ fn hint_finding(
 ) -> Result<Finding, AllocError>
     ensures stands { IfOk result (λ finding. IsHintPlace (text_in source.now) hint.now finding.place) }
     ensures capability { IfOk result (λ finding. spec.IsCapIf hint.now.cap finding.capability) }
-    ensures says { IfOk result (λ finding. spec.SaysWords finding) }
+    ensures says { IfOk result (λ finding. SaysWords finding) }
 {
     let capability = cap_if(alloc, hint.cap)?;
     let place = hint_place(alloc, source, hint)?;

@@ -6,19 +6,13 @@ ghost use Rattle.ti_reports.specs.Lacks as spec;
 
 use crate::refusals::{file_words, refused_line};
 use std::alloc::{AllocError, Global};
-use ti_commands::{Failure, Reply, refusal_words};
+use ti_commands::{Failure, Replied, Reply, refusal_words};
 use ti_members::{ValuePlace, refusal_place};
 use vt_term::Size;
 
 /// The reply that reports, for this `size`, that the ENTRY `word` gives no entry, with the reason of `failure`;
 /// the reply fails so too. If the word's file is read `alone`, the place of the reason is one in it.
-pub fn lack_reply(
-    alloc: Global,
-    size: Size,
-    alone: bool,
-    word: &str,
-    failure: Failure,
-) -> Result<Reply, Failure>
+pub fn lack_reply(alloc: Global, size: Size, alone: bool, word: &str, failure: Failure) -> Replied
     ensures reply { IfOk result (λ reply. spec.ReportsLackOf size.rows size.cols alone word.now failure
         reply) }
     ensures failure { IfErr result (λ e. e ≡ NoMemory) }

@@ -98,7 +98,6 @@ pub struct Finding {
 
 impl Finding {
     ghost use Rattle.std.specs.Prelude.{◌≡◌, IfOk};
-    ghost use Rattle.ti_reports.specs.Faults.{SaysWords};
     ghost use Rattle.ti_reports.specs.Reports as spec;
 
     /// A finding without a fault: these `words` about the `capability` at `place`.
@@ -110,7 +109,7 @@ impl Finding {
     ) -> Result<Finding, AllocError>
         ensures capability { IfOk result (λ finding. finding.capability ≡ capability) }
         ensures place { IfOk result (λ finding. finding.place ≡ place) }
-        ensures says { IfOk result (λ finding. SaysWords finding) }
+        ensures says { IfOk result (λ finding. spec.SaysWords finding) }
     {
         let mut finding = Finding::none(alloc);
         finding.capability = capability;
@@ -132,7 +131,11 @@ impl Finding {
             string: None,
             suggestion: None,
             suggested_with: Vec::new(alloc),
-            run: Explanation::none(),
+            run: Explanation {
+                start: None,
+                wanted: None,
+                seen: None,
+            },
             judged: None,
             another_kind: None,
             explanation: Vec::new(alloc),

@@ -25,6 +25,9 @@ use ti_resolve::{Index, ResolveFault, entered_from};
 use ti_source::{RawEntry, SourceFault, read_apart};
 use ti_words::Remarks;
 
+/// The statements that a function makes, or that memory ran out.
+type Made = Result<Said, AllocError>;
+
 /// A survey: the speaker that reports, and the files of `--with`.
 #[derive(Drop)]
 pub(crate) struct Surveying<'a, S> {
@@ -74,7 +77,7 @@ fn compiled_lines<S: Speaker, W: Watcher>(
     path: &str,
     bytes: &[u8],
     watcher: &mut W,
-) -> Result<Said, AllocError>
+) -> Made
     ensures told { (others : List FurtherFile) → IfOk result (λ said. spec.AreLinesBy true (S.says speaker.now)
         (S.refuses speaker.now) others path.now bytes.now (told_of said)) }
     ensures heard { IfOk result (λ said. Hears W.heard W.has_failed watcher.old watcher.new said.lines.items) }
@@ -85,12 +88,7 @@ fn compiled_lines<S: Speaker, W: Watcher>(
 }
 
 /// The statement about the compiled file at `path` with these `bytes`.
-fn compiled_said<S: Speaker>(
-    alloc: Global,
-    speaker: &S,
-    path: &str,
-    bytes: &[u8],
-) -> Result<Said, AllocError>
+fn compiled_said<S: Speaker>(alloc: Global, speaker: &S, path: &str, bytes: &[u8]) -> Made
     ensures { (others : List FurtherFile) → IfOk result (λ said. spec.AreLinesBy true (S.says speaker.now)
         (S.refuses speaker.now) others path.now bytes.now (told_of said)) }
 {
@@ -101,12 +99,7 @@ fn compiled_said<S: Speaker>(
 }
 
 /// The statement about the entry of `packed`, the file at `path`.
-fn packed_lines<S: Speaker>(
-    alloc: Global,
-    speaker: &S,
-    path: &str,
-    packed: &Packed<'_>,
-) -> Result<Said, AllocError>
+fn packed_lines<S: Speaker>(alloc: Global, speaker: &S, path: &str, packed: &Packed<'_>) -> Made
     ensures { IfOk result (λ said. spec.IsFilePart (S.says speaker.now) (S.refuses speaker.now)
         path.now packed.now (told_of said)) }
 {
@@ -173,7 +166,7 @@ fn unread_lines<S: Speaker, W: Watcher>(
     path: &str,
     refusal: &CommandRefusal,
     watcher: &mut W,
-) -> Result<Said, AllocError>
+) -> Made
     ensures told { IfOk result (λ said. S.refuses speaker.now path.now None None refusal.now (told_of said)) }
     ensures heard { IfOk result (λ said. Hears W.heard W.has_failed watcher.old watcher.new said.lines.items) }
 {
@@ -205,7 +198,7 @@ fn apart_lines<'b, S: Speaker, W: Watcher>(
     text: &'b [u8],
     all: &'b ApartTogether,
     watcher: &mut W,
-) -> Result<Said, AllocError>
+) -> Made
     requires { spec.IsAllRead text.now survey.now.further.now (all_in all.now) }
     ensures told { IfOk result (λ said. spec.HasEntries
         (S.says survey.now.speaker.now) (S.refuses survey.now.speaker.now) survey.now.further.now
@@ -243,7 +236,7 @@ fn source_lines<S: Speaker, W: Watcher>(
     speaker: &S,
     source: &SourceEntries<'_, '_>,
     watcher: &mut W,
-) -> Result<Said, AllocError>
+) -> Made
     requires fit { AllByRecursion FieldsFit source.now.index.now.raws.now }
     requires names { NamesFit source.now.index.now.raws.now source.now.faults.now }
     requires beside { length source.now.faults.now ≡ length source.now.index.now.raws.now }
@@ -272,7 +265,7 @@ fn source_part<S: Speaker>(
     speaker: &S,
     source: &SourceEntries<'_, '_>,
     place: usize,
-) -> Result<Said, AllocError>
+) -> Made
     requires fit { AllByRecursion FieldsFit source.now.index.now.raws.now }
     requires names { NamesFit source.now.index.now.raws.now source.now.faults.now }
     requires beside { length source.now.faults.now ≡ length source.now.index.now.raws.now }
@@ -404,7 +397,7 @@ fn entry_lines<S: Speaker>(
     stands: &Option<SourcePlace<'_, '_>>,
     name: &[u8],
     entry: &Result<Entry, CommandRefusal>,
-) -> Result<Said, AllocError>
+) -> Made
     requires { IfSome stands.now (λ there. there.place < length there.raws.now) }
     ensures { IfOk result (λ said. spec.IsTold (S.says speaker.now) (S.refuses speaker.now) entry.now path.now
         (place_if stands.now) name.now (told_of said)) }
@@ -424,12 +417,7 @@ fn entry_lines<S: Speaker>(
 }
 
 /// The statement that the file at `path` has no entries, with the `refusal` that says why.
-fn file_lack<S: Speaker>(
-    alloc: Global,
-    speaker: &S,
-    path: &str,
-    refusal: &CommandRefusal,
-) -> Result<Said, AllocError>
+fn file_lack<S: Speaker>(alloc: Global, speaker: &S, path: &str, refusal: &CommandRefusal) -> Made
     ensures { IfOk result (λ said. S.refuses speaker.now path.now None None refusal.now (told_of said)) }
 {
     lack(alloc, speaker, path, &None, None, refusal)
@@ -444,7 +432,7 @@ fn lack<S: Speaker>(
     stands: &Option<SourcePlace<'_, '_>>,
     name: Option<&[u8]>,
     refusal: &CommandRefusal,
-) -> Result<Said, AllocError>
+) -> Made
     requires { IfSome stands.now (λ there. there.place < length there.raws.now) }
     ensures { IfOk result (λ said. S.refuses speaker.now path.now (place_if stands.now)
         (option_map (λ n. n.now) name.entry) refusal.now (told_of said)) }

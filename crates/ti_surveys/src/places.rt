@@ -5,15 +5,16 @@ ghost use Rattle.std.specs.List.{list_any};
 ghost use Rattle.ti_surveys.specs.Places as spec;
 ghost use Rattle.ti_places.specs.Locations.{placed_in};
 
-use std::alloc::{AllocError, Global};
+use std::alloc::Global;
 use ti_places::PlacedFault;
+use ti_verdicts::{Added, Lines};
 
 /// The lines of these `faults`, each at its place and once, with the names of the entries that have it.
 ///
 /// # Errors
 /// Out of memory.
 #[tactic(auto, using(crate::proofs::PlaceFacts::whole_after), unfolding(crate::specs::Places::places_text))]
-pub fn places_lines(alloc: Global, faults: &[PlacedFault]) -> Result<Vec<u8>, AllocError>
+pub fn places_lines(alloc: Global, faults: &[PlacedFault]) -> Lines
     ensures { IfOk result (λ lines. lines.items ≡ spec.places_text (map placed_in faults.now)) }
 {
     let mut lines = Vec::new(alloc);
@@ -30,7 +31,7 @@ fn push_unless(
     fault: &PlacedFault,
     others: &[PlacedFault],
     lines: &mut Vec<u8>,
-) -> Result<(), AllocError>
+) -> Added
     ensures { OnOk result (lines.new.items ≡ lines.old.items ++ spec.lines_unless (map placed_in before.now)
         (placed_in fault.now) (map placed_in others.now)) }
 {
@@ -65,11 +66,7 @@ fn has_same(fault: &PlacedFault, faults: &[PlacedFault]) -> bool
 
 /// Appends the lines of `fault` with its own name and those of `others` that are the same.
 #[tactic(auto, unfolding(crate::specs::Places::fault_lines))]
-fn push_lines(
-    fault: &PlacedFault,
-    others: &[PlacedFault],
-    lines: &mut Vec<u8>,
-) -> Result<(), AllocError>
+fn push_lines(fault: &PlacedFault, others: &[PlacedFault], lines: &mut Vec<u8>) -> Added
     ensures { OnOk result (lines.new.items
         ≡ lines.old.items ++ spec.fault_lines (placed_in fault.now) (map placed_in others.now)) }
 {
@@ -81,11 +78,7 @@ fn push_lines(
 
 /// Appends the line with the names of all entries that have `fault`, if `others` have it too.
 #[tactic(auto, unfolding(crate::specs::Places::names_line))]
-fn push_names(
-    fault: &PlacedFault,
-    others: &[PlacedFault],
-    lines: &mut Vec<u8>,
-) -> Result<(), AllocError>
+fn push_names(fault: &PlacedFault, others: &[PlacedFault], lines: &mut Vec<u8>) -> Added
     ensures { OnOk result (lines.new.items
         ≡ lines.old.items ++ spec.names_line (placed_in fault.now) (map placed_in others.now)) }
 {
@@ -100,11 +93,7 @@ fn push_names(
 }
 
 /// Appends the names of those of `others` that are the same as `fault`, each behind a comma.
-fn push_others(
-    fault: &PlacedFault,
-    others: &[PlacedFault],
-    lines: &mut Vec<u8>,
-) -> Result<(), AllocError>
+fn push_others(fault: &PlacedFault, others: &[PlacedFault], lines: &mut Vec<u8>) -> Added
     ensures { OnOk result (lines.new.items ≡ lines.old.items
         ++ flat_map (spec.name_if_same (placed_in fault.now)) (map placed_in others.now)) }
 {
@@ -115,11 +104,7 @@ fn push_others(
 }
 
 /// Appends a comma and the name of `other`, if it is the same as `fault`.
-fn push_if_same(
-    fault: &PlacedFault,
-    other: &PlacedFault,
-    lines: &mut Vec<u8>,
-) -> Result<(), AllocError>
+fn push_if_same(fault: &PlacedFault, other: &PlacedFault, lines: &mut Vec<u8>) -> Added
     ensures { OnOk result (lines.new.items ≡ lines.old.items
         ++ spec.name_if_same (placed_in fault.now) (placed_in other.now)) }
 {

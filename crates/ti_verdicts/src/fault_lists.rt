@@ -10,10 +10,11 @@ use crate::checks::notes_on;
 use crate::indents::indented;
 use crate::reasons::explain_no;
 use crate::remedies::{Faulty, note_another_kind, note_left_out, suggestion_lines};
+use crate::written::Lines;
 use std::alloc::{AllocError, Global};
 use ti_caps::Entry;
 use ti_checker::No;
-use ti_commands::{Failure, Files, Reply, SourceText, Sourced, size_words, sourced_entry};
+use ti_commands::{Files, Replied, Reply, SourceText, Sourced, World, size_words, sourced_entry};
 use ti_faults::{Mended, faults};
 use ti_hints::{advise, advise_unchecked};
 use ti_places::{
@@ -27,24 +28,23 @@ use vt_term::Size;
 /// Replies with the notes on the entry that the `words` give, and with all its faults, each with its place, the field
 /// there and its explanation, and with their number; or with `yes` if there is none. The reply fails as the first of
 /// the faults does. The `originals` are the texts of those files whose lines were joined, as they were before.
-/// Further lines go to `remarks`: that the entry seems to be for a terminal of another kind, that a fault may go once
-/// others are mended, advice on an entry without a fault, and advice on strings that aren't checked, with their
-/// number.
+/// Further lines go to the remarks of the `world`: that the entry seems to be for a terminal of another kind, that a
+/// fault may go once others are mended, advice on an entry without a fault, and advice on strings that aren't checked,
+/// with their number.
 pub fn check_all<F: Files>(
     alloc: Global,
     words: &FaultsWords<'_>,
     originals: &[LinedFile<'_>],
-    files: &mut F,
-    remarks: &mut Remarks,
-) -> Result<Reply, Failure>
+    world: &mut World<'_, F>,
+) -> Replied
     ensures reply { IfOk result (λ reply. spec.ListsFaults (map file_text originals.now)
-        (F.holds files.old) words.now reply) }
-    ensures failure { IfErr result (λ e. FailsForEntry (F.holds files.old) words.now.rows.now words.now.cols.now
-        words.now.entry.now e) }
-    ensures kept { F.holds files.new ≡ F.holds files.old }
+        (F.holds world.old.files.now) words.now reply) }
+    ensures failure { IfErr result (λ e. FailsForEntry (F.holds world.old.files.now) words.now.rows.now
+        words.now.cols.now words.now.entry.now e) }
+    ensures kept { F.holds world.new.files.now ≡ F.holds world.old.files.now }
 {
-    let size = size_words(alloc, words.rows, words.cols, remarks)?;
-    let found = sourced_entry(alloc, files, words.entry, remarks)?;
+    let size = size_words(alloc, words.rows, words.cols, world.remarks)?;
+    let found = sourced_entry(alloc, world.files, words.entry, world.remarks)?;
     let notes = notes_on(alloc, &found.entry, size)?;
     let nos = faults(alloc, &found.entry, size)?;
     let asked = Asked {
@@ -53,12 +53,12 @@ pub fn check_all<F: Files>(
         originals,
     };
     let reply = reply_of(alloc, &asked, notes, nos.as_slice())?;
-    note_another_kind(nos.as_slice(), remarks);
-    note_left_out(nos.as_slice(), remarks);
+    note_another_kind(nos.as_slice(), world.remarks);
+    note_left_out(nos.as_slice(), world.remarks);
     if nos.is_empty() {
-        advise(alloc, &found.entry, size, remarks);
+        advise(alloc, &found.entry, size, world.remarks);
     }
-    advise_unchecked(alloc, &found.entry, remarks);
+    advise_unchecked(alloc, &found.entry, world.remarks);
     Ok(reply)
 }
 
@@ -99,12 +99,7 @@ fn reply_of(
 }
 
 /// The lines of the faults `nos` of the entry that is `asked` about, which is `mended`, and then their counts.
-fn faults_text(
-    alloc: Global,
-    asked: &Asked<'_>,
-    mended: &Mended,
-    nos: &[No],
-) -> Result<Vec<u8>, AllocError>
+fn faults_text(alloc: Global, asked: &Asked<'_>, mended: &Mended, nos: &[No]) -> Lines
     ensures { IfOk result (λ text. spec.IsFaultsText (map file_text asked.now.originals.now) asked.now.found.now.entry
         asked.now.found.now.source mended.now nos.now text.items) }
 {
@@ -130,7 +125,7 @@ fn source_text<'x>(
     source: &'x SourceText<'x>,
     mended: &Mended,
     nos: &[No],
-) -> Result<Vec<u8>, AllocError>
+) -> Lines
     ensures { IfOk result (λ text. spec.IsFaultsText
         (map file_text asked.now.originals.now) asked.now.found.now.entry (Some source.now)
         mended.now nos.now text.items) }
@@ -164,12 +159,7 @@ struct Located<'a, 'b> {
 }
 
 /// The lines of the faults `nos` of the entry `found`, which is `mended`, and then their counts.
-fn located_text(
-    alloc: Global,
-    found: &Located<'_, '_>,
-    mended: &Mended,
-    nos: &[No],
-) -> Result<Vec<u8>, AllocError>
+fn located_text(alloc: Global, found: &Located<'_, '_>, mended: &Mended, nos: &[No]) -> Lines
     ensures { IfOk result (λ text. spec.IsFaultsText (map file_text found.now.originals.now) found.now.entry.now
         (source_if found.now.source) mended.now nos.now text.items) }
 {
@@ -180,7 +170,7 @@ fn located_text(
 }
 
 /// The line of counts of the faults `nos`: the number of all, and of each cause that occurs.
-fn counts_line(alloc: Global, nos: &[No]) -> Result<Vec<u8>, AllocError>
+fn counts_line(alloc: Global, nos: &[No]) -> Lines
     ensures { IfOk result (λ line. line.items ≡ spec.counts_line nos.now) }
 {
     let answers = fault_answers(alloc, nos)?;
@@ -188,12 +178,7 @@ fn counts_line(alloc: Global, nos: &[No]) -> Result<Vec<u8>, AllocError>
 }
 
 /// The lines of the faults `nos` of the entry `found`, which is `mended`, one after another.
-fn fault_lines(
-    alloc: Global,
-    found: &Located<'_, '_>,
-    mended: &Mended,
-    nos: &[No],
-) -> Result<Vec<u8>, AllocError>
+fn fault_lines(alloc: Global, found: &Located<'_, '_>, mended: &Mended, nos: &[No]) -> Lines
     ensures { IfOk result (λ lines. HasParts (spec.HasFaultLines (map file_text found.now.originals.now)
         found.now.entry.now (source_if found.now.source) mended.now nos.now) nos.now lines.items) }
 {
@@ -206,13 +191,7 @@ fn fault_lines(
 
 /// The line of `no`, one of the faults `nos` of the entry `found`, which is `mended`; then the place of its value in
 /// the source, the field there, its explanation, and the strings that would be right.
-fn own_lines(
-    alloc: Global,
-    found: &Located<'_, '_>,
-    mended: &Mended,
-    no: &No,
-    nos: &[No],
-) -> Result<Vec<u8>, AllocError>
+fn own_lines(alloc: Global, found: &Located<'_, '_>, mended: &Mended, no: &No, nos: &[No]) -> Lines
     ensures { IfOk result (λ lines. spec.HasFaultLines (map file_text found.now.originals.now) found.now.entry.now
         (source_if found.now.source) mended.now nos.now no.now lines.items) }
 {
@@ -237,7 +216,7 @@ fn own_lines(
 }
 
 /// The lines that explain `no`, a fault of `entry`.
-fn explanation(alloc: Global, entry: &Entry, size: Size, no: &No) -> Result<Vec<u8>, AllocError>
+fn explanation(alloc: Global, entry: &Entry, size: Size, no: &No) -> Lines
     ensures { IfOk result (λ lines. spec.AreIndented lines.items) }
 {
     let mut remarks = Remarks::new(alloc);

@@ -12,6 +12,7 @@ mod reasons;
 mod remedies;
 mod starts;
 mod verifications;
+mod written;
 
 pub use answers::{Answer, answers_line, fault_answers};
 pub use certifiers::{Certifier, Checker};
@@ -20,3 +21,4 @@ pub use fault_lists::check_all;
 pub use reasons::explain_no;
 pub use starts::{probe_run_words, probe_words};
 pub use verifications::{checked_at, verify_certificate};
+pub use written::{Added, Lines};

@@ -3,7 +3,7 @@
 ghost use Rattle.std.specs.Prelude.{◌≡◌, IfErr, IfOk};
 ghost use Rattle.ti_conforms.specs.Conforms.{Conforms};
 ghost use Rattle.ti_places.specs.Refusals.{IsVerdict, TellsFault, fault_text};
-ghost use Rattle.ti_verdicts.specs.Verifications.{FailsToVerify, HandsOut, IsVerified, LacksCertificate};
+ghost use Rattle.ti_verdicts.specs.Verifications as spec;
 
 use crate::certificates::CertificateFile;
 use crate::faults::explain_fault;
@@ -11,27 +11,33 @@ use std::alloc::Global;
 use std::io::Read;
 use ti_caps::Entry;
 use ti_cert::{AgreeFault, CertFault, CertFaultKind, Checked, VerifyFault, verify_from};
-use ti_commands::{Failure, Files, Reply, entry_of, file_fault, size_words};
+use ti_commands::{Failure, Files, Replied, Reply, World, entry_of, file_fault, size_words};
 use ti_places::{disagreement_words, fault_words, verdict};
 use ti_requests::VerifyWords;
 use ti_words::{Remarks, explain_disagreement};
 use vt_term::Size;
 
 /// Says yes if the certificate that the `words` name shows that their entry conforms at their size. Further lines go to
-/// `remarks`.
+/// the remarks of the `world`.
 pub fn verify_certificate<F: Files>(
     alloc: Global,
     words: &VerifyWords<'_>,
-    files: &mut F,
-    remarks: &mut Remarks,
-) -> Result<Reply, Failure>
-    ensures reply { IfOk result (λ reply. IsVerified (F.holds files.old) words.now reply) }
-    ensures failure { IfErr result (λ e. FailsToVerify (F.holds files.old) words.now e) }
-    ensures kept { F.holds files.new ≡ F.holds files.old }
+    world: &mut World<'_, F>,
+) -> Replied
+    ensures reply { IfOk result (λ reply. spec.IsVerified (F.holds world.old.files.now) words.now reply) }
+    ensures failure { IfErr result (λ e. spec.FailsToVerify (F.holds world.old.files.now) words.now e) }
+    ensures kept { F.holds world.new.files.now ≡ F.holds world.old.files.now }
 {
-    let size = size_words(alloc, words.rows, words.cols, remarks)?;
-    let entry = entry_of(alloc, files, words.entry, remarks)?;
-    let _checked = checked_at(alloc, &entry, size, words.certificate, files, remarks)?;
+    let size = size_words(alloc, words.rows, words.cols, world.remarks)?;
+    let entry = entry_of(alloc, world.files, words.entry, world.remarks)?;
+    let _checked = checked_at(
+        alloc,
+        &entry,
+        size,
+        words.certificate,
+        world.files,
+        world.remarks,
+    )?;
     let text = Vec::from_slice(alloc, b"yes\n")?;
     Ok(Reply::of_text(alloc, text))
 }
@@ -47,9 +53,9 @@ pub fn checked_at<F: Files>(
 ) -> Result<Checked, Failure>
     ensures conforms { IfOk result (λ _. Conforms entry.now size.rows size.cols) }
     ensures hands_out { IfOk result
-        (λ checked. HandsOut ((F.holds files.old).at path.now) entry.now size.rows size.cols checked) }
+        (λ checked. spec.HandsOut ((F.holds files.old).at path.now) entry.now size.rows size.cols checked) }
     ensures failure { IfErr result
-        (λ e. LacksCertificate ((F.holds files.old).at path.now) size.rows size.cols entry.now path.now e) }
+        (λ e. spec.LacksCertificate ((F.holds files.old).at path.now) size.rows size.cols entry.now path.now e) }
     ensures kept { F.holds files.new ≡ F.holds files.old }
 {
     let file = match files.reader(path) {

@@ -2,7 +2,7 @@
 
 use std::alloc::{AllocError, Global};
 use ti_arguments::Asked;
-use ti_commands::{Failure, Files, Reply, read_whole};
+use ti_commands::{Failure, Files, Replied, Reply, read_whole};
 use ti_objects::{Baseline, has_wrong, sarif_file};
 use ti_words::Remarks;
 
@@ -22,7 +22,7 @@ pub fn formed<F: Files>(
     lines: Vec<u8>,
     reply: Reply,
     remarks: &mut Remarks,
-) -> Result<Reply, Failure> {
+) -> Replied {
     let Reply {
         notes,
         text: own,

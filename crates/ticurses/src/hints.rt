@@ -37,21 +37,12 @@ pub fn hint_path<F: Files>(
 /// Adds to `remarks` that `--join` may help, if the command of the `request` has that option.
 pub fn hint_join(request: &Request<'_>, remarks: &mut Remarks) {
     let has_option = match request {
-        Request::Tic { .. }
-        | Request::Check(_)
-        | Request::CheckAll(_)
-        | Request::CheckJson { .. }
-        | Request::Verify(_)
-        | Request::Survey(_)
-        | Request::SurveyJson(_)
-        | Request::Print { .. }
-        | Request::Common { .. }
-        | Request::Neither { .. } => true,
-        Request::Expand(_)
-        | Request::Feed { .. }
-        | Request::FeedAs(_)
-        | Request::Play(_)
-        | Request::Show(_) => false,
+        Request::Tic { .. } | Request::Print { .. } | Request::Verify(_) => true,
+        Request::Check(_) | Request::CheckAll(_) | Request::CheckJson { .. } => true,
+        Request::Survey(_) | Request::SurveyJson(_) => true,
+        Request::Common { .. } | Request::Neither { .. } => true,
+        Request::Expand(_) | Request::Feed { .. } | Request::FeedAs(_) => false,
+        Request::Play(_) | Request::Show(_) => false,
     };
     if has_option {
         remarks.add_words(b"with --join a field may continue on further lines");

@@ -13,8 +13,8 @@ use std::alloc::Global;
 use std::io::{IsTerminal, Write};
 use ti_arguments::{Asked, ParsedLine, UsageFault, parse_line};
 use ti_commands::{
-    CommandRefusal, Comparison, Failure, Files, Output, Reply, Written, compare_entries,
-    compile_entry, expand_string, print_entry, report, write_reply, write_text,
+    CommandRefusal, Comparison, Failure, Files, Output, Replied, Reply, World, Written,
+    compare_entries, compile_entry, expand_string, print_entry, report, write_reply, write_text,
 };
 use ti_mends::fix_entry;
 use ti_places::LinedFile;
@@ -90,7 +90,7 @@ fn perform<F: Files + Sources, O: Output, E: Write + IsTerminal>(
 }
 
 /// The path of the file for which `reply` failed, if it did.
-fn failed_path(reply: &Result<Reply, Failure>) -> Option<&str> {
+fn failed_path(reply: &Replied) -> Option<&str> {
     match reply {
         Err(Failure::File(path))
         | Ok(
@@ -104,7 +104,7 @@ fn failed_path(reply: &Result<Reply, Failure>) -> Option<&str> {
 }
 
 /// Whether a source is refused because a field of it isn't ended on its line.
-fn is_open_field(reply: &Result<Reply, Failure>) -> bool {
+fn is_open_field(reply: &Replied) -> bool {
     match reply {
         Err(Failure::Refused(CommandRefusal::Source(fault)))
         | Ok(
@@ -118,35 +118,44 @@ fn is_open_field(reply: &Result<Reply, Failure>) -> bool {
 }
 
 /// The reply of `check` to its `words`. If `err` is a terminal, and the certificate goes to a file,
-/// a last line in `remarks` says how many lines it has.
+/// a last line in the remarks of the `world` says how many lines it has.
 fn check_counted<F: Files, E: IsTerminal>(
     alloc: Global,
     words: &CheckWords<'_>,
-    files: &mut F,
+    world: &mut World<'_, F>,
     err: &E,
-    remarks: &mut Remarks,
-) -> Result<Reply, Failure> {
-    let mut counted = Counted::new(files);
-    let reply = check_entry(alloc, &Checker, words, &mut counted, remarks)?;
+) -> Replied {
+    let mut counted = Counted::new(world.files);
+    let reply = check_over(alloc, words, &mut counted, world.remarks)?;
     if let Some(lines) = counted.lines {
         if err.is_terminal() {
             if let Ok(text) = format!(in alloc; "yes, {lines} lines") {
-                remarks.add_words(text.as_bytes());
+                world.remarks.add_words(text.as_bytes());
             }
         }
     }
     Ok(reply)
 }
 
+/// The reply of `check` to its `words`, over these `files`.
+fn check_over<F: Files>(
+    alloc: Global,
+    words: &CheckWords<'_>,
+    files: &mut F,
+    remarks: &mut Remarks,
+) -> Replied {
+    let mut world = World { files, remarks };
+    check_entry(alloc, &Checker, words, &mut world)
+}
+
 /// The reply of `play` to its `words`. The bytes that it sends go to `out` as they come.
 fn play<F: Files, O: Output>(
     alloc: Global,
     words: &ScriptWords<'_>,
-    files: &mut F,
+    world: &mut World<'_, F>,
     out: &mut O,
-    remarks: &mut Remarks,
-) -> Result<Reply, Failure> {
-    play_script(alloc, words, files, out, remarks)?;
+) -> Replied {
+    play_script(alloc, words, world, out)?;
     Ok(Reply::of_text(alloc, Vec::new(alloc)))
 }
 
@@ -184,12 +193,11 @@ fn reports_of<'a>(words: &'a SurveyWords<'a>, originals: &'a [LinedFile<'a>]) ->
 fn survey_plainly<F: Files, O: Output, E: Write + IsTerminal>(
     alloc: Global,
     survey: &Survey<'_, Checker>,
-    files: &mut F,
+    world: &mut World<'_, F>,
     streams: &mut Streams<'_, '_, O, E>,
-    remarks: &mut Remarks,
-) -> Result<Reply, Failure> {
+) -> Replied {
     let mut lines = SurveyLines::new(alloc, streams.out, streams.err);
-    let reply = survey_files(alloc, survey, files, &mut lines, remarks)?;
+    let reply = survey_files(alloc, survey, world, &mut lines)?;
     Ok(lines.end(alloc, reply))
 }
 
@@ -208,12 +216,11 @@ fn fix_words<'a>(words: &SurveyWords<'a>, out: Option<&'a str>) -> FixWords<'a> 
 fn survey_json<F: Files, O: Output, E: Write + IsTerminal>(
     alloc: Global,
     survey: &SurveyReports<'_>,
-    files: &mut F,
+    world: &mut World<'_, F>,
     streams: &mut Streams<'_, '_, O, E>,
-    remarks: &mut Remarks,
-) -> Result<Reply, Failure> {
+) -> Replied {
     let mut lines = SurveyLines::new(alloc, streams.out, streams.err);
-    let reply = survey_reports(alloc, survey, files, &mut lines, remarks)?;
+    let reply = survey_reports(alloc, survey, world, &mut lines)?;
     Ok(lines.end(alloc, reply))
 }
 
@@ -225,7 +232,7 @@ fn reply_in_form<F: Files + Sources, O: Output, E: Write + IsTerminal>(
     files: &mut F,
     streams: &mut Streams<'_, '_, O, E>,
     remarks: &mut Remarks,
-) -> Result<Reply, Failure> {
+) -> Replied {
     if !is_formed(asked) {
         return reply_by(alloc, asked, files, streams, remarks);
     }
@@ -246,7 +253,7 @@ fn reply_by<F: Files + Sources, O: Output, E: Write + IsTerminal>(
     files: &mut F,
     streams: &mut Streams<'_, '_, O, E>,
     remarks: &mut Remarks,
-) -> Result<Reply, Failure> {
+) -> Replied {
     if asked.fixes {
         files.allow_source();
     }
@@ -255,7 +262,7 @@ fn reply_by<F: Files + Sources, O: Output, E: Write + IsTerminal>(
     }
     let mut beside = Beside::new(files, asked.further.as_slice());
     let job = Job { asked, texts: &[] };
-    reply_to(alloc, &job, &mut beside, streams, remarks)
+    reply_over(alloc, &job, &mut beside, streams, remarks)
 }
 
 /// The reply of the command that is `asked` for, whose sources are read with each field on one line. Their texts are
@@ -266,7 +273,7 @@ fn joined_reply<F: Files, O: Output, E: Write + IsTerminal>(
     files: &mut F,
     streams: &mut Streams<'_, '_, O, E>,
     remarks: &mut Remarks,
-) -> Result<Reply, Failure> {
+) -> Replied {
     let originals = originals(alloc, asked, files)?;
     let texts = lined(alloc, originals.as_slice())?;
     let mut kept = Kept::new(files, originals.as_slice());
@@ -276,7 +283,7 @@ fn joined_reply<F: Files, O: Output, E: Write + IsTerminal>(
         asked,
         texts: texts.as_slice(),
     };
-    reply_to(alloc, &job, &mut joined, streams, remarks)
+    reply_over(alloc, &job, &mut joined, streams, remarks)
 }
 
 /// A command that is asked for, and the texts whose lines are joined for it.
@@ -286,45 +293,56 @@ struct Job<'a> {
     texts: &'a [LinedFile<'a>],
 }
 
-/// The reply of the command of the `job`. The bytes that `play` sends and the lines of a survey go to `out` as they
-/// come, and the reply has what follows them.
-fn reply_to<F: Files, O: Output, E: Write + IsTerminal>(
+/// The reply of the command of the `job`, over these `files`.
+fn reply_over<F: Files, O: Output, E: Write + IsTerminal>(
     alloc: Global,
     job: &Job<'_>,
     files: &mut F,
     streams: &mut Streams<'_, '_, O, E>,
     remarks: &mut Remarks,
-) -> Result<Reply, Failure> {
+) -> Replied {
+    let mut world = World { files, remarks };
+    reply_to(alloc, job, &mut world, streams)
+}
+
+/// The reply of the command of the `job`. The bytes that `play` sends and the lines of a survey go to `out` as they
+/// come, and the reply has what follows them.
+fn reply_to<F: Files, O: Output, E: Write + IsTerminal>(
+    alloc: Global,
+    job: &Job<'_>,
+    world: &mut World<'_, F>,
+    streams: &mut Streams<'_, '_, O, E>,
+) -> Replied {
     let Job { asked, texts } = *job;
     match &asked.request {
-        Request::Expand(words) => expand_string(alloc, words, remarks),
-        Request::Feed { rows, cols, file } => feed_file(alloc, rows, cols, file, files, remarks),
-        Request::FeedAs(words) => feed_state(alloc, words, files, remarks),
-        Request::Tic { entry, out } => compile_entry(alloc, entry, *out, files, remarks),
-        Request::Check(words) if asked.fixes => fix_entry(alloc, words, files, remarks),
-        Request::Check(words) => check_counted(alloc, words, files, streams.err, remarks),
-        Request::CheckAll(words) => check_all(alloc, words, texts, files, remarks),
+        Request::Expand(words) => expand_string(alloc, words, world.remarks),
+        Request::Feed { rows, cols, file } => feed_file(alloc, rows, cols, file, world),
+        Request::FeedAs(words) => feed_state(alloc, words, world),
+        Request::Tic { entry, out } => compile_entry(alloc, entry, *out, world),
+        Request::Check(words) if asked.fixes => fix_entry(alloc, words, world),
+        Request::Check(words) => check_counted(alloc, words, world, streams.err),
+        Request::CheckAll(words) => check_all(alloc, words, texts, world),
         Request::CheckJson { lists_all, words } => {
-            check_reports(alloc, &check_of(words, *lists_all, texts), files, remarks)
+            check_reports(alloc, &check_of(words, *lists_all, texts), world)
         }
-        Request::Verify(words) => verify_certificate(alloc, words, files, remarks),
-        Request::Play(words) => play(alloc, words, files, streams.out, remarks),
-        Request::Show(words) => show_script(alloc, words, files, remarks),
+        Request::Verify(words) => verify_certificate(alloc, words, world),
+        Request::Play(words) => play(alloc, words, world, streams.out),
+        Request::Show(words) => show_script(alloc, words, world),
         Request::Survey(words) if asked.fixes => {
-            fix_survey(alloc, &fix_words(words, asked.out), files, remarks)
+            fix_survey(alloc, &fix_words(words, asked.out), world)
         }
         Request::Survey(words) => {
-            survey_plainly(alloc, &survey_of(words, texts), files, streams, remarks)
+            survey_plainly(alloc, &survey_of(words, texts), world, streams)
         }
         Request::SurveyJson(words) => {
-            survey_json(alloc, &reports_of(words, texts), files, streams, remarks)
+            survey_json(alloc, &reports_of(words, texts), world, streams)
         }
-        Request::Print { entry } => print_entry(alloc, entry, files, remarks),
+        Request::Print { entry } => print_entry(alloc, entry, world),
         Request::Common { first, second } => {
-            compare_entries(alloc, first, second, Comparison::Common, files, remarks)
+            compare_entries(alloc, first, second, Comparison::Common, world)
         }
         Request::Neither { first, second } => {
-            compare_entries(alloc, first, second, Comparison::Neither, files, remarks)
+            compare_entries(alloc, first, second, Comparison::Neither, world)
         }
     }
 }

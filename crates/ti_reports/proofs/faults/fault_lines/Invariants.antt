@@ -5,4 +5,4 @@ use Rattle.ti_reports.proofs.faults.fault_lines.Given as goal
 
 -- the faults before this one have their lines
 abbrev pub invariant-loop-no : goal.invariant-loop-no
-invariant-loop-no l = HasParts (IsFaultLine (of_subject l.subject l.nos l.mended) l.subject.file.now) (take l.no-index l.nos) l.lines.items
+invariant-loop-no l = HasParts (IsFaultLine (of_subject l.subject l.faults.nos.now l.faults.mended.now) l.subject.file.now) (take l.no-index l.faults.nos.now) l.lines.items
