@@ -8,27 +8,28 @@ use crate::scripts::calls_of;
 use crate::shows::show_calls;
 use std::alloc::Global;
 use ti_cert::Checked;
-use ti_commands::{Failure, Files, Output, Replied, Reply, World};
+use ti_commands::{Failure, Files, Output, Replied, Reply};
 use ti_conforms::Certificate;
 use ti_requests::ScriptWords;
+use ti_words::Remarks;
 
 /// Plays the script on a terminal that the entry drives, and writes the bytes that its calls send.
 pub fn play_script<F: Files, O: Output>(
     alloc: Global,
     words: &ScriptWords<'_>,
-    world: &mut World<'_, F>,
+    files: &mut F,
     out: &mut O,
+    remarks: &mut Remarks,
 ) -> Result<(), Failure>
     ensures played { OnOk result (IsPlayed ⟦<Checked as Certificate>⟧.table ⟦<Checked as Certificate>⟧.partners
-        (F.holds world.old.files.now) words.now (O.contents out.old) (O.contents out.new)) }
-    ensures failure { IfErr result (λ e. FailsToPlay (F.holds world.old.files.now) words.now O.has_failed
-        out.old out.new e) }
+        (F.holds files.old) words.now (O.contents out.old) (O.contents out.new)) }
+    ensures failure { IfErr result (λ e. FailsToPlay (F.holds files.old) words.now O.has_failed out.old out.new e) }
     ensures unwritten { IfErr result (λ e. (e ≡ Failure.Output) ⊎ (out.new ≡ out.old)) }
-    ensures kept { F.holds world.new.files.now ≡ F.holds world.old.files.now }
+    ensures kept { F.holds files.new ≡ F.holds files.old }
 {
-    let ready = prepare(alloc, words, world.files, world.remarks)?;
+    let ready = prepare(alloc, words, files, remarks)?;
     let Ready { checked, text, .. } = ready;
-    let calls = calls_of(alloc, words.script, text.as_slice(), world.remarks)?;
+    let calls = calls_of(alloc, words.script, text.as_slice(), remarks)?;
     play_calls(alloc, checked, calls.as_slice(), out)?;
     Ok(())
 }
@@ -37,16 +38,17 @@ pub fn play_script<F: Files, O: Output>(
 pub fn show_script<F: Files>(
     alloc: Global,
     words: &ScriptWords<'_>,
-    world: &mut World<'_, F>,
+    files: &mut F,
+    remarks: &mut Remarks,
 ) -> Replied
     ensures reply { IfOk result (λ reply. IsShown ⟦<Checked as Certificate>⟧.table ⟦<Checked as Certificate>⟧.partners
-        (F.holds world.old.files.now) words.now reply) }
-    ensures failure { IfErr result (λ e. FailsToShow (F.holds world.old.files.now) words.now e) }
-    ensures kept { F.holds world.new.files.now ≡ F.holds world.old.files.now }
+        (F.holds files.old) words.now reply) }
+    ensures failure { IfErr result (λ e. FailsToShow (F.holds files.old) words.now e) }
+    ensures kept { F.holds files.new ≡ F.holds files.old }
 {
-    let ready = prepare(alloc, words, world.files, world.remarks)?;
+    let ready = prepare(alloc, words, files, remarks)?;
     let Ready { checked, text, .. } = ready;
-    let calls = calls_of(alloc, words.script, text.as_slice(), world.remarks)?;
+    let calls = calls_of(alloc, words.script, text.as_slice(), remarks)?;
     let text = show_calls(alloc, checked, calls.as_slice())?;
     Ok(Reply::of_text(alloc, text))
 }

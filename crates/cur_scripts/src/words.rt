@@ -10,7 +10,7 @@ use cur_calls::Text;
 use cur_drawing::{Attrs, Put};
 use std::marker::Model;
 
-// What `$read` reads in the next one of `$words`, and the words after it.
+// Reads the next one of `$words` by `$read`, and gives it with the words after it.
 macro_rules! first {
     ($words:expr, $read:expr) => {{
         let (word, words) = $words.next()?;

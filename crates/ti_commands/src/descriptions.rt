@@ -11,7 +11,6 @@ use crate::contents::file_fault;
 use crate::entries::{Found, find_entry};
 use crate::failure::{CommandRefusal, Failure, Replied, Reply};
 use crate::files::{FileFault, Files};
-use crate::world::World;
 use std::alloc::{AllocError, Global};
 use ti_caps::{CAPABILITIES, Cap, Entry, Kind, Value, at_rank, is_kind, name};
 use ti_compiled::{PackFault, encode};
@@ -20,29 +19,28 @@ use ti_source::print;
 use ti_words::Remarks;
 
 /// Reports the notes of the source file that `word` names, and writes the compiled form of the entry that `word` gives
-/// to the file at `out`, if there is an `out`. Further lines go to the remarks of the `world`.
+/// to the file at `out`, if there is an `out`. Further lines go to `remarks`.
 pub fn compile_entry<F: Files>(
     alloc: Global,
     word: &str,
     out: Option<&str>,
-    world: &mut World<'_, F>,
+    files: &mut F,
+    remarks: &mut Remarks,
 ) -> Replied
-    ensures reply { IfOk result (λ reply. IsCompiled word.now out.entry (F.holds world.old.files.now)
-        (F.holds world.new.files.now) reply) }
-    ensures failure { IfErr result (λ e. FailsToFind (F.holds world.old.files.now) word.now e
-        ⊎ (e ≡ Failure.NoMemory)) }
-    ensures kept { OnErr result (F.holds world.new.files.now ≡ F.holds world.old.files.now) }
+    ensures reply { IfOk result (λ reply. IsCompiled word.now out.entry (F.holds files.old) (F.holds files.new) reply) }
+    ensures failure { IfErr result (λ e. FailsToFind (F.holds files.old) word.now e ⊎ (e ≡ Failure.NoMemory)) }
+    ensures kept { OnErr result (F.holds files.new ≡ F.holds files.old) }
 {
     let Found {
         text,
         notes,
         all: _all,
         entry,
-    } = find_entry(alloc, world.files, word, world.remarks)?;
-    hint_carets(alloc, text.as_slice(), world.remarks);
+    } = find_entry(alloc, files, word, remarks)?;
+    hint_carets(alloc, text.as_slice(), remarks);
     let unknown = unknown_names(alloc, text.as_slice())?;
-    let failure = stored(alloc, world.files, out, entry, world.remarks)?;
-    world.remarks.add_words(unknown.as_slice());
+    let failure = stored(alloc, files, out, entry, remarks)?;
+    remarks.add_words(unknown.as_slice());
     Ok(Reply {
         notes,
         text: Vec::new(alloc),
@@ -96,13 +94,17 @@ fn store_entry<F: Files>(
 }
 
 /// Prints the entry that `word` gives.
-pub fn print_entry<F: Files>(alloc: Global, word: &str, world: &mut World<'_, F>) -> Replied
-    ensures reply { IfOk result (λ reply. IsPrinted (F.holds world.old.files.now) word.now reply) }
-    ensures failure { IfErr result (λ e. LacksEntry (F.holds world.old.files.now) word.now e
-        ⊎ (e ≡ Failure.NoMemory)) }
-    ensures kept { F.holds world.new.files.now ≡ F.holds world.old.files.now }
+pub fn print_entry<F: Files>(
+    alloc: Global,
+    word: &str,
+    files: &mut F,
+    remarks: &mut Remarks,
+) -> Replied
+    ensures reply { IfOk result (λ reply. IsPrinted (F.holds files.old) word.now reply) }
+    ensures failure { IfErr result (λ e. LacksEntry (F.holds files.old) word.now e ⊎ (e ≡ Failure.NoMemory)) }
+    ensures kept { F.holds files.new ≡ F.holds files.old }
 {
-    let entry = entry_of(alloc, world.files, word, world.remarks)?;
+    let entry = entry_of(alloc, files, word, remarks)?;
     let text = print(alloc, &entry)?;
     Ok(Reply::of_text(alloc, text))
 }
@@ -123,16 +125,16 @@ pub fn compare_entries<F: Files>(
     first: &str,
     second: &str,
     comparison: Comparison,
-    world: &mut World<'_, F>,
+    files: &mut F,
+    remarks: &mut Remarks,
 ) -> Replied
-    ensures reply { IfOk result (λ reply. IsCompared (F.holds world.old.files.now) first.now second.now comparison
-        reply) }
-    ensures failure { IfErr result (λ e. LacksEntry (F.holds world.old.files.now) first.now e
-        ⊎ LacksSecond (F.holds world.old.files.now) first.now second.now e ⊎ (e ≡ Failure.NoMemory)) }
-    ensures kept { F.holds world.new.files.now ≡ F.holds world.old.files.now }
+    ensures reply { IfOk result (λ reply. IsCompared (F.holds files.old) first.now second.now comparison reply) }
+    ensures failure { IfErr result (λ e. LacksEntry (F.holds files.old) first.now e
+        ⊎ LacksSecond (F.holds files.old) first.now second.now e ⊎ (e ≡ Failure.NoMemory)) }
+    ensures kept { F.holds files.new ≡ F.holds files.old }
 {
-    let one = entry_of(alloc, world.files, first, world.remarks)?;
-    let other = entry_of(alloc, world.files, second, world.remarks)?;
+    let one = entry_of(alloc, files, first, remarks)?;
+    let other = entry_of(alloc, files, second, remarks)?;
     let text = compare(alloc, &one, &other, comparison)?;
     Ok(Reply::of_text(alloc, text))
 }

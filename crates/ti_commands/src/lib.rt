@@ -15,7 +15,6 @@ mod refusals;
 mod replies;
 mod sizes;
 mod sources;
-mod world;
 
 pub use contents::{LONGEST_FILE, file_fault, read_whole};
 pub use descriptions::{Comparison, compare_entries, compile_entry, entry_of, print_entry};
@@ -29,4 +28,3 @@ pub use refusals::{parm_name, refusal_words};
 pub use replies::{write_reply, write_text};
 pub use sizes::size_words;
 pub use sources::{SourceText, Sourced, sourced_entry};
-pub use world::World;

@@ -15,10 +15,11 @@ use std::alloc::{AllocError, Global};
 use ti_caps::Entry;
 use ti_checker::No;
 use ti_commands::{
-    CommandRefusal, Failure, Files, Replied, SourceText, Sourced, World, size_words, sourced_entry,
+    CommandRefusal, Failure, Files, Replied, SourceText, Sourced, size_words, sourced_entry,
 };
 use ti_faults::{Mended, faults, is_of_another_kind};
 use ti_requests::CheckWords;
+use ti_words::Remarks;
 use vt_term::Size;
 
 /// The failure for a compiled entry, which has no source.
@@ -131,31 +132,29 @@ fn mended_source(
 pub fn fix_entry<F: Files>(
     alloc: Global,
     words: &CheckWords<'_>,
-    world: &mut World<'_, F>,
+    files: &mut F,
+    remarks: &mut Remarks,
 ) -> Replied
-    ensures reply { IfOk result (λ reply. spec.IsFixed (F.holds world.old.files.now) (F.holds world.new.files.now)
-        words.now reply) }
-    ensures failure { IfErr result (λ e. spec.FailsToFix (F.holds world.old.files.now) words.now e) }
-    ensures kept { OnErr result (F.holds world.new.files.now ≡ F.holds world.old.files.now) }
+    ensures reply { IfOk result (λ reply. spec.IsFixed (F.holds files.old) (F.holds files.new) words.now reply) }
+    ensures failure { IfErr result (λ e. spec.FailsToFix (F.holds files.old) words.now e) }
+    ensures kept { OnErr result (F.holds files.new ≡ F.holds files.old) }
 {
-    let size = size_words(alloc, words.rows, words.cols, world.remarks)?;
-    let Sourced { entry, source } = sourced_entry(alloc, world.files, words.entry, world.remarks)?;
+    let size = size_words(alloc, words.rows, words.cols, remarks)?;
+    let Sourced { entry, source } = sourced_entry(alloc, files, words.entry, remarks)?;
     let Some(source) = source else {
-        world.remarks.add_words(
-            b"--fix mends the text of a source file: name the entry as FILE:NAME",
-        );
+        remarks.add_words(b"--fix mends the text of a source file: name the entry as FILE:NAME");
         return Err(sourceless(alloc));
     };
     if source.further.is_empty() {
         let mended = mended_source(alloc, size, &entry, source)?;
-        return Ok(handed_over(alloc, mended, words.out, world.files, world.remarks)?);
+        return Ok(handed_over(alloc, mended, words.out, files, remarks)?);
     }
     let Some(folder) = words.out else {
-        world.remarks.add_words(
+        remarks.add_words(
             b"--fix with --with stores each changed file in the folder that --out names: there is no --out",
         );
         return Err(several(alloc));
     };
     let mended = mended_source(alloc, size, &entry, source)?;
-    Ok(stored_in(alloc, mended, folder, world.files, world.remarks)?)
+    Ok(stored_in(alloc, mended, folder, files, remarks)?)
 }

@@ -14,7 +14,7 @@ use crate::suggestions::Suggestions;
 use crate::words::FixWords;
 use std::alloc::{AllocError, Global};
 use ti_commands::{
-    CommandRefusal, Failure, Files, LONGEST_FILE, Replied, Reply, World, read_whole, size_words,
+    CommandRefusal, Failure, Files, LONGEST_FILE, Replied, Reply, read_whole, size_words,
 };
 use ti_fixes::Fixed;
 use ti_hints::explain_source;
@@ -198,15 +198,15 @@ fn handed_over<F: Files>(
 pub fn fix_survey<F: Files>(
     alloc: Global,
     words: &FixWords<'_>,
-    world: &mut World<'_, F>,
+    files: &mut F,
+    remarks: &mut Remarks,
 ) -> Replied
-    ensures reply { IfOk result (λ reply. spec.IsFixed (F.holds world.old.files.now) (F.holds world.new.files.now)
-        words.now reply) }
-    ensures failure { IfErr result (λ e. spec.FailsToFix (F.holds world.old.files.now) words.now e) }
-    ensures kept { OnErr result (F.holds world.new.files.now ≡ F.holds world.old.files.now) }
+    ensures reply { IfOk result (λ reply. spec.IsFixed (F.holds files.old) (F.holds files.new) words.now reply) }
+    ensures failure { IfErr result (λ e. spec.FailsToFix (F.holds files.old) words.now e) }
+    ensures kept { OnErr result (F.holds files.new ≡ F.holds files.old) }
 {
-    let size = size_words(alloc, words.rows, words.cols, world.remarks)?;
-    let source = read_source(alloc, world.files, words.path, world.remarks)?;
+    let size = size_words(alloc, words.rows, words.cols, remarks)?;
+    let source = read_source(alloc, files, words.path, remarks)?;
     let repaired = repaired_text(alloc, size, source)?;
-    Ok(handed_over(alloc, repaired, words, world.files, world.remarks))
+    Ok(handed_over(alloc, repaired, words, files, remarks))
 }

@@ -14,9 +14,7 @@ use crate::lacks::lack_reply;
 use std::alloc::{AllocError, Global};
 use ti_caps::Entry;
 use ti_checker::No;
-use ti_commands::{
-    Failure, Files, Replied, Reply, SourceText, Sourced, World, size_words, sourced_entry,
-};
+use ti_commands::{Failure, Files, Replied, Reply, SourceText, Sourced, size_words, sourced_entry};
 use ti_members::Standing;
 use ti_places::{LinedFile, LinedFiles, NamedSource, no_failure, source_files};
 use ti_requests::FaultsWords;
@@ -41,28 +39,28 @@ pub struct Check<'a> {
 
 /// Replies with the notes on the entry that the words of `check` give and, in JSON, with its faults, the first one or
 /// all of them; or with the report that it has a certificate. The reply fails as the first fault does. If the words
-/// give no entry, it reports that, and fails so. Further lines go to
-/// the remarks of the `world`.
+/// give no entry, it reports that, and fails so. Further lines go to `remarks`.
 pub fn check_reports<F: Files>(
     alloc: Global,
     check: &Check<'_>,
-    world: &mut World<'_, F>,
+    files: &mut F,
+    remarks: &mut Remarks,
 ) -> Replied
-    ensures reply { IfOk result (λ reply. spec.Replies (map file_text check.now.originals.now)
-        (F.holds world.old.files.now) check.now.lists_all check.now.words.now reply) }
+    ensures reply { IfOk result (λ reply. spec.Replies (map file_text check.now.originals.now) (F.holds files.old)
+        check.now.lists_all check.now.words.now reply) }
     ensures failure { IfErr result (λ e. LacksSize check.now.words.now.rows.now check.now.words.now.cols.now e) }
-    ensures kept { F.holds world.new.files.now ≡ F.holds world.old.files.now }
+    ensures kept { F.holds files.new ≡ F.holds files.old }
 {
     let words = check.words;
-    let size = size_words(alloc, words.rows, words.cols, world.remarks)?;
+    let size = size_words(alloc, words.rows, words.cols, remarks)?;
     let asked = Asked {
         size,
         lists_all: check.lists_all,
         originals: check.originals,
     };
-    match sourced_entry(alloc, world.files, words.entry, world.remarks) {
-        Ok(found) => Ok(entry_reply(alloc, asked, words.entry, &found, world.remarks)?),
-        Err(failure) => lack_reply(alloc, size, is_alone(world.files), words.entry, failure),
+    match sourced_entry(alloc, files, words.entry, remarks) {
+        Ok(found) => Ok(entry_reply(alloc, asked, words.entry, &found, remarks)?),
+        Err(failure) => lack_reply(alloc, size, is_alone(files), words.entry, failure),
     }
 }
 

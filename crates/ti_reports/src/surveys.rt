@@ -7,10 +7,11 @@ ghost use Rattle.ti_reports.specs.Surveys as spec;
 
 use crate::asked::Asked;
 use std::alloc::Global;
-use ti_commands::{Files, Replied, Reply, World, size_words};
+use ti_commands::{Files, Replied, Reply, size_words};
 use ti_places::LinedFile;
 use ti_requests::SurveyWords;
 use ti_surveys::{Said, Surveyed, Watcher, places_lines, strict_failure, survey_paths};
+use ti_words::Remarks;
 
 /// A survey with reports that is wanted.
 #[derive(Drop)]
@@ -24,9 +25,9 @@ pub struct SurveyReports<'a> {
 /// Reports in JSON on each entry of each file that the words of `survey` name: its first fault, or all of them if the
 /// words ask for that, or that it has a certificate. An entry that can't be read has its line too. The `watcher`
 /// passes on the lines of each entry once they are known, and sees how far the survey has come; the reply has no
-/// text. A file that can't be read has a line too; the reply then fails as the first such file does, the remarks of
-/// the `world` name the further ones, and the others are surveyed all the same. Else it is refused if the words ask
-/// for that and a verdict isn't yes.
+/// text. A file that can't be read has a line too; the reply then fails as the first such file does, the `remarks`
+/// name the further ones, and the others are surveyed all the same. Else it is refused if the words ask for that and
+/// a verdict isn't yes.
 ///
 /// # Errors
 /// The reason why the words give no size, before any line is known; out of memory, after the `watcher` has passed on
@@ -34,31 +35,25 @@ pub struct SurveyReports<'a> {
 pub fn survey_reports<F: Files, W: Watcher>(
     alloc: Global,
     survey: &SurveyReports<'_>,
-    world: &mut World<'_, F>,
+    files: &mut F,
     watcher: &mut W,
+    remarks: &mut Remarks,
 ) -> Replied
     ensures reply { IfOk result (λ reply. spec.AreSurveyed (map file_text survey.now.originals.now)
-        (F.holds world.old.files.now) survey.now.words.now world.new.remarks.now
-        (Hears W.heard W.has_failed watcher.old watcher.new) reply) }
-    ensures failure { IfErr result (λ e. FailsToSurvey (F.holds world.old.files.now) survey.now.words.now.rows.now
+        (F.holds files.old) survey.now.words.now remarks.new (Hears W.heard W.has_failed watcher.old watcher.new)
+        reply) }
+    ensures failure { IfErr result (λ e. FailsToSurvey (F.holds files.old) survey.now.words.now.rows.now
         survey.now.words.now.cols.now e) }
-    ensures kept { F.holds world.new.files.now ≡ F.holds world.old.files.now }
+    ensures kept { F.holds files.new ≡ F.holds files.old }
 {
-    let size = size_words(alloc, survey.words.rows, survey.words.cols, world.remarks)?;
+    let size = size_words(alloc, survey.words.rows, survey.words.cols, remarks)?;
     let asked = Asked {
         size,
         lists_all: survey.words.lists_all,
         originals: survey.originals,
     };
     let paths = survey.words.paths.as_slice();
-    let Surveyed { said, failure } = survey_paths(
-        alloc,
-        &asked,
-        paths,
-        world.files,
-        watcher,
-        world.remarks,
-    )?;
+    let Surveyed { said, failure } = survey_paths(alloc, &asked, paths, files, watcher, remarks)?;
     let Said {
         lines: _lines,
         places,

@@ -18,7 +18,7 @@ use crate::unread::named;
 use crate::watchers::{Watcher, pass_on};
 use std::alloc::{AllocError, Global};
 use ti_commands::{
-    Failure, Files, LONGEST_FILE, Replied, Reply, World, further_files, read_whole, size_words,
+    Failure, Files, LONGEST_FILE, Replied, Reply, further_files, read_whole, size_words,
 };
 use ti_places::LinedFile;
 use ti_requests::SurveyWords;
@@ -51,9 +51,9 @@ pub struct Survey<'a, C> {
 /// ask for that; and an entry for a terminal of another kind has one line. An entry that can't be read has its line
 /// too. The reply's text is the last line, which counts the answers. For each listed fault of a source's entry, the
 /// reply's notes give the place of its value, the field there, and the names of all entries that have it. If files
-/// can't be read, the reply has the failure of the first such file, the remarks of the `world` name the further ones,
-/// and the others are surveyed all the same; else it is refused if the words ask for that and a line doesn't say yes.
-/// The `watcher` also receives reports of how far the survey has come.
+/// can't be read, the reply has the failure of the first such file, the `remarks` name the further ones, and the
+/// others are surveyed all the same; else it is refused if the words ask for that and a line doesn't say yes. The
+/// `watcher` also receives reports of how far the survey has come.
 ///
 /// # Errors
 /// The reason why the words give no size, or a file of `--with` that can't be read, before any line is known; a file of
@@ -62,19 +62,20 @@ pub struct Survey<'a, C> {
 pub fn survey_files<C: Certifier, F: Files, W: Watcher>(
     alloc: Global,
     survey: &Survey<'_, C>,
-    world: &mut World<'_, F>,
+    files: &mut F,
     watcher: &mut W,
+    remarks: &mut Remarks,
 ) -> Replied
     ensures reply { IfOk result (λ reply. spec.IsSurveyed (map file_text survey.now.originals.now)
         (C.certifies survey.now.certifier.now) (C.refuses survey.now.certifier.now)
-        (F.holds world.old.files.now) survey.now.words.now world.new.remarks.now
+        (F.holds files.old) survey.now.words.now remarks.new
         (Hears W.heard W.has_failed watcher.old watcher.new) reply) }
-    ensures failure { IfErr result (λ e. FailsToSurvey (F.holds world.old.files.now) survey.now.words.now.rows.now
+    ensures failure { IfErr result (λ e. FailsToSurvey (F.holds files.old) survey.now.words.now.rows.now
         survey.now.words.now.cols.now e) }
-    ensures kept { F.holds world.new.files.now ≡ F.holds world.old.files.now }
+    ensures kept { F.holds files.new ≡ F.holds files.old }
 {
     let words = survey.words;
-    let size = size_words(alloc, words.rows, words.cols, world.remarks)?;
+    let size = size_words(alloc, words.rows, words.cols, remarks)?;
     let asked = Asked {
         certifier: survey.certifier,
         size,
@@ -83,7 +84,7 @@ pub fn survey_files<C: Certifier, F: Files, W: Watcher>(
         originals: survey.originals,
     };
     let paths = words.paths.as_slice();
-    let surveyed = survey_paths(alloc, &asked, paths, world.files, watcher, world.remarks)?;
+    let surveyed = survey_paths(alloc, &asked, paths, files, watcher, remarks)?;
     let Said {
         lines: _lines,
         places,

@@ -8,9 +8,7 @@ use crate::reasons::explain_no;
 use std::alloc::{AllocError, Global};
 use ti_caps::Entry;
 use ti_checker::{Cause, No, note_lines, notes};
-use ti_commands::{
-    Failure, Files, Replied, Reply, Sourced, World, file_fault, size_words, sourced_entry,
-};
+use ti_commands::{Failure, Files, Replied, Reply, Sourced, file_fault, size_words, sourced_entry};
 use ti_hints::advise;
 use ti_places::no_failure;
 use ti_requests::CheckWords;
@@ -19,30 +17,26 @@ use vt_term::Size;
 
 /// Replies with the notes on the entry that the `words` give and with the certificate that the `certifier` writes of
 /// it, which goes to its path or to standard output, or with the reason why there is none. Further lines go to
-/// the remarks of the `world`, advice on an entry with a certificate among them.
+/// `remarks`, advice on an entry with a certificate among them.
 pub fn check_entry<C: Certifier, F: Files>(
     alloc: Global,
     certifier: &C,
     words: &CheckWords<'_>,
-    world: &mut World<'_, F>,
+    files: &mut F,
+    remarks: &mut Remarks,
 ) -> Replied
     ensures reply { IfOk result (λ reply. IsChecked (C.certifies certifier.now) (C.refuses certifier.now)
-        (F.holds world.old.files.now) (F.holds world.new.files.now) words.now reply) }
-    ensures failure { IfErr result (λ e. FailsToCheck (F.holds world.old.files.now) words.now e) }
-    ensures kept { OnErr result (F.holds world.new.files.now ≡ F.holds world.old.files.now) }
+        (F.holds files.old) (F.holds files.new) words.now reply) }
+    ensures failure { IfErr result (λ e. FailsToCheck (F.holds files.old) words.now e) }
+    ensures kept { OnErr result (F.holds files.new ≡ F.holds files.old) }
 {
-    let size = size_words(alloc, words.rows, words.cols, world.remarks)?;
-    let Sourced { entry, source: _ } = sourced_entry(
-        alloc,
-        world.files,
-        words.entry,
-        world.remarks,
-    )?;
+    let size = size_words(alloc, words.rows, words.cols, remarks)?;
+    let Sourced { entry, source: _ } = sourced_entry(alloc, files, words.entry, remarks)?;
     let notes = notes_on(alloc, &entry, size)?;
-    match certificate_of(alloc, certifier, &entry, size, world.remarks) {
+    match certificate_of(alloc, certifier, &entry, size, remarks) {
         Ok(text) => {
-            let reply = deliver(alloc, notes, text, words.out, world.files, world.remarks);
-            advise_on(alloc, &entry, size, &reply, world.remarks);
+            let reply = deliver(alloc, notes, text, words.out, files, remarks);
+            advise_on(alloc, &entry, size, &reply, remarks);
             Ok(reply)
         }
         Err(failure) => Ok(Reply {

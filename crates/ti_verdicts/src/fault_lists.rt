@@ -14,7 +14,7 @@ use crate::written::Lines;
 use std::alloc::{AllocError, Global};
 use ti_caps::Entry;
 use ti_checker::No;
-use ti_commands::{Files, Replied, Reply, SourceText, Sourced, World, size_words, sourced_entry};
+use ti_commands::{Files, Replied, Reply, SourceText, Sourced, size_words, sourced_entry};
 use ti_faults::{Mended, faults};
 use ti_hints::{advise, advise_unchecked};
 use ti_places::{
@@ -28,23 +28,24 @@ use vt_term::Size;
 /// Replies with the notes on the entry that the `words` give, and with all its faults, each with its place, the field
 /// there and its explanation, and with their number; or with `yes` if there is none. The reply fails as the first of
 /// the faults does. The `originals` are the texts of those files whose lines were joined, as they were before.
-/// Further lines go to the remarks of the `world`: that the entry seems to be for a terminal of another kind, that a
-/// fault may go once others are mended, advice on an entry without a fault, and advice on strings that aren't checked,
-/// with their number.
+/// Further lines go to `remarks`: that the entry seems to be for a terminal of another kind, that a fault may go once
+/// others are mended, advice on an entry without a fault, and advice on strings that aren't checked, with their
+/// number.
 pub fn check_all<F: Files>(
     alloc: Global,
     words: &FaultsWords<'_>,
     originals: &[LinedFile<'_>],
-    world: &mut World<'_, F>,
+    files: &mut F,
+    remarks: &mut Remarks,
 ) -> Replied
     ensures reply { IfOk result (λ reply. spec.ListsFaults (map file_text originals.now)
-        (F.holds world.old.files.now) words.now reply) }
-    ensures failure { IfErr result (λ e. FailsForEntry (F.holds world.old.files.now) words.now.rows.now
-        words.now.cols.now words.now.entry.now e) }
-    ensures kept { F.holds world.new.files.now ≡ F.holds world.old.files.now }
+        (F.holds files.old) words.now reply) }
+    ensures failure { IfErr result (λ e. FailsForEntry (F.holds files.old) words.now.rows.now words.now.cols.now
+        words.now.entry.now e) }
+    ensures kept { F.holds files.new ≡ F.holds files.old }
 {
-    let size = size_words(alloc, words.rows, words.cols, world.remarks)?;
-    let found = sourced_entry(alloc, world.files, words.entry, world.remarks)?;
+    let size = size_words(alloc, words.rows, words.cols, remarks)?;
+    let found = sourced_entry(alloc, files, words.entry, remarks)?;
     let notes = notes_on(alloc, &found.entry, size)?;
     let nos = faults(alloc, &found.entry, size)?;
     let asked = Asked {
@@ -53,12 +54,12 @@ pub fn check_all<F: Files>(
         originals,
     };
     let reply = reply_of(alloc, &asked, notes, nos.as_slice())?;
-    note_another_kind(nos.as_slice(), world.remarks);
-    note_left_out(nos.as_slice(), world.remarks);
+    note_another_kind(nos.as_slice(), remarks);
+    note_left_out(nos.as_slice(), remarks);
     if nos.is_empty() {
-        advise(alloc, &found.entry, size, world.remarks);
+        advise(alloc, &found.entry, size, remarks);
     }
-    advise_unchecked(alloc, &found.entry, world.remarks);
+    advise_unchecked(alloc, &found.entry, remarks);
     Ok(reply)
 }
 

@@ -11,33 +11,27 @@ use std::alloc::Global;
 use std::io::Read;
 use ti_caps::Entry;
 use ti_cert::{AgreeFault, CertFault, CertFaultKind, Checked, VerifyFault, verify_from};
-use ti_commands::{Failure, Files, Replied, Reply, World, entry_of, file_fault, size_words};
+use ti_commands::{Failure, Files, Replied, Reply, entry_of, file_fault, size_words};
 use ti_places::{disagreement_words, fault_words, verdict};
 use ti_requests::VerifyWords;
 use ti_words::{Remarks, explain_disagreement};
 use vt_term::Size;
 
 /// Says yes if the certificate that the `words` name shows that their entry conforms at their size. Further lines go to
-/// the remarks of the `world`.
+/// `remarks`.
 pub fn verify_certificate<F: Files>(
     alloc: Global,
     words: &VerifyWords<'_>,
-    world: &mut World<'_, F>,
+    files: &mut F,
+    remarks: &mut Remarks,
 ) -> Replied
-    ensures reply { IfOk result (λ reply. spec.IsVerified (F.holds world.old.files.now) words.now reply) }
-    ensures failure { IfErr result (λ e. spec.FailsToVerify (F.holds world.old.files.now) words.now e) }
-    ensures kept { F.holds world.new.files.now ≡ F.holds world.old.files.now }
+    ensures reply { IfOk result (λ reply. spec.IsVerified (F.holds files.old) words.now reply) }
+    ensures failure { IfErr result (λ e. spec.FailsToVerify (F.holds files.old) words.now e) }
+    ensures kept { F.holds files.new ≡ F.holds files.old }
 {
-    let size = size_words(alloc, words.rows, words.cols, world.remarks)?;
-    let entry = entry_of(alloc, world.files, words.entry, world.remarks)?;
-    let _checked = checked_at(
-        alloc,
-        &entry,
-        size,
-        words.certificate,
-        world.files,
-        world.remarks,
-    )?;
+    let size = size_words(alloc, words.rows, words.cols, remarks)?;
+    let entry = entry_of(alloc, files, words.entry, remarks)?;
+    let _checked = checked_at(alloc, &entry, size, words.certificate, files, remarks)?;
     let text = Vec::from_slice(alloc, b"yes\n")?;
     Ok(Reply::of_text(alloc, text))
 }

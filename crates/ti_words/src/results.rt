@@ -1,9 +1,9 @@
-//! What functions that make texts give.
+//! The results of functions that make texts.
 
 use std::alloc::AllocError;
 
-/// What a function that makes a text gives: its bytes, or that memory ran out.
+/// The result of a function that makes a text: its bytes, or that memory ran out.
 pub type Made = Result<Vec<u8>, AllocError>;
 
-/// What a function that appends gives: nothing, or that memory ran out.
+/// The result of a function that appends: nothing, or that memory ran out.
 pub type Pushed = Result<(), AllocError>;

@@ -13,8 +13,8 @@ use std::alloc::Global;
 use std::io::{IsTerminal, Write};
 use ti_arguments::{Asked, ParsedLine, UsageFault, parse_line};
 use ti_commands::{
-    CommandRefusal, Comparison, Failure, Files, Output, Replied, Reply, World, Written,
-    compare_entries, compile_entry, expand_string, print_entry, report, write_reply, write_text,
+    CommandRefusal, Comparison, Failure, Files, Output, Replied, Reply, Written, compare_entries,
+    compile_entry, expand_string, print_entry, report, write_reply, write_text,
 };
 use ti_mends::fix_entry;
 use ti_places::LinedFile;
@@ -118,44 +118,35 @@ fn is_open_field(reply: &Replied) -> bool {
 }
 
 /// The reply of `check` to its `words`. If `err` is a terminal, and the certificate goes to a file,
-/// a last line in the remarks of the `world` says how many lines it has.
+/// a last line in `remarks` says how many lines it has.
 fn check_counted<F: Files, E: IsTerminal>(
     alloc: Global,
     words: &CheckWords<'_>,
-    world: &mut World<'_, F>,
+    files: &mut F,
     err: &E,
+    remarks: &mut Remarks,
 ) -> Replied {
-    let mut counted = Counted::new(world.files);
-    let reply = check_over(alloc, words, &mut counted, world.remarks)?;
+    let mut counted = Counted::new(files);
+    let reply = check_entry(alloc, &Checker, words, &mut counted, remarks)?;
     if let Some(lines) = counted.lines {
         if err.is_terminal() {
             if let Ok(text) = format!(in alloc; "yes, {lines} lines") {
-                world.remarks.add_words(text.as_bytes());
+                remarks.add_words(text.as_bytes());
             }
         }
     }
     Ok(reply)
 }
 
-/// The reply of `check` to its `words`, over these `files`.
-fn check_over<F: Files>(
-    alloc: Global,
-    words: &CheckWords<'_>,
-    files: &mut F,
-    remarks: &mut Remarks,
-) -> Replied {
-    let mut world = World { files, remarks };
-    check_entry(alloc, &Checker, words, &mut world)
-}
-
 /// The reply of `play` to its `words`. The bytes that it sends go to `out` as they come.
 fn play<F: Files, O: Output>(
     alloc: Global,
     words: &ScriptWords<'_>,
-    world: &mut World<'_, F>,
+    files: &mut F,
     out: &mut O,
+    remarks: &mut Remarks,
 ) -> Replied {
-    play_script(alloc, words, world, out)?;
+    play_script(alloc, words, files, out, remarks)?;
     Ok(Reply::of_text(alloc, Vec::new(alloc)))
 }
 
@@ -193,11 +184,12 @@ fn reports_of<'a>(words: &'a SurveyWords<'a>, originals: &'a [LinedFile<'a>]) ->
 fn survey_plainly<F: Files, O: Output, E: Write + IsTerminal>(
     alloc: Global,
     survey: &Survey<'_, Checker>,
-    world: &mut World<'_, F>,
+    files: &mut F,
     streams: &mut Streams<'_, '_, O, E>,
+    remarks: &mut Remarks,
 ) -> Replied {
     let mut lines = SurveyLines::new(alloc, streams.out, streams.err);
-    let reply = survey_files(alloc, survey, world, &mut lines)?;
+    let reply = survey_files(alloc, survey, files, &mut lines, remarks)?;
     Ok(lines.end(alloc, reply))
 }
 
@@ -216,11 +208,12 @@ fn fix_words<'a>(words: &SurveyWords<'a>, out: Option<&'a str>) -> FixWords<'a> 
 fn survey_json<F: Files, O: Output, E: Write + IsTerminal>(
     alloc: Global,
     survey: &SurveyReports<'_>,
-    world: &mut World<'_, F>,
+    files: &mut F,
     streams: &mut Streams<'_, '_, O, E>,
+    remarks: &mut Remarks,
 ) -> Replied {
     let mut lines = SurveyLines::new(alloc, streams.out, streams.err);
-    let reply = survey_reports(alloc, survey, world, &mut lines)?;
+    let reply = survey_reports(alloc, survey, files, &mut lines, remarks)?;
     Ok(lines.end(alloc, reply))
 }
 
@@ -262,7 +255,7 @@ fn reply_by<F: Files + Sources, O: Output, E: Write + IsTerminal>(
     }
     let mut beside = Beside::new(files, asked.further.as_slice());
     let job = Job { asked, texts: &[] };
-    reply_over(alloc, &job, &mut beside, streams, remarks)
+    reply_to(alloc, &job, &mut beside, streams, remarks)
 }
 
 /// The reply of the command that is `asked` for, whose sources are read with each field on one line. Their texts are
@@ -283,7 +276,7 @@ fn joined_reply<F: Files, O: Output, E: Write + IsTerminal>(
         asked,
         texts: texts.as_slice(),
     };
-    reply_over(alloc, &job, &mut joined, streams, remarks)
+    reply_to(alloc, &job, &mut joined, streams, remarks)
 }
 
 /// A command that is asked for, and the texts whose lines are joined for it.
@@ -293,56 +286,45 @@ struct Job<'a> {
     texts: &'a [LinedFile<'a>],
 }
 
-/// The reply of the command of the `job`, over these `files`.
-fn reply_over<F: Files, O: Output, E: Write + IsTerminal>(
+/// The reply of the command of the `job`. The bytes that `play` sends and the lines of a survey go to `out` as they
+/// come, and the reply has what follows them.
+fn reply_to<F: Files, O: Output, E: Write + IsTerminal>(
     alloc: Global,
     job: &Job<'_>,
     files: &mut F,
     streams: &mut Streams<'_, '_, O, E>,
     remarks: &mut Remarks,
 ) -> Replied {
-    let mut world = World { files, remarks };
-    reply_to(alloc, job, &mut world, streams)
-}
-
-/// The reply of the command of the `job`. The bytes that `play` sends and the lines of a survey go to `out` as they
-/// come, and the reply has what follows them.
-fn reply_to<F: Files, O: Output, E: Write + IsTerminal>(
-    alloc: Global,
-    job: &Job<'_>,
-    world: &mut World<'_, F>,
-    streams: &mut Streams<'_, '_, O, E>,
-) -> Replied {
     let Job { asked, texts } = *job;
     match &asked.request {
-        Request::Expand(words) => expand_string(alloc, words, world.remarks),
-        Request::Feed { rows, cols, file } => feed_file(alloc, rows, cols, file, world),
-        Request::FeedAs(words) => feed_state(alloc, words, world),
-        Request::Tic { entry, out } => compile_entry(alloc, entry, *out, world),
-        Request::Check(words) if asked.fixes => fix_entry(alloc, words, world),
-        Request::Check(words) => check_counted(alloc, words, world, streams.err),
-        Request::CheckAll(words) => check_all(alloc, words, texts, world),
+        Request::Expand(words) => expand_string(alloc, words, remarks),
+        Request::Feed { rows, cols, file } => feed_file(alloc, rows, cols, file, files, remarks),
+        Request::FeedAs(words) => feed_state(alloc, words, files, remarks),
+        Request::Tic { entry, out } => compile_entry(alloc, entry, *out, files, remarks),
+        Request::Check(words) if asked.fixes => fix_entry(alloc, words, files, remarks),
+        Request::Check(words) => check_counted(alloc, words, files, streams.err, remarks),
+        Request::CheckAll(words) => check_all(alloc, words, texts, files, remarks),
         Request::CheckJson { lists_all, words } => {
-            check_reports(alloc, &check_of(words, *lists_all, texts), world)
+            check_reports(alloc, &check_of(words, *lists_all, texts), files, remarks)
         }
-        Request::Verify(words) => verify_certificate(alloc, words, world),
-        Request::Play(words) => play(alloc, words, world, streams.out),
-        Request::Show(words) => show_script(alloc, words, world),
+        Request::Verify(words) => verify_certificate(alloc, words, files, remarks),
+        Request::Play(words) => play(alloc, words, files, streams.out, remarks),
+        Request::Show(words) => show_script(alloc, words, files, remarks),
         Request::Survey(words) if asked.fixes => {
-            fix_survey(alloc, &fix_words(words, asked.out), world)
+            fix_survey(alloc, &fix_words(words, asked.out), files, remarks)
         }
         Request::Survey(words) => {
-            survey_plainly(alloc, &survey_of(words, texts), world, streams)
+            survey_plainly(alloc, &survey_of(words, texts), files, streams, remarks)
         }
         Request::SurveyJson(words) => {
-            survey_json(alloc, &reports_of(words, texts), world, streams)
+            survey_json(alloc, &reports_of(words, texts), files, streams, remarks)
         }
-        Request::Print { entry } => print_entry(alloc, entry, world),
+        Request::Print { entry } => print_entry(alloc, entry, files, remarks),
         Request::Common { first, second } => {
-            compare_entries(alloc, first, second, Comparison::Common, world)
+            compare_entries(alloc, first, second, Comparison::Common, files, remarks)
         }
         Request::Neither { first, second } => {
-            compare_entries(alloc, first, second, Comparison::Neither, world)
+            compare_entries(alloc, first, second, Comparison::Neither, files, remarks)
         }
     }
 }

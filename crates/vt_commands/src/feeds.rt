@@ -6,7 +6,7 @@ ghost use Rattle.vt_commands.specs.{Feeds.{FailsToFeed, ShowsScreen}, States.{Fa
 
 use crate::fed::{Fed, stuck_failure};
 use std::alloc::Global;
-use ti_commands::{Failure, Files, LONGEST_FILE, Replied, Reply, World, read_whole, size_words};
+use ti_commands::{Failure, Files, LONGEST_FILE, Replied, Reply, read_whole, size_words};
 use ti_words::Remarks;
 use vt_term::Terminal;
 
@@ -17,20 +17,21 @@ pub fn feed_file<F: Files>(
     rows: &str,
     cols: &str,
     path: &str,
-    world: &mut World<'_, F>,
+    files: &mut F,
+    remarks: &mut Remarks,
 ) -> Replied
-    ensures reply { IfOk result (λ reply. ShowsScreen (F.holds world.old.files.now) rows.now cols.now path.now reply) }
-    ensures failure { IfErr result (λ e. FailsToFeed (F.holds world.old.files.now) rows.now cols.now path.now e) }
-    ensures kept { F.holds world.new.files.now ≡ F.holds world.old.files.now }
+    ensures reply { IfOk result (λ reply. ShowsScreen (F.holds files.old) rows.now cols.now path.now reply) }
+    ensures failure { IfErr result (λ e. FailsToFeed (F.holds files.old) rows.now cols.now path.now e) }
+    ensures kept { F.holds files.new ≡ F.holds files.old }
 {
-    let size = size_words(alloc, rows, cols, world.remarks)?;
-    let bytes = read_whole(alloc, world.files, path, LONGEST_FILE, world.remarks)?;
+    let size = size_words(alloc, rows, cols, remarks)?;
+    let bytes = read_whole(alloc, files, path, LONGEST_FILE, remarks)?;
     let fed = Fed {
         size,
         path,
         bytes: bytes.as_slice(),
     };
-    let text = screen_after(alloc, fed, world.remarks)?;
+    let text = screen_after(alloc, fed, remarks)?;
     Ok(Reply::of_text(alloc, text))
 }
 

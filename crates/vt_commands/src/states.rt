@@ -10,7 +10,7 @@ use crate::fed::{Fed, stuck_failure};
 use crate::feeds::screen_after;
 use std::alloc::{AllocError, Global};
 use ti_commands::{
-    CommandRefusal, Failure, Files, LONGEST_FILE, Replied, Reply, World, read_whole, size_words,
+    CommandRefusal, Failure, Files, LONGEST_FILE, Replied, Reply, read_whole, size_words,
 };
 use ti_requests::{FeedForm, FeedWords};
 use ti_words::Remarks;
@@ -22,21 +22,22 @@ use vt_states::{CaseFault, Snapshot, case_answers, plain_recording};
 pub fn feed_state<F: Files>(
     alloc: Global,
     words: &FeedWords<'_>,
-    world: &mut World<'_, F>,
+    files: &mut F,
+    remarks: &mut Remarks,
 ) -> Replied
-    ensures reply { IfOk result (λ reply. ShowsStates (F.holds world.old.files.now) words.now reply) }
-    ensures failure { IfErr result (λ e. FailsToShow (F.holds world.old.files.now) words.now e) }
-    ensures kept { F.holds world.new.files.now ≡ F.holds world.old.files.now }
+    ensures reply { IfOk result (λ reply. ShowsStates (F.holds files.old) words.now reply) }
+    ensures failure { IfErr result (λ e. FailsToShow (F.holds files.old) words.now e) }
+    ensures kept { F.holds files.new ≡ F.holds files.old }
 {
-    let size = size_words(alloc, words.rows, words.cols, world.remarks)?;
-    let bytes = read_whole(alloc, world.files, words.file, LONGEST_FILE, world.remarks)?;
+    let size = size_words(alloc, words.rows, words.cols, remarks)?;
+    let bytes = read_whole(alloc, files, words.file, LONGEST_FILE, remarks)?;
     let (plain, notes) = fed_bytes(alloc, words.plain_text, bytes)?;
     let fed = Fed {
         size,
         path: words.file,
         bytes: plain.as_slice(),
     };
-    let text = shown(alloc, words.form, fed, world.remarks)?;
+    let text = shown(alloc, words.form, fed, remarks)?;
     Ok(Reply {
         notes,
         text,

@@ -13,7 +13,7 @@ returns-in_err-play_calls-clause-failure g c =
     let p = err_from_is_err_and c.from_residual-in_err-play_calls.result c.from_residual-in_err-play_calls.ensures.1 in
     let r = c.in_ok-ready.ready in
     rw (p.1, p.2) (inr (inr (record {
-      given = given_by (g.F.Files.holds c.args.world.now.files.now) c.args.words.now r.size.rows r.size.cols r.checked r.text.items c.as_slice.result.now c.in_ok-calls.calls.items c.as_slice-2.result.now
+      given = given_by (g.F.Files.holds c.args.files.now) c.args.words.now r.size.rows r.size.cols r.checked r.text.items c.as_slice.result.now c.in_ok-calls.calls.items c.as_slice-2.result.now
           c.in_ok-ready.ensures.ready c.as_slice.ensures.value c.in_ok-calls.ensures.calls c.as_slice-2.ensures.value;
       unplayed = c.in_err-play_calls.ensures.failure;
     })))
@@ -22,7 +22,7 @@ pub returns-clause-played : goal.returns-clause-played
 returns-clause-played g c =
     let r = c.in_ok-ready.ready in
     record {
-      given = given_by (g.F.Files.holds c.args.world.now.files.now) c.args.words.now r.size.rows r.size.cols r.checked r.text.items c.as_slice.result.now c.in_ok-calls.calls.items c.as_slice-2.result.now
+      given = given_by (g.F.Files.holds c.args.files.now) c.args.words.now r.size.rows r.size.cols r.checked r.text.items c.as_slice.result.now c.in_ok-calls.calls.items c.as_slice-2.result.now
           c.in_ok-ready.ensures.ready c.as_slice.ensures.value c.in_ok-calls.ensures.calls c.as_slice-2.ensures.value;
       ran = c.in_ok-play_calls.ensures.ran;
     }

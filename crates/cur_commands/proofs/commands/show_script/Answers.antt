@@ -13,7 +13,7 @@ returns-in_err-text-clause-failure g c =
     let p = err_from_is_err_and c.from_residual-in_err-text.result c.from_residual-in_err-text.ensures.1 in
     let r = c.in_ok-ready.ready in
     rw (p.1, p.2) (inr (inr (record {
-      given = given_by (g.F.Files.holds c.args.world.now.files.now) c.args.words.now r.size.rows r.size.cols r.checked r.text.items c.as_slice.result.now c.in_ok-calls.calls.items c.as_slice-2.result.now
+      given = given_by (g.F.Files.holds c.args.files.now) c.args.words.now r.size.rows r.size.cols r.checked r.text.items c.as_slice.result.now c.in_ok-calls.calls.items c.as_slice-2.result.now
           c.in_ok-ready.ensures.ready c.as_slice.ensures.value c.in_ok-calls.ensures.calls c.as_slice-2.ensures.value;
       lacks = refl;
     })))
@@ -22,7 +22,7 @@ pub returns-clause-reply : goal.returns-clause-reply
 returns-clause-reply g c =
     let r = c.in_ok-ready.ready in
     record {
-      given = given_by (g.F.Files.holds c.args.world.now.files.now) c.args.words.now r.size.rows r.size.cols r.checked r.text.items c.as_slice.result.now c.in_ok-calls.calls.items c.as_slice-2.result.now
+      given = given_by (g.F.Files.holds c.args.files.now) c.args.words.now r.size.rows r.size.cols r.checked r.text.items c.as_slice.result.now c.in_ok-calls.calls.items c.as_slice-2.result.now
           c.in_ok-ready.ensures.ready c.as_slice.ensures.value c.in_ok-calls.ensures.calls c.as_slice-2.ensures.value;
       text = c.in_ok-text.text.items;
       shows = shown_at _ _ _ _ r.size.rows r.size.cols c.as_slice-2.result.now c.in_ok-text.text.items c.in_ok-ready.ensures.ready.hands_out.rows c.in_ok-ready.ensures.ready.hands_out.cols c.in_ok-text.ensures;

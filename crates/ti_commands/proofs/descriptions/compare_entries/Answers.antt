@@ -18,5 +18,5 @@ returns-in_err-other-clause-failure g c =
 
 pub returns-clause-reply : goal.returns-clause-reply
 returns-clause-reply g c =
-    compared (g.F.Files.holds c.args.world.now.files.now) (g.F.Files.holds c.entry_of.new.files) c.args.first.now c.args.second.now c.args.comparison c.in_ok-one.one c.in_ok-other.other c.in_ok-text.text.items c.of_text.result
+    compared (g.F.Files.holds c.args.files.now) (g.F.Files.holds c.entry_of.new.files) c.args.first.now c.args.second.now c.args.comparison c.in_ok-one.one c.in_ok-other.other c.in_ok-text.text.items c.of_text.result
     c.in_ok-one.ensures.entry c.entry_of.ensures.kept c.in_ok-other.ensures.entry c.in_ok-text.ensures c.of_text.ensures.notes (ap (λ v. v.items) c.of_text.ensures.text) c.of_text.ensures.failure

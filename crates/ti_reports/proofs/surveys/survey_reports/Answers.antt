@@ -26,7 +26,7 @@ returns-clause-reply g c =
         ends = subst
             (λ (paths : List (Bor (List ℕ))).
             EndsPaths (AreLines (Reports c.in_ok-size.size.rows c.in_ok-size.size.cols c.args.survey.now.words.now.lists_all (map file_text c.args.survey.now.originals.now)) (ReportsLack c.in_ok-size.size.rows c.in_ok-size.size.cols)) (ReportsUnread c.in_ok-size.size.rows c.in_ok-size.size.cols)
-            (g.F.Files.holds c.args.world.now.files.now) (texts_of paths) (told_of said) c.in_ok-said.field-0.failure c.survey_paths.new.remarks)
+            (g.F.Files.holds c.args.files.now) (texts_of paths) (told_of said) c.in_ok-said.field-0.failure c.survey_paths.new.remarks)
             c.as_slice-paths.ensures.value c.in_ok-said.ensures.told;
         strictly = subst (λ (answered : List Answer). EndsStrictly c.args.survey.now.words.now.is_strict answered c.in_ok-said.field-0.failure c.in_ok-failure.failure) c.as_slice-2.ensures.value c.in_ok-failure.ensures;
         places = c.in_ok-notes.ensures ∙ ap (λ (faults : List PlacedFault). places_text (map placed_in faults)) c.as_slice.ensures.value;

@@ -27,7 +27,7 @@ returns-clause-reply g c =
           (λ (paths : List (Bor (List ℕ))).
           EndsPaths
           (AreLines (SaysBy c.args.survey.now.words.now.lists_all c.args.survey.now.words.now.names_parts (map file_text c.args.survey.now.originals.now) (g.C.Certifier.certifies c.args.survey.now.certifier.now) (g.C.Certifier.refuses c.args.survey.now.certifier.now) c.in_ok-size.size.rows c.in_ok-size.size.cols) IsRefused) SaysNothing
-          (g.F.Files.holds c.args.world.now.files.now) (texts_of paths) (told_of said) c.in_ok-surveyed.surveyed.failure c.survey_paths.new.remarks)
+          (g.F.Files.holds c.args.files.now) (texts_of paths) (told_of said) c.in_ok-surveyed.surveyed.failure c.survey_paths.new.remarks)
           c.as_slice-paths.ensures.value c.in_ok-surveyed.ensures.told;
       strictly = subst (λ (answered : List Answer). EndsStrictly c.args.survey.now.words.now.is_strict answered c.in_ok-surveyed.surveyed.failure c.in_ok-failure.failure) c.as_slice-3.ensures.value c.in_ok-failure.ensures;
       places = c.in_ok-notes.ensures ∙ ap (λ (faults : List PlacedFault). places_text (map placed_in faults)) c.as_slice.ensures.value;
