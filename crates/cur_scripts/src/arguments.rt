@@ -265,20 +265,20 @@ pub(crate) fn copywin<'a>(words: Words<'a>) -> Option<Call<'a>>
     ensures { result ≡ spec.copywin words.entry }
 {
     let ((source, target), words) = words.two_windows()?;
-    let (from, words) = words.two_numbers()?;
-    let (to, words) = words.four_numbers()?;
+    let ((from_row, from_col), words) = words.two_numbers()?;
+    let ((row, col, last_row, last_col), words) = words.four_numbers()?;
     let (skip, words) = words.flag()?;
     words.end()?;
     Some(Call::Copywin {
         skip,
         source,
         target,
-        from_row: from.0,
-        from_col: from.1,
-        row: to.0,
-        col: to.1,
-        last_row: to.2,
-        last_col: to.3,
+        from_row,
+        from_col,
+        row,
+        col,
+        last_row,
+        last_col,
     })
 }
 
@@ -297,18 +297,18 @@ pub(crate) fn show_pad<'a>(call: PadCall, words: Words<'a>) -> Option<Call<'a>>
     ensures { result ≡ spec.show_pad call words.entry }
 {
     let (window, words) = words.window()?;
-    let (from, words) = words.two_numbers()?;
-    let (to, words) = words.four_numbers()?;
+    let ((row, col), words) = words.two_numbers()?;
+    let ((top, left, bottom, right), words) = words.four_numbers()?;
     words.end()?;
     Some(Call::ShowPad {
         call,
         window,
-        row: from.0,
-        col: from.1,
-        top: to.0,
-        left: to.1,
-        bottom: to.2,
-        right: to.3,
+        row,
+        col,
+        top,
+        left,
+        bottom,
+        right,
     })
 }
 
