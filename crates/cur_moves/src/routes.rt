@@ -125,18 +125,15 @@ impl<C: Certificate, N: Picture> Target<'_, C, N> {
         }
     }
 
-    /// The way to `at` with the stop `stop`, if there is one and that way is shorter than `best`.
-    fn with_stop(&self, belief: &Belief, at: Place, best: Route, stop: Option<Stop>) -> Route
+    /// The way to `at` with the stop `stop`, if that way is shorter than `best`.
+    fn with_stop(&self, belief: &Belief, at: Place, best: Route, stop: Stop) -> Route
         requires goal { IsGoal (C.table self.now.checked.now) at }
         requires best { IsRoute (C.table self.now.checked.now) belief.now (N.cells self.now.shown.now)
             at.row at.col best }
-        requires moves { IfSome stop (λ stop. LeadsFrom (C.table self.now.checked.now).cols belief.now.place stop) }
+        requires moves { LeadsFrom (C.table self.now.checked.now).cols belief.now.place stop }
         ensures route { IsRoute (C.table self.now.checked.now) belief.now (N.cells self.now.shown.now)
             at.row at.col result }
     {
-        let Some(stop) = stop else {
-            return best;
-        };
         if stop.place.row >= self.checked.rows() || stop.place.col >= self.checked.cols() {
             return best;
         }
@@ -170,13 +167,17 @@ impl<C: Certificate, N: Picture> Target<'_, C, N> {
             at.row at.col result }
     {
         let from = belief.place;
-        let straight = self.direct(belief, at);
-        let stop = line_start(from, at, straight.bytes);
-        let short = self.with_stop(belief, at, straight, stop);
-        let stop = corner(at, short.bytes);
-        let best = self.with_stop(belief, at, short, stop);
-        let stop = same_column(self.checked, from, at, best.bytes);
-        self.with_stop(belief, at, best, stop)
+        let mut best = self.direct(belief, at);
+        if let Some(stop) = line_start(from, at, best.bytes) {
+            best = self.with_stop(belief, at, best, stop);
+        }
+        if let Some(stop) = corner(at, best.bytes) {
+            best = self.with_stop(belief, at, best, stop);
+        }
+        if let Some(stop) = same_column(self.checked, from, at, best.bytes) {
+            best = self.with_stop(belief, at, best, stop);
+        }
+        best
     }
 }
 

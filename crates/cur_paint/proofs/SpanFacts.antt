@@ -7,7 +7,7 @@ use Rattle.cur_steps.specs.Stretches.{AreLike, AreShown}
 use Rattle.cur_steps.specs.declared.inks.Cells.{Cells}
 use Rattle.cur_steps.specs.declared.inks.Ink.{Ink}
 use Rattle.cur_steps.proofs.Sameness.{byte_as_is}
-use Rattle.cur_paint.specs.Differ.{differs, span, IsSameBy}
+use Rattle.cur_paint.specs.Differ.{differs, span, HasFewGaps, IsSameBy}
 use Rattle.cur_paint.specs.Scenes.{AreInked}
 use Rattle.cur_paint.proofs.Mixtures.{span_grows, span_more, times_grows}
 
@@ -41,6 +41,11 @@ pub piece_short : (t : Table) (d few n : ℕ) → n ≤ d * (few + 1) → few �
 piece_short t d few n short le =
     let room : few + 1 ≤ cell_limit t = omega (arith, le) in
     omega (arith, short, times_more d few (cell_limit t) room)
+
+-- a piece without a gap is one with few
+pub gaps_wider : (marks : List Bool) (few n : ℕ) → HasFewGaps marks 0 n → HasFewGaps marks few n
+gaps_wider marks few n short old new i from same =
+    omega (arith, short old new i from same, times_more (span old new i from n) 0 (few + 1) (omega arith))
 
 pub are_of : (new : ℕ → ℕ → Ink) (cells : Cells) (like n : ℕ) (ink : Ink) (text : List ℕ) → ink ≡ new cells.row like → AreLike new cells like n text → AreInked new cells ink n text
 are_of new cells like n ink text e h k lt =

@@ -1,5 +1,5 @@
 -- The number of places in which two screens differ.
-use Rattle.std.specs.Prelude.{ℕ, ◌+◌, ◌<◌, ◌≤◌, ◌≡◌, Bool, false, if◌then◌else◌, zero, suc, List, length}
+use Rattle.std.specs.Prelude.{ℕ, ◌+◌, ◌*◌, ◌<◌, ◌≤◌, ◌≡◌, Bool, false, if◌then◌else◌, zero, suc, List, length}
 use Rattle.std.specs.Prelude.{slice_index_or}
 use Rattle.cur_steps.specs.Inks.{same}
 use Rattle.cur_steps.specs.declared.inks.Ink.{Ink}
@@ -40,3 +40,9 @@ pub record IsMoved (between : (ℕ → ℕ → Ink) → (ℕ → ℕ → Ink) �
 abbrev pub IsSameBy : (ℕ → ℕ → Ink) → (ℕ → ℕ → Ink) → ℕ → ℕ → List Bool → Type 0
 IsSameBy old new i from marks = (k : ℕ) → k < length marks
     → slice_index_or marks k false ≡ same (old i (from + k)) (new i (from + k))
+
+-- (Serves the code alone.) of the first n places of a line, which are marked as the same on both screens or not, few
+-- lie between two that differ
+abbrev pub HasFewGaps : List Bool → ℕ → ℕ → Type 0
+HasFewGaps marks few n = (old new : ℕ → ℕ → Ink) (i from : ℕ) → IsSameBy old new i from marks
+    → n ≤ span old new i from n * (few + 1)

@@ -1,6 +1,6 @@
 //! The characters of a line that go out in one piece.
 ghost use Rattle.std.specs.Prelude.{◌*◌, ◌+◌, ◌<◌, ◌≡◌, ◌≤◌, false, length, true, ℕ};
-ghost use Rattle.cur_paint.specs.{Differ.{IsSameBy, span}, Scenes.{AreInked, HasCells, IsShort, scene}};
+ghost use Rattle.cur_paint.specs.{Differ.{HasFewGaps, IsSameBy, span}, Scenes.{AreInked, HasCells, IsShort, scene}};
 ghost use Rattle.cur_steps.specs.{Gaps.{IsAlike}, declared.inks.Ink.{Ink}};
 ghost use Rattle.ti_conforms.specs.Certified.{cell_limit};
 
@@ -67,25 +67,27 @@ fn piece_length<C: Certificate>(checked: &C, at: Place, same: &[bool]) -> usize
         → result ≤ span old new row from result * cell_limit (C.table checked.now) }
 {
     // mostly all of them differ, and no gap has to be weighed
-    let end = piece_end(same, 0);
-    if end == same.len() {
-        return end;
+    let start = piece_end(same, 0, 0);
+    if start == same.len() {
+        return start;
     }
     let few = line_bytes(checked, None, at).min(FEW);
-    piece_end(same, few)
+    piece_end(same, start, few)
 }
 
-/// The length of the piece to print in one write, given whether each cell is unchanged (`same`). The piece ends with a
-/// cell that differs, and never has more than `few` unchanged cells between two that differ.
-fn piece_end(same: &[bool], few: usize) -> usize
+/// The length of the piece to print in one write, given whether each cell is unchanged (`same`). The piece begins with
+/// `start` cells that were looked at before, ends with a cell that differs, and never has more than `few` unchanged
+/// cells between two that differ.
+fn piece_end(same: &[bool], start: usize, few: usize) -> usize
     requires few { few ≤ 3 }
     requires short { length same.now ≤ 512 }
+    requires start { start ≤ length same.now }
+    requires before { HasFewGaps same.now few start }
     ensures within { result ≤ length same.now }
-    ensures few { (old new : ℕ → ℕ → Ink) (row from : ℕ) → IsSameBy old new row from same.now
-        → result ≤ span old new row from result * (few + 1) }
+    ensures few { HasFewGaps same.now few result }
 {
-    let mut end = 0;
-    for k in 0..same.len() {
+    let mut end = start;
+    for k in start..same.len() {
         end = end_after(end, k, same[k]);
         if k >= end + few {
             return end;

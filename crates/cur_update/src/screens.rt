@@ -11,7 +11,8 @@ use cur_drawing::Cell;
 use cur_screens::Virtual;
 use cur_steps::{Cells, Ink, Picture, is_plain_ink, is_same, same_brush};
 
-/// The fewest cells for which it pays to compare all characters first.
+/// The fewest cells for which it pays to compare all characters first, where those that are alike have to be looked at
+/// once more.
 const LONG: usize = 32;
 
 /// A virtual screen, and what the entry has for printing its cells.
@@ -208,12 +209,13 @@ impl<'a> PrintedScreen<'a> {
         ensures room { length shown.new ≡ length shown.old }
         ensures found { AreCellsShown self.now.means.now self.now.screen.now line.now ink text.now shown.new }
     {
-        if line.len() < LONG {
+        let shows_bare = self.shows_bare(ink);
+        if line.len() < LONG && !shows_bare {
             self.cells_show(line, ink, text, shown);
             return;
         }
         let are_bare = note_alike(line, text, shown);
-        if are_bare && self.shows_bare(ink) {
+        if are_bare && shows_bare {
             return;
         }
         for n in 0..line.len() {
