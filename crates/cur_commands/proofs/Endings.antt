@@ -6,7 +6,7 @@ use Rattle.vt_term.specs.Run.{Runs, Sticks}
 use Rattle.vt_term.specs.Screen.{State, reset}
 use Rattle.vt_term.specs.declared.terminals.Stuck.{Stuck}
 use Rattle.vt_term.proofs.Runs.{runs_or_sticks}
-use Rattle.vt_commands.specs.Feeds.{ShowsAfter}
+use Rattle.ti_commands.specs.Feeds.{ShowsAfter}
 use Rattle.ti_conforms.specs.Certified.{Table}
 use Rattle.cur_play.specs.Log.{Ran}
 use Rattle.cur_play.specs.declared.runs.LogEntry.{LogEntry}
@@ -15,7 +15,7 @@ use Rattle.cur_commands.specs.Through.{AreThrough, unfailing}
 use Rattle.ti_cert.specs.Table.{CheckedTable}
 use Rattle.ti_commands.specs.Contents.{Held}
 use Rattle.ti_commands.specs.declared.failure.Failure.{Failure}
-use Rattle.cur_calls.specs.declared.calls.Call.{Call}
+use Rattle.cur_scripts.specs.declared.calls.Call.{Call}
 use Rattle.cur_scripts.specs.Texts.{script_of}
 use Rattle.cur_commands.specs.Commands.{FailsAtScript, Given}
 use Rattle.cur_commands.specs.Preparations.{Prepared}

@@ -6,7 +6,7 @@ use Rattle.std.proofs.lemmas.List.{append-nil}
 use Rattle.vt_term.specs.Screen.{reset}
 use Rattle.vt_term.specs.Run.{Runs}
 use Rattle.ti_conforms.specs.Certified.{Table, IsChecked}
-use Rattle.cur_calls.specs.declared.calls.Call.{Call}
+use Rattle.cur_scripts.specs.declared.calls.Call.{Call}
 use Rattle.cur_paint.proofs.Starts.{reset_fresh}
 use Rattle.cur_play.proofs.Failures.{none_rose}
 use Rattle.cur_play.proofs.Wires.{Follows, ran_further, ran_over, ran_taken, ran_through}

@@ -8,7 +8,7 @@ use Rattle.ti_commands.specs.declared.failure.Failure.{Failure}
 use Rattle.ti_commands.specs.declared.failure.Failure.TheVariants.{NoMemory}
 use Rattle.ti_commands.specs.declared.failure.Reply.{Reply}
 use Rattle.ti_conforms.specs.Certified.{Table}
-use Rattle.cur_calls.specs.declared.calls.Call.{Call}
+use Rattle.cur_scripts.specs.declared.calls.Call.{Call}
 use Rattle.cur_scripts.specs.Texts.{script_of}
 use Rattle.cur_commands.specs.Preparations.{FailsToPrepare, Prepared}
 use Rattle.cur_commands.specs.Scripts.{IsScriptFailure}

@@ -5,7 +5,7 @@ use Rattle.std.specs.Io.KnownBytes.{Appends, append_known}
 use Rattle.std.proofs.Common.{◌∙◌, sym, ap, append_assoc, arith}
 use Rattle.std.proofs.Math.Nat.{le_refl, le_trans}
 use Rattle.std.proofs.lemmas.List.{append-nil}
-use Rattle.cur_wires.specs.Wire.{IsWire}
+use Rattle.cur_steps.specs.Wire.{IsWire}
 
 -- if there was a failure, the output has failed
 abbrev pub IsTold : {O : Type 0} → (O → Bool) → O → ℕ → Type 0

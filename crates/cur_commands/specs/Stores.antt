@@ -3,7 +3,7 @@ use Rattle.std.specs.Prelude.{◌≡◌, ◌≤◌, ℕ, List, ◌++◌}
 use Rattle.std.proofs.Common.{◌∙◌, sym, ap, append_assoc}
 use Rattle.std.proofs.Math.Nat.{le_refl, le_trans}
 use Rattle.std.proofs.lemmas.List.{append-nil}
-use Rattle.cur_wires.specs.Wire.{IsWire}
+use Rattle.cur_steps.specs.Wire.{IsWire}
 
 -- these bytes were added at the end
 pub record Stores (old new : List ℕ) (failed failures : ℕ) (bytes : List ℕ) : Type 0 where

@@ -5,7 +5,7 @@ use Rattle.std.specs.List.{AllByRecursion}
 use Rattle.ti_commands.specs.declared.failure.Failure.{Failure}
 use Rattle.ti_commands.specs.declared.failure.Failure.TheVariants.{Output, NoMemory}
 use Rattle.ti_conforms.specs.Certified.{Table}
-use Rattle.cur_calls.specs.declared.calls.Call.{Call}
+use Rattle.cur_scripts.specs.declared.calls.Call.{Call}
 use Rattle.cur_play.specs.Log.{Ran, Subject, subject_of}
 use Rattle.cur_play.specs.declared.answers.Answer.TheVariants.{WireFailed}
 use Rattle.cur_play.specs.declared.runs.LogEntry.{LogEntry}

@@ -1,11 +1,11 @@
 //! An output as a wire.
 ghost use Rattle.std.specs.Prelude.{◌≡◌, ◌<◌, ◌≤◌, [], length, take, IfOk, OnErr};
-ghost use Rattle.cur_wires.specs.Wire.{Rose};
+ghost use Rattle.cur_steps.specs.Wire.{Rose};
 ghost use Rattle.cur_commands.specs.Held.{Holds};
 
 use crate::buffers::Buffer;
 use cur_play::Paced;
-use cur_wires::{Wire, WireFault};
+use cur_steps::{Wire, WireFault};
 use ti_commands::Output;
 
 /// An output, and the bytes that are held back for it, so that it gets what a refresh sends in one piece. Once the
@@ -71,7 +71,7 @@ impl<'a, O: Output> Held<'a, O> {
 }
 
 impl<'a, O: Output> Wire for Held<'a, O> {
-    ghost use Rattle.cur_wires.specs.Wire.{Rose};
+    ghost use Rattle.cur_steps.specs.Wire.{Rose};
     ghost use Rattle.cur_commands.specs.Held.{Holds, holds_lawful};
 
     ghost went = { λ a b x.

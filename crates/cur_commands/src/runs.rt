@@ -4,7 +4,7 @@ ghost use Rattle.cur_commands.specs.Through.{IsUnplayed, RanThrough};
 
 use crate::buffers::Buffer;
 use crate::held::Held;
-use cur_calls::Call;
+use cur_scripts::Call;
 use cur_play::run_paced;
 use std::alloc::Global;
 use ti_commands::{Failure, Output};

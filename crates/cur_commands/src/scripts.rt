@@ -3,8 +3,7 @@ ghost use Rattle.std.specs.Prelude.{◌≡◌, ◌++◌, ℕ, List, IfErr, IfOk}
 ghost use Rattle.cur_scripts.specs.Texts.{FailsBy, script_of};
 ghost use Rattle.cur_commands.specs.Scripts as spec;
 
-use cur_calls::Call;
-use cur_scripts::{ScriptFault, ScriptFaultKind, read_script};
+use cur_scripts::{Call, read_script, ScriptFault, ScriptFaultKind};
 use std::alloc::{AllocError, Global};
 use ti_commands::{CommandRefusal, Failure, variant_name};
 use ti_words::Remarks;

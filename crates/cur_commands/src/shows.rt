@@ -1,12 +1,12 @@
 //! Runs of calls on the specified terminal.
 ghost use Rattle.std.specs.Prelude.{◌≡◌, [], IfOk, Some};
-ghost use Rattle.vt_commands.specs.Feeds.{ShowsAfter};
+ghost use Rattle.ti_commands.specs.Feeds.{ShowsAfter};
 ghost use Rattle.cur_play.specs.Log.{Ran};
 ghost use Rattle.cur_commands.specs.{Shows.{IsTaken, ShowsRun}, Through.{AreThrough, unfailing}};
 
 use crate::refusals::refusal_lines;
 use crate::taken::Taken;
-use cur_calls::Call;
+use cur_scripts::Call;
 use cur_play::{Log, run};
 use std::alloc::{AllocError, Global};
 use ti_conforms::Certificate;

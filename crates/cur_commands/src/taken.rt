@@ -1,7 +1,7 @@
 //! A wire in memory.
 ghost use Rattle.std.specs.Prelude.{◌≡◌, []};
 
-use cur_wires::{Wire, WireFault};
+use cur_steps::{Wire, WireFault};
 use std::alloc::Global;
 
 /// A wire that keeps its bytes in memory, and fails if memory runs out.

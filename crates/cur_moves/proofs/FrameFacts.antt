@@ -7,10 +7,10 @@ use Rattle.vt_term.specs.Grid.{look_at, line_at, scrolled_up, scrolled_down}
 use Rattle.vt_term.specs.Screen.{Screen, State, IsOfSize}
 use Rattle.vt_term.specs.Ends.{Closed, Ends}
 use Rattle.grids.specs.Grids.{cell_at}
-use Rattle.cur_wires.specs.Leads.{Leads}
-use Rattle.cur_wires.specs.Wire.{Sends}
-use Rattle.cur_wires.proofs.Stops.{leads_line, steps_sent}
-use Rattle.cur_wires.proofs.Completion.{ends_sized}
+use Rattle.cur_steps.specs.Leads.{Leads}
+use Rattle.cur_steps.specs.Wire.{Sends}
+use Rattle.cur_steps.proofs.Stops.{leads_line, steps_sent}
+use Rattle.cur_steps.proofs.Completion.{ends_sized}
 use Rattle.ti_rows.specs.declared.rows.Row.{Row}
 use Rattle.ti_rows.specs.declared.rows.Row.TheVariants.{Cup, Csr, Ind, Ri}
 use Rattle.ti_rows.specs.Starts.{IsAny, IsCalmAnywhere}

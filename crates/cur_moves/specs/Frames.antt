@@ -3,7 +3,7 @@ use Rattle.std.specs.Prelude.{ℕ, ◌-◌, ◌<◌, ◌≡◌, true, false, Opt
 use Rattle.vt_term.specs.Grid.{look_at}
 use Rattle.vt_term.specs.Screen.{Screen, State, IsOfSize, is_graphic}
 use Rattle.vt_effects.specs.Settings.{IsTame}
-use Rattle.cur_wires.specs.Steps.{Steps}
+use Rattle.cur_steps.specs.WireSteps.{Steps}
 use Rattle.ti_rows.specs.declared.rows.Row.{Row}
 use Rattle.ti_rows.specs.declared.rows.Row.TheVariants.{Cnorm}
 use Rattle.ti_rows.specs.Starts.{Starts}

@@ -8,8 +8,7 @@ ghost use Rattle.cur_moves.specs.{Moves.{IsFewest}, Routes.{IsLeg, IsStop, IsRou
 use crate::moves::shortest;
 use crate::routes::{Leg, Route, Stop};
 use crate::targets::Target;
-use cur_steps::{Pen, Picture, Place, Sent, send_line, stands};
-use cur_wires::Wire;
+use cur_steps::{Pen, Picture, Place, send_line, Sent, stands, Wire};
 use ti_conforms::Certificate;
 
 impl<C: Certificate, N: Picture> Target<'_, C, N> {

@@ -9,8 +9,7 @@ use crate::cells::brush_as;
 use crate::frames::{send_row, set_frame};
 use crate::scrolls::{Scroll, edge, first_blank, is_whole, scroll_row};
 use crate::targets::Target;
-use cur_steps::{Blank, Brush, Pen, Place, Sent};
-use cur_wires::Wire;
+use cur_steps::{Blank, Brush, Pen, Place, Sent, Wire};
 use ti_conforms::Certificate;
 
 /// Moves the region's lines as `scroll` says, one line after the other. The cursor must be at the edge from which the

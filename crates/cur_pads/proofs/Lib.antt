@@ -2,3 +2,8 @@ pub mod Supports
 pub mod Passages
 pub mod Places
 pub mod Ranks
+pub mod Copied
+pub mod WindowPlaces
+pub mod Shares
+pub mod ShownLines
+pub mod Within

@@ -4,3 +4,4 @@ pub mod Creations
 pub mod Ranges
 pub mod Refusals
 pub mod Displays
+pub mod WindowPlaces

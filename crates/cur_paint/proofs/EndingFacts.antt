@@ -4,12 +4,12 @@ use Rattle.std.proofs.lemmas.List.{append-nil}
 use Rattle.vt_term.specs.Screen.{State, IsOfSize}
 use Rattle.vt_term.specs.Look.{plain}
 use Rattle.vt_term.proofs.Runs.{runs_once}
-use Rattle.cur_wires.specs.Leads.{Leads}
+use Rattle.cur_steps.specs.Leads.{Leads}
 use Rattle.vt_term.specs.Ends.{Ends}
 use Rattle.vt_term.specs.Ends.{Closed}
-use Rattle.cur_wires.proofs.Leads.{leads_then, leads_wider}
-use Rattle.cur_wires.proofs.Stops.{leads_line}
-use Rattle.cur_wires.proofs.Completion.{stays, ends_sized}
+use Rattle.cur_steps.proofs.Leads.{leads_then, leads_wider}
+use Rattle.cur_steps.proofs.Stops.{leads_line}
+use Rattle.cur_steps.proofs.Completion.{stays, ends_sized}
 use Rattle.ti_rows.specs.declared.rows.Row.{Row}
 use Rattle.ti_rows.specs.declared.rows.Row.TheVariants.{Cup, Sgr0, Rmacs, Cnorm, Rmcup}
 use Rattle.ti_rows.specs.Starts.{Starts}

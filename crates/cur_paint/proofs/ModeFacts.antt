@@ -3,12 +3,12 @@ use Rattle.std.proofs.Common.{◌≡◌, ℕ, ◌+◌, ◌≤◌, List, [], ◌+
 use Rattle.std.specs.Prelude.{OnOk}
 use Rattle.std.specs.List.{concat}
 use Rattle.vt_term.specs.Screen.{State}
-use Rattle.cur_wires.specs.Wire.{IsWire}
-use Rattle.cur_wires.specs.Steps.{Spells, Steps, then_kind}
-use Rattle.cur_wires.specs.Leads.{Leads}
-use Rattle.cur_wires.proofs.Leads.{all_append, concat-append, leads_then, leads_wider}
-use Rattle.cur_wires.proofs.Paints.{sends_then}
-use Rattle.cur_wires.proofs.Stops.{leads_each, on_ok_map, spells_nothing}
+use Rattle.cur_steps.specs.Wire.{IsWire}
+use Rattle.cur_steps.specs.WireSteps.{Spells, Steps, then_kind}
+use Rattle.cur_steps.specs.Leads.{Leads}
+use Rattle.cur_steps.proofs.Leads.{all_append, concat-append, leads_then, leads_wider}
+use Rattle.cur_steps.proofs.Paints.{sends_then}
+use Rattle.cur_steps.proofs.Stops.{leads_each, on_ok_map, spells_nothing}
 use Rattle.ti_conforms.specs.Certified.{Table, IsLost, IsPiece, Line, Character}
 use Rattle.cur_steps.specs.Pieces.{IsPaint, Stroke, Printed}
 use Rattle.cur_steps.specs.Beliefs.{mode_text}

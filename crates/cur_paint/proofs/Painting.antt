@@ -1,9 +1,9 @@
 -- Steps of a painter, one after another.
 use Rattle.std.proofs.Common.{◌≡◌, true, ℕ, ◌+◌, ◌-◌, ◌*◌, ◌<◌, ◌≤◌, List, Result, Ok, Err, refl, ap, subst, ◌∙◌, arith}
 use Rattle.std.specs.Prelude.{OnOk}
-use Rattle.cur_wires.specs.Wire.{IsWire}
-use Rattle.cur_wires.specs.declared.wires.WireFault.{WireFault}
-use Rattle.cur_wires.proofs.Stops.{on_ok_map, steps_fail, steps_next, steps_nothing, steps_wider}
+use Rattle.cur_steps.specs.Wire.{IsWire}
+use Rattle.cur_steps.specs.declared.wires.WireFault.{WireFault}
+use Rattle.cur_steps.proofs.Stops.{on_ok_map, steps_fail, steps_next, steps_nothing, steps_wider}
 use Rattle.ti_conforms.specs.Certified.{Table, IsChecked, IsLost, cell_limit}
 use Rattle.cur_steps.specs.Beliefs.{Agrees}
 use Rattle.cur_steps.specs.Gaps.{BeginsAs}

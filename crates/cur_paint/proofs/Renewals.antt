@@ -5,13 +5,13 @@ use Rattle.std.specs.Prelude.{OnOk}
 use Rattle.vt_term.specs.Look.{Rendition, blank}
 use Rattle.vt_term.specs.Grid.{drawn}
 use Rattle.vt_term.specs.Screen.{State}
-use Rattle.cur_wires.specs.Wire.{IsWire, StopsIn}
-use Rattle.cur_wires.specs.Leads.{Leads}
-use Rattle.cur_wires.specs.Steps.{Steps, then_kind}
-use Rattle.cur_wires.proofs.Leads.{leads_then, leads_wider}
-use Rattle.cur_wires.proofs.Paints.{sends_then}
-use Rattle.cur_wires.proofs.Stops.{on_ok_map}
-use Rattle.cur_wires.proofs.Completion.{ends_as}
+use Rattle.cur_steps.specs.Wire.{IsWire, StopsIn}
+use Rattle.cur_steps.specs.Leads.{Leads}
+use Rattle.cur_steps.specs.WireSteps.{Steps, then_kind}
+use Rattle.cur_steps.proofs.Leads.{leads_then, leads_wider}
+use Rattle.cur_steps.proofs.Paints.{sends_then}
+use Rattle.cur_steps.proofs.Stops.{on_ok_map}
+use Rattle.cur_steps.proofs.Completion.{ends_as}
 use Rattle.ti_rows.specs.declared.rows.Row.TheVariants.{Clear}
 use Rattle.cur_steps.specs.declared.beliefs.Belief.{Belief}
 use Rattle.cur_steps.specs.declared.inks.Ink.{Ink}

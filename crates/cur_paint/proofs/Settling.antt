@@ -1,7 +1,7 @@
 -- The end of a refresh, after other steps of the painter.
 use Rattle.std.proofs.Common.{◌≡◌, false, ℕ, ◌+◌, ◌≤◌, List, Option, Some, Result, Ok, Err, inr, subst, ap, ◌∙◌}
 use Rattle.std.specs.Prelude.{OnOk}
-use Rattle.cur_wires.specs.Wire.{IsWire}
+use Rattle.cur_steps.specs.Wire.{IsWire}
 use Rattle.ti_conforms.specs.Certified.{Table, IsChecked}
 use Rattle.cur_steps.specs.Beliefs.{Agrees}
 use Rattle.cur_steps.specs.Steps.{Acts}

@@ -1,9 +1,9 @@
 -- From all bytes of a refresh to its promise.
 use Rattle.std.proofs.Common.{◌≡◌, ℕ, ◌<◌, ◌≤◌, List, ◌++◌, length, Option, Some, Ok, Err, refl, ap, subst, ◌∙◌, inl, inr, arith, append_assoc, length-append}
 use Rattle.vt_term.specs.Screen.{State}
-use Rattle.cur_wires.specs.Leads.{Leads}
-use Rattle.cur_wires.specs.Wire.{StopsIn}
-use Rattle.cur_wires.proofs.Completion.{ends_as}
+use Rattle.cur_steps.specs.Leads.{Leads}
+use Rattle.cur_steps.specs.Wire.{StopsIn}
+use Rattle.cur_steps.proofs.Completion.{ends_as}
 use Rattle.cur_steps.specs.declared.beliefs.Belief.{Belief}
 use Rattle.cur_steps.specs.declared.beliefs.Mode.{Mode}
 use Rattle.cur_steps.specs.declared.beliefs.Place.{Place}

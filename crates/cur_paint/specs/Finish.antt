@@ -2,7 +2,7 @@
 use Rattle.std.specs.Prelude.{ℕ, ◌-◌, ◌<◌, ◌≡◌, List, [], ◌++◌, length, Result, Ok, Err}
 use Rattle.vt_term.specs.Screen.{State}
 use Rattle.vt_term.specs.Ends.{Ends}
-use Rattle.cur_wires.specs.Wire.{Rose}
+use Rattle.cur_steps.specs.Wire.{Rose}
 use Rattle.ti_rows.specs.declared.rows.Row.TheVariants.{Cup, Sgr0, Rmacs, Cnorm, Rmcup}
 use Rattle.ti_conforms.specs.Certified.{Table, IsLost, text_of}
 use Rattle.cur_steps.specs.declared.inks.Ink.{Ink}

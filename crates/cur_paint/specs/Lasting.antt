@@ -2,8 +2,8 @@
 use Rattle.std.specs.Prelude.{ℕ, ◌≡◌, Bool, true, false, List, [], ◌++◌, Err, refl}
 use Rattle.std.specs.Borrow.{MutBor}
 use Rattle.std.proofs.Common.{◌∙◌, le_refl, subst, sym}
-use Rattle.cur_wires.specs.Wire.{IsWire, StopsIn}
-use Rattle.cur_wires.proofs.Paints.{sends_then, stops_more}
+use Rattle.cur_steps.specs.Wire.{IsWire, StopsIn}
+use Rattle.cur_steps.proofs.Paints.{sends_then, stops_more}
 
 -- these bytes were taken, by whether the wire below had failed before and has failed now: all of them went out, or a
 -- prefix of them, or nothing

@@ -2,7 +2,7 @@
 use Rattle.std.specs.Prelude.{ℕ, ◌+◌, ◌-◌, ◌*◌, ◌<◌, ◌≤◌, ◌≡◌, List, [], Option, Some, Result, OnOk, length}
 use Rattle.std.specs.Prelude.{slice_index_or}
 use Rattle.vt_term.specs.Screen.{State}
-use Rattle.cur_wires.specs.Steps.{Steps}
+use Rattle.cur_steps.specs.WireSteps.{Steps}
 use Rattle.ti_rows.specs.declared.rows.Row.TheVariants.{Clear}
 use Rattle.ti_conforms.specs.Certified.{Table, IsChecked, IsLost, IsPiece, cell_limit}
 use Rattle.cur_steps.specs.Inks.{CanShow, mixed, blank_ink}

@@ -5,9 +5,9 @@ use Rattle.std.specs.List.{AllByRecursion, concat}
 use Rattle.vt_term.specs.Grid.{look_at}
 use Rattle.vt_term.specs.Screen.{State}
 use Rattle.vt_term.specs.Ends.{Ends}
-use Rattle.cur_wires.specs.Steps.{Steps}
-use Rattle.cur_wires.specs.Leads.{Leads}
-use Rattle.cur_wires.specs.Wire.{Rose, Sends}
+use Rattle.cur_steps.specs.WireSteps.{Steps}
+use Rattle.cur_steps.specs.Leads.{Leads}
+use Rattle.cur_steps.specs.Wire.{Rose, Sends}
 use Rattle.ti_rows.specs.declared.rows.Row.TheVariants.{Clear}
 use Rattle.ti_conforms.specs.Certified.{Table, IsLost, IsWhole, IsPiece, text_of}
 use Rattle.cur_steps.specs.Inks.{look_of}

@@ -10,8 +10,7 @@ use crate::changes::Changes;
 use crate::painters::Painter;
 use crate::updates::Wanted;
 use cur_moves::{Target, make_plain};
-use cur_steps::{Picture, Place, Sent};
-use cur_wires::Wire;
+use cur_steps::{Picture, Place, Sent, Wire};
 use ti_conforms::Certificate;
 
 impl<C: Certificate, O: Picture, N: Picture, W: Wire> Painter<'_, C, O, N, W> {

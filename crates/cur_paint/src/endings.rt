@@ -1,12 +1,11 @@
 //! The end of a program's screen.
 ghost use Rattle.std.specs.Prelude.{◌≡◌};
-ghost use Rattle.cur_wires.specs.Wire.{Sends};
+ghost use Rattle.cur_steps.specs.Wire.{Sends};
 ghost use Rattle.cur_paint.specs.declared.updates.Status.TheVariants.{Lost};
 ghost use Rattle.cur_paint.specs.Finish.{Finishes, end_text, finish_text};
 
 use crate::updates::{Knowledge, Status};
-use cur_steps::send_rows;
-use cur_wires::{Wire, WireFault, send_all};
+use cur_steps::{Wire, WireFault, send_all, send_rows};
 use ti_conforms::Certificate;
 use ti_rows::Row;
 

@@ -11,8 +11,7 @@ use crate::painters::Painter;
 use crate::screens::Screens;
 use crate::updates::{Wanted, start_belief};
 use cur_moves::{Scroll, Shifted, scroll_lines};
-use cur_steps::{Blank, Mode, Picture, Place, Sent};
-use cur_wires::{Wire, send_all};
+use cur_steps::{Blank, Mode, Picture, Place, Sent, Wire, send_all};
 use ti_conforms::Certificate;
 use ti_rows::Row;
 

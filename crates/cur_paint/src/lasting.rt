@@ -1,5 +1,5 @@
 //! A wire that goes on when another one fails.
-use cur_wires::{Wire, WireFault};
+use cur_steps::{Wire, WireFault};
 
 /// A wire over another one, which itself never fails: once the inner one has failed, it takes everything, and nothing
 /// more goes out. So a refresh is made to its end, though only a prefix of it has gone out.

@@ -15,8 +15,7 @@ use crate::pieces::{TEXT, differs_in, is_led_on, piece_of};
 use crate::runs::{FEWEST, erases_runs, is_run, next_part};
 use crate::tails::{rest_line, short_tail, tail_from};
 use cur_moves::{ErasedPart, Erasure, Target, erase_at, erasing_line};
-use cur_steps::{Cells, Ink, Picture, Place, Sent};
-use cur_wires::Wire;
+use cur_steps::{Cells, Ink, Picture, Place, Sent, Wire};
 use ti_conforms::Certificate;
 
 impl<C: Certificate, O: Picture, N: Picture, W: Wire> Painter<'_, C, O, N, W> {

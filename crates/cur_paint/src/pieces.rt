@@ -56,8 +56,8 @@ pub(crate) fn piece_of<C: Certificate, O: Picture, N: Picture>(
     piece_length(screens.checked, at, &same[..count])
 }
 
-/// The length of the piece to print in one write from `at` on, given whether each cell is unchanged (`same`): between
-/// two that differ there are no more unchanged ones than a move to `at` has bytes.
+/// The length of the piece to print in one write, beginning at `at`. `same[n]` says whether cell n is unchanged; the
+/// piece never crosses more unchanged cells than a move to `at` takes bytes.
 fn piece_length<C: Certificate>(checked: &C, at: Place, same: &[bool]) -> usize
     requires row { at.row < (C.table checked.now).rows }
     requires col { at.col < (C.table checked.now).cols }

@@ -17,8 +17,7 @@ use crate::changes::Changes;
 use crate::lasting::Lasting;
 use crate::painters::Painter;
 use crate::screens::Screens;
-use cur_steps::{Belief, Brush, Mode, Pen, Picture, Place, Sent};
-use cur_wires::{Wire, WireFault};
+use cur_steps::{Belief, Brush, Mode, Pen, Picture, Place, Sent, Wire, WireFault};
 use ti_conforms::Certificate;
 
 /// Makes the terminal show the new one of the `screens`, with the cursor as `wanted` says. The old one is the screen

@@ -6,7 +6,7 @@ use Rattle.vt_term.specs.Size.{IsSize}
 use Rattle.vt_term.specs.Text.{IsOpen}
 use Rattle.vt_term.proofs.Runs.{runs_nothing}
 use Rattle.cur_screens.specs.VirtualScreen.{Screen}
-use Rattle.cur_wires.specs.Wire.{IsWire}
+use Rattle.cur_steps.specs.Wire.{IsWire}
 use Rattle.vt_term.specs.Ends.{Ends}
 use Rattle.ti_rows.specs.declared.rows.Row.TheVariants.{Bel}
 use Rattle.ti_conforms.specs.Certified.{Table, IsChecked, IsLost, IsSmall, cell_limit}

@@ -6,8 +6,8 @@ use Rattle.ti_rows.specs.declared.rows.Row.TheVariants.{Bel}
 use Rattle.ti_conforms.specs.Certified.{Table, has}
 use Rattle.cur_drawing.specs.declared.refusals.Refusal.{Refusal}
 use Rattle.cur_screens.specs.VirtualScreen.{Screen}
-use Rattle.cur_wires.specs.Wire.{Rose, last_count}
-use Rattle.cur_wires.specs.declared.wires.WireFault.{WireFault}
+use Rattle.cur_steps.specs.Wire.{Rose, last_count}
+use Rattle.cur_steps.specs.declared.wires.WireFault.{WireFault}
 use Rattle.cur_steps.specs.declared.beliefs.Mode.{Mode}
 use Rattle.cur_steps.specs.declared.inks.Ink.{Ink}
 use Rattle.cur_paint.specs.Modes.{OnlyPaints, shown_mode}
@@ -20,7 +20,7 @@ use Rattle.cur_update.specs.Inks.{ink_at}
 use Rattle.cur_update.specs.Painters.{Painted, wanted_of}
 use Rattle.cur_update.specs.declared.bells.Unsent.{Unsent}
 use Rattle.cur_update.specs.declared.bells.Unsent.TheVariants.{Wire}
-use Rattle.cur_calls.specs.declared.calls.Call.{Call}
+use Rattle.cur_scripts.specs.declared.calls.Call.{Call}
 use Rattle.cur_play.proofs.Performances.{draws_answer}
 use Rattle.cur_play.specs.Deliveries.{FitsIn}
 use Rattle.cur_play.specs.Drawings.{Drawn}

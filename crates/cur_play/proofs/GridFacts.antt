@@ -9,10 +9,10 @@ use Rattle.cur_screens.specs.declared.slots.Origin.{Origin}
 use Rattle.cur_windows.specs.Desks.{State, DeskStep, after, on_cursor, on_screen, slot_of, step, unchanged}
 use Rattle.cur_screens.specs.Touched.{IsShownBut, Markings, grid_marks}
 use Rattle.cur_windows.specs.TouchedWindows.{KeepsShown, ShowsBut}
-use Rattle.cur_calls.specs.declared.groups.AttrsCall.{AttrsCall}
-use Rattle.cur_calls.specs.declared.groups.AttrsCall.TheVariants.{Attron, Attroff, Attrset}
-use Rattle.cur_calls.specs.declared.groups.FlagCall.{FlagCall}
-use Rattle.cur_calls.specs.declared.groups.FlagCall.TheVariants.{Scrollok, Leaveok, Clearok, Idlok}
+use Rattle.cur_scripts.specs.declared.groups.AttrsCall.{AttrsCall}
+use Rattle.cur_scripts.specs.declared.groups.AttrsCall.TheVariants.{Attron, Attroff, Attrset}
+use Rattle.cur_scripts.specs.declared.groups.FlagCall.{FlagCall}
+use Rattle.cur_scripts.specs.declared.groups.FlagCall.TheVariants.{Scrollok, Leaveok, Clearok, Idlok}
 use Rattle.cur_play.specs.Windows.{attributes_step, flag_step}
 
 -- the grids and their positions

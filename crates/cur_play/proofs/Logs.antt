@@ -9,10 +9,10 @@ use Rattle.vt_term.specs.Text.{IsOpen}
 use Rattle.vt_term.proofs.Runs.{runs_nothing, runs_once}
 use Rattle.cur_windows.specs.Desks.{State as Desk}
 use Rattle.cur_screens.specs.VirtualScreen.{Screen, new_screen, refreshed}
-use Rattle.cur_wires.specs.Wire.{IsWire}
-use Rattle.cur_wires.specs.Counted.{Counts, counts_joins}
+use Rattle.cur_steps.specs.Wire.{IsWire}
+use Rattle.cur_steps.specs.Counted.{Counts, counts_joins}
 use Rattle.vt_term.specs.Ends.{Ends}
-use Rattle.cur_wires.proofs.Leads.{ends_then}
+use Rattle.cur_steps.proofs.Leads.{ends_then}
 use Rattle.ti_conforms.specs.Certified.{Table, IsChecked}
 use Rattle.cur_play.proofs.Deliveries.{fits_lost}
 use Rattle.cur_steps.specs.declared.beliefs.Mode.{Mode}
@@ -22,7 +22,7 @@ use Rattle.cur_paint.specs.declared.updates.Status.{Status}
 use Rattle.cur_paint.specs.declared.updates.Status.TheVariants.{Fresh, Known}
 use Rattle.cur_update.specs.Inks.{ink_at}
 use Rattle.cur_update.specs.Painters.{Painted, wanted_of}
-use Rattle.cur_calls.specs.declared.calls.Call.{Call}
+use Rattle.cur_scripts.specs.declared.calls.Call.{Call}
 use Rattle.cur_play.proofs.Failures.{call_rose, cut_sends, emitted, rose_sooner, shown_same}
 use Rattle.cur_play.specs.Deliveries.{Carries, FitsIn, IsLast, IsSettled, IsShown}
 use Rattle.cur_play.specs.Log.{IsAfter, Moment, Plays, Subject, Tells, is_shown, last_after, mode_after, first_moment, subject_at}

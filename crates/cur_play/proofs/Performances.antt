@@ -14,8 +14,8 @@ use Rattle.cur_pads.specs.Creations.{pad_of}
 use Rattle.cur_pads.specs.Ranges.{between, from}
 use Rattle.cur_pads.specs.Displays.{pnoutrefresh, start}
 use Rattle.ti_conforms.specs.Certified.{Table}
-use Rattle.cur_calls.specs.declared.calls.Call.{Call}
-use Rattle.cur_calls.specs.declared.calls.Call.TheVariants.{Newwin, Newpad, Part, Dupwin, Plain, Number, Numbers, Flag, Attributes, Cell, Addstr, Line, DrawBorder, DrawBox, Lay, Copywin, Show, ShowPad, Screen as OnScreen, CursSet, InitPair}
+use Rattle.cur_scripts.specs.declared.calls.Call.{Call}
+use Rattle.cur_scripts.specs.declared.calls.Call.TheVariants.{Newwin, Newpad, Part, Dupwin, Plain, Number, Numbers, Flag, Attributes, Cell, Addstr, Line, DrawBorder, DrawBox, Lay, Copywin, Show, ShowPad, Screen as OnScreen, CursSet, InitPair}
 use Rattle.cur_play.specs.Drawings.{Draws, Drawn, NoSpace, SameSizes}
 use Rattle.cur_play.specs.Groups.{Does, Makes}
 use Rattle.cur_play.specs.Scenes.{Scene}

@@ -12,9 +12,9 @@ use Rattle.cur_steps.specs.declared.beliefs.Mode.{Mode}
 use Rattle.cur_paint.specs.declared.updates.Status.{Status}
 use Rattle.cur_paint.specs.declared.updates.Status.TheVariants.{Fresh, Known, Lost}
 use Rattle.cur_update.specs.Painters.{Painted}
-use Rattle.cur_calls.specs.declared.calls.Call.{Call}
-use Rattle.cur_calls.specs.declared.calls.Call.TheVariants.{Newwin, Newpad, Dupwin}
-use Rattle.cur_wires.specs.Wire.{IsWire}
+use Rattle.cur_scripts.specs.declared.calls.Call.{Call}
+use Rattle.cur_scripts.specs.declared.calls.Call.TheVariants.{Newwin, Newpad, Dupwin}
+use Rattle.cur_steps.specs.Wire.{IsWire}
 use Rattle.cur_play.proofs.Deliveries.{IsBound, carries}
 use Rattle.cur_play.proofs.Performances.{draws_answer, drawn_sizes}
 use Rattle.cur_play.specs.Deliveries.{Carries}

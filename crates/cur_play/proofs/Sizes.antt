@@ -17,24 +17,24 @@ use Rattle.cur_windows.specs.Desks.{State, DeskStep, after, slot_of, on_cursor, 
 use Rattle.cur_windows.specs.Creations as make
 use Rattle.cur_windows.specs.Copies as copy
 use Rattle.cur_pads.specs.Creations as pads
-use Rattle.cur_calls.specs.declared.calls.Call.{Call}
-use Rattle.cur_calls.specs.declared.calls.Call.TheVariants.{Newwin, Newpad, Part, Dupwin, Plain, Number, Numbers, Flag, Attributes, Cell, Addstr, Line, DrawBorder, DrawBox, Lay, Copywin}
-use Rattle.cur_calls.specs.declared.groups.PartCall.{PartCall}
-use Rattle.cur_calls.specs.declared.groups.PartCall.TheVariants.{Subwin, Derwin, Subpad}
-use Rattle.cur_calls.specs.declared.groups.PlainCall.{PlainCall}
-use Rattle.cur_calls.specs.declared.groups.PlainCall.TheVariants.{Delwin, Delch, Insertln, Deleteln, Clrtoeol, Clrtobot, Erase, Clear, Touchwin}
-use Rattle.cur_calls.specs.declared.groups.NumberCall.{NumberCall}
-use Rattle.cur_calls.specs.declared.groups.NumberCall.TheVariants.{Scroll, ColorSet}
-use Rattle.cur_calls.specs.declared.groups.NumbersCall.{NumbersCall}
-use Rattle.cur_calls.specs.declared.groups.NumbersCall.TheVariants.{Mvwin, Move, Setscrreg, Touchline}
-use Rattle.cur_calls.specs.declared.groups.FlagCall.{FlagCall}
-use Rattle.cur_calls.specs.declared.groups.FlagCall.TheVariants.{Scrollok, Leaveok, Clearok, Idlok}
-use Rattle.cur_calls.specs.declared.groups.AttrsCall.{AttrsCall}
-use Rattle.cur_calls.specs.declared.groups.AttrsCall.TheVariants.{Attron, Attroff, Attrset}
-use Rattle.cur_calls.specs.declared.groups.CellCall.{CellCall}
-use Rattle.cur_calls.specs.declared.groups.CellCall.TheVariants.{Addch, Insch, Bkgdset, Bkgd}
-use Rattle.cur_calls.specs.declared.groups.LineCall.{LineCall}
-use Rattle.cur_calls.specs.declared.groups.LineCall.TheVariants.{Hline, Vline}
+use Rattle.cur_scripts.specs.declared.calls.Call.{Call}
+use Rattle.cur_scripts.specs.declared.calls.Call.TheVariants.{Newwin, Newpad, Part, Dupwin, Plain, Number, Numbers, Flag, Attributes, Cell, Addstr, Line, DrawBorder, DrawBox, Lay, Copywin}
+use Rattle.cur_scripts.specs.declared.groups.PartCall.{PartCall}
+use Rattle.cur_scripts.specs.declared.groups.PartCall.TheVariants.{Subwin, Derwin, Subpad}
+use Rattle.cur_scripts.specs.declared.groups.PlainCall.{PlainCall}
+use Rattle.cur_scripts.specs.declared.groups.PlainCall.TheVariants.{Delwin, Delch, Insertln, Deleteln, Clrtoeol, Clrtobot, Erase, Clear, Touchwin}
+use Rattle.cur_scripts.specs.declared.groups.NumberCall.{NumberCall}
+use Rattle.cur_scripts.specs.declared.groups.NumberCall.TheVariants.{Scroll, ColorSet}
+use Rattle.cur_scripts.specs.declared.groups.NumbersCall.{NumbersCall}
+use Rattle.cur_scripts.specs.declared.groups.NumbersCall.TheVariants.{Mvwin, Move, Setscrreg, Touchline}
+use Rattle.cur_scripts.specs.declared.groups.FlagCall.{FlagCall}
+use Rattle.cur_scripts.specs.declared.groups.FlagCall.TheVariants.{Scrollok, Leaveok, Clearok, Idlok}
+use Rattle.cur_scripts.specs.declared.groups.AttrsCall.{AttrsCall}
+use Rattle.cur_scripts.specs.declared.groups.AttrsCall.TheVariants.{Attron, Attroff, Attrset}
+use Rattle.cur_scripts.specs.declared.groups.CellCall.{CellCall}
+use Rattle.cur_scripts.specs.declared.groups.CellCall.TheVariants.{Addch, Insch, Bkgdset, Bkgd}
+use Rattle.cur_scripts.specs.declared.groups.LineCall.{LineCall}
+use Rattle.cur_scripts.specs.declared.groups.LineCall.TheVariants.{Hline, Vline}
 use Rattle.cur_play.specs.Windows.{part_step, plain_step, number_step, numbers_step, flag_step, attributes_step, cell_step, line_step, skips}
 use Rattle.cur_play.specs.Groups.{making, changing}
 

@@ -10,11 +10,11 @@ use Rattle.cur_screens.specs.Touched.{Markings}
 use Rattle.cur_windows.specs.TouchedWindows.{KeepsShown, MarksWindow}
 use Rattle.cur_windows.proofs.AreaMarks.{keeps_on_grid, keeps_on_window, keeps_untouched}
 use Rattle.cur_windows.proofs.Shapes as shapes
-use Rattle.cur_calls.specs.declared.calls.Call.TheVariants.{Line, DrawBorder, DrawBox}
-use Rattle.cur_calls.specs.declared.groups.LineCall.{LineCall}
-use Rattle.cur_calls.specs.declared.groups.LineCall.TheVariants.{Hline, Vline}
-use Rattle.cur_calls.specs.declared.groups.PlainCall.{PlainCall}
-use Rattle.cur_calls.specs.declared.groups.PlainCall.TheVariants.{Delwin, Delch, Insertln, Deleteln, Clrtoeol, Clrtobot, Erase, Clear, Touchwin}
+use Rattle.cur_scripts.specs.declared.calls.Call.TheVariants.{Line, DrawBorder, DrawBox}
+use Rattle.cur_scripts.specs.declared.groups.LineCall.{LineCall}
+use Rattle.cur_scripts.specs.declared.groups.LineCall.TheVariants.{Hline, Vline}
+use Rattle.cur_scripts.specs.declared.groups.PlainCall.{PlainCall}
+use Rattle.cur_scripts.specs.declared.groups.PlainCall.TheVariants.{Delwin, Delch, Insertln, Deleteln, Clrtoeol, Clrtobot, Erase, Clear, Touchwin}
 use Rattle.cur_play.specs.Groups.{Does}
 use Rattle.cur_play.specs.Windows.{line_step, plain_step}
 use Rattle.cur_play.specs.Groups.{shaping}

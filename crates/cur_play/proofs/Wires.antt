@@ -6,9 +6,9 @@ use Rattle.vt_term.specs.Screen.{State}
 use Rattle.vt_term.specs.Ends.{Ends}
 use Rattle.vt_term.proofs.Runs.{runs_nothing}
 use Rattle.ti_conforms.specs.Certified.{Table, IsLost}
-use Rattle.cur_wires.specs.Wire.{IsWire, Rose}
+use Rattle.cur_steps.specs.Wire.{IsWire, Rose}
 use Rattle.cur_paint.specs.Update.{IsFresh}
-use Rattle.cur_calls.specs.declared.calls.Call.{Call}
+use Rattle.cur_scripts.specs.declared.calls.Call.{Call}
 use Rattle.cur_play.specs.Log.{Moment, Plays, Ran, Subject, Tells, first_moment, subject_at, subject_of}
 use Rattle.cur_play.specs.declared.answers.Answer.TheVariants.{WireFailed}
 use Rattle.cur_play.specs.declared.runs.LogEntry.{LogEntry}

@@ -4,7 +4,7 @@ use Rattle.cur_drawing.specs.declared.refusals.Refusal.TheVariants.{NoMemory}
 use Rattle.cur_windows.specs.Desks.{State}
 use Rattle.cur_screens.specs.VirtualScreen.{Screen}
 use Rattle.ti_conforms.specs.Certified.{Table}
-use Rattle.cur_calls.specs.declared.calls.Call.{Call}
+use Rattle.cur_scripts.specs.declared.calls.Call.{Call}
 use Rattle.cur_play.specs.Scenes.{Scene}
 use Rattle.cur_play.specs.Windows.{takes_memory}
 use Rattle.cur_play.specs.Steps.{drawn}

@@ -7,7 +7,7 @@ use Rattle.vt_term.specs.Ends.{Ends}
 use Rattle.ti_rows.specs.declared.rows.Row.TheVariants.{Bel}
 use Rattle.ti_conforms.specs.Certified.{Table, IsLost, cell_limit}
 use Rattle.cur_screens.specs.VirtualScreen.{Screen, new_screen}
-use Rattle.cur_wires.specs.Wire.{Rose}
+use Rattle.cur_steps.specs.Wire.{Rose}
 use Rattle.cur_steps.specs.declared.beliefs.Mode.{Mode}
 use Rattle.cur_paint.specs.Finish.{finish_text}
 use Rattle.cur_paint.specs.Limits.{IsCursor, fresh_limit}
@@ -18,7 +18,7 @@ use Rattle.cur_paint.specs.declared.updates.Status.TheVariants.{Known}
 use Rattle.cur_update.specs.Differ.{in_lines}
 use Rattle.cur_update.specs.Inks.{ink_at}
 use Rattle.cur_update.specs.Painters.{place_of, wanted_of}
-use Rattle.cur_calls.specs.declared.calls.Call.{Call}
+use Rattle.cur_scripts.specs.declared.calls.Call.{Call}
 use Rattle.cur_play.specs.Scenes.{Scene, first}
 use Rattle.cur_play.specs.Steps.{CallStep, drawn, output_of}
 use Rattle.cur_play.specs.declared.answers.Answer.{Answer}

@@ -7,7 +7,7 @@ use Rattle.cur_update.specs.Beep.{Rang, RangShort}
 use Rattle.cur_paint.specs.Finish.{Finished, FinishedShort, finish_text}
 use Rattle.cur_update.specs.Inks.{ink_at}
 use Rattle.cur_update.specs.Painters.{Painted, wanted_of}
-use Rattle.cur_calls.specs.declared.calls.Call.{Call}
+use Rattle.cur_scripts.specs.declared.calls.Call.{Call}
 use Rattle.cur_play.specs.Scenes.{Stage, scene_of}
 use Rattle.cur_play.specs.Steps.{drawn}
 use Rattle.cur_play.specs.declared.answers.Answer.{Answer}

@@ -1,7 +1,7 @@
 -- (Serves the code alone.) A run on a wire behind a reference.
 use Rattle.std.specs.Prelude.{◌≡◌, List}
 use Rattle.std.specs.Borrow.{MutBor}
-use Rattle.cur_calls.specs.declared.calls.Call.{Call}
+use Rattle.cur_scripts.specs.declared.calls.Call.{Call}
 use Rattle.cur_play.specs.Log.{HasRun, Ran, Subject}
 use Rattle.cur_play.specs.declared.runs.LogEntry.{LogEntry}
 

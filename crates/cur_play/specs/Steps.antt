@@ -16,16 +16,16 @@ use Rattle.cur_steps.specs.declared.beliefs.Mode.{Mode}
 use Rattle.cur_paint.specs.declared.updates.Status.{Status}
 use Rattle.cur_paint.specs.declared.updates.Status.TheVariants.{Fresh, Known, Lost}
 use Rattle.cur_update.specs.Painters.{set_mode}
-use Rattle.cur_calls.specs.declared.calls.Call.{Call}
-use Rattle.cur_calls.specs.declared.calls.Call.TheVariants.{Newwin, Newpad, Part, Dupwin, Plain, Number, Numbers, Flag}
-use Rattle.cur_calls.specs.declared.calls.Call.TheVariants.{Attributes, Cell, Addstr, Line, DrawBorder, DrawBox, Lay}
-use Rattle.cur_calls.specs.declared.calls.Call.TheVariants.{Copywin, Show, ShowPad, Screen, CursSet, InitPair}
-use Rattle.cur_calls.specs.declared.groups.ShowCall.{ShowCall}
-use Rattle.cur_calls.specs.declared.groups.ShowCall.TheVariants.{Noutrefresh, Refresh}
-use Rattle.cur_calls.specs.declared.groups.PadCall.{PadCall}
-use Rattle.cur_calls.specs.declared.groups.PadCall.TheVariants.{Pnoutrefresh, Prefresh}
-use Rattle.cur_calls.specs.declared.groups.ScreenCall.{ScreenCall}
-use Rattle.cur_calls.specs.declared.groups.ScreenCall.TheVariants.{Doupdate, Beep, Endwin}
+use Rattle.cur_scripts.specs.declared.calls.Call.{Call}
+use Rattle.cur_scripts.specs.declared.calls.Call.TheVariants.{Newwin, Newpad, Part, Dupwin, Plain, Number, Numbers, Flag}
+use Rattle.cur_scripts.specs.declared.calls.Call.TheVariants.{Attributes, Cell, Addstr, Line, DrawBorder, DrawBox, Lay}
+use Rattle.cur_scripts.specs.declared.calls.Call.TheVariants.{Copywin, Show, ShowPad, Screen, CursSet, InitPair}
+use Rattle.cur_scripts.specs.declared.groups.ShowCall.{ShowCall}
+use Rattle.cur_scripts.specs.declared.groups.ShowCall.TheVariants.{Noutrefresh, Refresh}
+use Rattle.cur_scripts.specs.declared.groups.PadCall.{PadCall}
+use Rattle.cur_scripts.specs.declared.groups.PadCall.TheVariants.{Pnoutrefresh, Prefresh}
+use Rattle.cur_scripts.specs.declared.groups.ScreenCall.{ScreenCall}
+use Rattle.cur_scripts.specs.declared.groups.ScreenCall.TheVariants.{Doupdate, Beep, Endwin}
 use Rattle.cur_play.specs.Scenes.{IsStage, Scene, Stage}
 use Rattle.cur_play.specs.Windows as windows
 use Rattle.cur_play.specs.Windows.{takes_memory}

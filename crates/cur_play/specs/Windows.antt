@@ -8,29 +8,29 @@ use Rattle.cur_drawing.specs.Windows as window
 use Rattle.cur_windows.specs.Desks.{State, DeskStep, on_cursor, on_grid, on_window, set, unchanged}
 use Rattle.cur_windows.specs.Creations as make
 use Rattle.cur_pads.specs.Creations as pads
-use Rattle.cur_calls.specs.declared.calls.Call.{Call}
-use Rattle.cur_calls.specs.declared.calls.Call.TheVariants.{Newwin, Newpad, Part, Dupwin, Plain, Number, Numbers, Flag}
-use Rattle.cur_calls.specs.declared.calls.Call.TheVariants.{Attributes, Cell, Addstr, Line, DrawBorder, DrawBox, Lay}
-use Rattle.cur_calls.specs.declared.calls.Call.TheVariants.{Copywin, Show, ShowPad, Screen, CursSet, InitPair}
-use Rattle.cur_calls.specs.declared.groups.PartCall.{PartCall}
-use Rattle.cur_calls.specs.declared.groups.PartCall.TheVariants.{Subwin, Derwin, Subpad}
-use Rattle.cur_calls.specs.declared.groups.PlainCall.{PlainCall}
-use Rattle.cur_calls.specs.declared.groups.PlainCall.TheVariants.{Delwin, Delch, Insertln, Deleteln, Clrtoeol, Clrtobot}
-use Rattle.cur_calls.specs.declared.groups.PlainCall.TheVariants.{Erase, Clear, Touchwin}
-use Rattle.cur_calls.specs.declared.groups.NumberCall.{NumberCall}
-use Rattle.cur_calls.specs.declared.groups.NumberCall.TheVariants.{Scroll, ColorSet}
-use Rattle.cur_calls.specs.declared.groups.NumbersCall.{NumbersCall}
-use Rattle.cur_calls.specs.declared.groups.NumbersCall.TheVariants.{Mvwin, Move, Setscrreg, Touchline}
-use Rattle.cur_calls.specs.declared.groups.FlagCall.{FlagCall}
-use Rattle.cur_calls.specs.declared.groups.FlagCall.TheVariants.{Scrollok, Leaveok, Clearok, Idlok}
-use Rattle.cur_calls.specs.declared.groups.AttrsCall.{AttrsCall}
-use Rattle.cur_calls.specs.declared.groups.AttrsCall.TheVariants.{Attron, Attroff, Attrset}
-use Rattle.cur_calls.specs.declared.groups.CellCall.{CellCall}
-use Rattle.cur_calls.specs.declared.groups.CellCall.TheVariants.{Addch, Insch, Bkgdset, Bkgd}
-use Rattle.cur_calls.specs.declared.groups.LineCall.{LineCall}
-use Rattle.cur_calls.specs.declared.groups.LineCall.TheVariants.{Hline, Vline}
-use Rattle.cur_calls.specs.declared.groups.LayCall.{LayCall}
-use Rattle.cur_calls.specs.declared.groups.LayCall.TheVariants.{Overlay, Overwrite}
+use Rattle.cur_scripts.specs.declared.calls.Call.{Call}
+use Rattle.cur_scripts.specs.declared.calls.Call.TheVariants.{Newwin, Newpad, Part, Dupwin, Plain, Number, Numbers, Flag}
+use Rattle.cur_scripts.specs.declared.calls.Call.TheVariants.{Attributes, Cell, Addstr, Line, DrawBorder, DrawBox, Lay}
+use Rattle.cur_scripts.specs.declared.calls.Call.TheVariants.{Copywin, Show, ShowPad, Screen, CursSet, InitPair}
+use Rattle.cur_scripts.specs.declared.groups.PartCall.{PartCall}
+use Rattle.cur_scripts.specs.declared.groups.PartCall.TheVariants.{Subwin, Derwin, Subpad}
+use Rattle.cur_scripts.specs.declared.groups.PlainCall.{PlainCall}
+use Rattle.cur_scripts.specs.declared.groups.PlainCall.TheVariants.{Delwin, Delch, Insertln, Deleteln, Clrtoeol, Clrtobot}
+use Rattle.cur_scripts.specs.declared.groups.PlainCall.TheVariants.{Erase, Clear, Touchwin}
+use Rattle.cur_scripts.specs.declared.groups.NumberCall.{NumberCall}
+use Rattle.cur_scripts.specs.declared.groups.NumberCall.TheVariants.{Scroll, ColorSet}
+use Rattle.cur_scripts.specs.declared.groups.NumbersCall.{NumbersCall}
+use Rattle.cur_scripts.specs.declared.groups.NumbersCall.TheVariants.{Mvwin, Move, Setscrreg, Touchline}
+use Rattle.cur_scripts.specs.declared.groups.FlagCall.{FlagCall}
+use Rattle.cur_scripts.specs.declared.groups.FlagCall.TheVariants.{Scrollok, Leaveok, Clearok, Idlok}
+use Rattle.cur_scripts.specs.declared.groups.AttrsCall.{AttrsCall}
+use Rattle.cur_scripts.specs.declared.groups.AttrsCall.TheVariants.{Attron, Attroff, Attrset}
+use Rattle.cur_scripts.specs.declared.groups.CellCall.{CellCall}
+use Rattle.cur_scripts.specs.declared.groups.CellCall.TheVariants.{Addch, Insch, Bkgdset, Bkgd}
+use Rattle.cur_scripts.specs.declared.groups.LineCall.{LineCall}
+use Rattle.cur_scripts.specs.declared.groups.LineCall.TheVariants.{Hline, Vline}
+use Rattle.cur_scripts.specs.declared.groups.LayCall.{LayCall}
+use Rattle.cur_scripts.specs.declared.groups.LayCall.TheVariants.{Overlay, Overwrite}
 
 abbrev pub part_step : PartCall → State → ℕ → ℕ → ℤ → ℤ → ℤ → ℤ → DeskStep
 part_step Subwin d n w lines cols y x = make.subwin d n w lines cols y x

@@ -3,7 +3,7 @@ ghost use Rattle.cur_play.specs.Groups.{Makes, making};
 ghost use Rattle.cur_play.specs.Windows as spec;
 
 use crate::answers::Outcome;
-use cur_calls::{Call, PartCall};
+use cur_scripts::{Call, PartCall};
 use cur_pads::{newpad, subpad};
 use cur_windows::Desk;
 

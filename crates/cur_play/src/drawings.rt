@@ -8,7 +8,7 @@ use crate::answers::{Answer, answer_of, mode_answer};
 use crate::creations::make;
 use crate::stale_marks::StaleMarks;
 use crate::windows::change;
-use cur_calls::Call;
+use cur_scripts::Call;
 use cur_pads::pnoutrefresh;
 use cur_screens::Virtual;
 use cur_update::Painter;

@@ -12,11 +12,7 @@ mod stale_marks;
 mod windows;
 
 pub use answers::Answer;
-pub use cur_calls::{
-    Attrs, AttrsCall, Border, Call, CellCall, FlagCall, LayCall, LineCall, NumberCall, NumbersCall,
-    PadCall, PartCall, PlainCall, Put, ScreenCall, ShowCall, Text,
-};
-pub use cur_scripts::{LONGEST, ScriptFault, ScriptFaultKind, read_script};
+pub use cur_scripts::{Attrs, AttrsCall, Border, Call, CellCall, FlagCall, LayCall, LineCall, LONGEST, NumberCall, NumbersCall, PadCall, PartCall, PlainCall, Put, read_script, ScreenCall, ScriptFault, ScriptFaultKind, ShowCall, Text};
 pub use paced::Paced;
 pub use runs::{Log, LogEntry, run, run_paced};
 pub use sessions::Session;

@@ -1,7 +1,7 @@
 //! Wires that may hold back the bytes they took.
 ghost use Rattle.std.specs.Prelude.{ℕ, List, ◌≡◌, []};
 
-use cur_wires::Wire;
+use cur_steps::Wire;
 
 /// A wire that may hold back the bytes it took until `pass_on` is called.
 pub trait Paced: Wire {

@@ -1,15 +1,15 @@
 //! Runs of many calls.
 ghost use Rattle.std.specs.Prelude.{◌≡◌, ◌<◌, ◌≤◌, [], length, vec_capacity, vec_len, IfOk, OnErr, OnOk};
-ghost use Rattle.cur_wires.specs.Counted.{Counts};
+ghost use Rattle.cur_steps.specs.Counted.{Counts};
 ghost use Rattle.cur_play.specs.{Log.{HasRun, Ran, paced_subject_of, subject_of}, Runs.{HasRunOn, RanOn}};
 ghost use Rattle.cur_play.specs.Scenes.{first, scene_of};
 
 use crate::answers::Answer;
 use crate::paced::Paced;
 use crate::sessions::Session;
-use cur_calls::Call;
+use cur_scripts::Call;
 use cur_update::Wire;
-use cur_wires::Counted;
+use cur_steps::Counted;
 use std::alloc::{AllocError, Global};
 use ti_conforms::Certificate;
 

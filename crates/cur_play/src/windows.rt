@@ -6,7 +6,7 @@ ghost use Rattle.cur_play.specs.Groups.{Does, changing, shaping};
 ghost use Rattle.cur_play.specs.Windows as spec;
 
 use crate::answers::Outcome;
-use cur_calls::{
+use cur_scripts::{
     Attrs, AttrsCall, Call, CellCall, FlagCall, LayCall, LineCall, NumberCall, NumbersCall,
     PlainCall, Put,
 };

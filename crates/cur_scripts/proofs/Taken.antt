@@ -3,7 +3,7 @@ use Rattle.std.proofs.Common.{◌≡◌, Bool, false, length, if◌then◌else�
 use Rattle.std.specs.Prelude.{nat_lt, option_map}
 use Rattle.std.specs.Option.{option_to_list}
 use Rattle.std.proofs.lemmas.Option.{same_Some}
-use Rattle.cur_calls.specs.declared.calls.Call.{Call}
+use Rattle.cur_scripts.specs.declared.calls.Call.{Call}
 use Rattle.cur_scripts.specs.declared.faults.ScriptFaultKind.{ScriptFaultKind}
 use Rattle.cur_scripts.specs.Cuts.{cut_at, ◌>>=◌}
 use Rattle.cur_scripts.specs.Table.{call_of}

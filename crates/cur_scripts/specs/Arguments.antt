@@ -3,24 +3,24 @@ use Rattle.std.specs.Prelude.{ℕ, List, Option, Some}
 use Rattle.cur_drawing.specs.declared.puts.Put.{Put}
 use Rattle.cur_drawing.specs.declared.puts.Border.{Border}
 use Rattle.cur_drawing.specs.Calls.{drawn_line, horizontal_bar, vertical_bar, default_border}
-use Rattle.cur_calls.specs.declared.calls.Call.{Call}
-use Rattle.cur_calls.specs.declared.calls.Call.TheVariants.{Newwin, Newpad, Part, Dupwin, Plain, Number, Numbers, Flag}
-use Rattle.cur_calls.specs.declared.calls.Call.TheVariants.{Attributes, Cell, Addstr, Line, DrawBorder, DrawBox, Lay}
-use Rattle.cur_calls.specs.declared.calls.Call.TheVariants.{Copywin, Show, ShowPad, Screen, CursSet, InitPair}
-use Rattle.cur_calls.specs.declared.groups.PartCall.{PartCall}
-use Rattle.cur_calls.specs.declared.groups.PlainCall.{PlainCall}
-use Rattle.cur_calls.specs.declared.groups.NumberCall.{NumberCall}
-use Rattle.cur_calls.specs.declared.groups.NumbersCall.{NumbersCall}
-use Rattle.cur_calls.specs.declared.groups.FlagCall.{FlagCall}
-use Rattle.cur_calls.specs.declared.groups.AttrsCall.{AttrsCall}
-use Rattle.cur_calls.specs.declared.groups.CellCall.{CellCall}
-use Rattle.cur_calls.specs.declared.groups.LineCall.{LineCall}
-use Rattle.cur_calls.specs.declared.groups.LayCall.{LayCall}
-use Rattle.cur_calls.specs.declared.groups.ShowCall.{ShowCall}
-use Rattle.cur_calls.specs.declared.groups.PadCall.{PadCall}
-use Rattle.cur_calls.specs.declared.groups.ScreenCall.{ScreenCall}
-use Rattle.cur_calls.specs.declared.groups.LineCall.TheVariants.{Hline, Vline}
-use Rattle.cur_calls.specs.declared.groups.ScreenCall.TheVariants.{Beep}
+use Rattle.cur_scripts.specs.declared.calls.Call.{Call}
+use Rattle.cur_scripts.specs.declared.calls.Call.TheVariants.{Newwin, Newpad, Part, Dupwin, Plain, Number, Numbers, Flag}
+use Rattle.cur_scripts.specs.declared.calls.Call.TheVariants.{Attributes, Cell, Addstr, Line, DrawBorder, DrawBox, Lay}
+use Rattle.cur_scripts.specs.declared.calls.Call.TheVariants.{Copywin, Show, ShowPad, Screen, CursSet, InitPair}
+use Rattle.cur_scripts.specs.declared.groups.PartCall.{PartCall}
+use Rattle.cur_scripts.specs.declared.groups.PlainCall.{PlainCall}
+use Rattle.cur_scripts.specs.declared.groups.NumberCall.{NumberCall}
+use Rattle.cur_scripts.specs.declared.groups.NumbersCall.{NumbersCall}
+use Rattle.cur_scripts.specs.declared.groups.FlagCall.{FlagCall}
+use Rattle.cur_scripts.specs.declared.groups.AttrsCall.{AttrsCall}
+use Rattle.cur_scripts.specs.declared.groups.CellCall.{CellCall}
+use Rattle.cur_scripts.specs.declared.groups.LineCall.{LineCall}
+use Rattle.cur_scripts.specs.declared.groups.LayCall.{LayCall}
+use Rattle.cur_scripts.specs.declared.groups.ShowCall.{ShowCall}
+use Rattle.cur_scripts.specs.declared.groups.PadCall.{PadCall}
+use Rattle.cur_scripts.specs.declared.groups.ScreenCall.{ScreenCall}
+use Rattle.cur_scripts.specs.declared.groups.LineCall.TheVariants.{Hline, Vline}
+use Rattle.cur_scripts.specs.declared.groups.ScreenCall.TheVariants.{Beep}
 use Rattle.cur_scripts.specs.Cuts.{◌>>=◌}
 use Rattle.cur_scripts.specs.Numbers.{number_in, window_in, flag_in, zero_in}
 use Rattle.cur_scripts.specs.Cells.{cell_in, cell_or, attrs_in}

@@ -7,3 +7,4 @@ pub mod Table
 pub mod Takers
 pub mod Texts
 pub mod Words
+pub mod Names

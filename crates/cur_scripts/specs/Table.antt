@@ -1,19 +1,19 @@
 -- The table of calls in alphabetical order: each row has a name (X/Open Curses Issue 7) and its arguments.
 use Rattle.std.specs.Prelude.{ℕ, ◌&&◌, nat_le, Bool, false, bytes_eq, codes, List, [], ◌∷◌, Option, None, if◌then◌else◌}
-use Rattle.cur_calls.specs.declared.calls.Call.{Call}
-use Rattle.cur_calls.specs.declared.groups.AttrsCall.TheVariants.{Attron, Attroff, Attrset}
-use Rattle.cur_calls.specs.declared.groups.CellCall.TheVariants.{Addch, Insch, Bkgdset, Bkgd}
-use Rattle.cur_calls.specs.declared.groups.FlagCall.TheVariants.{Scrollok, Leaveok, Clearok, Idlok}
-use Rattle.cur_calls.specs.declared.groups.LayCall.TheVariants.{Overlay, Overwrite}
-use Rattle.cur_calls.specs.declared.groups.LineCall.TheVariants.{Hline, Vline}
-use Rattle.cur_calls.specs.declared.groups.NumberCall.TheVariants.{Scroll, ColorSet}
-use Rattle.cur_calls.specs.declared.groups.NumbersCall.TheVariants.{Move, Mvwin, Setscrreg, Touchline}
-use Rattle.cur_calls.specs.declared.groups.PadCall.TheVariants.{Pnoutrefresh, Prefresh}
-use Rattle.cur_calls.specs.declared.groups.PartCall.TheVariants.{Subwin, Derwin, Subpad}
-use Rattle.cur_calls.specs.declared.groups.PlainCall.TheVariants.{Delch, Insertln, Deleteln, Clrtoeol, Clrtobot, Erase}
-use Rattle.cur_calls.specs.declared.groups.PlainCall.TheVariants.{Clear, Touchwin, Delwin}
-use Rattle.cur_calls.specs.declared.groups.ScreenCall.TheVariants.{Doupdate, Endwin}
-use Rattle.cur_calls.specs.declared.groups.ShowCall.TheVariants.{Noutrefresh, Refresh}
+use Rattle.cur_scripts.specs.declared.calls.Call.{Call}
+use Rattle.cur_scripts.specs.declared.groups.AttrsCall.TheVariants.{Attron, Attroff, Attrset}
+use Rattle.cur_scripts.specs.declared.groups.CellCall.TheVariants.{Addch, Insch, Bkgdset, Bkgd}
+use Rattle.cur_scripts.specs.declared.groups.FlagCall.TheVariants.{Scrollok, Leaveok, Clearok, Idlok}
+use Rattle.cur_scripts.specs.declared.groups.LayCall.TheVariants.{Overlay, Overwrite}
+use Rattle.cur_scripts.specs.declared.groups.LineCall.TheVariants.{Hline, Vline}
+use Rattle.cur_scripts.specs.declared.groups.NumberCall.TheVariants.{Scroll, ColorSet}
+use Rattle.cur_scripts.specs.declared.groups.NumbersCall.TheVariants.{Move, Mvwin, Setscrreg, Touchline}
+use Rattle.cur_scripts.specs.declared.groups.PadCall.TheVariants.{Pnoutrefresh, Prefresh}
+use Rattle.cur_scripts.specs.declared.groups.PartCall.TheVariants.{Subwin, Derwin, Subpad}
+use Rattle.cur_scripts.specs.declared.groups.PlainCall.TheVariants.{Delch, Insertln, Deleteln, Clrtoeol, Clrtobot, Erase}
+use Rattle.cur_scripts.specs.declared.groups.PlainCall.TheVariants.{Clear, Touchwin, Delwin}
+use Rattle.cur_scripts.specs.declared.groups.ScreenCall.TheVariants.{Doupdate, Endwin}
+use Rattle.cur_scripts.specs.declared.groups.ShowCall.TheVariants.{Noutrefresh, Refresh}
 use Rattle.cur_scripts.specs.Arguments.{addstr, attributes, bare, beep, cell, copywin, curs_set, draw_border, draw_box}
 use Rattle.cur_scripts.specs.Arguments.{dupwin, flag, init_pair, lay, line, newpad, newwin, number, numbers, part}
 use Rattle.cur_scripts.specs.Arguments.{plain, show, show_pad}

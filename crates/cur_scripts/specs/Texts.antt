@@ -1,7 +1,7 @@
 -- The calls of a whole script, or its first fault with its line.
 use Rattle.std.specs.Prelude.{◌≡◌, ℕ, ◌+◌, ◌==◌, nat_lt, Bool, true, List, [], ◌∷◌, ◌++◌, length, Option, None, Some}
 use Rattle.std.specs.Prelude.{Result, Ok, Err, if◌then◌else◌, option_map}
-use Rattle.cur_calls.specs.declared.calls.Call.{Call}
+use Rattle.cur_scripts.specs.declared.calls.Call.{Call}
 use Rattle.cur_scripts.specs.declared.faults.ScriptFaultKind.{ScriptFaultKind}
 use Rattle.cur_scripts.specs.declared.faults.ScriptFaultKind.TheVariants.{BadLine, TooLong, NoMemory}
 use Rattle.cur_scripts.specs.declared.faults.ScriptFault.{ScriptFault}

@@ -7,7 +7,7 @@ ghost use Rattle.std.specs.Prelude.{◌≡◌};
 ghost use Rattle.cur_scripts.specs.Arguments as spec;
 
 use crate::words::Words;
-use cur_calls::{
+use crate::{
     AttrsCall, Call, CellCall, FlagCall, LayCall, LineCall, NumberCall, NumbersCall, PadCall,
     PartCall, PlainCall, ScreenCall, ShowCall,
 };

@@ -2,10 +2,10 @@
 ghost use Rattle.std.specs.Prelude.{◌≡◌, ◌++◌, Some, option_map, IfErr, OnOk};
 ghost use Rattle.cur_scripts.specs.{Table.{call_of}, Takers.{HandsOn}, Texts.{is_skipped, line_calls, LineFails}};
 
+use crate::Call;
 use crate::faults::{ScriptFault, ScriptFaultKind};
 use crate::table::hand_on_named;
 use crate::takers::Taker;
-use cur_calls::Call;
 
 /// Adds the call of `line` to `calls`, if the line isn't skipped. Fails with `BadLine` at `number`
 /// if it isn't a call, or with `NoMemory`.

@@ -2,11 +2,11 @@
 ghost use Rattle.std.specs.Prelude.{◌≡◌, ◌∷◌, [], IfOk, IfErr, IfSome, Ok, option_map};
 ghost use Rattle.cur_scripts.specs.{Cuts.{cut_at}, Texts.{FailsBy, only_call, only_line, script_of}};
 
+use crate::Call;
 use crate::cuts::{cut, first_part};
 use crate::faults::{ScriptFault, ScriptFaultKind};
 use crate::lines::{hand_on_call, is_skipped, read_line};
 use crate::takers::OneCall;
-use cur_calls::Call;
 use std::alloc::Global;
 
 // The expected length of a short line.

@@ -10,7 +10,7 @@ use crate::arguments::{
 use crate::faults::ScriptFaultKind;
 use crate::takers::{Taker, hand_on};
 use crate::words::Words;
-use cur_calls::{
+use crate::{
     AttrsCall, CellCall, FlagCall, LayCall, LineCall, NumberCall, NumbersCall, PadCall, PartCall,
     PlainCall, ScreenCall, ShowCall,
 };

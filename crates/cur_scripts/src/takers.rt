@@ -1,8 +1,8 @@
 //! Receivers of the calls of a script, as these are read.
 ghost use Rattle.cur_scripts.specs.Takers.{HandsOn};
 
+use crate::Call;
 use crate::faults::ScriptFaultKind;
-use cur_calls::Call;
 
 /// A call was not taken: there was no room, and no memory to make some.
 #[derive(Clone, Copy)]
@@ -11,7 +11,7 @@ pub(crate) struct NotTaken;
 /// A receiver of calls, one after another.
 pub(crate) trait Taker<'a> {
     ghost use Rattle.std.specs.Prelude.{◌≡◌, ◌++◌, ◌∷◌, [], false, Bool, List, OnErr, OnOk};
-    ghost use Rattle.cur_calls.specs.declared.calls.Call.{Call};
+    ghost use Rattle.cur_scripts.specs.declared.calls.Call.{Call};
 
     ghost calls: { Self → List Call };
 

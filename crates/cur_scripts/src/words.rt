@@ -4,9 +4,9 @@ ghost use Rattle.cur_scripts.specs.{Cuts.{words_of}, Numbers.{number_in, window_
 ghost use Rattle.cur_scripts.specs.Words as spec;
 ghost use Rattle.cur_scripts.specs.Cells.{cell_in, cell_or, attrs_in};
 
+use crate::Text;
 use crate::cells::{attrs_in, cell_in, cell_or};
 use crate::numbers::{flag_in, number_in, short_number, window_in, zero_in};
-use cur_calls::Text;
 use cur_drawing::{Attrs, Put};
 use std::marker::Model;
 

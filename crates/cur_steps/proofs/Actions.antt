@@ -1,12 +1,12 @@
 -- From a line of the certificate to a step.
 use Rattle.std.proofs.Common.{◌≡◌, ℕ, ◌≤◌, List, length, Some, Ok, Result, true, sym, ap, arith}
 use Rattle.vt_term.specs.Screen.{State}
-use Rattle.cur_wires.specs.Leads.{Leads}
-use Rattle.cur_wires.specs.Wire.{IsWire, Sends}
+use Rattle.cur_steps.specs.Leads.{Leads}
+use Rattle.cur_steps.specs.Wire.{IsWire, Sends}
 use Rattle.vt_term.specs.Ends.{Closed, Ends}
-use Rattle.cur_wires.specs.Steps.{Spells, Steps}
-use Rattle.cur_wires.proofs.Stops.{leads_line, spells_as, spells_sent, steps_nothing, steps_sent}
-use Rattle.cur_wires.proofs.Completion.{ends_sized}
+use Rattle.cur_steps.specs.WireSteps.{Spells, Steps}
+use Rattle.cur_steps.proofs.Stops.{leads_line, spells_as, spells_sent, steps_nothing, steps_sent}
+use Rattle.cur_steps.proofs.Completion.{ends_sized}
 use Rattle.ti_rows.specs.declared.rows.Row.{Row}
 use Rattle.ti_conforms.specs.Certified.{Table, IsLost, IsReady, IsChecked, IsCheckedLine, IsPiece, Line, Ended, limit_of, or_nothing, text_of}
 use Rattle.cur_steps.specs.Beliefs.{Agrees, Belief, LeadsTo, Turns}

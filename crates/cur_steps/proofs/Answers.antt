@@ -1,7 +1,7 @@
 -- Lines after options, limits, and the cursor's modes.
 use Rattle.std.proofs.Common.{◌≡◌, ℕ, ◌*◌, ◌≤◌, ◌==◌, ◌&&◌, ◌∙◌, Bool, true, false, zero, suc, if◌then◌else◌, List, [], Option, Some, None, Result, Bor, IfSome, is_some, refl, subst, sym, ap, arith}
-use Rattle.cur_wires.specs.Steps.{Spells}
-use Rattle.cur_wires.proofs.Stops.{spells_as}
+use Rattle.cur_steps.specs.WireSteps.{Spells}
+use Rattle.cur_steps.proofs.Stops.{spells_as}
 use Rattle.ti_rows.specs.declared.rows.Row.{Row}
 use Rattle.ti_conforms.specs.Certified.{Table, IsPiece, IsLost, has}
 use Rattle.cur_steps.specs.Beliefs.{Agrees, Belief, Place, moves, Mode, Hidden, Normal, Prominent, same_mode, changes, mode_text, modes_limit, setting_text}

@@ -9,3 +9,8 @@ pub mod SingleFacts
 pub mod StretchFacts
 pub mod Turns
 pub mod Types
+pub mod Sends
+pub mod Leads
+pub mod Paints
+pub mod Stops
+pub mod Completion

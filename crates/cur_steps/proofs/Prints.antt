@@ -13,12 +13,12 @@ use Rattle.vt_term.specs.Run.{Runs}
 use Rattle.grids.specs.Grids.{is_in, one}
 use Rattle.vt_term.proofs.Sequences.{empty_open}
 use Rattle.vt_term.proofs.Runs.{text_runs, run_keeps}
-use Rattle.cur_wires.specs.Wire.{Sends}
-use Rattle.cur_wires.specs.Leads.{Leads}
+use Rattle.cur_steps.specs.Wire.{Sends}
+use Rattle.cur_steps.specs.Leads.{Leads}
 use Rattle.vt_term.specs.Ends.{Ends}
-use Rattle.cur_wires.specs.Steps.{Steps}
-use Rattle.cur_wires.proofs.Completion.{stays, ends_as}
-use Rattle.cur_wires.proofs.Stops.{leads_line, steps_sent}
+use Rattle.cur_steps.specs.WireSteps.{Steps}
+use Rattle.cur_steps.proofs.Completion.{stays, ends_as}
+use Rattle.cur_steps.proofs.Stops.{leads_line, steps_sent}
 use Rattle.cur_steps.specs.declared.inks.Brush.{Brush}
 use Rattle.cur_steps.specs.declared.inks.Ink.{Ink}
 use Rattle.ti_conforms.specs.Certified.{Table, IsLost, IsChecked}

@@ -1,8 +1,8 @@
 -- The strings for some rows, sent one after another.
 use Rattle.std.proofs.Common.{◌≡◌, ℕ, ◌+◌, ◌<◌, ◌≤◌, List, ◌++◌, length, drop, get_or, Err, sym, ap, subst, ◌∙◌, append_assoc}
 use Rattle.std.proofs.lemmas.List.{append-nil, at_drop_more, drop_all}
-use Rattle.cur_wires.specs.Wire.{IsWire, StopsIn}
-use Rattle.cur_wires.proofs.Paints.{sends_then, stops_more}
+use Rattle.cur_steps.specs.Wire.{IsWire, StopsIn}
+use Rattle.cur_steps.proofs.Paints.{sends_then, stops_more}
 use Rattle.ti_rows.specs.declared.rows.Row.{Row}
 use Rattle.ti_conforms.specs.Certified.{Table, text_of}
 use Rattle.cur_steps.specs.Texts.{texts_of}

@@ -5,12 +5,12 @@ use Rattle.vt_term.specs.Screen.{State}
 use Rattle.vt_term.specs.Text.{IsOpen}
 use Rattle.vt_term.proofs.Sequences.{empty_open}
 use Rattle.vt_term.proofs.Runs.{runs_nothing}
-use Rattle.cur_wires.specs.Wire.{Sends}
-use Rattle.cur_wires.specs.Leads.{Leads}
+use Rattle.cur_steps.specs.Wire.{Sends}
+use Rattle.cur_steps.specs.Leads.{Leads}
 use Rattle.vt_term.specs.Ends.{Ends}
-use Rattle.cur_wires.specs.Steps.{Steps}
-use Rattle.cur_wires.proofs.Leads.{leads_then, leads_wider}
-use Rattle.cur_wires.proofs.Stops.{steps_sent}
+use Rattle.cur_steps.specs.WireSteps.{Steps}
+use Rattle.cur_steps.proofs.Leads.{leads_then, leads_wider}
+use Rattle.cur_steps.proofs.Stops.{steps_sent}
 use Rattle.cur_steps.specs.declared.inks.Ink.{Ink}
 use Rattle.ti_conforms.specs.Certified.{Table, IsLost, IsChecked}
 use Rattle.cur_steps.specs.Pieces.{IsPaint}

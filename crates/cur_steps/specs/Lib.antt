@@ -9,3 +9,10 @@ pub mod Singles
 pub mod Steps
 pub mod Stretches
 pub mod Texts
+pub mod Wire
+pub mod Tape
+pub mod Fuse
+pub mod Counted
+pub mod Leads
+pub mod Paints
+pub mod WireSteps

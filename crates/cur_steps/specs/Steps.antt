@@ -1,7 +1,7 @@
 -- (Serves the code alone.) The promise of a single step: its bytes lead from the cells shown and the belief before it
 -- to those after it.
 use Rattle.std.specs.Prelude.{ℕ, ◌<◌, List, Result}
-use Rattle.cur_wires.specs.Steps.{Spells, Steps}
+use Rattle.cur_steps.specs.WireSteps.{Spells, Steps}
 use Rattle.ti_conforms.specs.Certified.{Table, IsChecked, IsPiece, IsLost}
 use Rattle.cur_steps.specs.Beliefs.{Agrees, Belief, Place}
 use Rattle.cur_steps.specs.Pieces.{IsPaint}

@@ -3,10 +3,10 @@ ghost use Rattle.std.specs.Prelude.{◌≡◌, ◌≤◌, ℕ, length, Some, tru
 ghost use Rattle.ti_conforms.specs.Certified.{IsChecked, has, limit_of, text_of};
 ghost use Rattle.cur_steps.specs.{Beliefs.{Belief, LeadsTo, Passes, Turns}, Pieces.{paints}, Steps.{Acts, KeepsText}};
 ghost use Rattle.cur_steps.specs.{Texts.{texts_of}, declared.inks.Ink.{Ink}};
-ghost use Rattle.cur_wires.specs.Wire.{Sends};
+ghost use Rattle.cur_steps.specs.Wire.{Sends};
 
 use crate::pens::Sent;
-use cur_wires::{Wire, send_all};
+use crate::{Wire, send_all};
 use ti_conforms::Certificate;
 use ti_rows::Row;
 
@@ -39,8 +39,8 @@ pub fn send_line<C: Certificate, W: Wire>(checked: &C, row: Row, bytes: &[u8], w
     send_all(wire, bytes)
 }
 
-/// Sends the line of `row`, if there is one. It leads from one belief to another if the line does so, and if without a
-/// line the second belief is true wherever the first one is. It is a step of a painter if the row paints.
+/// Sends the line of `row`, or nothing if the certificate lacks it. Any change of belief that holds in both cases holds
+/// for this call. The call is a step of a painter if the row paints.
 pub(crate) fn send_line_of<C: Certificate, W: Wire>(checked: &C, row: Row, wire: &mut W) -> Sent
     requires checked { IsChecked (C.table checked.now) }
     ensures step { (n : ℕ) (g : ℕ → ℕ → Ink) (b c : Belief) → paints row ≡ true

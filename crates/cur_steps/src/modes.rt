@@ -4,10 +4,10 @@ ghost use Rattle.ti_conforms.specs.Certified.{IsChecked, limit_of, text_of};
 ghost use Rattle.cur_steps.specs.Beliefs.{CanHide, Normal, Prominent, changes, mode_row, mode_text, modes_limit};
 ghost use Rattle.cur_steps.specs.{Beliefs.{setting_text}, Steps.{KeepsBy}};
 
+use crate::Wire;
 use crate::beliefs::Mode;
 use crate::lines::send_line_of;
 use crate::pens::{Pen, Sent};
-use cur_wires::Wire;
 use ti_conforms::Certificate;
 use ti_rows::Row;
 

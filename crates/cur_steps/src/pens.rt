@@ -1,6 +1,6 @@
 //! The pen of a painter: its belief about the terminal, and the wire to it.
+use crate::WireFault;
 use crate::beliefs::Belief;
-use cur_wires::WireFault;
 
 /// The answer of a step: `WireFault` if the wire failed.
 pub type Sent = Result<(), WireFault>;

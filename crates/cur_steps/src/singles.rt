@@ -7,11 +7,11 @@ ghost use Rattle.cur_steps.specs.declared.inks.Brush.{Brush};
 ghost use Rattle.cur_steps.specs.Singles as spec;
 ghost use Rattle.cur_steps.specs.Steps.{Keeps};
 
+use crate::Wire;
 use crate::inks::Brush;
 use crate::lines::{send_line, send_line_of};
 use crate::pens::{Pen, Sent};
 use crate::sets::set_behind;
-use cur_wires::Wire;
 use ti_conforms::Certificate;
 use ti_rows::{Attributes, Row};
 

@@ -15,7 +15,7 @@ use crate::lines::{send_line, send_line_of};
 use crate::looks::look_alike;
 use crate::pens::{Pen, Sent};
 use crate::sets::{fixes_rendition, set_behind};
-use cur_wires::{Wire, send_all};
+use crate::{Wire, send_all};
 use ti_conforms::Certificate;
 use ti_rows::{Attributes, Row};
 use vt_term::Color;

@@ -3,7 +3,7 @@ use Rattle.std.proofs.Common.{◌≡◌, ℕ, List, ◌++◌, Some, refl}
 use Rattle.vt_term.specs.Screen.{State}
 use Rattle.vt_term.specs.Ends.{Ends}
 use Rattle.vt_term.specs.Ends.{Closed}
-use Rattle.cur_wires.proofs.Completion.{ends_sized}
+use Rattle.cur_steps.proofs.Completion.{ends_sized}
 use Rattle.ti_rows.specs.declared.rows.Row.TheVariants.{Bel}
 use Rattle.cur_steps.specs.declared.beliefs.Belief.{Belief}
 use Rattle.cur_steps.specs.declared.inks.Ink.{Ink}

@@ -2,7 +2,7 @@
 use Rattle.std.specs.Prelude.{ℕ, ◌≡◌, true, false, List, ◌++◌, Result, Some, Ok, Err}
 use Rattle.vt_term.specs.Screen.{State}
 use Rattle.vt_term.specs.Ends.{Ends}
-use Rattle.cur_wires.specs.Wire.{StopsIn}
+use Rattle.cur_steps.specs.Wire.{StopsIn}
 use Rattle.ti_rows.specs.declared.rows.Row.TheVariants.{Bel}
 use Rattle.ti_conforms.specs.Certified.{Table, has}
 use Rattle.ti_conforms.specs.Certified as certified

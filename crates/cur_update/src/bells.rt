@@ -5,7 +5,7 @@ ghost use Rattle.cur_update.specs.Beep.{Rings};
 
 use cur_drawing::Refusal;
 use cur_paint::{Knowledge, Status};
-use cur_wires::{Wire, WireFault, send_all};
+use cur_steps::{Wire, WireFault, send_all};
 use ti_conforms::Certificate;
 use ti_rows::Row;
 

@@ -12,6 +12,6 @@ mod shortcuts;
 
 pub use bells::Unsent;
 pub use cur_paint::{Knowledge, Status};
-pub use cur_wires::{Fuse, Tape, Wire, WireFault};
+pub use cur_steps::{Fuse, Tape, Wire, WireFault};
 pub use laws::cells_bounded;
 pub use painters::Painter;

@@ -11,4 +11,4 @@ pub use Rattle.cur_paint.specs.Rests
 pub use Rattle.cur_paint.specs.Update
 pub use Rattle.cur_update.specs.Inks
 pub use Rattle.cur_update.specs.Painters
-pub use Rattle.cur_wires.specs.Wire
+pub use Rattle.cur_steps.specs.Wire

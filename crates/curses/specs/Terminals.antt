@@ -4,4 +4,4 @@ pub use Rattle.vt_term.specs.Screen
 pub use Rattle.vt_term.specs.Size
 pub use Rattle.ti_conforms.specs.Certified
 pub use Rattle.ti_conforms.specs.Conforms
-pub use Rattle.ti_reach.specs.Reach
+pub use Rattle.ti_conforms.specs.CupReach

@@ -7,10 +7,8 @@
 // that was kept, such as the output of `ticurses check`, and shows that it is the entry's.
 pub use ti_caps::Entry;
 pub use ti_cert::{AgreeFault, CertFault, CertFaultKind, Checked, VerifyFault, verify};
-pub use ti_certify::certify;
-pub use ti_checker::{Cause, No};
-pub use ti_conforms::Certificate;
-pub use ti_reach::{Miss, MissKind, reach_cup};
+pub use ti_checker::{Cause, certify, No};
+pub use ti_conforms::{Certificate, Miss, MissKind, reach_cup};
 pub use ti_resolve::{ResolveFault, resolve};
 pub use ti_source::{RawEntry, SourceFault, read};
 pub use vt_term::Size;
@@ -23,12 +21,8 @@ pub use grids::{Area, Place};
 
 // The painter, and the wires that take its bytes.
 pub use cur_update::{Painter, Unsent};
-pub use cur_wires::{Fuse, Tape, Wire, WireFault};
+pub use cur_steps::{Fuse, Tape, Wire, WireFault};
 
 // Sessions, calls as values, and texts of calls.
-pub use cur_calls::{
-    AttrsCall, Call, CellCall, FlagCall, LayCall, LineCall, NumberCall, NumbersCall, PadCall,
-    PartCall, PlainCall, ScreenCall, ShowCall, Text,
-};
+pub use cur_scripts::{AttrsCall, Call, CellCall, FlagCall, LayCall, LineCall, NumberCall, NumbersCall, PadCall, PartCall, PlainCall, read_script, ScreenCall, ScriptFault, ScriptFaultKind, ShowCall, Text};
 pub use cur_play::{Answer, Log, LogEntry, NoMemory, Session, run};
-pub use cur_scripts::{ScriptFault, ScriptFaultKind, read_script};

@@ -3,7 +3,7 @@ use Rattle.std.proofs.Common.{◌≡◌}
 use Rattle.ti_cert.specs.Table.{CheckedTable, certified}
 use Rattle.ti_cert.specs.Verified.{partner_in}
 use Rattle.cur_windows.specs.Desks.{DeskStep}
-use Rattle.cur_calls.specs.declared.calls.Call.{Call}
+use Rattle.cur_scripts.specs.declared.calls.Call.{Call}
 use Rattle.cur_play.specs.Scenes.{Stage, scene_of}
 use Rattle.cur_play.specs.Steps.{DoesAlone, drawn, on_desk, output_of}
 use Rattle.cur_play.specs.declared.answers.Answer.{Answer}

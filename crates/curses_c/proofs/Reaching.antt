@@ -5,12 +5,12 @@ use lib.ListN.{take-append-drop}
 use Rattle.vt_term.specs.Ends.{Ends}
 use Rattle.vt_term.specs.Screen.{State}
 use Rattle.vt_term.proofs.Runs.{runs_nothing}
-use Rattle.cur_wires.specs.Leads.{Within, Past}
-use Rattle.cur_wires.proofs.Leads.{ends_then, meet}
+use Rattle.cur_steps.specs.Leads.{Within, Past}
+use Rattle.cur_steps.proofs.Leads.{ends_then, meet}
 use Rattle.ti_cert.specs.Table.{CheckedTable, certified}
 use Rattle.ti_cert.specs.Verified.{partner_in}
 use Rattle.ti_conforms.specs.Certified.{Table, IsChecked, IsLost}
-use Rattle.cur_calls.specs.declared.calls.Call.{Call}
+use Rattle.cur_scripts.specs.declared.calls.Call.{Call}
 use Rattle.cur_play.proofs.Deliveries.{fits_lost}
 use Rattle.cur_paint.specs.Update.{Fits}
 use Rattle.cur_paint.specs.declared.updates.Status.{Status}

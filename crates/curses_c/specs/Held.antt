@@ -4,8 +4,8 @@ use Rattle.std.specs.Prelude.{Err, min, length, drop, pos, if◌then◌else◌}
 use Rattle.ti_cert.specs.Table.{certified}
 use Rattle.ti_cert.specs.Verified.{partner_in}
 use Rattle.cur_scripts.specs.Texts.{only_call, script_of}
-use Rattle.cur_calls.specs.declared.calls.Call.{Call}
-use Rattle.cur_calls.specs.declared.groups.AttrsCall.{AttrsCall}
+use Rattle.cur_scripts.specs.declared.calls.Call.{Call}
+use Rattle.cur_scripts.specs.declared.groups.AttrsCall.{AttrsCall}
 use Rattle.cur_scripts.specs.declared.faults.ScriptFault.{ScriptFault}
 use Rattle.cur_scripts.specs.declared.faults.ScriptFaultKind.{ScriptFaultKind}
 use Rattle.cur_scripts.specs.declared.faults.ScriptFaultKind.TheVariants.{BadLine, TooLong, NoMemory}

@@ -5,7 +5,7 @@ use Rattle.vt_term.specs.Screen.{State}
 use Rattle.ti_cert.specs.Table.{certified}
 use Rattle.ti_cert.specs.Verified.{partner_in}
 use Rattle.ti_conforms.specs.Certified.{IsChecked, IsLost}
-use Rattle.cur_calls.specs.declared.calls.Call.{Call}
+use Rattle.cur_scripts.specs.declared.calls.Call.{Call}
 use Rattle.cur_paint.specs.Update.{IsFresh, Shows}
 use Rattle.cur_update.specs.Inks.{ink_at}
 use Rattle.cur_update.specs.Painters.{wanted_of}

@@ -6,35 +6,35 @@ use Rattle.cur_drawing.specs.Calls.{default_border}
 use Rattle.cur_drawing.specs.declared.cells.Attrs.{Attrs}
 use Rattle.cur_drawing.specs.declared.puts.Border.{Border}
 use Rattle.cur_drawing.specs.declared.puts.Put.{Put}
-use Rattle.cur_calls.specs.declared.calls.Call.{Call}
-use Rattle.cur_calls.specs.declared.calls.Call.TheVariants.{Newwin, Newpad, Part, Dupwin, Plain, Number, Numbers, Flag}
-use Rattle.cur_calls.specs.declared.calls.Call.TheVariants.{Attributes, Cell, Line, DrawBorder, DrawBox, Lay, Copywin}
-use Rattle.cur_calls.specs.declared.calls.Call.TheVariants.{Show, ShowPad, Screen, CursSet, InitPair}
-use Rattle.cur_calls.specs.declared.groups.AttrsCall.{AttrsCall}
-use Rattle.cur_calls.specs.declared.groups.AttrsCall.TheVariants.{Attron, Attroff, Attrset}
-use Rattle.cur_calls.specs.declared.groups.CellCall.{CellCall}
-use Rattle.cur_calls.specs.declared.groups.CellCall.TheVariants.{Addch, Insch, Bkgdset, Bkgd}
-use Rattle.cur_calls.specs.declared.groups.FlagCall.{FlagCall}
-use Rattle.cur_calls.specs.declared.groups.FlagCall.TheVariants.{Scrollok, Leaveok, Clearok, Idlok}
-use Rattle.cur_calls.specs.declared.groups.LayCall.{LayCall}
-use Rattle.cur_calls.specs.declared.groups.LayCall.TheVariants.{Overlay, Overwrite}
-use Rattle.cur_calls.specs.declared.groups.LineCall.{LineCall}
-use Rattle.cur_calls.specs.declared.groups.LineCall.TheVariants.{Hline, Vline}
-use Rattle.cur_calls.specs.declared.groups.NumberCall.{NumberCall}
-use Rattle.cur_calls.specs.declared.groups.NumberCall.TheVariants.{Scroll, ColorSet}
-use Rattle.cur_calls.specs.declared.groups.NumbersCall.{NumbersCall}
-use Rattle.cur_calls.specs.declared.groups.NumbersCall.TheVariants.{Mvwin, Move, Setscrreg, Touchline}
-use Rattle.cur_calls.specs.declared.groups.PadCall.{PadCall}
-use Rattle.cur_calls.specs.declared.groups.PadCall.TheVariants.{Pnoutrefresh, Prefresh}
-use Rattle.cur_calls.specs.declared.groups.PartCall.{PartCall}
-use Rattle.cur_calls.specs.declared.groups.PartCall.TheVariants.{Subwin, Derwin, Subpad}
-use Rattle.cur_calls.specs.declared.groups.PlainCall.{PlainCall}
-use Rattle.cur_calls.specs.declared.groups.PlainCall.TheVariants.{Delwin, Delch, Insertln, Deleteln, Clrtoeol, Clrtobot}
-use Rattle.cur_calls.specs.declared.groups.PlainCall.TheVariants.{Erase, Clear, Touchwin}
-use Rattle.cur_calls.specs.declared.groups.ScreenCall.{ScreenCall}
-use Rattle.cur_calls.specs.declared.groups.ScreenCall.TheVariants.{Doupdate, Beep, Endwin}
-use Rattle.cur_calls.specs.declared.groups.ShowCall.{ShowCall}
-use Rattle.cur_calls.specs.declared.groups.ShowCall.TheVariants.{Noutrefresh, Refresh}
+use Rattle.cur_scripts.specs.declared.calls.Call.{Call}
+use Rattle.cur_scripts.specs.declared.calls.Call.TheVariants.{Newwin, Newpad, Part, Dupwin, Plain, Number, Numbers, Flag}
+use Rattle.cur_scripts.specs.declared.calls.Call.TheVariants.{Attributes, Cell, Line, DrawBorder, DrawBox, Lay, Copywin}
+use Rattle.cur_scripts.specs.declared.calls.Call.TheVariants.{Show, ShowPad, Screen, CursSet, InitPair}
+use Rattle.cur_scripts.specs.declared.groups.AttrsCall.{AttrsCall}
+use Rattle.cur_scripts.specs.declared.groups.AttrsCall.TheVariants.{Attron, Attroff, Attrset}
+use Rattle.cur_scripts.specs.declared.groups.CellCall.{CellCall}
+use Rattle.cur_scripts.specs.declared.groups.CellCall.TheVariants.{Addch, Insch, Bkgdset, Bkgd}
+use Rattle.cur_scripts.specs.declared.groups.FlagCall.{FlagCall}
+use Rattle.cur_scripts.specs.declared.groups.FlagCall.TheVariants.{Scrollok, Leaveok, Clearok, Idlok}
+use Rattle.cur_scripts.specs.declared.groups.LayCall.{LayCall}
+use Rattle.cur_scripts.specs.declared.groups.LayCall.TheVariants.{Overlay, Overwrite}
+use Rattle.cur_scripts.specs.declared.groups.LineCall.{LineCall}
+use Rattle.cur_scripts.specs.declared.groups.LineCall.TheVariants.{Hline, Vline}
+use Rattle.cur_scripts.specs.declared.groups.NumberCall.{NumberCall}
+use Rattle.cur_scripts.specs.declared.groups.NumberCall.TheVariants.{Scroll, ColorSet}
+use Rattle.cur_scripts.specs.declared.groups.NumbersCall.{NumbersCall}
+use Rattle.cur_scripts.specs.declared.groups.NumbersCall.TheVariants.{Mvwin, Move, Setscrreg, Touchline}
+use Rattle.cur_scripts.specs.declared.groups.PadCall.{PadCall}
+use Rattle.cur_scripts.specs.declared.groups.PadCall.TheVariants.{Pnoutrefresh, Prefresh}
+use Rattle.cur_scripts.specs.declared.groups.PartCall.{PartCall}
+use Rattle.cur_scripts.specs.declared.groups.PartCall.TheVariants.{Subwin, Derwin, Subpad}
+use Rattle.cur_scripts.specs.declared.groups.PlainCall.{PlainCall}
+use Rattle.cur_scripts.specs.declared.groups.PlainCall.TheVariants.{Delwin, Delch, Insertln, Deleteln, Clrtoeol, Clrtobot}
+use Rattle.cur_scripts.specs.declared.groups.PlainCall.TheVariants.{Erase, Clear, Touchwin}
+use Rattle.cur_scripts.specs.declared.groups.ScreenCall.{ScreenCall}
+use Rattle.cur_scripts.specs.declared.groups.ScreenCall.TheVariants.{Doupdate, Beep, Endwin}
+use Rattle.cur_scripts.specs.declared.groups.ShowCall.{ShowCall}
+use Rattle.cur_scripts.specs.declared.groups.ShowCall.TheVariants.{Noutrefresh, Refresh}
 use Rattle.cur_scripts.specs.Arguments.{default_of}
 use Rattle.cur_scripts.specs.Numbers.{as_flag}
 use Rattle.curses_c.specs.declared.queries.Standing.{Standing}

@@ -3,7 +3,7 @@ use Rattle.std.specs.Prelude.{ℕ, ℤ, pos, ◌≡◌, ◌⊎◌, List, [], ◌
 use Rattle.ti_caps.specs.Entry.{Content}
 use Rattle.ti_cert.specs.Table.{CheckedTable, certified}
 use Rattle.ti_cert.specs.Texts.{IsTableOf}
-use Rattle.ti_certify.specs.Owned.{IsOwnTable}
+use Rattle.ti_checker.specs.Owned.{IsOwnTable}
 use Rattle.ti_conforms.specs.Certified.{IsChecked}
 use Rattle.cur_play.specs.Scenes.{first, scene_of}
 use Rattle.curses_c.specs.Codes.{failure_code}

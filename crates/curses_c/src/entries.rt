@@ -2,7 +2,7 @@
 ghost use Rattle.std.specs.Prelude.{◌≡◌, if◌then◌else◌, IfErr, IfOk};
 ghost use Rattle.ti_checker.specs.Certificate.{IsCertificateOf};
 ghost use Rattle.ti_cert.specs.Texts.{IsTableOf};
-ghost use Rattle.ti_certify.specs.Owned.{IsOwnTable};
+ghost use Rattle.ti_checker.specs.Owned.{IsOwnTable};
 ghost use Rattle.ti_conforms.specs.Conforms.{Conforms};
 ghost use Rattle.vt_term.specs.Size.{IsSize};
 ghost use Rattle.curses_c.specs.Entries as spec;
@@ -11,8 +11,7 @@ use crate::codes::Failure;
 use std::alloc::Global;
 use ti_caps::Entry;
 use ti_cert::{AgreeFault, CertFaultKind, Checked, VerifyFault, verify};
-use ti_certify::certify;
-use ti_checker::{Cause, check};
+use ti_checker::{Cause, certify, check};
 use ti_compiled::{PackFault, decode};
 use ti_resolve::{ResolveFault, resolve};
 use ti_source::{FaultKind, read};

@@ -1,9 +1,9 @@
 //! The content of an open handle: a session, and the bytes that wait to be taken.
 ghost use Rattle.std.specs.Prelude.{◌≡◌, ◌++◌, IfOk, [], drop, take};
-ghost use Rattle.cur_calls.specs.declared.calls.Call.TheVariants.{Addstr, Attributes, Cell, Number, Numbers};
-ghost use Rattle.cur_calls.specs.declared.groups.CellCall.TheVariants.{Addch};
-ghost use Rattle.cur_calls.specs.declared.groups.NumberCall.TheVariants.{ColorSet};
-ghost use Rattle.cur_calls.specs.declared.groups.NumbersCall.TheVariants.{Move};
+ghost use Rattle.cur_scripts.specs.declared.calls.Call.TheVariants.{Addstr, Attributes, Cell, Number, Numbers};
+ghost use Rattle.cur_scripts.specs.declared.groups.CellCall.TheVariants.{Addch};
+ghost use Rattle.cur_scripts.specs.declared.groups.NumberCall.TheVariants.{ColorSet};
+ghost use Rattle.cur_scripts.specs.declared.groups.NumbersCall.TheVariants.{Move};
 ghost use Rattle.cur_play.specs.Scenes.{first, scene_of};
 ghost use Rattle.ti_cert.specs.Table.{certified};
 ghost use Rattle.ti_conforms.specs.Certified.{IsChecked};
@@ -15,10 +15,9 @@ use crate::codes::{Failure, answer_code, failure_code, script_code};
 use crate::lines::line_of;
 use crate::outbox::Outbox;
 use crate::requests::{Request, attrs_in, call_of};
-use cur_calls::{AttrsCall, Call};
+use cur_scripts::{AttrsCall, Call, read_call, read_script, ScriptFault, ScriptFaultKind};
 use cur_drawing::{Attrs, Put};
 use cur_play::{Answer, Session};
-use cur_scripts::{ScriptFault, ScriptFaultKind, read_call, read_script};
 use cur_update::cells_bounded;
 use std::alloc::{AllocError, Global};
 use std::slice;

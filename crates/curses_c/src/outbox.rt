@@ -1,7 +1,7 @@
 //! Bytes that wait for the program to take them.
 ghost use Rattle.std.specs.Prelude.{◌≡◌, ◌++◌, ◌<◌, [], length, min, take, drop, IfOk, OnErr};
 
-use cur_wires::{Wire, WireFault};
+use cur_steps::{Wire, WireFault};
 use std::alloc::Global;
 use std::marker::Model;
 
@@ -81,7 +81,7 @@ impl Outbox {
 }
 
 impl Wire for Outbox {
-    ghost use Rattle.cur_wires.specs.Wire.{SendsSome};
+    ghost use Rattle.cur_steps.specs.Wire.{SendsSome};
     ghost use Rattle.curses_c.specs.Outbox.{Posts, Posts-lawful};
 
     ghost went = { Posts };

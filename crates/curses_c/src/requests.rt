@@ -5,7 +5,7 @@ ghost use Rattle.curses_c.specs.Requests as spec;
 
 use crate::queries::Standing;
 use bitflags::Flags;
-use cur_calls::{
+use cur_scripts::{
     AttrsCall, Call, CellCall, FlagCall, LayCall, LineCall, NumberCall, NumbersCall, PadCall,
     PartCall, PlainCall, ScreenCall, ShowCall,
 };

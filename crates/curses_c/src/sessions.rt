@@ -1,10 +1,10 @@
 //! The calls on sessions.
 ghost use Rattle.std.specs.Prelude.{◌≡◌, None, IfErr, IfOk, length, pos};
-ghost use Rattle.cur_calls.specs.declared.calls.Call.TheVariants.{Addstr, Cell, Number, Numbers};
-ghost use Rattle.cur_calls.specs.declared.groups.AttrsCall.TheVariants.{Attroff, Attron, Attrset};
-ghost use Rattle.cur_calls.specs.declared.groups.CellCall.TheVariants.{Addch};
-ghost use Rattle.cur_calls.specs.declared.groups.NumberCall.TheVariants.{ColorSet};
-ghost use Rattle.cur_calls.specs.declared.groups.NumbersCall.TheVariants.{Move};
+ghost use Rattle.cur_scripts.specs.declared.calls.Call.TheVariants.{Addstr, Cell, Number, Numbers};
+ghost use Rattle.cur_scripts.specs.declared.groups.AttrsCall.TheVariants.{Attroff, Attron, Attrset};
+ghost use Rattle.cur_scripts.specs.declared.groups.CellCall.TheVariants.{Addch};
+ghost use Rattle.cur_scripts.specs.declared.groups.NumberCall.TheVariants.{ColorSet};
+ghost use Rattle.cur_scripts.specs.declared.groups.NumbersCall.TheVariants.{Move};
 ghost use Rattle.curses_c.specs.Entries.{IsShown};
 ghost use Rattle.curses_c.specs.Held.{CopiesLinesAs, Does, Loses, MakesAlone, RecolorsAs, Says, Styles};
 ghost use Rattle.curses_c.specs.Requests.{put_of};
@@ -17,7 +17,7 @@ use crate::handles::Handle;
 use crate::held::Held;
 use crate::queries::Standing;
 use crate::requests::{Request, put_of};
-use cur_calls::AttrsCall;
+use cur_scripts::AttrsCall;
 use std::alloc::Global;
 use ti_cert::Checked;
 

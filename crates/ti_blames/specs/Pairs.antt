@@ -1,7 +1,7 @@
 -- The pairs of `acsc`.
 use Rattle.std.specs.Prelude.{◌≡◌, ◌≤◌, ◌<◌, ◌+◌, ◌*◌, ℕ, List, Some, length, slice_get}
-use Rattle.ti_stretches.specs.Stretches.{IsWithin}
-use Rattle.ti_stretches.specs.declared.stretches.Stretch.{Stretch}
+use Rattle.ti_blames.specs.Stretches.{IsWithin}
+use Rattle.ti_blames.specs.declared.stretches.Stretch.{Stretch}
 
 -- the pair at a place, counted in pairs, is whole and has this letter
 pub record HasLetter (pairs : List ℕ) (letter place : ℕ) : Type 0 where

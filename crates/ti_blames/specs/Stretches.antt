@@ -1,8 +1,8 @@
--- Stretches of a string that a call may find.
-use Rattle.std.specs.Prelude.{ℕ, List, IfSome, Option}
-use Rattle.ti_stretches.specs.Stretches.{IsWithin}
-use Rattle.ti_stretches.specs.declared.stretches.Stretch.{Stretch}
+-- Parts of some bytes.
+use Rattle.std.specs.Prelude.{◌<◌, ◌≤◌, ℕ, List, length}
+use Rattle.ti_blames.specs.declared.stretches.Stretch.{Stretch}
 
--- what is found, if anything, is a stretch of the string
-abbrev pub IsWithinIf : List ℕ → Option Stretch → Type 0
-IsWithinIf string found = IfSome found (IsWithin string)
+-- the stretch isn't empty, and is within these bytes
+pub record IsWithin (bytes : List ℕ) (stretch : Stretch) : Type 0 where
+  pub filled : stretch.from < stretch.to
+  pub ends : stretch.to ≤ length bytes

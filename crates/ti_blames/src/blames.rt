@@ -1,19 +1,19 @@
 //! The stretch of a checked string that is at fault.
 
 ghost use Rattle.std.specs.Prelude.{IfOk};
-ghost use Rattle.ti_blames.specs.Stretches.{IsWithinIf};
+ghost use Rattle.ti_blames.specs.BlamedStretches.{IsWithinIf};
 
 use crate::changes::{Steps, steps_of};
 use crate::parameters::narrowed;
 use crate::parts::{Mark, PARTS, Part, differ, digit_for, switch_of};
 use crate::units::{effect_in, tokens_of, units};
-use std::alloc::{AllocError, Global};
-use ti_parm::{Param, ParmFault};
-use ti_rows::{Attributes, Looks, NO_ATTRIBUTES, NO_LOOKS, Row};
-use ti_stretches::{
+use crate::{
     CodeFault, Found, Sender, Stretch, conditional_on, faulty_code, open_conditional,
     sending_stretch, sent_bytes,
 };
+use std::alloc::{AllocError, Global};
+use ti_parm::{Param, ParmFault};
+use ti_rows::{Attributes, Looks, NO_ATTRIBUTES, NO_LOOKS, Row};
 use vt_effects::{Effect, Switch};
 use vt_term::Size;
 

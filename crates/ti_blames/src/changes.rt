@@ -1,9 +1,9 @@
 //! The unit that changes a part of the effect.
 
+use crate::Stretch;
 use crate::parts::{Part, differ};
 use crate::units::{Unit, effect_in};
 use std::alloc::{AllocError, Global};
-use ti_stretches::Stretch;
 use vt_effects::{Effect, Start};
 use vt_term::Size;
 

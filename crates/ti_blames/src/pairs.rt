@@ -3,7 +3,7 @@
 ghost use Rattle.std.specs.Prelude.{IfNone, IfSome, ℕ};
 ghost use Rattle.ti_blames.specs.Pairs as spec;
 
-use ti_stretches::Stretch;
+use crate::Stretch;
 
 /// The first pair of `pairs` whose letter is `letter`.
 pub fn pair_of(pairs: &[u8], letter: u8) -> Option<Stretch>

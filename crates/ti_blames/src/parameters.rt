@@ -1,8 +1,8 @@
 //! The parameter of a control sequence that changes a part of the effect.
 
+use crate::Stretch;
 use crate::parts::Part;
 use crate::units::moved;
-use ti_stretches::Stretch;
 use vt_effects::{Effect, Erasure, Move, Region};
 
 /// Which parameter of a control sequence with the final byte `last` gives a part what is asked of it in another way,

@@ -99,8 +99,8 @@ pub(crate) fn differ(part: Part, one: &Effect, other: &Effect) -> bool
     }
 }
 
-/// The digit of the parameter of `sgr` for the attribute of `mark`, if that attribute is among `attributes`, and by
-/// these looks it is shown by its mark; otherwise the digit for standout.
+/// The digit of the `sgr` parameter to blame: that of the attribute of `mark` if `attributes` has it and `looks` shows
+/// it by that mark, and otherwise the digit for standout.
 pub(crate) fn digit_for(mark: Mark, attributes: Attributes, looks: Looks) -> u8
     ensures { result ≡ spec.digit_for mark attributes looks }
 {

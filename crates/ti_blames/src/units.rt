@@ -2,8 +2,8 @@
 
 ghost use Rattle.std.specs.Prelude.{◌≤◌, ◌+◌, length};
 
+use crate::Stretch;
 use std::alloc::{AllocError, Global};
-use ti_stretches::Stretch;
 use vt_effects::{Effect, Start, effect_of};
 use vt_term::{Function, Size, Token, TokenFaultKind, tokens};
 
@@ -74,7 +74,7 @@ fn push_parameters(
     Ok(())
 }
 
-/// The stretch behind this many further bytes.
+/// `stretch`, shifted right by `before` bytes.
 pub(crate) fn moved(stretch: Stretch, before: usize) -> Stretch {
     Stretch {
         from: before.saturating_add(stretch.from),

@@ -41,3 +41,4 @@ pub mod Modes
 pub mod Complete
 pub mod ClashLists
 pub mod Owned
+pub mod OwnTables

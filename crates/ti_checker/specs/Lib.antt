@@ -17,3 +17,4 @@ pub mod Switches
 pub mod Taught
 pub mod Trials
 pub mod Clashes
+pub mod Owned

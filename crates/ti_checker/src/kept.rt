@@ -41,7 +41,7 @@ pub(crate) fn kept_string<'a>(entry: &'a Entry, left_out: &[No], row: Row) -> Op
     }
 }
 
-/// The fault of a string that stands: memory ran out, which is what `cause` must be.
+/// Turns `cause`, which must be `NoMemory`, into the fault of an accepted string.
 pub(crate) fn out_of_memory(cause: Cause) -> AllocError
     requires { cause ≡ Cause.NoMemory }
 {

@@ -1,9 +1,11 @@
-//! The checker: a certificate for an entry and a size, or the reason why there is none.
+//! The checker: a certificate for an entry and a size, as a text or as the checked strings alone, or the reason why
+//! there is none.
 #![tactic(auto)]
 
 mod breakage;
 mod causes;
 mod cells;
+mod certification;
 mod checks;
 mod clash_lists;
 mod drafts;
@@ -15,6 +17,7 @@ pub mod laws;
 mod mislooks;
 mod note_list;
 mod note_texts;
+mod owned_tables;
 mod probes;
 mod resync;
 mod sends;
@@ -22,11 +25,13 @@ mod switches;
 mod trials;
 
 pub use causes::{Cause, No};
+pub use certification::certify;
 pub use checks::check;
 pub use clash_lists::clashes;
 pub use judgements::Judge;
 pub use kept::names;
 pub use note_list::{CheckNote, notes};
 pub use note_texts::note_lines;
+pub use owned_tables::own_is_accepted;
 pub use probes::Probe;
 pub use sends::checked_string;

@@ -129,10 +129,10 @@ fn shown_by(number: u8, row: Row, taught: Looks, effect: &Effect, size: Size) ->
     }
 }
 
-/// A start of `row` from which `effect` leads to an end that isn't wanted. This holds for all looks that agree with
-/// `taught`, the looks that the rows before teach, and by which the one attribute that the row turns on looks as the
-/// effect shows it from a start without marks. `None` if no probe is such a start: then there are looks with which the
-/// effect, if it is that of a text, leads from each start to a wanted end.
+/// A start of `row` from which `effect` leads to an end that isn't wanted. This holds for every assignment of looks
+/// that is consistent with `taught`, which earlier rows taught, and by which the one attribute that the row turns on
+/// looks as the effect shows it from a start without marks. `None` if no probe is such a start: then some assignment of
+/// looks has the effect, if it is that of a text, lead from each start to a wanted end.
 pub(crate) fn probe_for(row: Row, taught: Looks, effect: &Effect, size: Size) -> Option<Probe>
     requires { IsInRange size.rows size.cols row }
     ensures shown { IfSome result (λ probe. IsShown size.rows size.cols taught row effect.now probe) }

@@ -3,9 +3,9 @@ use Rattle.std.proofs.Common.{◌≡◌, ◌≢◌, ◌<◌, List, [], ℕ, Resu
 use Rattle.ti_parm.specs.Meaning.{sent}
 use Rattle.ti_parm.specs.Value.{Value, values_of}
 use Rattle.ti_parm.specs.declared.param.Param.{Param}
-use Rattle.ti_reach.specs.Reach.{IsWhole, ReachesBefore, ServesAsCup, TellsWhy}
-use Rattle.ti_reach.specs.declared.MissKind.{MissKind}
-use Rattle.ti_reach.specs.declared.MissKind.TheVariants as miss_kinds
+use Rattle.ti_conforms.specs.CupReach.{IsWhole, ReachesBefore, ServesAsCup, TellsWhy}
+use Rattle.ti_conforms.specs.declared.cup_reach.MissKind.{MissKind}
+use Rattle.ti_conforms.specs.declared.cup_reach.MissKind.TheVariants as miss_kinds
 use Rattle.ti_source.specs.Escapes.{FailsBy, unescaped}
 use Rattle.ti_source.specs.declared.escapes.EscapeFault.{EscapeFault}
 use Rattle.ti_source.specs.declared.escapes.EscapeFault.TheVariants as escape_faults

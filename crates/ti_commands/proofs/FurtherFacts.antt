@@ -7,10 +7,10 @@ use Rattle.ti_commands.specs.Contents.{Held}
 use Rattle.ti_commands.specs.Failures.{IsFileFailure}
 use Rattle.ti_commands.specs.Further.{AddsFurther, AreFurther, AreHeld, ArePutTogether, AreReached, FailsAtFurther, FailsFurther, FailsReading, IsBadlyFurther, IsFurther, IsHeld, TellsFurther, Together, path_texts}
 use Rattle.ti_commands.specs.declared.failure.Failure.{Failure}
-use Rattle.ti_further.specs.Files.{LacksRaws, together}
-use Rattle.ti_further.specs.declared.files.FurtherFault.{FurtherFault}
-use Rattle.ti_further.specs.declared.files.FurtherFault.TheVariants as further_faults
-use Rattle.ti_further.specs.declared.files.FurtherFile.{FurtherFile}
+use Rattle.ti_sources.specs.Files.{LacksRaws, together}
+use Rattle.ti_sources.specs.declared.files.FurtherFault.{FurtherFault}
+use Rattle.ti_sources.specs.declared.files.FurtherFault.TheVariants as further_faults
+use Rattle.ti_sources.specs.declared.files.FurtherFile.{FurtherFile}
 use Rattle.ti_source.specs.declared.types.RawEntry.{RawEntry}
 
 -- ---- a file that gives no entries

@@ -5,3 +5,6 @@ pub mod Listings
 pub mod Expansions
 pub mod Colons
 pub mod Comparisons
+pub mod FeedFacts
+pub mod WrappedReadings
+pub mod WrappedStorings

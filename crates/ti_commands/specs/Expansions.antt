@@ -8,9 +8,9 @@ use Rattle.ti_parm.specs.Value.{Value}
 use Rattle.ti_source.specs.Escapes.{unescaped}
 use Rattle.ti_source.specs.declared.escapes.EscapeFault.{EscapeFault}
 use Rattle.ti_source.specs.declared.escapes.EscapeFault.TheVariants as escape_faults
-use Rattle.ti_reach.specs.Reach.{IsWhole, ReachesBefore, ServesAsCup, TellsWhy}
-use Rattle.ti_reach.specs.declared.MissKind.{MissKind}
-use Rattle.ti_reach.specs.declared.MissKind.TheVariants as miss_kinds
+use Rattle.ti_conforms.specs.CupReach.{IsWhole, ReachesBefore, ServesAsCup, TellsWhy}
+use Rattle.ti_conforms.specs.declared.cup_reach.MissKind.{MissKind}
+use Rattle.ti_conforms.specs.declared.cup_reach.MissKind.TheVariants as miss_kinds
 use Rattle.vt_term.specs.Fault.{TellsFault}
 use Rattle.vt_term.specs.Run.{Runs}
 use Rattle.vt_term.specs.Screen.{State, reset}

@@ -1,10 +1,10 @@
 -- The entries of the files of `--with`, behind those of a source.
 use Rattle.std.specs.Prelude.{◌≡◌, ◌⊎◌, ◌≤◌, ℕ, List, [], ◌∷◌, ◌++◌, String, length, map, string_bytes, take}
 use Rattle.std.specs.declared.alloc.Global.{Global}
-use Rattle.ti_further.specs.Files.{AreRawsOf, LacksRaws, together}
-use Rattle.ti_further.specs.declared.files.FurtherFault.{FurtherFault}
-use Rattle.ti_further.specs.declared.files.FurtherFault.TheVariants as further_faults
-use Rattle.ti_further.specs.declared.files.FurtherFile.{FurtherFile}
+use Rattle.ti_sources.specs.Files.{AreRawsOf, LacksRaws, together}
+use Rattle.ti_sources.specs.declared.files.FurtherFault.{FurtherFault}
+use Rattle.ti_sources.specs.declared.files.FurtherFault.TheVariants as further_faults
+use Rattle.ti_sources.specs.declared.files.FurtherFile.{FurtherFile}
 use Rattle.ti_source.specs.declared.types.RawEntry.{RawEntry}
 use Rattle.ti_commands.specs.Contents.{AreBytesOf, HasBytes, Held, longest_file}
 use Rattle.ti_commands.specs.Failures.{IsFileFailure}

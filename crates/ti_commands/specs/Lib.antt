@@ -10,3 +10,8 @@ pub mod Findings
 pub mod Replies
 pub mod Sources
 pub mod Refusals
+pub mod Feeds
+pub mod States
+pub mod Wrapped
+pub mod Fronts
+pub mod WrappedLaws

@@ -2,7 +2,7 @@
 
 ghost use Rattle.std.specs.{Prelude.{◌≡◌, ◌⊎◌, IfErr, IfNone, IfOk, IfSome}, String.{string_bytes}};
 ghost use Rattle.ti_parm.specs.{Meaning.{sent}, Value.{Value, value_of, values_of}};
-ghost use Rattle.ti_reach.specs.Reach.{IsWhole};
+ghost use Rattle.ti_conforms.specs.CupReach.{IsWhole};
 ghost use Rattle.ti_commands.specs.Expansions.{FailsToExpand, IsExpanded, JudgesCup, Shows, ShowsAll, ShowsCursor};
 ghost use Rattle.ti_commands.specs.Expansions.{IsParmFailure, cursor_line, escape_failure, hex_line, no_line};
 ghost use Rattle.ti_commands.specs.Failures.{IsUsageError, WrongParam, param_usage};
@@ -13,8 +13,8 @@ use crate::failure::{CommandRefusal, Failure, Replied, Reply};
 use crate::sizes::{number_word, size_of};
 use smallvec::SmallVec;
 use std::alloc::{AllocError, Global};
+use ti_conforms::{MissKind, reach_cup};
 use ti_parm::{Param, ParmFault};
-use ti_reach::{MissKind, reach_cup};
 use ti_requests::ExpandWords;
 use ti_source::{EscapeFault, unescape};
 use ti_words::{Remarks, explain_escape, explain_parm, explain_token};

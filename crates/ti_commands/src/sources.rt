@@ -11,9 +11,9 @@ use crate::files::Files;
 use crate::further::{PutTogether, own_raws};
 use std::alloc::Global;
 use ti_caps::Entry;
-use ti_further::FurtherFile;
 use ti_hints::hint_entry;
 use ti_source::RawEntry;
+use ti_sources::FurtherFile;
 use ti_words::Remarks;
 
 /// A source file, and the name of an entry in it.

@@ -14,3 +14,5 @@ pub mod Values
 pub mod Walks
 pub mod Matches
 pub mod Sendable
+pub mod CupReaches
+pub mod CupLeads

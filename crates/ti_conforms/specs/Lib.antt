@@ -16,3 +16,4 @@ pub mod Entries
 pub mod Certified
 pub mod Unfit
 pub mod Looks
+pub mod CupReach

@@ -6,6 +6,7 @@
 mod agreement;
 mod certificates;
 mod closures;
+mod cup_reach;
 mod entries;
 mod fitness;
 pub mod laws;
@@ -18,6 +19,7 @@ mod sends;
 pub use agreement::{Disagreement, LinesByRow};
 pub use certificates::Certificate;
 pub use closures::{Charsets, KEPT, designated, or_kept, settles, switched};
+pub use cup_reach::{Miss, MissKind, Reached, reach_cup};
 pub use entries::{Group, is_checked};
 pub use fitness::{Unfit, acsc, first_unfit};
 pub use looks::{is_alone, is_some_look};

@@ -2,8 +2,8 @@
 use Rattle.std.proofs.Common.{◌≡◌, ◌<◌, ◌≤◌, ◌+◌, ◌∙◌, ℕ, zero, suc, List, [], ◌∷◌, ◌++◌, Option, Some, None, inl, inr, length, get_or, ap, append_assoc, append-nil, arith, length-append, refl, subst, sym}
 use Rattle.std.specs.Prelude.{IfSome, map}
 use Rattle.std.specs.List.{AllByRecursion}
-use Rattle.ti_entries.specs.Columns.{columns_of_part, line_in}
-use Rattle.ti_entries.specs.declared.columns.Columns.{Columns}
+use Rattle.ti_sources.specs.Columns.{columns_of_part, line_in}
+use Rattle.ti_sources.specs.declared.columns.Columns.{Columns}
 use Rattle.ti_hints.specs.Places.{AreAmong, IsFieldOn, IsHintOf, IsLineOf, IsOn, IsRest}
 use Rattle.ti_hints.specs.declared.hints.EntryLine.{EntryLine}
 use Rattle.ti_hints.specs.declared.hints.FieldHint.{FieldHint}

@@ -1,7 +1,7 @@
 -- The place of a hint in a source text: the entry, its line, and the field on that line.
 use Rattle.std.specs.Prelude.{◌≡◌, ◌⊎◌, ◌+◌, ◌<◌, ◌≤◌, ℕ, List, [], ◌∷◌, ◌++◌, IfSome, length, slice_get}
-use Rattle.ti_entries.specs.Columns.{columns_of_part, line_in}
-use Rattle.ti_entries.specs.declared.columns.Columns.{Columns}
+use Rattle.ti_sources.specs.Columns.{columns_of_part, line_in}
+use Rattle.ti_sources.specs.declared.columns.Columns.{Columns}
 use Rattle.ti_hints.specs.declared.hints.EntryLine.{EntryLine}
 use Rattle.ti_hints.specs.declared.hints.FieldHint.{FieldHint}
 use Rattle.ti_source.specs.Marks.{comma}

@@ -192,7 +192,7 @@ fn has_mark(rendition: &Rendering) -> bool {
     marks.iter().any(|mark| matches!(*mark, Switch::On))
 }
 
-/// The words that the string `cap` of the attribute `word` shows it and `sgr` doesn't.
+/// The advice that `cap` turns on the attribute `word`, and that `sgr` never does.
 fn look_words(alloc: Global, entry: &Entry, cap: Cap, word: &[u8]) -> Result<Vec<u8>, AllocError> {
     let mut words = Vec::from_slice(alloc, b"sgr: ")?;
     push_definition(&mut words, entry, cap)?;

@@ -9,7 +9,7 @@ use crate::fields::FieldText;
 use crate::places::{PlacedField, placed_fields};
 use std::alloc::{AllocError, Global};
 use ti_caps::{CAPABILITIES, Cap, by_name, name};
-use ti_entries::{Columns, line_at};
+use ti_sources::{Columns, line_at};
 use ti_source::RawEntry;
 
 /// The kind of a hint.

@@ -1,12 +1,12 @@
 //! The fields of a line of source text, each with its place there.
 
 ghost use Rattle.std.specs.{Prelude.{◌≡◌, ◌≤◌, ◌+◌, IfOk, IfSome, length}, List.{AllByRecursion}};
-ghost use Rattle.ti_entries.specs.Columns.{columns_of_part};
+ghost use Rattle.ti_sources.specs.Columns.{columns_of_part};
 ghost use Rattle.ti_hints.specs.Places as spec;
 
 use crate::fields::{FieldText, cut_comma, split};
 use std::alloc::{AllocError, Global};
-use ti_entries::{Columns, columns_of_part};
+use ti_sources::{Columns, columns_of_part};
 
 /// A field of a line, and its place there.
 #[derive(Clone, Copy)]

@@ -4,7 +4,7 @@ use crate::carets::percent_carets;
 use crate::hints::{FieldHint, caret_words, entry_hints};
 use crate::uses::used_places;
 use std::alloc::{AllocError, Global};
-use ti_entries::text_lines;
+use ti_sources::text_lines;
 use ti_source::RawEntry;
 use ti_words::Remarks;
 

@@ -1,7 +1,7 @@
 //! The entries of a source text that an entry of it uses.
 
 use std::alloc::{AllocError, Global};
-use ti_entries::place_named;
+use ti_sources::place_named;
 use ti_source::{Field, RawEntry};
 
 /// The places among `raws` of the entry of this name and of those that it uses, in order; none if there is no such

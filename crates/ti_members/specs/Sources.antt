@@ -5,8 +5,8 @@ use Rattle.std.specs.String.{string_bytes}
 use Rattle.ti_commands.specs.declared.failure.CommandRefusal.{CommandRefusal}
 use Rattle.ti_commands.specs.declared.failure.CommandRefusal.TheVariants as refusals
 use Rattle.ti_commands.specs.declared.sources.SourceText.{SourceText}
-use Rattle.ti_entries.specs.BadUses.{IsBadUse}
-use Rattle.ti_joins.specs.declared.places.Region.{Region}
+use Rattle.ti_sources.specs.BadUses.{IsBadUse}
+use Rattle.ti_sources.specs.declared.joined_places.Region.{Region}
 use Rattle.ti_members.specs.Names.{HasName}
 use Rattle.ti_members.specs.declared.forms.Written.{Written}
 use Rattle.ti_members.specs.declared.places.Standing.{Standing}

@@ -11,7 +11,7 @@ use crate::names::name_of;
 use std::alloc::{AllocError, Global};
 use ti_caps::Cap;
 use ti_commands::CommandRefusal;
-use ti_joins::Region;
+use ti_sources::Region;
 use ti_places::{
     FieldPlace, Judged, LinedFile, NamedSource, SourcePlace, begun_line, first_name, names_of,
 };

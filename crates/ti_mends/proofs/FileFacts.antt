@@ -11,7 +11,7 @@ use Rattle.ti_commands.specs.Sizes.{SizeGiven}
 use Rattle.ti_commands.specs.Sources.{IsSourced}
 use Rattle.ti_commands.specs.declared.failure.CommandRefusal.{CommandRefusal}
 use Rattle.ti_commands.specs.declared.failure.Reply.{Reply}
-use Rattle.ti_further.specs.declared.files.FurtherFile.{FurtherFile}
+use Rattle.ti_sources.specs.declared.files.FurtherFile.{FurtherFile}
 use Rattle.ti_mends.specs.Delivery.{HandsOver, StoresChanged, own_bytes}
 use Rattle.ti_mends.specs.Replies.{AreMended, Delivers, IsFixed, IsMendedSource}
 use Rattle.ti_commands.specs.declared.sources.SourceText.{SourceText}

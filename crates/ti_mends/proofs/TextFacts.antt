@@ -11,8 +11,8 @@ use Rattle.ti_commands.specs.declared.sources.SourceText.{SourceText}
 use Rattle.ti_caps.specs.Entry.{Content}
 use Rattle.ti_fixes.specs.Fixes.{Gives}
 use Rattle.ti_fixes.specs.declared.fixes.Fixed.{Fixed}
-use Rattle.ti_further.specs.Files.{AreRawsBy, AreRawsOf, is_compiled, text_in}
-use Rattle.ti_further.specs.declared.files.FurtherFile.{FurtherFile}
+use Rattle.ti_sources.specs.Files.{AreRawsBy, AreRawsOf, is_compiled, text_in}
+use Rattle.ti_sources.specs.declared.files.FurtherFile.{FurtherFile}
 use Rattle.ti_mends.specs.Replies.{StandsTogether}
 use Rattle.ti_mends.specs.Texts.{ArePut, AreSheetsOf, IsChange, IsGivenIn, IsPut, IsReadAs, IsReadBy, IsSheetOf, Sheet, rewritten, sheet_of, sheets, source_sheet}
 use Rattle.ti_mends.specs.declared.mendings.Text.{Text}

@@ -11,7 +11,7 @@ use Rattle.ti_commands.specs.declared.failure.Failure.{Failure}
 use Rattle.ti_commands.specs.declared.failure.Reply.{Reply}
 use Rattle.ti_commands.specs.declared.sources.SourceText.{SourceText}
 use Rattle.ti_faults.specs.AllFaults.{AreAllFaults}
-use Rattle.ti_further.specs.declared.files.FurtherFile.{FurtherFile}
+use Rattle.ti_sources.specs.declared.files.FurtherFile.{FurtherFile}
 use Rattle.ti_mends.specs.Notes.{fix_notes}
 use Rattle.ti_mends.specs.Taken.{Aim, IsCurrent, TakesAll}
 use Rattle.ti_mends.specs.Delivery.{HandsOver, StoresChanged, own_bytes}

@@ -3,8 +3,8 @@ use Rattle.std.specs.Prelude.{ℕ, ◌≡◌, Bool, true, false, List, ◌∷◌
 use Rattle.std.specs.List.{AllByRecursion, AllZip}
 use Rattle.ti_commands.specs.declared.sources.SourceText.{SourceText}
 use Rattle.ti_fixes.specs.Fixes.{Gives}
-use Rattle.ti_further.specs.Files.{AreRawsOf, together}
-use Rattle.ti_further.specs.declared.files.FurtherFile.{FurtherFile}
+use Rattle.ti_sources.specs.Files.{AreRawsOf, together}
+use Rattle.ti_sources.specs.declared.files.FurtherFile.{FurtherFile}
 use Rattle.ti_mends.specs.declared.mendings.Text.{Text}
 use Rattle.ti_mends.specs.declared.mendings.Texts.{Texts}
 use Rattle.ti_source.specs.Raw.{IsRaw}

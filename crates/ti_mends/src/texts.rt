@@ -3,7 +3,7 @@
 ghost use Rattle.std.specs.{Prelude.{◌≡◌, ◌++◌, ◌∷◌, IfOk, IfSome, IsTrue, false, length, true}, Bool.{OnTrue}};
 ghost use Rattle.std.specs.List.{AllByRecursion, AllZip};
 ghost use Rattle.ti_caps.specs.Fits.{string_fits};
-ghost use Rattle.ti_further.specs.Files.{text_in};
+ghost use Rattle.ti_sources.specs.Files.{text_in};
 ghost use Rattle.ti_mends.specs.Texts as spec;
 ghost use Rattle.ti_source.specs.Raw.{IsRaw};
 
@@ -12,7 +12,7 @@ use std::alloc::{AllocError, Global};
 use ti_caps::Cap;
 use ti_commands::SourceText;
 use ti_fixes::give;
-use ti_further::{FurtherFault, FurtherFile, raws_of, spot_of};
+use ti_sources::{FurtherFault, FurtherFile, raws_of, spot_of};
 use ti_source::RawEntry;
 
 /// The files with a change, or `None` if it can't be made; or that memory ran out.

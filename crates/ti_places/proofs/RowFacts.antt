@@ -2,7 +2,7 @@
 use Rattle.std.proofs.Common.{◌≡◌, ◌∙◌, ◌+◌, ℕ, zero, suc, List, [], ◌∷◌, ◌++◌, ap, append-nil, arith, refl}
 use Rattle.std.specs.List.{flat_map, range_with_len}
 use Rattle.std.proofs.lemmas.Grind.{flat_map-append}
-use Rattle.ti_joins.specs.declared.places.Region.{Region}
+use Rattle.ti_sources.specs.declared.joined_places.Region.{Region}
 use Rattle.ti_places.specs.Excerpts.{deeper}
 use Rattle.ti_places.specs.Rows.{row_of, rows_of}
 use Rattle.ti_words.specs.Shown.{shown}

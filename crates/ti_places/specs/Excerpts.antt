@@ -5,9 +5,9 @@ use Rattle.std.specs.Prelude.{codes, drop, if◌then◌else◌, length, replicat
 use Rattle.ti_caps.specs.Table.{name_at}
 use Rattle.ti_source.specs.Escapes.{unescaped}
 use Rattle.ti_source.specs.Marks.{equals, hash}
-use Rattle.ti_stretches.specs.Stretches.{IsWithin}
-use Rattle.ti_stretches.specs.Values.{IsMeaning}
-use Rattle.ti_stretches.specs.declared.stretches.Stretch.{Stretch}
+use Rattle.ti_blames.specs.Stretches.{IsWithin}
+use Rattle.ti_blames.specs.Values.{IsMeaning}
+use Rattle.ti_blames.specs.declared.stretches.Stretch.{Stretch}
 use Rattle.ti_words.specs.Shown.{shown}
 
 -- words on a line of their own, after four spaces

@@ -5,13 +5,13 @@ use Rattle.std.specs.List.{before_first}
 use Rattle.ti_caps.specs.Table.{name_at}
 use Rattle.ti_commands.specs.declared.sources.SourceText.{SourceText}
 use Rattle.ti_checker.specs.declared.causes.No.{No}
-use Rattle.ti_entries.specs.declared.columns.Columns.{Columns}
-use Rattle.ti_joins.specs.declared.places.Region.{Region}
+use Rattle.ti_sources.specs.declared.columns.Columns.{Columns}
+use Rattle.ti_sources.specs.declared.joined_places.Region.{Region}
 use Rattle.ti_resolve.specs.Origins.{IsOrigin, IsOriginAt}
 use Rattle.ti_resolve.specs.Uses.{names_at}
 use Rattle.ti_resolve.specs.declared.origins.Origin.{Origin}
 use Rattle.ti_source.specs.declared.types.RawEntry.{RawEntry}
-use Rattle.ti_stretches.specs.declared.stretches.Stretch.{Stretch}
+use Rattle.ti_blames.specs.declared.stretches.Stretch.{Stretch}
 use Rattle.ti_places.specs.Excerpts.{IsFaulty, IsFaultyPart, excerpt, value_in}
 use Rattle.ti_places.specs.Originals.{begun_line, original_at, region_among, region_at, region_in}
 use Rattle.ti_places.specs.Refusals.{no_text}

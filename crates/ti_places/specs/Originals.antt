@@ -1,9 +1,9 @@
 -- The places in a file of what was read from it, where lines of it may have been joined.
 use Rattle.std.specs.Prelude.{ℕ, List, [], ◌∷◌, Option, Some, None, if◌then◌else◌, option_map}
 use Rattle.std.specs.Str.{bytes_eq}
-use Rattle.ti_entries.specs.declared.columns.Columns.{Columns}
-use Rattle.ti_joins.specs.Places.{region_of}
-use Rattle.ti_joins.specs.declared.places.Region.{Region}
+use Rattle.ti_sources.specs.declared.columns.Columns.{Columns}
+use Rattle.ti_sources.specs.JoinedPlaces.{region_of}
+use Rattle.ti_sources.specs.declared.joined_places.Region.{Region}
 use Rattle.ti_places.specs.Spots.{FileText, Line, PutFiles, columns_among, line_among}
 use Rattle.ti_resolve.specs.declared.origins.Origin.{Origin}
 use Rattle.ti_source.specs.Layout.{lines_of}

@@ -1,8 +1,8 @@
 -- A field that may go over several lines of its text, and below it marks under a part of it.
 use Rattle.std.specs.Prelude.{ℕ, ◌+◌, ◌-◌, ◌==◌, List, ◌++◌, if◌then◌else◌, length}
 use Rattle.std.specs.List.{flat_map, range_with_len}
-use Rattle.ti_entries.specs.Columns.{line_in, piece_of}
-use Rattle.ti_joins.specs.declared.places.Region.{Region}
+use Rattle.ti_sources.specs.Columns.{line_in, piece_of}
+use Rattle.ti_sources.specs.declared.joined_places.Region.{Region}
 use Rattle.ti_places.specs.Excerpts.{deeper, underlined}
 use Rattle.ti_source.specs.Layout.{lines_of, skip_white}
 use Rattle.ti_words.specs.Shown.{shown}

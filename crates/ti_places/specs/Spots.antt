@@ -2,13 +2,13 @@
 use Rattle.std.specs.Prelude.{ℕ, List, [], ◌∷◌, Option, Some, None, map, slice_get}
 use Rattle.std.specs.String.{string_bytes}
 use Rattle.ti_commands.specs.declared.sources.SourceText.{SourceText}
-use Rattle.ti_entries.specs.Columns.{columns_of, piece_of}
-use Rattle.ti_entries.specs.LinedTexts.{line_at}
-use Rattle.ti_entries.specs.declared.columns.Columns.{Columns}
-use Rattle.ti_further.specs.Files.{text_in}
-use Rattle.ti_further.specs.Places.{spot_of}
-use Rattle.ti_further.specs.declared.files.FurtherFile.{FurtherFile}
-use Rattle.ti_further.specs.declared.places.Spot.{Spot}
+use Rattle.ti_sources.specs.Columns.{columns_of, piece_of}
+use Rattle.ti_sources.specs.LinedTexts.{line_at}
+use Rattle.ti_sources.specs.declared.columns.Columns.{Columns}
+use Rattle.ti_sources.specs.Files.{text_in}
+use Rattle.ti_sources.specs.Spots.{spot_of}
+use Rattle.ti_sources.specs.declared.files.FurtherFile.{FurtherFile}
+use Rattle.ti_sources.specs.declared.spots.Spot.{Spot}
 use Rattle.ti_resolve.specs.declared.origins.Origin.{Origin}
 use Rattle.ti_source.specs.Lines.{field_lines_of}
 use Rattle.ti_places.specs.declared.spots.FieldPlace.{FieldPlace}

@@ -6,7 +6,7 @@ ghost use Rattle.ti_words.specs.Shown.{shown};
 
 use std::alloc::Global;
 use ti_caps::{Cap, name};
-use ti_stretches::Stretch;
+use ti_blames::Stretch;
 use ti_words::{Made, Pushed, push_shown};
 
 /// Whether `byte`, which is behind the name of a capability, begins a value.

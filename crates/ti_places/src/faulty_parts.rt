@@ -1,17 +1,16 @@
 //! The part of a value that a fault is in.
 
 ghost use Rattle.std.specs.Prelude.{IfOk};
-ghost use Rattle.ti_blames.specs.Stretches.{IsWithinIf};
+ghost use Rattle.ti_blames.specs.BlamedStretches.{IsWithinIf};
 ghost use Rattle.ti_places.specs.Excerpts.{IsFaulty};
 
 use std::alloc::{AllocError, Global};
-use ti_blames::{Checked, code_stretch, pair_of, sent_stretch};
+use ti_blames::{Checked, code_stretch, CodeFault, meant_stretch, pair_of, sent_stretch, Stretch};
 use ti_caps::name;
 use ti_checker::{Cause, No};
 use ti_conforms::misfit;
 use ti_rows::Row;
 use ti_source::{EscapeFault, unescape};
-use ti_stretches::{CodeFault, Stretch, meant_stretch};
 use vt_term::Size;
 
 /// A fault, and the size of the terminal on which it was found.

@@ -10,10 +10,9 @@ use crate::originals::region_at;
 use crate::spots::{LinedFile, LinedFiles};
 use std::alloc::{AllocError, Global};
 use ti_caps::Cap;
-use ti_entries::Columns;
-use ti_joins::Region;
+use ti_sources::{Columns, Region};
 use ti_resolve::Origin;
-use ti_stretches::Stretch;
+use ti_blames::Stretch;
 
 /// The columns of `part` of `value`, which ends where these `columns` do.
 pub(crate) fn part_columns(value: &[u8], columns: Columns, part: Stretch) -> Columns

@@ -6,7 +6,7 @@ ghost use Rattle.ti_resolve.specs.Uses.{names_at};
 ghost use Rattle.ti_places.specs.{Excerpts.{IsFaulty, value_in}, Locations.{excerpt_text, value_at}};
 ghost use Rattle.ti_places.specs.Locations as spec;
 ghost use Rattle.ti_places.specs.{Refusals.{no_text}, Spots.{file_text, line_of, piece_among, put_files}};
-ghost use Rattle.ti_stretches.specs.declared.stretches.Stretch.{Stretch};
+ghost use Rattle.ti_blames.specs.declared.stretches.Stretch.{Stretch};
 ghost use Rattle.ti_words.specs.Shown.{shown};
 
 use crate::excerpts::{excerpt, shown_bytes, value_in};
@@ -20,11 +20,10 @@ use crate::spots::{FieldPlace, LinedFile, LinedFiles};
 use std::alloc::{AllocError, Global};
 use ti_caps::{Cap, name};
 use ti_checker::No;
-use ti_entries::Columns;
-use ti_joins::Region;
+use ti_sources::{Columns, Region};
 use ti_resolve::Origin;
 use ti_source::RawEntry;
-use ti_stretches::Stretch;
+use ti_blames::Stretch;
 use ti_words::{Made, push_shown};
 
 /// The end of the first of `names`, if another follows.

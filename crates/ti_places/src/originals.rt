@@ -6,8 +6,7 @@ ghost use Rattle.ti_places.specs.Originals as spec;
 
 use crate::spots::{FieldPlace, LinedFile, LinedFiles};
 use ti_caps::Cap;
-use ti_entries::{Columns, LinedText};
-use ti_joins::{Region, original_region};
+use ti_sources::{Columns, LinedText, original_region, Region};
 use ti_resolve::Origin;
 
 /// The first of the `originals` that is at this `path`; `None` for a file that is read as it is.

@@ -7,13 +7,12 @@ ghost use Rattle.ti_words.specs.Shown.{shown};
 
 use crate::excerpts::{shown_bytes, underlined};
 use std::alloc::Global;
-use ti_entries::{Columns, LinedText, line_at};
-use ti_joins::Region;
+use ti_sources::{Columns, line_at, LinedText, Region};
 use ti_source::skip_white;
 use ti_words::{Made, Pushed};
 
 /// The column at which `region` begins on `line`, the one with this `number`.
-#[tactic(auto, using(ti_joins::proofs::Origins::skip_shorter))]
+#[tactic(auto, using(ti_sources::proofs::Origins::skip_shorter))]
 fn first_column(line: &[u8], region: Region, number: usize) -> usize
     ensures { result ≡ spec.first_column line.now region number }
 {

@@ -11,8 +11,7 @@ use crate::spots::{FieldPlace, LinedFile, LinedFiles};
 use std::alloc::{AllocError, Global};
 use ti_caps::Cap;
 use ti_commands::SourceText;
-use ti_entries::{Columns, bad_use, place_named};
-use ti_joins::Region;
+use ti_sources::{bad_use, Columns, place_named, Region};
 use ti_resolve::{Index, Origin, origin_from};
 use ti_source::RawEntry;
 
@@ -35,7 +34,7 @@ pub struct SourcePlace<'a, 'b> {
 
 impl<'b> SourcePlace<'_, 'b> {
     ghost use Rattle.std.specs.Prelude.{◌≡◌, ◌<◌, [], IfOk, IfSome, length, map};
-    ghost use Rattle.ti_entries.specs.BadUses.{IsBadUse};
+    ghost use Rattle.ti_sources.specs.BadUses.{IsBadUse};
     ghost use Rattle.ti_resolve.specs.Origins.{IsOriginAt};
     ghost use Rattle.ti_places.specs.{Locations.{IsFaultyRegion}, Originals.{region_among}};
     ghost use Rattle.ti_places.specs.Spots.{file_text, files_of, line_among, line_of, piece_among, put_files};

@@ -6,8 +6,7 @@ ghost use Rattle.ti_places.specs.Spots as spec;
 use std::alloc::{AllocError, Global};
 use ti_caps::Cap;
 use ti_commands::SourceText;
-use ti_entries::{Columns, LinedText};
-use ti_further::{FurtherFile, Spot, spot_of};
+use ti_sources::{Columns, FurtherFile, LinedText, Spot, spot_of};
 use ti_resolve::Origin;
 use ti_source::field_lines;
 

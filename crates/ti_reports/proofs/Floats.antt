@@ -5,7 +5,7 @@ use Rattle.std.specs.declared.alloc.Global.{Global}
 use Rattle.serde_json.specs.Data.{number, string, unsigned}
 use Rattle.serde_json.specs.View.{items_of}
 use Rattle.serde_json.specs.Written.{has_float, items_have_float}
-use Rattle.ti_joins.specs.declared.places.Region.{Region}
+use Rattle.ti_sources.specs.declared.joined_places.Region.{Region}
 use Rattle.ti_reports.specs.Reports.{column_data, end_column_data, end_line_data, hex_data, line_data, number_data, report_data, rule_data, text_data, truth_data, written_data}
 use Rattle.ti_members.specs.declared.forms.Written.{Written}
 use Rattle.ti_reports.specs.declared.reports.Report.{Report}

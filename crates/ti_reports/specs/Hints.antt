@@ -3,7 +3,7 @@ use Rattle.std.specs.Prelude.{◌≡◌, ℕ, List, Option, Some, map, option_ma
 use Rattle.std.specs.String.{string_bytes}
 use Rattle.ti_commands.specs.Further.{own_raws}
 use Rattle.ti_hints.specs.declared.hints.FieldHint.{FieldHint}
-use Rattle.ti_joins.specs.declared.places.Region.{Region}
+use Rattle.ti_sources.specs.declared.joined_places.Region.{Region}
 use Rattle.ti_members.specs.Names.{HasName}
 use Rattle.ti_reports.specs.declared.hints.HintSource.{HintSource}
 use Rattle.ti_members.specs.declared.places.ValuePlace.{ValuePlace}

@@ -5,7 +5,7 @@ use Rattle.serde_json.specs.Data.{Data, Members, no_members, member, array, bool
 use Rattle.serde_json.specs.Data.{unsigned}
 use Rattle.serde_json.specs.View.{items_of}
 use Rattle.serde_json.specs.Written.{compact_text}
-use Rattle.ti_joins.specs.declared.places.Region.{Region}
+use Rattle.ti_sources.specs.declared.joined_places.Region.{Region}
 use Rattle.ti_objects.specs.Escapes.{printable_json}
 use Rattle.ti_members.specs.declared.places.ValuePlace.{ValuePlace}
 use Rattle.ti_reports.specs.declared.reports.Finding.{Finding}

@@ -14,9 +14,8 @@ use crate::reports::{Finding, Verdict, report_line};
 use std::alloc::{AllocError, Global};
 use ti_caps::Cap;
 use ti_commands::own_raws;
-use ti_entries::LinedText;
+use ti_sources::{LinedText, Region};
 use ti_hints::{FieldHint, entry_hints, used_places};
-use ti_joins::Region;
 use ti_members::{Standing, ValuePlace, holder};
 use ti_places::{
     FieldPlace, LinedFile, LinedFiles, NamedSource, SourcePlace, begun_line, region_at,

@@ -9,11 +9,11 @@ use Rattle.ti_commands.specs.declared.failure.Failure.{Failure}
 use Rattle.ti_commands.specs.Contents.{Held}
 use Rattle.ti_commands.specs.Further.{AreHeld, FailsReading, TellsFurther}
 use Rattle.ti_commands.specs.declared.failure.Failure.TheVariants.{NoMemory}
-use Rattle.ti_further.specs.Files.{AreApartBy, AreApartOf, LacksApart, is_compiled}
-use Rattle.ti_further.specs.declared.files.FurtherFault.{FurtherFault}
-use Rattle.ti_further.specs.declared.files.FurtherFault.TheVariants as further_faults
-use Rattle.ti_further.specs.declared.files.FurtherFile.{FurtherFile}
-use Rattle.ti_further.proofs.Together.{get_left, get_right, less, past}
+use Rattle.ti_sources.specs.Files.{AreApartBy, AreApartOf, LacksApart, is_compiled}
+use Rattle.ti_sources.specs.declared.files.FurtherFault.{FurtherFault}
+use Rattle.ti_sources.specs.declared.files.FurtherFault.TheVariants as further_faults
+use Rattle.ti_sources.specs.declared.files.FurtherFile.{FurtherFile}
+use Rattle.ti_sources.proofs.Together.{get_left, get_right, less, past}
 use Rattle.ti_source.specs.Fitting.{FieldsFit, NamesFit}
 use Rattle.ti_source.specs.declared.types.RawEntry.{RawEntry}
 use Rattle.ti_source.specs.declared.types.SourceFault.{SourceFault}

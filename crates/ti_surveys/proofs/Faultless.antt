@@ -5,8 +5,8 @@ use Rattle.ti_caps.specs.Entry.{Content}
 use Rattle.ti_commands.specs.Findings.{ResolvesAt}
 use Rattle.ti_commands.specs.declared.failure.CommandRefusal.{CommandRefusal}
 use Rattle.ti_commands.specs.declared.failure.CommandRefusal.TheVariants as refusals
-use Rattle.ti_entries.specs.Resolution.{no_faults}
-use Rattle.ti_entries.proofs.Faultless.{faultless_are_resolved}
+use Rattle.ti_sources.specs.Resolution.{no_faults}
+use Rattle.ti_sources.proofs.Faultless.{faultless_are_resolved}
 use Rattle.ti_source.specs.Apart.{Alone, apart_of, was_read}
 use Rattle.ti_source.specs.declared.types.RawEntry.{RawEntry}
 use Rattle.ti_source.specs.declared.types.SourceFault.{SourceFault}

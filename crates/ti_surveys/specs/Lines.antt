@@ -5,7 +5,7 @@ use Rattle.std.specs.List.{AllByRecursion, range_with_len}
 use Rattle.ti_caps.specs.Entry.{Content}
 use Rattle.ti_compiled.specs.Contents.{read_of}
 use Rattle.ti_compiled.specs.declared.types.PackFault.{PackFault}
-use Rattle.ti_entries.specs.Resolution.{IsResolvedApart, IsUnread, fault_in}
+use Rattle.ti_sources.specs.Resolution.{IsResolvedApart, IsUnread, fault_in}
 use Rattle.ti_resolve.specs.Origins.{first_of}
 use Rattle.ti_resolve.specs.Walk.{walk_at}
 use Rattle.ti_resolve.specs.declared.faults.ResolveFault.TheVariants as resolve_faults
@@ -18,7 +18,7 @@ use Rattle.ti_source.specs.declared.types.SourceFault.{SourceFault}
 use Rattle.ti_commands.specs.Findings.{FitsTo}
 use Rattle.ti_commands.specs.declared.failure.CommandRefusal.{CommandRefusal}
 use Rattle.ti_commands.specs.declared.failure.CommandRefusal.TheVariants.{Pack, Resolve, Source}
-use Rattle.ti_further.specs.declared.files.FurtherFile.{FurtherFile}
+use Rattle.ti_sources.specs.declared.files.FurtherFile.{FurtherFile}
 use Rattle.ti_surveys.specs.Together.{AllApart, ArePutApart, OneApart, all_in}
 use Rattle.ti_surveys.specs.declared.together.ApartTogether.{ApartTogether}
 use Rattle.ti_surveys.specs.Told.{IsToldOfEach, Told}

@@ -10,7 +10,7 @@ use Rattle.ti_commands.specs.Words.{texts_of}
 use Rattle.ti_commands.specs.declared.failure.Failure.{Failure}
 use Rattle.ti_commands.specs.declared.failure.Failure.TheVariants.{File}
 use Rattle.ti_commands.specs.declared.failure.Reply.{Reply}
-use Rattle.ti_further.specs.declared.files.FurtherFile.{FurtherFile}
+use Rattle.ti_sources.specs.declared.files.FurtherFile.{FurtherFile}
 use Rattle.ti_places.specs.Spots.{FileText}
 use Rattle.ti_surveys.specs.Answers.{IsRefused, SaysBy, SaysNothing}
 use Rattle.ti_verdicts.specs.Counts.{answers_line}

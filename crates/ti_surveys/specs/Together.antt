@@ -7,9 +7,9 @@ use Rattle.ti_commands.specs.Sizes.{HasSize, LacksSize}
 use Rattle.ti_commands.specs.declared.failure.CommandRefusal.TheVariants.{Source, Pack}
 use Rattle.ti_commands.specs.declared.failure.Failure.{Failure}
 use Rattle.ti_commands.specs.declared.failure.Failure.TheVariants.{Refused, NoMemory}
-use Rattle.ti_further.specs.Files.{AreApartOf, LacksApart}
-use Rattle.ti_further.specs.declared.files.FurtherFault.TheVariants as further_faults
-use Rattle.ti_further.specs.declared.files.FurtherFile.{FurtherFile}
+use Rattle.ti_sources.specs.Files.{AreApartOf, LacksApart}
+use Rattle.ti_sources.specs.declared.files.FurtherFault.TheVariants as further_faults
+use Rattle.ti_sources.specs.declared.files.FurtherFile.{FurtherFile}
 use Rattle.ti_source.specs.declared.types.RawEntry.{RawEntry}
 use Rattle.ti_source.specs.declared.types.SourceFault.{SourceFault}
 use Rattle.ti_surveys.specs.declared.together.ApartTogether.{ApartTogether}

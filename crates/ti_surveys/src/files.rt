@@ -2,7 +2,7 @@
 
 ghost use Rattle.std.specs.Prelude.{◌≡◌, ◌≢◌, ◌<◌, ◌≤◌, ◌⊎◌, IfErr, IfOk, IfSome, OnOk, Some, false, length, List};
 ghost use Rattle.std.specs.{Prelude.{None, option_map, slice_get, true}, List.{AllByRecursion, range_with_len}};
-ghost use Rattle.ti_further.specs.declared.files.FurtherFile.{FurtherFile};
+ghost use Rattle.ti_sources.specs.declared.files.FurtherFile.{FurtherFile};
 ghost use Rattle.ti_source.specs.Fitting.{FieldsFit, NamesFit};
 ghost use Rattle.ti_surveys.specs.{Heard.{Hears}, Together.{FailsApartly, all_in}};
 ghost use Rattle.ti_surveys.specs.Lines as spec;
@@ -17,8 +17,7 @@ use std::alloc::{AllocError, Global};
 use ti_caps::Entry;
 use ti_commands::{CommandRefusal, Failure, unpacked_entry};
 use ti_compiled::{Packed, decode};
-use ti_entries::{ApartFault, resolve_apart};
-use ti_further::FurtherFile;
+use ti_sources::{ApartFault, FurtherFile, resolve_apart};
 use ti_hints::hint_entries;
 use ti_places::{LinedFiles, SourcePlace, first_name, lined_files};
 use ti_resolve::{Index, ResolveFault, entered_from};

@@ -1,13 +1,13 @@
 //! The entries of a source and, behind them, those of the files of `--with`, each read by itself.
 
 ghost use Rattle.std.specs.{Prelude.{◌≡◌, ◌⊎◌, IfErr, IfOk, length}, List.{AllByRecursion}};
-ghost use Rattle.ti_further.specs.Files.{AreApartOf};
+ghost use Rattle.ti_sources.specs.Files.{AreApartOf};
 ghost use Rattle.ti_source.specs.Fitting.{FieldsFit, NamesFit};
 ghost use Rattle.ti_surveys.specs.Together as spec;
 
 use std::alloc::{AllocError, Global};
 use ti_commands::{Failure, further_failure};
-use ti_further::{FurtherFile, apart_of};
+use ti_sources::{FurtherFile, apart_of};
 use ti_source::{Apart, RawEntry, SourceFault};
 use ti_words::Remarks;
 

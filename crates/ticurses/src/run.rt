@@ -12,10 +12,7 @@ use cur_commands::{play_script, show_script};
 use std::alloc::Global;
 use std::io::{IsTerminal, Write};
 use ti_arguments::{Asked, ParsedLine, UsageFault, parse_line};
-use ti_commands::{
-    CommandRefusal, Comparison, Failure, Files, Output, Replied, Reply, Written, compare_entries,
-    compile_entry, expand_string, print_entry, report, write_reply, write_text,
-};
+use ti_commands::{Beside, CommandRefusal, compare_entries, Comparison, compile_entry, expand_string, Failure, feed_file, feed_state, Files, Output, print_entry, Replied, Reply, report, Wrapped, write_reply, write_text, Written};
 use ti_mends::fix_entry;
 use ti_places::LinedFile;
 use ti_repairs::{FixWords, fix_survey};
@@ -25,8 +22,6 @@ use ti_source::FaultKind;
 use ti_surveys::{Survey, survey_files};
 use ti_verdicts::{Checker, check_all, check_entry, verify_certificate};
 use ti_words::Remarks;
-use ti_wrapped::{Beside, Wrapped};
-use vt_commands::{feed_file, feed_state};
 
 /// The output of a command, and the standard error.
 #[derive(Drop)]
@@ -180,7 +175,7 @@ fn reports_of<'a>(words: &'a SurveyWords<'a>, originals: &'a [LinedFile<'a>]) ->
     SurveyReports { words, originals }
 }
 
-/// The reply of `survey` that is wanted. The lines of the entries go to the output as they come.
+/// Runs `survey`, and returns its reply. The lines of the entries go to the output as they come.
 fn survey_plainly<F: Files, O: Output, E: Write + IsTerminal>(
     alloc: Global,
     survey: &Survey<'_, Checker>,
@@ -204,7 +199,7 @@ fn fix_words<'a>(words: &SurveyWords<'a>, out: Option<&'a str>) -> FixWords<'a> 
     }
 }
 
-/// The reply of `survey --json` that is wanted. The objects go to the output as they come.
+/// Runs `survey --json`, and returns its reply. The objects go to the output as they come.
 fn survey_json<F: Files, O: Output, E: Write + IsTerminal>(
     alloc: Global,
     survey: &SurveyReports<'_>,

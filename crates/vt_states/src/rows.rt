@@ -93,7 +93,7 @@ fn push_runs(alloc: Global, items: &mut Vec<u8>, row: usize, cells: &[Cell]) -> 
     Ok(())
 }
 
-/// Adds the run, if its last cell ends one.
+/// Adds `run` to `items` if the rendition of `cells` changes after it.
 fn push_run(alloc: Global, items: &mut Vec<u8>, run: Run, cells: &[Cell]) -> Added
     requires within { run.last < length cells.now }
     requires first { run.first ≡ shown.run_start cells.now run.last }

@@ -1,5 +1,5 @@
 use Rattle.std.proofs.Common.{length, arith}
-use Rattle.cur_wires.proofs.Stops.{steps_wider}
+use Rattle.cur_steps.proofs.Stops.{steps_wider}
 use Rattle.ti_rows.specs.declared.rows.Row.TheVariants.{Sgr0}
 use Rattle.ti_conforms.specs.Certified.{IsLost, text_of}
 use Rattle.cur_steps.specs.Pieces.{IsPaint}

@@ -1,6 +1,6 @@
 use Rattle.std.proofs.Common.{arith}
 use Rattle.std.proofs.lemmas.Result.{err_from_is_err_and}
-use Rattle.cur_wires.proofs.Stops.{steps_fail, steps_next, steps_wider}
+use Rattle.cur_steps.proofs.Stops.{steps_fail, steps_next, steps_wider}
 use Rattle.ti_conforms.specs.Certified.{IsLost}
 use Rattle.cur_steps.specs.Pieces.{IsPaint}
 use Rattle.cur_steps.specs.Beliefs.{Agrees, plain_limit}

@@ -1,7 +1,7 @@
 use Rattle.std.proofs.Common.{◌≡◌, ◌+◌, ◌*◌, ℕ, Ok, arith, subst}
 use Rattle.std.proofs.lemmas.Result.{err_from_is_err_and}
-use Rattle.cur_wires.proofs.Stops.{steps_fail, steps_next, steps_nothing, steps_wider}
-use Rattle.cur_wires.specs.declared.wires.WireFault.{WireFault}
+use Rattle.cur_steps.proofs.Stops.{steps_fail, steps_next, steps_nothing, steps_wider}
+use Rattle.cur_steps.specs.declared.wires.WireFault.{WireFault}
 use Rattle.ti_conforms.specs.Certified.{IsLost}
 use Rattle.cur_steps.specs.Pieces.{IsPaint}
 use Rattle.cur_steps.specs.declared.inks.Ink.{Ink}

@@ -1,5 +1,5 @@
 use Rattle.std.proofs.lemmas.Result.{err_from_is_err_and}
-use Rattle.cur_wires.proofs.Paints.{sends_then, stops_more}
+use Rattle.cur_steps.proofs.Paints.{sends_then, stops_more}
 use Rattle.cur_paint.specs.Finish.{end_text}
 use Rattle.cur_paint.proofs.endings.send_anew.Goals as goal
 

@@ -1,6 +1,6 @@
 use Rattle.std.proofs.Common.{◌++◌, ◌-◌, ℕ, List, ap, subst}
 use Rattle.std.proofs.lemmas.List.{append-nil}
-use Rattle.cur_wires.specs.Wire.{Sends}
+use Rattle.cur_steps.specs.Wire.{Sends}
 use Rattle.ti_rows.specs.declared.rows.Row.TheVariants.{Cup, Sgr0, Rmacs, Cnorm, Rmcup}
 use Rattle.ti_conforms.specs.Certified.{text_of}
 use Rattle.cur_paint.proofs.endings.send_end.Goals as goal

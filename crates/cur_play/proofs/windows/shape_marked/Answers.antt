@@ -1,5 +1,5 @@
 use Rattle.std.proofs.Common.{subst}
-use Rattle.cur_calls.specs.declared.calls.Call.{Call}
+use Rattle.cur_scripts.specs.declared.calls.Call.{Call}
 use Rattle.cur_play.specs.Groups.{Does}
 use Rattle.cur_play.specs.Groups.{shaping}
 use Rattle.cur_play.proofs.WindowMarks.{keeps_border, keeps_box, keeps_line}

@@ -1,5 +1,5 @@
 use Rattle.std.proofs.Common.{[], refl, sym, ap, arith}
-use Rattle.cur_wires.proofs.Stops.{spells_as, spells_nothing}
+use Rattle.cur_steps.proofs.Stops.{spells_as, spells_nothing}
 use Rattle.ti_conforms.specs.Certified.{IsPiece, IsLost, limit_of, or_nothing, text_of}
 use Rattle.cur_steps.specs.Beliefs.{Agrees}
 use Rattle.cur_steps.proofs.Actions.{acts_nothing, agrees_lost}

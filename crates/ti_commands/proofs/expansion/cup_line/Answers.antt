@@ -1,6 +1,6 @@
 use Rattle.std.proofs.Common.{rules, ◌≢◌}
 use Rattle.std.specs.String.{string_bytes}
-use Rattle.ti_reach.specs.declared.MissKind.TheVariants as miss_kinds
+use Rattle.ti_conforms.specs.declared.cup_reach.MissKind.TheVariants as miss_kinds
 use Rattle.ti_commands.proofs.Expansions.{line_missed, line_served}
 use Rattle.ti_commands.proofs.expansion.cup_line.Goals as goal
 

@@ -1,7 +1,7 @@
 use Rattle.std.proofs.Common.{◌∙◌, List, Option, ap, sym}
 use Rattle.std.specs.Prelude.{◌-◌, map, slice_get}
 use Rattle.std.proofs.lemmas.Result.{IfOk-weaker}
-use Rattle.ti_further.specs.declared.files.FurtherFile.{FurtherFile}
+use Rattle.ti_sources.specs.declared.files.FurtherFile.{FurtherFile}
 use Rattle.ti_places.proofs.SpotFacts.{behind_first}
 use Rattle.ti_places.specs.Spots.{FileText, further_text, line_in, origin_of, text_at}
 use Rattle.ti_places.proofs.spots.file_line.Goals as goal

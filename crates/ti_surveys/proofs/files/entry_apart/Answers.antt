@@ -1,6 +1,6 @@
 use Rattle.std.proofs.Common.{subst}
-use Rattle.ti_entries.specs.Resolution.{FailsApart}
-use Rattle.ti_entries.specs.declared.resolution.ApartFault.{ApartFault}
+use Rattle.ti_sources.specs.Resolution.{FailsApart}
+use Rattle.ti_sources.specs.declared.resolution.ApartFault.{ApartFault}
 use Rattle.ti_surveys.proofs.files.entry_apart.Goals as goal
 
 -- the fault is that of the entry that can't be read

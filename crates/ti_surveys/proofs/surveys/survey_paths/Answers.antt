@@ -3,7 +3,7 @@ use Rattle.std.proofs.lemmas.Result.{err_from_is_err_and}
 use Rattle.ti_commands.specs.Contents.{Held}
 use Rattle.ti_commands.specs.Further.{AreHeld}
 use Rattle.ti_commands.specs.Words.{texts_of}
-use Rattle.ti_further.specs.declared.files.FurtherFile.{FurtherFile}
+use Rattle.ti_sources.specs.declared.files.FurtherFile.{FurtherFile}
 use Rattle.ti_surveys.specs.Lines.{AreLines}
 use Rattle.ti_surveys.specs.Surveys.{AreNamed, HasLines}
 use Rattle.ti_surveys.specs.Told.{IsToldOrLeft, told_of}

@@ -1,5 +1,5 @@
 use Rattle.std.proofs.Common.{◌*◌}
-use Rattle.cur_wires.proofs.Stops.{steps_none, steps_wider}
+use Rattle.cur_steps.proofs.Stops.{steps_none, steps_wider}
 use Rattle.ti_conforms.specs.Certified.{IsLost}
 use Rattle.cur_steps.specs.Pieces.{IsPaint}
 use Rattle.cur_steps.specs.Beliefs.{Agrees, moves}

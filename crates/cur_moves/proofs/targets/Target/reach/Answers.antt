@@ -1,4 +1,4 @@
-use Rattle.cur_wires.proofs.Stops.{steps_none}
+use Rattle.cur_steps.proofs.Stops.{steps_none}
 use Rattle.ti_conforms.specs.Certified.{IsLost}
 use Rattle.cur_steps.specs.Pieces.{IsPaint}
 use Rattle.cur_steps.specs.Beliefs.{Agrees}

@@ -1,5 +1,5 @@
 use Rattle.std.proofs.Common.{◌≡◌, ◌+◌, ℕ, Ok}
-use Rattle.cur_wires.specs.declared.wires.WireFault.{WireFault}
+use Rattle.cur_steps.specs.declared.wires.WireFault.{WireFault}
 use Rattle.cur_steps.specs.Gaps.{BeginsAs, right}
 use Rattle.cur_steps.specs.Steps.{Acts}
 use Rattle.cur_steps.specs.declared.inks.Ink.{Ink}

@@ -1,5 +1,5 @@
 use Rattle.std.proofs.Common.{Ok}
-use Rattle.cur_wires.specs.declared.wires.WireFault.{WireFault}
+use Rattle.cur_steps.specs.declared.wires.WireFault.{WireFault}
 use Rattle.cur_paint.specs.Differ.{all_differ}
 use Rattle.cur_paint.specs.Scenes.{Mends, mended}
 use Rattle.cur_paint.proofs.painters.Painter.mend_screen.Given as goal

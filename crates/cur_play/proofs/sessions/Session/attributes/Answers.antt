@@ -1,5 +1,5 @@
 use Rattle.std.proofs.Common.{refl}
-use Rattle.cur_calls.specs.declared.calls.Call.TheVariants.{Attributes}
+use Rattle.cur_scripts.specs.declared.calls.Call.TheVariants.{Attributes}
 use Rattle.cur_play.proofs.GridFacts.{keeps_attributes}
 use Rattle.cur_play.proofs.Plays.{kept_alone}
 use Rattle.cur_play.proofs.sessions.Session.attributes.Goals as goal

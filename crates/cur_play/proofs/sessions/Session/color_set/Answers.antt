@@ -1,6 +1,6 @@
 use Rattle.std.proofs.Common.{of_z, to_z, w32, refl}
-use Rattle.cur_calls.specs.declared.calls.Call.TheVariants.{Number}
-use Rattle.cur_calls.specs.declared.groups.NumberCall.TheVariants.{ColorSet}
+use Rattle.cur_scripts.specs.declared.calls.Call.TheVariants.{Number}
+use Rattle.cur_scripts.specs.declared.groups.NumberCall.TheVariants.{ColorSet}
 use Rattle.cur_play.proofs.Plays.{kept_alone}
 use Rattle.cur_play.proofs.sessions.Session.color_set.Goals as goal
 

@@ -1,6 +1,6 @@
 use Rattle.std.proofs.Common.{of_z, to_z, w32, refl}
-use Rattle.cur_calls.specs.declared.calls.Call.TheVariants.{Numbers}
-use Rattle.cur_calls.specs.declared.groups.NumbersCall.TheVariants.{Move}
+use Rattle.cur_scripts.specs.declared.calls.Call.TheVariants.{Numbers}
+use Rattle.cur_scripts.specs.declared.groups.NumbersCall.TheVariants.{Move}
 use Rattle.cur_play.proofs.Plays.{kept_alone}
 use Rattle.cur_play.proofs.sessions.Session.move_to.Goals as goal
 

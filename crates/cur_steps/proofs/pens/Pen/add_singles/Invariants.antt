@@ -1,5 +1,5 @@
 use Rattle.std.proofs.Common.{◌≡◌, Ok, None, take, drop}
-use Rattle.cur_wires.specs.declared.wires.WireFault.{WireFault}
+use Rattle.cur_steps.specs.declared.wires.WireFault.{WireFault}
 use Rattle.ti_conforms.specs.Certified.{lengths}
 use Rattle.cur_steps.specs.Singles.{with_singles}
 use Rattle.cur_steps.specs.Steps.{Keeps}

@@ -1,6 +1,6 @@
 use Rattle.std.proofs.Common.{◌≡◌, ◌+◌, ◌≤◌, None, false, length, ap, arith}
 use Rattle.std.proofs.lemmas.Result.{err_from_is_err_and}
-use Rattle.cur_wires.proofs.Stops.{steps_fail, steps_next, steps_wider, on_ok_map}
+use Rattle.cur_steps.proofs.Stops.{steps_fail, steps_next, steps_wider, on_ok_map}
 use Rattle.ti_rows.specs.declared.rows.Row.TheVariants.{Sgr, Sgr0}
 use Rattle.ti_conforms.specs.Certified.{IsLost, has, text_of, lengths, singles}
 use Rattle.cur_steps.specs.Pieces.{IsPaint}

@@ -1,5 +1,5 @@
 use Rattle.std.proofs.Common.{◌*◌, [], refl, sym, arith}
-use Rattle.cur_wires.proofs.Stops.{spells_as, spells_nothing}
+use Rattle.cur_steps.proofs.Stops.{spells_as, spells_nothing}
 use Rattle.ti_conforms.specs.Certified.{IsPiece, IsLost}
 use Rattle.cur_steps.specs.Beliefs.{Agrees, Hidden, Normal, Prominent, changes, mode_text, modes_limit}
 use Rattle.cur_steps.proofs.Actions.{agrees_lost}

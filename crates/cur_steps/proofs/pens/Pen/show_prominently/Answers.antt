@@ -1,6 +1,6 @@
 use Rattle.std.proofs.Common.{arith}
 use Rattle.std.proofs.lemmas.Result.{err_from_is_err_and}
-use Rattle.cur_wires.proofs.Stops.{spells_fail, spells_next}
+use Rattle.cur_steps.proofs.Stops.{spells_fail, spells_next}
 use Rattle.ti_rows.specs.declared.rows.Row.TheVariants.{Cnorm, Cvvis}
 use Rattle.ti_conforms.specs.Certified.{IsPiece, IsLost, text_of}
 use Rattle.cur_steps.specs.Beliefs.{Agrees, modes_limit}

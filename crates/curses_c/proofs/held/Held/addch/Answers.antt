@@ -1,6 +1,6 @@
 use Rattle.std.proofs.Common.{refl}
-use Rattle.cur_calls.specs.declared.calls.Call.TheVariants.{Cell}
-use Rattle.cur_calls.specs.declared.groups.CellCall.TheVariants.{Addch}
+use Rattle.cur_scripts.specs.declared.calls.Call.TheVariants.{Cell}
+use Rattle.cur_scripts.specs.declared.groups.CellCall.TheVariants.{Addch}
 use Rattle.curses_c.proofs.Alone.{makes_alone}
 use Rattle.curses_c.proofs.held.Held.addch.Goals as goal
 

@@ -1,7 +1,7 @@
 use Rattle.std.proofs.Common.{refl}
 use Rattle.std.proofs.lemmas.Int.{to_z-of_z}
-use Rattle.cur_calls.specs.declared.calls.Call.TheVariants.{Number}
-use Rattle.cur_calls.specs.declared.groups.NumberCall.TheVariants.{ColorSet}
+use Rattle.cur_scripts.specs.declared.calls.Call.TheVariants.{Number}
+use Rattle.cur_scripts.specs.declared.groups.NumberCall.TheVariants.{ColorSet}
 use Rattle.curses_c.proofs.Alone.{makes_alone}
 use Rattle.curses_c.proofs.held.Held.color_set.Goals as goal
 

@@ -1,7 +1,7 @@
 use Rattle.std.proofs.Common.{refl}
 use Rattle.std.proofs.lemmas.Int.{to_z-of_z}
-use Rattle.cur_calls.specs.declared.calls.Call.TheVariants.{Numbers}
-use Rattle.cur_calls.specs.declared.groups.NumbersCall.TheVariants.{Move}
+use Rattle.cur_scripts.specs.declared.calls.Call.TheVariants.{Numbers}
+use Rattle.cur_scripts.specs.declared.groups.NumbersCall.TheVariants.{Move}
 use Rattle.curses_c.proofs.Alone.{makes_alone}
 use Rattle.curses_c.proofs.held.Held.move_to.Goals as goal
 

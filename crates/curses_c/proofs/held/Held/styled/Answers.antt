@@ -1,5 +1,5 @@
 use Rattle.std.proofs.Common.{refl}
-use Rattle.cur_calls.specs.declared.calls.Call.TheVariants.{Attributes}
+use Rattle.cur_scripts.specs.declared.calls.Call.TheVariants.{Attributes}
 use Rattle.curses_c.proofs.Alone.{makes_alone}
 use Rattle.curses_c.proofs.held.Held.styled.Goals as goal
 

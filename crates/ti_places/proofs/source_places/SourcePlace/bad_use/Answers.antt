@@ -1,6 +1,6 @@
 use Rattle.std.proofs.Common.{◌<◌, [], IfOk, List, length, subst, sym}
 use Rattle.std.specs.Prelude.{IfSome}
-use Rattle.ti_entries.specs.BadUses.{IsBadUse}
+use Rattle.ti_sources.specs.BadUses.{IsBadUse}
 use Rattle.ti_source.specs.declared.types.RawEntry.{RawEntry}
 use Rattle.ti_places.proofs.source_places.SourcePlace.bad_use.Goals as goal
 

@@ -1,2 +1,0 @@
--- The definitions of calls.
-pub mod Names

@@ -1,2 +1,0 @@
--- The words of the laws of windows.
-pub mod Places

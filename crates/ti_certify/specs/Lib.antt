@@ -1,2 +1,0 @@
--- The definitions of an entry's own table.
-pub mod Owned

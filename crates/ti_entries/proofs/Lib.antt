@@ -1,7 +1,0 @@
-pub mod Faultless
-pub mod LineShifts
-pub mod LineBounds
-pub mod LinedFacts
-pub mod FirstColumns
-pub mod NumberedLines
-pub mod BadUseFacts

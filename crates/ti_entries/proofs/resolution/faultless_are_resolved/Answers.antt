@@ -1,5 +1,0 @@
-use Rattle.ti_entries.proofs.Faultless as Faultless
-use Rattle.ti_entries.proofs.resolution.faultless_are_resolved.Goals as goal
-
-pub returns : goal.returns
-returns c = Faultless.faultless_are_resolved

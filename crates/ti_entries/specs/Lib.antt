@@ -1,4 +1,0 @@
-pub mod Resolution
-pub mod BadUses
-pub mod Columns
-pub mod LinedTexts

@@ -1,5 +1,0 @@
-pub mod Ends
-pub mod Scans
-pub mod Texts
-pub mod Readings
-pub mod Origins

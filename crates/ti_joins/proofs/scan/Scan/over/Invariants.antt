@@ -1,6 +1,0 @@
-use Rattle.std.proofs.Common.{◌≡◌, drop}
-use Rattle.ti_joins.specs.Steps.{scan_from}
-use Rattle.ti_joins.proofs.scan.Scan.over.Given as goal
-
-abbrev pub invariant-loop-byte : goal.invariant-loop-byte
-invariant-loop-byte l = scan_from l.scan (drop l.byte-index l.bytes) ≡ scan_from l.fn.self l.bytes

@@ -1,7 +1,0 @@
-use Rattle.std.proofs.Common.{ℕ, ◌<◌}
-use Rattle.ti_reach.specs.Reach as spec
-use Rattle.ti_reach.proofs.reach_cup.Given as goal
-
--- the places of the rows above are reached
-abbrev pub invariant-loop-row : goal.invariant-loop-row
-invariant-loop-row l = (row : ℕ) → row < l.row → spec.ReachesInRow l.string l.size.rows l.size.cols row l.size.cols

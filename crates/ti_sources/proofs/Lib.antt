@@ -1,0 +1,14 @@
+pub mod Faultless
+pub mod LineShifts
+pub mod LineBounds
+pub mod LinedFacts
+pub mod FirstColumns
+pub mod NumberedLines
+pub mod BadUseFacts
+pub mod Ends
+pub mod Scans
+pub mod Texts
+pub mod Readings
+pub mod Origins
+pub mod Together
+pub mod Packed

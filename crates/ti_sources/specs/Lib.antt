@@ -1,0 +1,12 @@
+pub mod Resolution
+pub mod BadUses
+pub mod Columns
+pub mod LinedTexts
+pub mod Joins
+pub mod Steps
+pub mod JoinedPlaces
+pub mod JoinedLaws
+pub mod Compiled
+pub mod Files
+pub mod Spots
+pub mod FurtherLaws

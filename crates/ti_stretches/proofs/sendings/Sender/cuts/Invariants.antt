@@ -1,7 +1,0 @@
-use Rattle.ti_parm.specs.Value.{values_of}
-use Rattle.ti_stretches.specs.Sendings.{AreCuts}
-use Rattle.ti_stretches.proofs.sendings.Sender.cuts.Given as goal
-
--- each cut so far is one
-abbrev pub invariant-loop-code : goal.invariant-loop-code
-invariant-loop-code l = AreCuts l.fn.self.string.now (values_of l.fn.self.params.now) l.fn.self.bytes.now l.cuts.items
