@@ -1,10 +1,11 @@
 -- The answers of the calls on certificates.
-use Rattle.std.specs.Prelude.{ℕ, ℤ, pos, nat_lt, ◌≡◌, ◌⊎◌, Bool, true, false, List, [], ◌++◌, length, drop, Result, Ok}
-use Rattle.std.specs.Prelude.{Err}
+use Rattle.std.specs.Prelude.{ℕ, ℤ, pos, nat_lt, ◌≡◌, ◌≢◌, ◌⊎◌, Bool, true, false, List, [], ◌++◌, length, drop, Result}
+use Rattle.std.specs.Prelude.{Err, Ok}
 use Rattle.ti_caps.specs.Entry.{Content}
 use Rattle.ti_cert.specs.Table.{CheckedTable}
 use Rattle.ti_cert.specs.Texts.{IsTableOf}
 use Rattle.ti_checker.specs.No.{IsNo}
+use Rattle.ti_checker.specs.declared.causes.Cause.TheVariants as causes
 use Rattle.ti_checker.specs.declared.causes.No.{No}
 use Rattle.ti_places.specs.Refusals.{no_text}
 use Rattle.curses_c.specs.Codes.{failure_code}
@@ -27,10 +28,11 @@ pub record DeniesEntry (bytes name : List ℕ) (rows cols : ℕ) (e : Failure) :
 abbrev pub Denies : List ℕ → List ℕ → ℕ → ℕ → Failure → Type 0
 Denies bytes name rows cols e = Lacks bytes name rows cols e ⊎ DeniesEntry bytes name rows cols e
 
--- a refusal that is true of the entry, and its words
+-- a refusal that is true of the entry, other than for memory, and its words
 pub record IsReason (entry : Content) (rows cols : ℕ) (words : List ℕ) : Type 0 where
   pub refusal : No
   pub is : IsNo entry rows cols refusal
+  pub claims : refusal.cause ≢ causes.NoMemory
   pub says : words ≡ no_text refusal
 
 -- there are no words exactly if the entry has a certificate

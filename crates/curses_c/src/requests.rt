@@ -5,11 +5,11 @@ ghost use Rattle.curses_c.specs.Requests as spec;
 
 use crate::queries::Standing;
 use bitflags::Flags;
+use cur_drawing::{Attrs, Border, Put};
 use cur_scripts::{
     AttrsCall, Call, CellCall, FlagCall, LayCall, LineCall, NumberCall, NumbersCall, PadCall,
     PartCall, PlainCall, ScreenCall, ShowCall,
 };
-use cur_drawing::{Attrs, Border, Put};
 
 /// The cells of a border. A cell whose members are all 0 is the default cell.
 #[repr(C)]

@@ -1,7 +1,7 @@
 //! Judging a certificate line by line as a reader gives it.
 
 ghost use Rattle.std.specs.Prelude.{◌≡◌, ◌<◌, ℕ, Bool, List, true, false, IfOk, IfErr, OnOk, Ok};
-ghost use Rattle.ti_conforms.specs.{Judged.{IsJudged}, Looks.{LooksStand}};
+ghost use Rattle.ti_conforms.specs.{Holds.{TableHolds}, Judged.{IsJudged}, Looks.{LooksStand}};
 ghost use Rattle.ti_forms.specs.Forms.{IsOfForm, standard_line};
 ghost use Rattle.ti_lines.specs.{Heads.{IsSizeText}, Reader.{Rose}};
 ghost use Rattle.ti_cert.specs.{Basic.{IsStopped, basic_text}, Certificates.{limit}, Strings.{total}};
@@ -268,6 +268,7 @@ fn started(alloc: Global, size: Size) -> Result<Progress, CertFault>
 pub fn audit_from<R: Reader>(alloc: Global, reader: &mut R, size: Size) -> Result<Table, CertFault>
     ensures judged { IfOk result (λ table. IsJudged (table_of table)) }
     ensures looks { IfOk result (λ table. LooksStand (table_of table)) }
+    ensures holds { IfOk result (λ table. TableHolds (table_of table)) }
     ensures rows { IfOk result (λ table. table.known.strings.rows ≡ size.rows) }
     ensures cols { IfOk result (λ table. table.known.strings.cols ≡ size.cols) }
     ensures few { IfOk result (λ table. total table.known.strings < limit) }
@@ -292,6 +293,7 @@ pub fn audit_from<R: Reader>(alloc: Global, reader: &mut R, size: Size) -> Resul
 pub fn audit(alloc: Global, text: &[u8], size: Size) -> Result<Table, CertFault>
     ensures judged { IfOk result (λ table. IsJudged (table_of table)) }
     ensures looks { IfOk result (λ table. LooksStand (table_of table)) }
+    ensures holds { IfOk result (λ table. TableHolds (table_of table)) }
     ensures rows { IfOk result (λ table. table.known.strings.rows ≡ size.rows) }
     ensures cols { IfOk result (λ table. table.known.strings.cols ≡ size.cols) }
     ensures few { IfOk result (λ table. total table.known.strings < limit) }

@@ -1,15 +1,12 @@
 -- The notes on an entry: the sequences of its strings that the terminal ignores.
-use Rattle.std.specs.Prelude.{ℕ, ◌≡◌, true, false, List, [], ◌∷◌, ◌++◌, map, filter, take, codes, Some, None, Err}
-use Rattle.std.specs.List.{flat_map}
+use Rattle.std.specs.Prelude.{ℕ, ◌≡◌, true, false, List, [], ◌∷◌, ◌++◌, map, filter, take, Some, None, Err}
 use Rattle.ti_caps.specs.Entry.{Content}
-use Rattle.ti_caps.specs.Table.{name_at}
 use Rattle.ti_parm.specs.Meaning.{meaning}
 use Rattle.ti_parm.specs.Value.{zeros}
 use Rattle.vt_term.specs.Text.{Splits, IsStuck, IsUnfinished}
 use Rattle.ti_rows.specs.declared.rows.Row.{Row}
 use Rattle.ti_rows.specs.Names.{cap_of, first_in_order, firsts}
 use Rattle.ti_rows.specs.Params.{params}
-use Rattle.ti_lines.specs.Hex.{hex_text}
 use Rattle.ti_conforms.specs.Sends.{Sends, ReadsStatic, values}
 use Rattle.ti_conforms.specs.Entries.{is_checked, string_of}
 use Rattle.ti_checker.specs.Ignored.{is_ignored}
@@ -87,15 +84,6 @@ pub record IsFirstUnsent (entry : Content) (refusal : No) : Type 0 where
   pub unsent : IsUnsentAt entry place refusal
   pub earlier : List CheckNote
   pub noted : RowsNotes entry (take place firsts) earlier
-
--- ---- the lines
-
--- the word `note`, the capability, and the bytes in hexadecimal
-abbrev pub note_line : CheckNote → List ℕ
-note_line note = codes "note " ++ (name_at note.cap ++ 32 ∷ (hex_text note.bytes ++ 10 ∷ []))
-
-abbrev pub notes_text : List CheckNote → List ℕ
-notes_text notes = flat_map note_line notes
 
 -- ---- (Serves the code alone.) notes that are added to others
 

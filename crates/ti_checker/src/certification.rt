@@ -48,7 +48,6 @@ fn out_of_memory(fault: VerifyFault) -> No
     requires { spec.IsMemory fault }
     ensures { result.cause ≡ Cause.NoMemory }
 {
-    match fault {
-        VerifyFault::Cert(_) | VerifyFault::Agree(_) => No::of(Row::Clear.cap(), Cause::NoMemory),
-    }
+    let _ = fault;
+    No::of(Row::Clear.cap(), Cause::NoMemory)
 }

@@ -3,7 +3,8 @@ use Rattle.std.specs.Prelude.{◌≡◌, ◌≢◌, ◌⊎◌, ℕ, List, [], Op
 use Rattle.std.specs.String.{string_bytes}
 use Rattle.ti_caps.specs.Entry.{Content}
 use Rattle.ti_checker.specs.Certificate.{IsCertificateOf}
-use Rattle.ti_checker.specs.Notes.{EntryNotes, IsFirstUnsent, notes_text}
+use Rattle.ti_checker.specs.Notes.{EntryNotes, IsFirstUnsent}
+use Rattle.ti_verdicts.specs.NoteTexts.{notes_text}
 use Rattle.ti_checker.specs.declared.causes.Cause.TheVariants as causes
 use Rattle.ti_checker.specs.declared.causes.No.{No}
 use Rattle.ti_checker.specs.declared.note_list.CheckNote.{CheckNote}

@@ -1,6 +1,7 @@
 -- The definitions of the commands about certificates.
 pub mod Verifications
 pub mod Checks
+pub mod NoteTexts
 pub mod Starts
 pub mod Remedies
 pub mod FaultLists

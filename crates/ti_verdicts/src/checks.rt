@@ -4,10 +4,11 @@ ghost use Rattle.std.specs.Prelude.{◌≡◌, IfErr, IfOk, OnErr};
 ghost use Rattle.ti_verdicts.specs.Checks.{Delivers, FailsToCheck, IsChecked, StoresText, TellsNotes, TellsSome};
 
 use crate::certifiers::Certifier;
+use crate::note_texts::note_lines;
 use crate::reasons::explain_no;
 use std::alloc::{AllocError, Global};
 use ti_caps::Entry;
-use ti_checker::{Cause, No, note_lines, notes};
+use ti_checker::{Cause, No, notes};
 use ti_commands::{Failure, Files, Replied, Reply, Sourced, file_fault, size_words, sourced_entry};
 use ti_hints::advise;
 use ti_places::no_failure;

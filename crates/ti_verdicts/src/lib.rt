@@ -8,6 +8,7 @@ mod checks;
 mod fault_lists;
 mod faults;
 mod indents;
+mod note_texts;
 mod reasons;
 mod remedies;
 mod starts;

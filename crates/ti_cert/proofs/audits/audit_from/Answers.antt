@@ -1,6 +1,7 @@
 use Rattle.ti_cert.proofs.Relations.{whole_read, sizes_of_table, few_of_table, table_of_text, text_refused, taken, failed_at}
 use Rattle.ti_cert.specs.Basic.{basic_text}
 use Rattle.ti_cert.proofs.BasicTexts.{stopped}
+use Rattle.ti_conforms.proofs.Cuts.{judged_holds}
 use Rattle.ti_lines.specs.Reader.{Rose}
 use Rattle.ti_cert.proofs.audits.audit_from.Goals as goal
 
@@ -16,6 +17,9 @@ pub returns-in-Ok-clause-cols : goal.returns-in-Ok-clause-cols
 returns-in-Ok-clause-cols g c =
     let w = whole_read c.in_ok-progress.progress c.judge_lines.new.judge c.args.size.rows c.args.size.cols g.R.Reader.left g.R.Reader.failures c.args.reader.now c.judge_lines.new.reader c.in_ok-progress.ensures.ok c.in-Ok.ensures.reports in
     (sizes_of_table c.judge_lines.new.judge c.args.size.rows c.args.size.cols c.into_table.result w c.into_table.ensures.made).1
+
+pub returns-in-Ok-clause-holds : goal.returns-in-Ok-clause-holds
+returns-in-Ok-clause-holds g c = judged_holds _ c.into_table.ensures.judged
 
 pub returns-in-Ok-clause-few : goal.returns-in-Ok-clause-few
 returns-in-Ok-clause-few g c =

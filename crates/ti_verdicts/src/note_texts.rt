@@ -1,11 +1,11 @@
 //! The lines that print the notes on an entry.
 
 ghost use Rattle.std.specs.Prelude.{◌≡◌, ◌++◌, IfOk, OnOk};
-ghost use Rattle.ti_checker.specs.Notes as spec;
+ghost use Rattle.ti_verdicts.specs.NoteTexts as spec;
 
-use crate::note_list::CheckNote;
 use std::alloc::{AllocError, Global};
 use ti_caps::name;
+use ti_checker::CheckNote;
 use ti_lines::push_hex;
 
 /// A line `note CAP HEX` for each of the `notes`, in their order: the capability's name, and the sequence in lower case
