@@ -1,5 +1,5 @@
 //! The calls on certificates, which keep nothing.
-ghost use Rattle.std.specs.Prelude.{◌≡◌, ◌≢◌, IfErr, IfOk, OnOk};
+ghost use Rattle.std.specs.Prelude.{◌≡◌, ◌≢◌, IfErr, IfOk};
 ghost use Rattle.ti_places.specs.Refusals.{no_text};
 ghost use Rattle.curses_c.specs.Verdicts as spec;
 
@@ -89,31 +89,10 @@ fn words_of(alloc: Global, no: &No) -> Result<Vec<u8>, Failure>
     ensures claims { IfOk result (λ words. no.now.cause ≢ Cause.NoMemory) }
     ensures lacks { IfErr result (λ e. e ≡ Failure.NoMemory) }
 {
-    must_claim(no.cause)?;
-    or_no_memory(no_words(alloc, no))
-}
-
-/// Fails with `NoMemory` if that is the `cause`, which says nothing of an entry.
-fn must_claim(cause: Cause) -> Result<(), Failure>
-    ensures claims { OnOk result (cause ≢ Cause.NoMemory) }
-    ensures memory { IfErr result (λ e. e ≡ Failure.NoMemory) }
-{
-    match cause {
-        Cause::NoMemory => Err(Failure::NoMemory),
-        Cause::FlagOut
-        | Cause::Absent
-        | Cause::AcsByte
-        | Cause::Parm(_)
-        | Cause::StaticRead
-        | Cause::Unfinished
-        | Cause::Stuck
-        | Cause::NotTame
-        | Cause::BadLook
-        | Cause::WrongEffect(_)
-        | Cause::NotShown
-        | Cause::TooLong
-        | Cause::NoResync => Ok(()),
+    if matches!(no.cause, Cause::NoMemory) {
+        return Err(Failure::NoMemory);
     }
+    or_no_memory(no_words(alloc, no))
 }
 
 fn or_no_memory(words: Result<Vec<u8>, AllocError>) -> Result<Vec<u8>, Failure>

@@ -17,11 +17,10 @@ ghost use Rattle.vt_term.specs.Text.{Splits};
 
 use crate::causes::{Cause, No};
 use crate::judgements::Judge;
-use crate::sends::checked_string;
 use crate::switches::Seen;
 use std::alloc::{AllocError, Global};
 use ti_caps::Entry;
-use ti_conforms::acsc;
+use ti_conforms::{acsc, checked_string};
 use ti_forms::{push_row_line, standard_text};
 use ti_lines::push_hex;
 use ti_rows::{CAPABILITIES, Looks, NO_LOOKS, Row};

@@ -32,4 +32,3 @@ pub use kept::names;
 pub use note_list::{CheckNote, notes};
 pub use owned_tables::own_is_accepted;
 pub use probes::Probe;
-pub use sends::checked_string;

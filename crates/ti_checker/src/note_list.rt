@@ -8,9 +8,10 @@ ghost use Rattle.ti_rows.specs.Names.{cap_of};
 use crate::causes::{Cause, No};
 use crate::ignored::is_ignored;
 use crate::judgements::tokens_of;
-use crate::sends::{checked_string, sent};
+use crate::sends::sent;
 use std::alloc::{AllocError, Global};
 use ti_caps::{Bytes, Cap, Entry};
+use ti_conforms::checked_string;
 use ti_rows::{CAPABILITIES, Row};
 use vt_term::{Size, Token};
 

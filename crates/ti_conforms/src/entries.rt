@@ -1,6 +1,6 @@
 //! Which capabilities of an entry are checked.
 
-ghost use Rattle.std.specs.Prelude.{◌≡◌, ◌<◌, Some, false, is_some, true};
+ghost use Rattle.std.specs.Prelude.{◌≡◌, ◌<◌, IfNone, IfSome, Some, false, is_some, true};
 ghost use Rattle.ti_caps.specs.Entry.{string_at};
 ghost use Rattle.ti_conforms.specs.Entries as spec;
 
@@ -71,4 +71,17 @@ pub fn is_checked(entry: &Entry, row: Row) -> bool
     ensures { result ≡ spec.is_checked entry.now row }
 {
     has_string(entry, row) && meets(entry, group_of(row))
+}
+
+/// The entry's string for `row`, if the entry has it and it is checked.
+pub fn checked_string(entry: &Entry, row: Row) -> Option<&[u8]>
+    ensures checked { IfSome result (λ string. spec.is_checked entry.now row ≡ true) }
+    ensures there { IfSome result (λ string. spec.string_of entry.now row ≡ Some string.now) }
+    ensures none { IfNone result (spec.is_checked entry.now row ≡ false) }
+{
+    if is_checked(entry, row) {
+        entry.get_string(row.cap())
+    } else {
+        None
+    }
 }

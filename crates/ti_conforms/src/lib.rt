@@ -20,7 +20,7 @@ pub use agreement::{Disagreement, LinesByRow};
 pub use certificates::Certificate;
 pub use closures::{Charsets, KEPT, designated, or_kept, settles, switched};
 pub use cup_reach::{Miss, MissKind, Reached, reach_cup};
-pub use entries::{Group, is_checked};
+pub use entries::{Group, checked_string, is_checked};
 pub use fitness::{Unfit, acsc, first_unfit};
 pub use looks::{is_alone, is_some_look};
 pub use partners::{Character, fallback, misfit, partner, shown};

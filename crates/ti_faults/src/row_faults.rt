@@ -8,7 +8,8 @@ ghost use Rattle.ti_rows.specs.{Lists.{IsFirst}, Names.{order, capabilities}};
 use crate::claims::must_claim;
 use std::alloc::{AllocError, Global};
 use ti_caps::Entry;
-use ti_checker::{Cause, Judge, No, checked_string};
+use ti_checker::{Cause, Judge, No};
+use ti_conforms::checked_string;
 use ti_rows::{CAPABILITIES, NO_LOOKS, Row};
 use vt_term::Size;
 
