@@ -13,8 +13,8 @@ use Rattle.cur_play.specs.declared.runs.LogEntry.{LogEntry}
 use Rattle.cur_commands.specs.Shows.{IsTaken, RanWhole, ShowsRun, refusals_text}
 use Rattle.cur_commands.specs.Through.{AreThrough, unfailing}
 use Rattle.ti_cert.specs.Table.{CheckedTable}
-use Rattle.ti_commands.specs.Contents.{Held}
-use Rattle.ti_commands.specs.declared.failure.Failure.{Failure}
+use Rattle.ti_files.specs.Contents.{Held}
+use Rattle.ti_files.specs.declared.failure.Failure.{Failure}
 use Rattle.cur_scripts.specs.declared.calls.Call.{Call}
 use Rattle.cur_scripts.specs.Texts.{script_of}
 use Rattle.cur_commands.specs.Commands.{FailsAtScript, Given}

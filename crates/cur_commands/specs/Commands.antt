@@ -2,11 +2,11 @@
 -- may use about the strings of a verified entry.
 use Rattle.std.specs.Prelude.{◌≡◌, ◌⊎◌, ℕ, Bool, List, Option, Ok}
 use Rattle.ti_cert.specs.Table.{CheckedTable}
-use Rattle.ti_commands.specs.Contents.{Held}
+use Rattle.ti_files.specs.Contents.{Held}
 use Rattle.ti_commands.specs.Replies.{IsText}
-use Rattle.ti_commands.specs.declared.failure.Failure.{Failure}
-use Rattle.ti_commands.specs.declared.failure.Failure.TheVariants.{NoMemory}
-use Rattle.ti_commands.specs.declared.failure.Reply.{Reply}
+use Rattle.ti_files.specs.declared.failure.Failure.{Failure}
+use Rattle.ti_files.specs.declared.failure.Failure.TheVariants.{NoMemory}
+use Rattle.ti_files.specs.declared.failure.Reply.{Reply}
 use Rattle.ti_conforms.specs.Certified.{Table}
 use Rattle.cur_scripts.specs.declared.calls.Call.{Call}
 use Rattle.cur_scripts.specs.Texts.{script_of}

@@ -3,11 +3,11 @@ use Rattle.std.specs.Prelude.{◌≤◌, ◌⊎◌, ℕ, List, length}
 use Rattle.ti_caps.specs.Entry.{Content}
 use Rattle.ti_cert.specs.Table.{CheckedTable}
 use Rattle.ti_conforms.specs.Conforms.{Conforms}
-use Rattle.ti_commands.specs.Failures.{IsFileFailure}
-use Rattle.ti_commands.specs.Contents.{AreBytesOf, Held}
+use Rattle.ti_files.specs.Failures.{IsFileFailure}
+use Rattle.ti_files.specs.Contents.{AreBytesOf, Held}
 use Rattle.ti_commands.specs.Replies.{GivesEntry}
-use Rattle.ti_commands.specs.Sizes.{SizeGiven}
-use Rattle.ti_commands.specs.declared.failure.Failure.{Failure}
+use Rattle.ti_files.specs.Sizes.{SizeGiven}
+use Rattle.ti_files.specs.declared.failure.Failure.{Failure}
 use Rattle.ti_verdicts.specs.Verifications.{FailsToVerify, GivesConforming, HandsOut}
 use Rattle.ti_requests.specs.declared.request.VerifyWords.{VerifyWords}
 use Rattle.ti_requests.specs.declared.request.ScriptWords.{ScriptWords}

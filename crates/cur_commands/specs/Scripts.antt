@@ -1,9 +1,9 @@
 -- The refusal of a text that is no script.
 use Rattle.std.specs.Prelude.{◌≡◌, List, ℕ, ◌++◌, Err, codes}
 use Rattle.std.specs.Fmt.{decimal}
-use Rattle.ti_commands.specs.declared.failure.Failure.{Failure}
-use Rattle.ti_commands.specs.declared.failure.Failure.TheVariants.{Refused, NoMemory}
-use Rattle.ti_commands.specs.declared.failure.CommandRefusal.TheVariants.{Verdict}
+use Rattle.ti_files.specs.declared.failure.Failure.{Failure}
+use Rattle.ti_files.specs.declared.failure.Failure.TheVariants.{Refused, NoMemory}
+use Rattle.ti_files.specs.declared.failure.CommandRefusal.TheVariants.{Verdict}
 use Rattle.cur_scripts.specs.Texts.{script_of}
 use Rattle.cur_scripts.specs.declared.faults.ScriptFault.{ScriptFault}
 use Rattle.cur_scripts.specs.declared.faults.ScriptFaultKind.{ScriptFaultKind}

@@ -2,8 +2,8 @@
 use Rattle.std.specs.Prelude.{◌≡◌, ℕ, Bool, true, List, Option}
 use Rattle.std.specs.Io.KnownBytes.{Appends}
 use Rattle.std.specs.List.{AllByRecursion}
-use Rattle.ti_commands.specs.declared.failure.Failure.{Failure}
-use Rattle.ti_commands.specs.declared.failure.Failure.TheVariants.{Output, NoMemory}
+use Rattle.ti_files.specs.declared.failure.Failure.{Failure}
+use Rattle.ti_files.specs.declared.failure.Failure.TheVariants.{Output, NoMemory}
 use Rattle.ti_conforms.specs.Certified.{Table}
 use Rattle.cur_scripts.specs.declared.calls.Call.{Call}
 use Rattle.cur_play.specs.Log.{Ran, Subject, subject_of}

@@ -8,10 +8,9 @@ use crate::scripts::calls_of;
 use crate::shows::show_calls;
 use std::alloc::Global;
 use ti_cert::Checked;
-use ti_commands::{Failure, Files, Output, Replied, Reply};
 use ti_conforms::Certificate;
+use ti_files::{Failure, Files, Output, Remarks, Replied, Reply};
 use ti_requests::ScriptWords;
-use ti_words::Remarks;
 
 /// Plays the script on a terminal that the entry drives, and writes the bytes that its calls send.
 pub fn play_script<F: Files, O: Output>(

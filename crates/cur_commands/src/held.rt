@@ -6,7 +6,7 @@ ghost use Rattle.cur_commands.specs.Held.{Holds};
 use crate::buffers::Buffer;
 use cur_play::Paced;
 use cur_steps::{Wire, WireFault};
-use ti_commands::Output;
+use ti_files::Output;
 
 /// An output, and the bytes that are held back for it, so that it gets what a refresh sends in one piece. Once the
 /// output has failed, so does each further send.

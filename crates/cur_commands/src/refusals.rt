@@ -5,7 +5,7 @@ ghost use Rattle.cur_commands.specs.Shows as spec;
 use cur_play::{Answer, LogEntry};
 use cur_windows::Refusal;
 use std::alloc::Global;
-use ti_commands::variant_name;
+use ti_files::variant_name;
 use ti_verdicts::{Added, Lines};
 
 /// A line for each call that was refused; calls are counted from 1.

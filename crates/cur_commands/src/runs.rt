@@ -4,11 +4,11 @@ ghost use Rattle.cur_commands.specs.Through.{IsUnplayed, RanThrough};
 
 use crate::buffers::Buffer;
 use crate::held::Held;
-use cur_scripts::Call;
 use cur_play::run_paced;
+use cur_scripts::Call;
 use std::alloc::Global;
-use ti_commands::{Failure, Output};
 use ti_conforms::Certificate;
+use ti_files::{Failure, Output};
 
 /// Nothing, from a run; or why it was not all played.
 pub type Played = Result<(), Failure>;

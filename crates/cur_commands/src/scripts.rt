@@ -3,10 +3,9 @@ ghost use Rattle.std.specs.Prelude.{◌≡◌, ◌++◌, ℕ, List, IfErr, IfOk}
 ghost use Rattle.cur_scripts.specs.Texts.{FailsBy, script_of};
 ghost use Rattle.cur_commands.specs.Scripts as spec;
 
-use cur_scripts::{Call, read_script, ScriptFault, ScriptFaultKind};
+use cur_scripts::{Call, ScriptFault, ScriptFaultKind, read_script};
 use std::alloc::{AllocError, Global};
-use ti_commands::{CommandRefusal, Failure, variant_name};
-use ti_words::Remarks;
+use ti_files::{CommandRefusal, Failure, Remarks, variant_name};
 
 /// The most bytes of a line that are shown.
 const SHOWN: usize = 200;

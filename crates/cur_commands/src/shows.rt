@@ -6,8 +6,8 @@ ghost use Rattle.cur_commands.specs.{Shows.{IsTaken, ShowsRun}, Through.{AreThro
 
 use crate::refusals::refusal_lines;
 use crate::taken::Taken;
-use cur_scripts::Call;
 use cur_play::{Log, run};
+use cur_scripts::Call;
 use std::alloc::{AllocError, Global};
 use ti_conforms::Certificate;
 use vt_term::{Size, Terminal};

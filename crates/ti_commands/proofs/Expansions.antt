@@ -14,13 +14,13 @@ use Rattle.vt_term.specs.Run.{Runs, Sticks}
 use Rattle.vt_term.specs.Screen.{State, reset}
 use Rattle.vt_term.specs.Size.{IsSize}
 use Rattle.vt_term.specs.declared.terminals.Stuck.{Stuck}
-use Rattle.ti_commands.specs.Words.{GiveParams, texts_of}
+use Rattle.ti_files.specs.Words.{GiveParams, texts_of}
 use Rattle.ti_commands.specs.Expansions.{Asked, FailsToExpand, IsExpanded, JudgesCup, Shows, ShowsCursor, IsParmFailure, cursor_line, escape_failure, no_line, serves, misses}
 use Rattle.ti_requests.specs.declared.request.ExpandWords.{ExpandWords}
-use Rattle.ti_commands.specs.declared.failure.Failure.{Failure}
-use Rattle.ti_commands.specs.declared.failure.Failure.TheVariants.{Refused, RefusedUnwritten, Usage, File, Output, NoMemory}
-use Rattle.ti_commands.specs.declared.failure.CommandRefusal.TheVariants as refusals
-use Rattle.ti_commands.specs.declared.failure.Reply.{Reply}
+use Rattle.ti_files.specs.declared.failure.Failure.{Failure}
+use Rattle.ti_files.specs.declared.failure.Failure.TheVariants.{Refused, RefusedUnwritten, Usage, File, Output, NoMemory}
+use Rattle.ti_files.specs.declared.failure.CommandRefusal.TheVariants as refusals
+use Rattle.ti_files.specs.declared.failure.Reply.{Reply}
 use denote.Ref.{Bor}
 
 -- a whole text is run to its end

@@ -1,13 +1,13 @@
 -- How `feed` ends.
 use Rattle.std.proofs.Common.{◌≡◌, ◌≤◌, [], ℕ, List, None, subst, sym, length}
-use Rattle.ti_commands.specs.Failures.{IsFileFailure}
-use Rattle.ti_commands.specs.Contents.{AreBytesOf, Held, longest_file}
-use Rattle.ti_commands.specs.Sizes.{LacksSize, SizeGiven}
+use Rattle.ti_files.specs.Failures.{IsFileFailure}
+use Rattle.ti_files.specs.Contents.{AreBytesOf, Held, longest_file}
+use Rattle.ti_files.specs.Sizes.{LacksSize, SizeGiven}
 use Rattle.ti_commands.specs.Feeds.{FailsToFeed, ShowsAfter, ShowsScreen, IsStuckFailure}
-use Rattle.ti_commands.specs.declared.failure.Failure.{Failure}
-use Rattle.ti_commands.specs.declared.failure.Failure.TheVariants.{Refused, RefusedUnwritten, Usage, File, Output, NoMemory}
-use Rattle.ti_commands.specs.declared.failure.CommandRefusal.TheVariants as refusals
-use Rattle.ti_commands.specs.declared.failure.Reply.{Reply}
+use Rattle.ti_files.specs.declared.failure.Failure.{Failure}
+use Rattle.ti_files.specs.declared.failure.Failure.TheVariants.{Refused, RefusedUnwritten, Usage, File, Output, NoMemory}
+use Rattle.ti_files.specs.declared.failure.CommandRefusal.TheVariants as refusals
+use Rattle.ti_files.specs.declared.failure.Reply.{Reply}
 
 pub size_told : (held : Held) (rows cols path : List ℕ) (e : Failure) → LacksSize rows cols e → FailsToFeed held rows cols path e
 size_told held rows cols path (Refused refusals.Size) h = h

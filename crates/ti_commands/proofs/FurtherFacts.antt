@@ -3,10 +3,10 @@ use Rattle.std.proofs.Common.{◌≡◌, ◌∙◌, ◌<◌, ◌+◌, ℕ, suc, 
 use Rattle.std.specs.Prelude.{String, string_bytes}
 use Rattle.std.specs.declared.alloc.Global.{Global}
 use Rattle.std.proofs.lemmas.List.{map-append, take-append-drop, take_more}
-use Rattle.ti_commands.specs.Contents.{Held}
-use Rattle.ti_commands.specs.Failures.{IsFileFailure}
+use Rattle.ti_files.specs.Contents.{Held}
+use Rattle.ti_files.specs.Failures.{IsFileFailure}
 use Rattle.ti_commands.specs.Further.{AddsFurther, AreFurther, AreHeld, ArePutTogether, AreReached, FailsAtFurther, FailsFurther, FailsReading, IsBadlyFurther, IsFurther, IsHeld, TellsFurther, Together, path_texts}
-use Rattle.ti_commands.specs.declared.failure.Failure.{Failure}
+use Rattle.ti_files.specs.declared.failure.Failure.{Failure}
 use Rattle.ti_sources.specs.Files.{LacksRaws, together}
 use Rattle.ti_sources.specs.declared.files.FurtherFault.{FurtherFault}
 use Rattle.ti_sources.specs.declared.files.FurtherFault.TheVariants as further_faults

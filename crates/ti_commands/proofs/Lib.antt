@@ -1,10 +1,7 @@
 pub mod FurtherFacts
-pub mod Storings
 pub mod Params
 pub mod Listings
 pub mod Expansions
 pub mod Colons
 pub mod Comparisons
 pub mod FeedFacts
-pub mod WrappedReadings
-pub mod WrappedStorings

@@ -3,7 +3,7 @@ use Rattle.std.proofs.Common.{◌≡◌, ◌<◌, ◌+◌, ℕ, suc, List, [], �
 use Rattle.std.proofs.lemmas.List.{map-append, take-append-drop, take_more}
 use Rattle.ti_parm.specs.Value.{Value, value_of, values_of}
 use Rattle.ti_parm.specs.declared.param.Param.{Param}
-use Rattle.ti_commands.specs.Words.{GivesParam, GiveParams, texts_of}
+use Rattle.ti_files.specs.Words.{GivesParam, GiveParams, texts_of}
 use denote.Ref.{Bor}
 
 pub give_more : (words : List (List ℕ)) (values : List Value) (word : List ℕ) (value : Value) → GiveParams words values → GivesParam word value → GiveParams (words ++ word ∷ []) (values ++ value ∷ [])

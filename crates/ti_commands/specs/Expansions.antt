@@ -17,14 +17,14 @@ use Rattle.vt_term.specs.Screen.{State, reset}
 use Rattle.vt_term.specs.Size.{IsSize}
 use Rattle.vt_term.specs.declared.tokenizer.TokenFault.{TokenFault}
 use Rattle.vt_term.specs.declared.tokenizer.TokenFaultKind.TheVariants as token_faults
-use Rattle.ti_commands.specs.Failures.{WrongParam, WrongSize}
-use Rattle.ti_commands.specs.Words.{GivesNumber, GiveParams, IsNumberWord, texts_of}
+use Rattle.ti_files.specs.Failures.{WrongParam, WrongSize}
+use Rattle.ti_files.specs.Words.{GivesNumber, GiveParams, IsNumberWord, texts_of}
 use Rattle.ti_requests.specs.declared.request.ExpandWords.{ExpandWords}
-use Rattle.ti_commands.specs.declared.failure.Failure.{Failure}
-use Rattle.ti_commands.specs.declared.failure.Failure.TheVariants.{Refused, Usage, NoMemory}
-use Rattle.ti_commands.specs.declared.failure.CommandRefusal.{CommandRefusal}
-use Rattle.ti_commands.specs.declared.failure.CommandRefusal.TheVariants.{Size, Escape, Parm, Token}
-use Rattle.ti_commands.specs.declared.failure.Reply.{Reply}
+use Rattle.ti_files.specs.declared.failure.Failure.{Failure}
+use Rattle.ti_files.specs.declared.failure.Failure.TheVariants.{Refused, Usage, NoMemory}
+use Rattle.ti_files.specs.declared.failure.CommandRefusal.{CommandRefusal}
+use Rattle.ti_files.specs.declared.failure.CommandRefusal.TheVariants.{Size, Escape, Parm, Token}
+use Rattle.ti_files.specs.declared.failure.Reply.{Reply}
 
 -- the words can be read: they give numbers for the size, and values for the parameters
 pub record Asked (words : ExpandWords) : Type 0 where

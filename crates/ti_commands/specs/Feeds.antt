@@ -4,12 +4,12 @@ use Rattle.std.specs.String.{string_bytes}
 use Rattle.vt_term.specs.Printed.{screen_text}
 use Rattle.vt_term.specs.Run.{Runs, Sticks}
 use Rattle.vt_term.specs.Screen.{State, reset}
-use Rattle.ti_commands.specs.Contents.{HasBytes, Held, longest_file}
-use Rattle.ti_commands.specs.Sizes.{HasSize, LacksSize, SizeGiven}
-use Rattle.ti_commands.specs.declared.failure.Failure.{Failure}
-use Rattle.ti_commands.specs.declared.failure.Failure.TheVariants.{Refused, File, NoMemory}
-use Rattle.ti_commands.specs.declared.failure.CommandRefusal.TheVariants.{Stuck}
-use Rattle.ti_commands.specs.declared.failure.Reply.{Reply}
+use Rattle.ti_files.specs.Contents.{HasBytes, Held, longest_file}
+use Rattle.ti_files.specs.Sizes.{HasSize, LacksSize, SizeGiven}
+use Rattle.ti_files.specs.declared.failure.Failure.{Failure}
+use Rattle.ti_files.specs.declared.failure.Failure.TheVariants.{Refused, File, NoMemory}
+use Rattle.ti_files.specs.declared.failure.CommandRefusal.TheVariants.{Stuck}
+use Rattle.ti_files.specs.declared.failure.Reply.{Reply}
 
 -- the text is the screen after the run of these bytes from the reset state
 pub record ShowsAfter (rows cols : ℕ) (bytes text : List ℕ) : Type 0 where

@@ -14,13 +14,13 @@ use Rattle.ti_source.specs.declared.types.Note.{Note}
 use Rattle.ti_source.specs.declared.types.NoteKind.{NoteKind}
 use Rattle.ti_source.specs.declared.types.NoteKind.TheVariants.{UnknownName, Duplicate, OddEscape}
 use Rattle.ti_source.specs.declared.types.RawEntry.{RawEntry}
-use Rattle.ti_commands.specs.Failures.{IsFileFailure}
-use Rattle.ti_commands.specs.Contents.{AreBytesOf, HasBytes, Held, longest_file}
+use Rattle.ti_files.specs.Failures.{IsFileFailure}
+use Rattle.ti_files.specs.Contents.{AreBytesOf, HasBytes, Held, longest_file}
 use Rattle.ti_commands.specs.Further.{ArePutTogether, FailsFurther, Together}
-use Rattle.ti_commands.specs.declared.failure.Failure.{Failure}
-use Rattle.ti_commands.specs.declared.failure.Failure.TheVariants.{Refused, NoMemory}
-use Rattle.ti_commands.specs.declared.failure.CommandRefusal.{CommandRefusal}
-use Rattle.ti_commands.specs.declared.failure.CommandRefusal.TheVariants.{Source, Resolve, Pack}
+use Rattle.ti_files.specs.declared.failure.Failure.{Failure}
+use Rattle.ti_files.specs.declared.failure.Failure.TheVariants.{Refused, NoMemory}
+use Rattle.ti_files.specs.declared.failure.CommandRefusal.{CommandRefusal}
+use Rattle.ti_files.specs.declared.failure.CommandRefusal.TheVariants.{Source, Resolve, Pack}
 
 abbrev pub note_name : NoteKind → List ℕ
 note_name UnknownName = codes "UnknownName"

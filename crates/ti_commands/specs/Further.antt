@@ -6,11 +6,11 @@ use Rattle.ti_sources.specs.declared.files.FurtherFault.{FurtherFault}
 use Rattle.ti_sources.specs.declared.files.FurtherFault.TheVariants as further_faults
 use Rattle.ti_sources.specs.declared.files.FurtherFile.{FurtherFile}
 use Rattle.ti_source.specs.declared.types.RawEntry.{RawEntry}
-use Rattle.ti_commands.specs.Contents.{AreBytesOf, HasBytes, Held, longest_file}
-use Rattle.ti_commands.specs.Failures.{IsFileFailure}
-use Rattle.ti_commands.specs.declared.failure.Failure.{Failure}
-use Rattle.ti_commands.specs.declared.failure.Failure.TheVariants.{Refused, NoMemory}
-use Rattle.ti_commands.specs.declared.failure.CommandRefusal.TheVariants.{Source, Pack}
+use Rattle.ti_files.specs.Contents.{AreBytesOf, HasBytes, Held, longest_file}
+use Rattle.ti_files.specs.Failures.{IsFileFailure}
+use Rattle.ti_files.specs.declared.failure.Failure.{Failure}
+use Rattle.ti_files.specs.declared.failure.Failure.TheVariants.{Refused, NoMemory}
+use Rattle.ti_files.specs.declared.failure.CommandRefusal.TheVariants.{Source, Pack}
 use Rattle.ti_commands.specs.declared.further.PutTogether.{PutTogether}
 
 -- the file at a path, and its entries

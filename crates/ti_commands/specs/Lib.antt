@@ -1,17 +1,8 @@
-pub mod Words
-pub mod Contents
-pub mod Status
-pub mod Failures
-pub mod Sizes
 pub mod Listings
 pub mod Expansions
 pub mod Further
 pub mod Findings
 pub mod Replies
 pub mod Sources
-pub mod Refusals
 pub mod Feeds
 pub mod States
-pub mod Wrapped
-pub mod Fronts
-pub mod WrappedLaws

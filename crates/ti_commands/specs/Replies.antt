@@ -5,14 +5,14 @@ use Rattle.ti_caps.specs.Entry.{Content}
 use Rattle.ti_compiled.specs.Written.{packing_of}
 use Rattle.ti_source.specs.Prints.{text_of}
 use Rattle.ti_commands.specs.Findings.{Finds, LacksEntry}
-use Rattle.ti_commands.specs.Contents.{Held, Stored}
+use Rattle.ti_files.specs.Contents.{Held, Stored}
 use Rattle.ti_commands.specs.Listings.{comparison_text}
 use Rattle.ti_commands.specs.declared.descriptions.Comparison.{Comparison}
-use Rattle.ti_commands.specs.declared.failure.Failure.{Failure}
-use Rattle.ti_commands.specs.declared.failure.Failure.TheVariants.{Refused, File, NoMemory}
-use Rattle.ti_commands.specs.declared.failure.CommandRefusal.{CommandRefusal}
-use Rattle.ti_commands.specs.declared.failure.CommandRefusal.TheVariants.{Pack}
-use Rattle.ti_commands.specs.declared.failure.Reply.{Reply}
+use Rattle.ti_files.specs.declared.failure.Failure.{Failure}
+use Rattle.ti_files.specs.declared.failure.Failure.TheVariants.{Refused, File, NoMemory}
+use Rattle.ti_files.specs.declared.failure.CommandRefusal.{CommandRefusal}
+use Rattle.ti_files.specs.declared.failure.CommandRefusal.TheVariants.{Pack}
+use Rattle.ti_files.specs.declared.failure.Reply.{Reply}
 use denote.Ref.{Bor}
 
 -- the word gives this entry

@@ -1,7 +1,7 @@
 -- An entry together with its source text.
 use Rattle.std.specs.Prelude.{List, ℕ, Option, Some, None, Ok}
 use Rattle.ti_caps.specs.Entry.{Content}
-use Rattle.ti_commands.specs.Contents.{Held}
+use Rattle.ti_files.specs.Contents.{Held}
 use Rattle.ti_commands.specs.Findings.{IsOfText, IsPath, IsPathAndName}
 use Rattle.ti_commands.specs.Further.{Together}
 use Rattle.ti_commands.specs.Replies.{GivesEntry}

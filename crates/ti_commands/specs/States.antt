@@ -12,14 +12,14 @@ use Rattle.vt_states.specs.Cases.{AreAnswers, IsBadLine}
 use Rattle.vt_states.specs.Json.{object}
 use Rattle.vt_states.specs.Lines.{state_text}
 use Rattle.vt_states.specs.Recordings.{all_parts, dropped, plain_text, replaced, total}
-use Rattle.ti_commands.specs.Contents.{HasBytes, Held, longest_file}
+use Rattle.ti_files.specs.Contents.{HasBytes, Held, longest_file}
 use Rattle.ti_commands.specs.Feeds.{IsStuckFailure, ShowsAfter}
 use Rattle.ti_commands.specs.declared.fed.Fed.{Fed}
-use Rattle.ti_commands.specs.Sizes.{HasSize, LacksSize, SizeGiven}
-use Rattle.ti_commands.specs.declared.failure.Failure.{Failure}
-use Rattle.ti_commands.specs.declared.failure.Failure.TheVariants.{Refused, File, NoMemory}
-use Rattle.ti_commands.specs.declared.failure.CommandRefusal.TheVariants.{Stuck, Verdict}
-use Rattle.ti_commands.specs.declared.failure.Reply.{Reply}
+use Rattle.ti_files.specs.Sizes.{HasSize, LacksSize, SizeGiven}
+use Rattle.ti_files.specs.declared.failure.Failure.{Failure}
+use Rattle.ti_files.specs.declared.failure.Failure.TheVariants.{Refused, File, NoMemory}
+use Rattle.ti_files.specs.declared.failure.CommandRefusal.TheVariants.{Stuck, Verdict}
+use Rattle.ti_files.specs.declared.failure.Reply.{Reply}
 
 -- a state in the form that was asked for
 abbrev pub form_text : FeedForm → terminal.State → List ℕ

@@ -7,16 +7,13 @@ ghost use Rattle.ti_commands.specs.{Listings.{same_value}, Findings.{FailsToFind
 ghost use Rattle.ti_commands.specs.Replies.{GivesEntry, IsCompared, IsCompiled, IsPrinted, LacksSecond, Outcome};
 ghost use Rattle.ti_commands.specs.Replies.{Stores};
 
-use crate::contents::file_fault;
 use crate::entries::{Found, find_entry};
-use crate::failure::{CommandRefusal, Failure, Replied, Reply};
-use crate::files::{FileFault, Files};
 use std::alloc::{AllocError, Global};
 use ti_caps::{CAPABILITIES, Cap, Entry, Kind, Value, at_rank, is_kind, name};
 use ti_compiled::{PackFault, encode};
+use ti_files::{CommandRefusal, Failure, FileFault, Files, Remarks, Replied, Reply, file_fault};
 use ti_hints::{explain_large, hint_carets, unknown_names};
 use ti_source::print;
-use ti_words::Remarks;
 
 /// Reports the notes of the source file that `word` names, and writes the compiled form of the entry that `word` gives
 /// to the file at `out`, if there is an `out`. Further lines go to `remarks`.

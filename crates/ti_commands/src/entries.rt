@@ -3,23 +3,20 @@
 ghost use Rattle.std.specs.Prelude.{◌≡◌, ◌<◌, ◌++◌, [], length, IfErr, IfNone, IfOk, IfSome, Ok, OnOk};
 ghost use Rattle.std.specs.List.{AllByRecursion, flat_map};
 ghost use Rattle.ti_source.specs.{Raw.{IsRaw}, Source.{source_of}};
-ghost use Rattle.ti_commands.specs.Contents.{HasBytes, longest_file};
+ghost use Rattle.ti_files.specs.Contents.{HasBytes, longest_file};
 ghost use Rattle.ti_commands.specs.Findings.{FailsInFile, FailsInSource, FailsToFind, Finds, FitsTo, IsOfFile};
 ghost use Rattle.ti_commands.specs.Findings.{IsOfSource, IsOfText, IsPath, IsPathAndName, ResolvesAt, ResolvesTo};
 ghost use Rattle.ti_commands.specs.Findings.{IsPackFailure, IsSourceFailure, note_line, note_name, notes_text};
 ghost use Rattle.ti_commands.specs.Further.{together_in};
 
-use crate::contents::{LONGEST_FILE, read_whole};
-use crate::failure::{CommandRefusal, Failure};
-use crate::files::Files;
 use crate::further::{PutTogether, put_together};
 use std::alloc::{AllocError, Global};
 use ti_caps::Entry;
 use ti_compiled::{PackFault, Packed, decode};
+use ti_files::{CommandRefusal, Failure, Files, LONGEST_FILE, Remarks, read_whole};
 use ti_hints::{explain_packed, explain_resolving, explain_source};
 use ti_resolve::{ResolveFault, resolve, resolve_at};
 use ti_source::{Note, NoteKind, RawEntry, read};
-use ti_words::Remarks;
 
 /// The most bytes of a compiled file.
 const COMPILED_LIMIT: u32 = 131_072;

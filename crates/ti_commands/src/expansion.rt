@@ -5,19 +5,19 @@ ghost use Rattle.ti_parm.specs.{Meaning.{sent}, Value.{Value, value_of, values_o
 ghost use Rattle.ti_conforms.specs.CupReach.{IsWhole};
 ghost use Rattle.ti_commands.specs.Expansions.{FailsToExpand, IsExpanded, JudgesCup, Shows, ShowsAll, ShowsCursor};
 ghost use Rattle.ti_commands.specs.Expansions.{IsParmFailure, cursor_line, escape_failure, hex_line, no_line};
-ghost use Rattle.ti_commands.specs.Failures.{IsUsageError, WrongParam, param_usage};
-ghost use Rattle.ti_commands.specs.Words.{GiveParams, GivesParam, texts_of};
+ghost use Rattle.ti_files.specs.Failures.{IsUsageError, WrongParam, param_usage};
+ghost use Rattle.ti_files.specs.Words.{GiveParams, GivesParam, texts_of};
 
-use crate::decimal::decimal_number;
-use crate::failure::{CommandRefusal, Failure, Replied, Reply};
-use crate::sizes::{number_word, size_of};
 use smallvec::SmallVec;
 use std::alloc::{AllocError, Global};
 use ti_conforms::{MissKind, reach_cup};
+use ti_files::{
+    CommandRefusal, Failure, Remarks, Replied, Reply, decimal_number, number_word, size_of,
+};
 use ti_parm::{Param, ParmFault};
 use ti_requests::ExpandWords;
 use ti_source::{EscapeFault, unescape};
-use ti_words::{Remarks, explain_escape, explain_parm, explain_token};
+use ti_words::{explain_escape, explain_parm, explain_token};
 use vt_term::{Size, Terminal, TokenFaultKind, tokens};
 
 /// The parameters of one string: up to nine take no memory.

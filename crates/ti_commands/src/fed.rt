@@ -2,9 +2,9 @@
 
 ghost use Rattle.std.specs.Prelude.{◌≡◌};
 
-use crate::{CommandRefusal, Failure};
 use std::alloc::Global;
-use ti_words::{Remarks, explain_stuck};
+use ti_files::{CommandRefusal, Failure, Remarks};
+use ti_words::explain_stuck;
 use vt_term::{Size, Stuck};
 
 /// The bytes of the file at a path, for a terminal of this size in its reset state.

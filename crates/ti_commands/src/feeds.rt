@@ -5,9 +5,8 @@ ghost use Rattle.ti_requests.specs.declared.feeds.FeedForm.TheVariants as forms;
 ghost use Rattle.ti_commands.specs.{Feeds.{FailsToFeed, ShowsScreen}, States.{FailsFed, ShowsFed}};
 
 use crate::fed::{Fed, stuck_failure};
-use crate::{Failure, Files, LONGEST_FILE, Replied, Reply, read_whole, size_words};
 use std::alloc::Global;
-use ti_words::Remarks;
+use ti_files::{Failure, Files, LONGEST_FILE, Remarks, Replied, Reply, read_whole, size_words};
 use vt_term::Terminal;
 
 /// Feeds the file at `path` to a terminal in its reset state, and shows its screen. `rows` and

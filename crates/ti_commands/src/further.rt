@@ -3,17 +3,14 @@
 ghost use Rattle.std.specs.{Prelude.{◌≡◌, ◌≤◌, ◌⊎◌, IfErr, IfOk, OnOk, length, string_bytes}, List.{AllByRecursion}};
 ghost use Rattle.ti_sources.specs.Files.{AreRawsOf};
 ghost use Rattle.ti_source.specs.Raw.{IsRaw};
-ghost use Rattle.ti_commands.specs.{Contents.{AreBytesOf}, Failures.{IsFileFailure}, Words.{texts_of}};
+ghost use Rattle.ti_files.specs.{Contents.{AreBytesOf}, Failures.{IsFileFailure}, Words.{texts_of}};
 ghost use Rattle.ti_commands.specs.Further as spec;
 
-use crate::contents::{LONGEST_FILE, read_whole};
-use crate::failure::{CommandRefusal, Failure};
-use crate::files::Files;
 use std::alloc::{AllocError, Global};
+use ti_files::{CommandRefusal, Failure, Files, LONGEST_FILE, Remarks, read_whole};
 use ti_hints::{explain_packed, explain_source};
 use ti_source::RawEntry;
 use ti_sources::{FurtherFault, FurtherFile, raws_of};
-use ti_words::Remarks;
 
 /// Entries of several files put together: those of a source, and then those of each file of `--with`.
 #[derive(Debug, Drop)]

@@ -6,15 +6,13 @@ ghost use Rattle.ti_source.specs.Raw.{IsRaw};
 
 use crate::descriptions::entry_of;
 use crate::entries::{Found, find_in_source, path_and_name};
-use crate::failure::Failure;
-use crate::files::Files;
 use crate::further::{PutTogether, own_raws};
 use std::alloc::Global;
 use ti_caps::Entry;
+use ti_files::{Failure, Files, Remarks};
 use ti_hints::hint_entry;
 use ti_source::RawEntry;
 use ti_sources::FurtherFile;
-use ti_words::Remarks;
 
 /// A source file, and the name of an entry in it.
 #[derive(Debug, Drop)]

@@ -8,10 +8,11 @@ ghost use Rattle.ti_commands.specs.States.{fed_of, line_text, note_of, notes_of}
 
 use crate::fed::{Fed, stuck_failure};
 use crate::feeds::screen_after;
-use crate::{CommandRefusal, Failure, Files, LONGEST_FILE, Replied, Reply, read_whole, size_words};
 use std::alloc::{AllocError, Global};
+use ti_files::{
+    CommandRefusal, Failure, Files, LONGEST_FILE, Remarks, Replied, Reply, read_whole, size_words,
+};
 use ti_requests::{FeedForm, FeedWords};
-use ti_words::Remarks;
 use vt_states::{CaseFault, Snapshot, case_answers, plain_recording};
 
 /// Feeds the file of the `words` to a terminal in its reset state, and shows the state that it

@@ -5,8 +5,8 @@ use crate::trials::push_definition;
 use std::alloc::{AllocError, Global};
 use ti_caps::{Cap, Entry, by_name};
 use ti_conforms::{is_checked, send};
+use ti_files::Remarks;
 use ti_rows::{NO_ATTRIBUTES, NO_LOOKS, Row};
-use ti_words::Remarks;
 use vt_effects::{Effect, Rendering, Switch, effect_of};
 use vt_term::{Size, tokens};
 

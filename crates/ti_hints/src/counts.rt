@@ -4,7 +4,7 @@ use crate::advice::add_advice;
 use crate::trials::{Tried, tried_strings};
 use std::alloc::{AllocError, Global};
 use ti_caps::{Cap, Entry, by_name, name};
-use ti_words::Remarks;
+use ti_files::Remarks;
 
 /// Adds a line for each piece of advice on strings of `entry` that aren't checked and on its flags, and then a line
 /// with the number of its strings that are checked, of those that were run once, and of those that were not looked at,

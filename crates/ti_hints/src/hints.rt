@@ -9,8 +9,8 @@ use crate::fields::FieldText;
 use crate::places::{PlacedField, placed_fields};
 use std::alloc::{AllocError, Global};
 use ti_caps::{CAPABILITIES, Cap, by_name, name};
-use ti_sources::{Columns, line_at};
 use ti_source::RawEntry;
+use ti_sources::{Columns, line_at};
 
 /// The kind of a hint.
 #[derive(Clone, Copy, Debug, PartialEq, Eq)]

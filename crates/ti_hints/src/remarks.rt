@@ -4,9 +4,9 @@ use crate::carets::percent_carets;
 use crate::hints::{FieldHint, caret_words, entry_hints};
 use crate::uses::used_places;
 use std::alloc::{AllocError, Global};
-use ti_sources::text_lines;
+use ti_files::Remarks;
 use ti_source::RawEntry;
-use ti_words::Remarks;
+use ti_sources::text_lines;
 
 /// Adds the hints of `entry_hints`, as far as there is memory, for the entry `entry` among `raws`, and for the entries
 /// that it uses. `raws` are the entries of the source text `text`.

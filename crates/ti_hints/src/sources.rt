@@ -4,9 +4,9 @@ use crate::fields::{FieldText, faulty_field, line_of};
 use std::alloc::Global;
 use ti_caps::{Kind, by_name, kind};
 use ti_compiled::PackFault;
+use ti_files::Remarks;
 use ti_resolve::ResolveFault;
 use ti_source::{FaultKind, SourceFault};
-use ti_words::Remarks;
 
 /// Explains the fault of the source text `text` at `path`, with the field that has it, if it is the fault of one field.
 pub fn explain_source(

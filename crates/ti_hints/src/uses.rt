@@ -1,8 +1,8 @@
 //! The entries of a source text that an entry of it uses.
 
 use std::alloc::{AllocError, Global};
-use ti_sources::place_named;
 use ti_source::{Field, RawEntry};
+use ti_sources::place_named;
 
 /// The places among `raws` of the entry of this name and of those that it uses, in order; none if there is no such
 /// entry.

@@ -6,7 +6,7 @@ use Rattle.std.proofs.lemmas.Bool.Decides.{nat_tests}
 use Rattle.std.proofs.lemmas.Str.{IsUtf8-from_ascii}
 use Rattle.std.proofs.lemmas.Str.Ascii.{IsAscii-cons, IsAscii-nil}
 use Rattle.ti_source.specs.Prints.{octal}
-use Rattle.ti_words.specs.Shown.{shown}
+use Rattle.ti_files.specs.Shown.{shown}
 
 octal_then : (b : ℕ) (rest : List ℕ) → b < 256 → IsAscii rest → IsAscii (octal b ++ rest)
 octal_then b rest l a =

@@ -2,8 +2,8 @@
 use Rattle.std.specs.Prelude.{◌≡◌, ◌⊎◌, ◌<◌, ◌==◌, ⊤, ℕ, List, Option, Some, None, if◌then◌else◌}
 use Rattle.std.specs.Prelude.{[], length, map, option_map}
 use Rattle.std.specs.String.{string_bytes}
-use Rattle.ti_commands.specs.declared.failure.CommandRefusal.{CommandRefusal}
-use Rattle.ti_commands.specs.declared.failure.CommandRefusal.TheVariants as refusals
+use Rattle.ti_files.specs.declared.failure.CommandRefusal.{CommandRefusal}
+use Rattle.ti_files.specs.declared.failure.CommandRefusal.TheVariants as refusals
 use Rattle.ti_commands.specs.declared.sources.SourceText.{SourceText}
 use Rattle.ti_sources.specs.BadUses.{IsBadUse}
 use Rattle.ti_sources.specs.declared.joined_places.Region.{Region}

@@ -10,13 +10,13 @@ use crate::forms::Written;
 use crate::names::name_of;
 use std::alloc::{AllocError, Global};
 use ti_caps::Cap;
-use ti_commands::CommandRefusal;
-use ti_sources::Region;
+use ti_files::CommandRefusal;
 use ti_places::{
     FieldPlace, Judged, LinedFile, NamedSource, SourcePlace, begun_line, first_name, names_of,
 };
 use ti_resolve::Origin;
 use ti_source::RawEntry;
+use ti_sources::Region;
 
 /// The region of the part of a value that is at fault, if it is known; or that memory ran out.
 pub type FaultyPart = Result<Option<Region>, AllocError>;

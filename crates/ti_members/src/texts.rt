@@ -1,11 +1,11 @@
 //! The text of bytes in a report.
 
 ghost use Rattle.std.specs.{Prelude.{◌≡◌, ◌<◌, IfOk, string_bytes}, List.{AllByRecursion}};
-ghost use Rattle.ti_words.specs.Shown.{shown};
+ghost use Rattle.ti_files.specs.Shown.{shown};
 ghost use Rattle.ti_members.specs.Texts as spec;
 
 use std::alloc::{AllocError, Global};
-use ti_words::push_shown;
+use ti_files::push_shown;
 
 /// The text of `bytes`: the bytes themselves if they are UTF-8, else as `push_shown` appends them.
 pub fn text_of(alloc: Global, bytes: &[u8]) -> Result<String, AllocError>

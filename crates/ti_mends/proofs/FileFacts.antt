@@ -4,13 +4,13 @@ use Rattle.std.proofs.lemmas.Bool.Decides.{nat_tests}
 use Rattle.ti_caps.specs.Entry.{Content}
 use Rattle.ti_checker.specs.declared.causes.No.{No}
 use Rattle.ti_commands.proofs.FurtherFacts.{named}
-use Rattle.ti_commands.specs.Contents.{Held}
+use Rattle.ti_files.specs.Contents.{Held}
 use Rattle.ti_commands.specs.Findings.{IsOfText}
 use Rattle.ti_commands.specs.Further.{Together}
-use Rattle.ti_commands.specs.Sizes.{SizeGiven}
+use Rattle.ti_files.specs.Sizes.{SizeGiven}
 use Rattle.ti_commands.specs.Sources.{IsSourced}
-use Rattle.ti_commands.specs.declared.failure.CommandRefusal.{CommandRefusal}
-use Rattle.ti_commands.specs.declared.failure.Reply.{Reply}
+use Rattle.ti_files.specs.declared.failure.CommandRefusal.{CommandRefusal}
+use Rattle.ti_files.specs.declared.failure.Reply.{Reply}
 use Rattle.ti_sources.specs.declared.files.FurtherFile.{FurtherFile}
 use Rattle.ti_mends.specs.Delivery.{HandsOver, StoresChanged, own_bytes}
 use Rattle.ti_mends.specs.Replies.{AreMended, Delivers, IsFixed, IsMendedSource}

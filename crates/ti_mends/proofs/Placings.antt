@@ -5,7 +5,7 @@ use Rattle.std.specs.Str.Pattern.{RFindsChar, SplitsAroundMatch}
 use Rattle.std.proofs.lemmas.List.{take-append-drop}
 use Rattle.std.proofs.lemmas.List.Elements.{filter-append}
 use Rattle.std.proofs.lemmas.Str.Pattern.{NoCharPasses-char, drop_at_char}
-use Rattle.ti_commands.specs.declared.files.NewFile.{NewFile}
+use Rattle.ti_files.specs.declared.files.NewFile.{NewFile}
 use Rattle.ti_mends.proofs.TextFacts.{sheets_next, zip_end}
 use Rattle.ti_mends.specs.Delivery.{HasNoSlash, IsFileName, IsPlaced, changed_ones}
 use Rattle.ti_mends.specs.Texts.{Sheet, sheet_of, sheets}

@@ -5,7 +5,7 @@ use Rattle.std.specs.Bool.{OnTrue}
 use Rattle.std.specs.List.{AllByRecursion, AllZip}
 use Rattle.std.proofs.lemmas.List.{map-append, take_more}
 use Rattle.ti_commands.proofs.FurtherFacts.{together_end}
-use Rattle.ti_commands.specs.Contents.{Held}
+use Rattle.ti_files.specs.Contents.{Held}
 use Rattle.ti_commands.specs.Further.{AreFurther}
 use Rattle.ti_commands.specs.declared.sources.SourceText.{SourceText}
 use Rattle.ti_caps.specs.Entry.{Content}

@@ -4,11 +4,11 @@ use Rattle.std.specs.Prelude.{slice_index}
 use Rattle.std.specs.Prelude.{string_bytes}
 use Rattle.std.specs.List.{AllZip}
 use Rattle.ti_checker.specs.declared.causes.No.{No}
-use Rattle.ti_commands.specs.Contents.{Held, StoredAll}
-use Rattle.ti_commands.specs.declared.failure.Failure.{Failure}
-use Rattle.ti_commands.specs.declared.failure.Failure.TheVariants.{File, NoMemory}
-use Rattle.ti_commands.specs.declared.failure.Reply.{Reply}
-use Rattle.ti_commands.specs.declared.files.NewFile.{NewFile}
+use Rattle.ti_files.specs.Contents.{Held, StoredAll}
+use Rattle.ti_files.specs.declared.failure.Failure.{Failure}
+use Rattle.ti_files.specs.declared.failure.Failure.TheVariants.{File, NoMemory}
+use Rattle.ti_files.specs.declared.failure.Reply.{Reply}
+use Rattle.ti_files.specs.declared.files.NewFile.{NewFile}
 use Rattle.ti_mends.specs.Texts.{Sheet}
 use Rattle.ti_verdicts.specs.Checks.{StoresText}
 use Rattle.ti_places.specs.Refusals.{TellsNo}

@@ -10,7 +10,7 @@ use Rattle.ti_resolve.specs.Uses.{names_at}
 use Rattle.ti_source.specs.declared.types.RawEntry.{RawEntry}
 use Rattle.ti_places.specs.Locations.{first_name}
 use Rattle.ti_places.specs.Refusals.{no_text}
-use Rattle.ti_words.specs.Shown.{shown}
+use Rattle.ti_files.specs.Shown.{shown}
 
 -- why a suggestion is left, with the first name of the entry that would lose its yes
 abbrev pub reason_text : List RawEntry → Reason → List ℕ

@@ -3,12 +3,12 @@ use Rattle.std.specs.Prelude.{ℕ, ◌≡◌, ◌≢◌, ◌⊎◌, List, [], �
 use Rattle.std.specs.List.{AllByRecursion}
 use Rattle.ti_caps.specs.Entry.{Content}
 use Rattle.ti_checker.specs.declared.causes.No.{No}
-use Rattle.ti_commands.specs.Contents.{Held}
-use Rattle.ti_commands.specs.Sizes.{HasSize, SizeGiven}
+use Rattle.ti_files.specs.Contents.{Held}
+use Rattle.ti_files.specs.Sizes.{HasSize, SizeGiven}
 use Rattle.ti_commands.specs.Findings.{IsOfText}
 use Rattle.ti_commands.specs.Sources.{IsSourced, together_of}
-use Rattle.ti_commands.specs.declared.failure.Failure.{Failure}
-use Rattle.ti_commands.specs.declared.failure.Reply.{Reply}
+use Rattle.ti_files.specs.declared.failure.Failure.{Failure}
+use Rattle.ti_files.specs.declared.failure.Reply.{Reply}
 use Rattle.ti_commands.specs.declared.sources.SourceText.{SourceText}
 use Rattle.ti_faults.specs.AllFaults.{AreAllFaults}
 use Rattle.ti_sources.specs.declared.files.FurtherFile.{FurtherFile}

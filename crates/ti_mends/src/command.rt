@@ -14,12 +14,10 @@ use crate::texts::texts_of;
 use std::alloc::{AllocError, Global};
 use ti_caps::Entry;
 use ti_checker::No;
-use ti_commands::{
-    CommandRefusal, Failure, Files, Replied, SourceText, Sourced, size_words, sourced_entry,
-};
+use ti_commands::{SourceText, Sourced, sourced_entry};
 use ti_faults::{Mended, faults, is_of_another_kind};
+use ti_files::{CommandRefusal, Failure, Files, Remarks, Replied, size_words};
 use ti_requests::CheckWords;
-use ti_words::Remarks;
 use vt_term::Size;
 
 /// The failure for a compiled entry, which has no source.

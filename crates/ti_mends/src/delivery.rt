@@ -7,10 +7,9 @@ ghost use Rattle.ti_mends.specs.Delivery as spec;
 use crate::mendings::{MendedTexts, Text};
 use std::alloc::{AllocError, Global};
 use ti_checker::No;
-use ti_commands::{Failure, Files, NewFile, Reply, file_fault};
+use ti_files::{Failure, Files, NewFile, Remarks, Reply, file_fault};
 use ti_places::no_failure;
 use ti_verdicts::store_text;
-use ti_words::Remarks;
 
 /// How the reply ends if these faults are left.
 fn ending(alloc: Global, nos: &[No]) -> Option<Failure>

@@ -12,8 +12,8 @@ use std::alloc::{AllocError, Global};
 use ti_caps::Cap;
 use ti_commands::SourceText;
 use ti_fixes::give;
-use ti_sources::{FurtherFault, FurtherFile, raws_of, spot_of};
 use ti_source::RawEntry;
+use ti_sources::{FurtherFault, FurtherFile, raws_of, spot_of};
 
 /// The files with a change, or `None` if it can't be made; or that memory ran out.
 pub type NewTexts = Result<Option<Texts>, AllocError>;

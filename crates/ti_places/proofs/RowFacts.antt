@@ -5,7 +5,7 @@ use Rattle.std.proofs.lemmas.Grind.{flat_map-append}
 use Rattle.ti_sources.specs.declared.joined_places.Region.{Region}
 use Rattle.ti_places.specs.Excerpts.{deeper}
 use Rattle.ti_places.specs.Rows.{row_of, rows_of}
-use Rattle.ti_words.specs.Shown.{shown}
+use Rattle.ti_files.specs.Shown.{shown}
 
 range_more : (from n next : ℕ) → from + n ≡ next → range_with_len from (suc n) ≡ range_with_len from n ++ next ∷ []
 range_more from zero next e = ap (λ (k : ℕ). k ∷ []) (omega (arith, e))

@@ -8,7 +8,7 @@ use Rattle.ti_source.specs.Marks.{equals, hash}
 use Rattle.ti_blames.specs.Stretches.{IsWithin}
 use Rattle.ti_blames.specs.Values.{IsMeaning}
 use Rattle.ti_blames.specs.declared.stretches.Stretch.{Stretch}
-use Rattle.ti_words.specs.Shown.{shown}
+use Rattle.ti_files.specs.Shown.{shown}
 
 -- words on a line of their own, after four spaces
 abbrev pub deeper : List ℕ → List ℕ

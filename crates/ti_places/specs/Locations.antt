@@ -20,7 +20,7 @@ use Rattle.ti_places.specs.Spots.{FileText, Line, PutFiles, columns_among, files
 use Rattle.ti_places.specs.declared.locations.PlacedFault.{PlacedFault}
 use Rattle.ti_places.specs.declared.source_places.NamedSource.{NamedSource}
 use Rattle.ti_places.specs.declared.source_places.SourcePlace.{SourcePlace}
-use Rattle.ti_words.specs.Shown.{shown}
+use Rattle.ti_files.specs.Shown.{shown}
 
 -- an entry's first name
 abbrev pub first_name : List ℕ → List ℕ

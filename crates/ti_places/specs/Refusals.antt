@@ -14,11 +14,11 @@ use Rattle.ti_checker.specs.declared.causes.Cause.{Cause}
 use Rattle.ti_checker.specs.declared.causes.Cause.TheVariants as causes
 use Rattle.ti_checker.specs.declared.causes.No.{No}
 use Rattle.ti_words.specs.Numbers.{numbers_text}
-use Rattle.ti_commands.specs.Failures.{IsFileFailure}
-use Rattle.ti_commands.specs.Refusals.{parm_name}
-use Rattle.ti_commands.specs.declared.failure.Failure.{Failure}
-use Rattle.ti_commands.specs.declared.failure.Failure.TheVariants as failures
-use Rattle.ti_commands.specs.declared.failure.CommandRefusal.TheVariants.{Verdict}
+use Rattle.ti_files.specs.Failures.{IsFileFailure}
+use Rattle.ti_files.specs.Refusals.{parm_name}
+use Rattle.ti_files.specs.declared.failure.Failure.{Failure}
+use Rattle.ti_files.specs.declared.failure.Failure.TheVariants as failures
+use Rattle.ti_files.specs.declared.failure.CommandRefusal.TheVariants.{Verdict}
 
 -- the part of a kind's words that comes before its capability
 abbrev pub kind_name : CertFaultKind → List ℕ

@@ -5,7 +5,7 @@ use Rattle.ti_sources.specs.Columns.{line_in, piece_of}
 use Rattle.ti_sources.specs.declared.joined_places.Region.{Region}
 use Rattle.ti_places.specs.Excerpts.{deeper, underlined}
 use Rattle.ti_source.specs.Layout.{lines_of, skip_white}
-use Rattle.ti_words.specs.Shown.{shown}
+use Rattle.ti_files.specs.Shown.{shown}
 
 -- the columns of a region on a line with a number: on its first line it begins with its first byte, on others behind
 -- the white space, and it goes to the line's end, but on its last line to its last byte

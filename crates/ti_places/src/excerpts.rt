@@ -2,12 +2,12 @@
 
 ghost use Rattle.std.specs.Prelude.{◌≡◌, ◌≤◌, ◌++◌, IfOk, OnOk, length, option_map, replicate};
 ghost use Rattle.ti_places.specs.Excerpts as spec;
-ghost use Rattle.ti_words.specs.Shown.{shown};
+ghost use Rattle.ti_files.specs.Shown.{shown};
 
 use std::alloc::Global;
-use ti_caps::{Cap, name};
 use ti_blames::Stretch;
-use ti_words::{Made, Pushed, push_shown};
+use ti_caps::{Cap, name};
+use ti_files::{Made, Pushed, push_shown};
 
 /// Whether `byte`, which is behind the name of a capability, begins a value.
 fn begins_value(byte: Option<&u8>) -> bool

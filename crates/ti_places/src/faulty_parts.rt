@@ -5,7 +5,7 @@ ghost use Rattle.ti_blames.specs.BlamedStretches.{IsWithinIf};
 ghost use Rattle.ti_places.specs.Excerpts.{IsFaulty};
 
 use std::alloc::{AllocError, Global};
-use ti_blames::{Checked, code_stretch, CodeFault, meant_stretch, pair_of, sent_stretch, Stretch};
+use ti_blames::{Checked, CodeFault, Stretch, code_stretch, meant_stretch, pair_of, sent_stretch};
 use ti_caps::name;
 use ti_checker::{Cause, No};
 use ti_conforms::misfit;

@@ -9,10 +9,10 @@ use crate::faulty_parts::{Judged, faulty_part};
 use crate::originals::region_at;
 use crate::spots::{LinedFile, LinedFiles};
 use std::alloc::{AllocError, Global};
-use ti_caps::Cap;
-use ti_sources::{Columns, Region};
-use ti_resolve::Origin;
 use ti_blames::Stretch;
+use ti_caps::Cap;
+use ti_resolve::Origin;
+use ti_sources::{Columns, Region};
 
 /// The columns of `part` of `value`, which ends where these `columns` do.
 pub(crate) fn part_columns(value: &[u8], columns: Columns, part: Stretch) -> Columns

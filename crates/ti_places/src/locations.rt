@@ -7,7 +7,7 @@ ghost use Rattle.ti_places.specs.{Excerpts.{IsFaulty, value_in}, Locations.{exce
 ghost use Rattle.ti_places.specs.Locations as spec;
 ghost use Rattle.ti_places.specs.{Refusals.{no_text}, Spots.{file_text, line_of, piece_among, put_files}};
 ghost use Rattle.ti_blames.specs.declared.stretches.Stretch.{Stretch};
-ghost use Rattle.ti_words.specs.Shown.{shown};
+ghost use Rattle.ti_files.specs.Shown.{shown};
 
 use crate::excerpts::{excerpt, shown_bytes, value_in};
 use crate::faulty_parts::{Judged, faulty_part};
@@ -18,13 +18,13 @@ use crate::rows::marked_rows;
 use crate::source_places::{NamedSource, SourcePlace};
 use crate::spots::{FieldPlace, LinedFile, LinedFiles};
 use std::alloc::{AllocError, Global};
+use ti_blames::Stretch;
 use ti_caps::{Cap, name};
 use ti_checker::No;
-use ti_sources::{Columns, Region};
+use ti_files::{Made, push_shown};
 use ti_resolve::Origin;
 use ti_source::RawEntry;
-use ti_blames::Stretch;
-use ti_words::{Made, push_shown};
+use ti_sources::{Columns, Region};
 
 /// The end of the first of `names`, if another follows.
 fn name_end(names: &[u8]) -> Option<usize>

@@ -6,8 +6,8 @@ ghost use Rattle.ti_places.specs.Originals as spec;
 
 use crate::spots::{FieldPlace, LinedFile, LinedFiles};
 use ti_caps::Cap;
-use ti_sources::{Columns, LinedText, original_region, Region};
 use ti_resolve::Origin;
+use ti_sources::{Columns, LinedText, Region, original_region};
 
 /// The first of the `originals` that is at this `path`; `None` for a file that is read as it is.
 pub(crate) fn original_at<'a, 'b>(

@@ -7,8 +7,8 @@ use std::alloc::{AllocError, Global};
 use ti_caps::{Cap, name};
 use ti_cert::{CertFault, CertFaultKind};
 use ti_checker::{Cause, No};
-use ti_commands::{CommandRefusal, Failure, parm_name};
-use ti_words::{Pushed, push_numbers};
+use ti_files::{CommandRefusal, Failure, Pushed, parm_name};
+use ti_words::push_numbers;
 
 /// `line N: KIND` of `fault`, and the capability that the kind has.
 pub fn fault_words(alloc: Global, fault: &CertFault) -> Result<Vec<u8>, AllocError>

@@ -3,13 +3,13 @@
 ghost use Rattle.std.specs.Prelude.{◌≡◌, ◌-◌, ◌++◌, IfOk, OnOk};
 ghost use Rattle.ti_places.specs.Excerpts.{deeper};
 ghost use Rattle.ti_places.specs.Rows as spec;
-ghost use Rattle.ti_words.specs.Shown.{shown};
+ghost use Rattle.ti_files.specs.Shown.{shown};
 
 use crate::excerpts::{shown_bytes, underlined};
 use std::alloc::Global;
-use ti_sources::{Columns, line_at, LinedText, Region};
+use ti_files::{Made, Pushed};
 use ti_source::skip_white;
-use ti_words::{Made, Pushed};
+use ti_sources::{Columns, LinedText, Region, line_at};
 
 /// The column at which `region` begins on `line`, the one with this `number`.
 #[tactic(auto, using(ti_sources::proofs::Origins::skip_shorter))]

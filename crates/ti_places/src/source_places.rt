@@ -11,9 +11,9 @@ use crate::spots::{FieldPlace, LinedFile, LinedFiles};
 use std::alloc::{AllocError, Global};
 use ti_caps::Cap;
 use ti_commands::SourceText;
-use ti_sources::{bad_use, Columns, place_named, Region};
 use ti_resolve::{Index, Origin, origin_from};
 use ti_source::RawEntry;
+use ti_sources::{Columns, Region, bad_use, place_named};
 
 /// The result of a search for the field that gives a value: `None` if there is none; or memory ran out.
 type FoundOrigin = Result<Option<Origin>, AllocError>;

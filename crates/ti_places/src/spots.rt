@@ -6,9 +6,9 @@ ghost use Rattle.ti_places.specs.Spots as spec;
 use std::alloc::{AllocError, Global};
 use ti_caps::Cap;
 use ti_commands::SourceText;
-use ti_sources::{Columns, FurtherFile, LinedText, Spot, spot_of};
 use ti_resolve::Origin;
 use ti_source::field_lines;
+use ti_sources::{Columns, FurtherFile, LinedText, Spot, spot_of};
 
 /// A file whose entries were put together with others: its path, and its text with the lines of all fields.
 #[derive(Drop)]

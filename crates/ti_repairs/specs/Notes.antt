@@ -5,8 +5,8 @@ use Rattle.ti_caps.specs.Entry.{Content}
 use Rattle.ti_caps.specs.Table.{name_at}
 use Rattle.ti_checker.specs.declared.causes.No.{No}
 use Rattle.ti_commands.specs.Findings.{ResolvesAt}
-use Rattle.ti_commands.specs.Refusals.{refusal_text_of}
-use Rattle.ti_commands.specs.declared.failure.CommandRefusal.{CommandRefusal}
+use Rattle.ti_files.specs.Refusals.{refusal_text_of}
+use Rattle.ti_files.specs.declared.failure.CommandRefusal.{CommandRefusal}
 use Rattle.ti_faults.specs.AllFaults.{AreAllFaults}
 use Rattle.ti_remedies.specs.Parts.{AreParts}
 use Rattle.ti_remedies.specs.declared.advice.Remedy.{Remedy}
@@ -17,7 +17,7 @@ use Rattle.ti_resolve.specs.Uses.{names_at}
 use Rattle.ti_source.specs.declared.types.RawEntry.{RawEntry}
 use Rattle.ti_places.specs.Locations.{first_name}
 use Rattle.ti_places.specs.Refusals.{no_text}
-use Rattle.ti_words.specs.Shown.{shown}
+use Rattle.ti_files.specs.Shown.{shown}
 
 -- the first name of the entry at a place
 abbrev pub own_name : List RawEntry → ℕ → List ℕ

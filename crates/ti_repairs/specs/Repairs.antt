@@ -2,13 +2,13 @@
 use Rattle.std.specs.Prelude.{ℕ, ◌≡◌, ◌≤◌, ◌⊎◌, ◌&&◌, not, Bool, true, false, List, [], ◌∷◌, ◌++◌, Option, Some, None}
 use Rattle.std.specs.Prelude.{Ok}
 use Rattle.std.specs.Prelude.{codes, length}
-use Rattle.ti_commands.specs.Contents.{AreBytesOf, HasBytes, Held, longest_file}
-use Rattle.ti_commands.specs.Failures.{IsFileFailure}
+use Rattle.ti_files.specs.Contents.{AreBytesOf, HasBytes, Held, longest_file}
+use Rattle.ti_files.specs.Failures.{IsFileFailure}
 use Rattle.ti_commands.specs.Findings.{IsSourceFailure}
-use Rattle.ti_commands.specs.Sizes.{LacksSize, SizeGiven}
-use Rattle.ti_commands.specs.declared.failure.Failure.{Failure}
-use Rattle.ti_commands.specs.declared.failure.Failure.TheVariants.{NoMemory}
-use Rattle.ti_commands.specs.declared.failure.Reply.{Reply}
+use Rattle.ti_files.specs.Sizes.{LacksSize, SizeGiven}
+use Rattle.ti_files.specs.declared.failure.Failure.{Failure}
+use Rattle.ti_files.specs.declared.failure.Failure.TheVariants.{NoMemory}
+use Rattle.ti_files.specs.declared.failure.Reply.{Reply}
 use Rattle.ti_remedies.specs.Remedies.{AreAdvised}
 use Rattle.ti_remedies.specs.Treated.{IsRemedied}
 use Rattle.ti_remedies.specs.declared.advice.Remedy.{Remedy}

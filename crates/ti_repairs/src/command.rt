@@ -13,8 +13,8 @@ use crate::notes::kept_lines;
 use crate::suggestions::Suggestions;
 use crate::words::FixWords;
 use std::alloc::{AllocError, Global};
-use ti_commands::{
-    CommandRefusal, Failure, Files, LONGEST_FILE, Replied, Reply, read_whole, size_words,
+use ti_files::{
+    CommandRefusal, Failure, Files, LONGEST_FILE, Remarks, Replied, Reply, read_whole, size_words,
 };
 use ti_fixes::Fixed;
 use ti_hints::explain_source;
@@ -22,7 +22,6 @@ use ti_remedies::{Remedy, all_remedies, take_all};
 use ti_resolve::Index;
 use ti_source::{RawEntry, read};
 use ti_verdicts::store_text;
-use ti_words::Remarks;
 use vt_term::Size;
 
 /// A source text with its entries, or why there is none.

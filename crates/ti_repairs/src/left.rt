@@ -1,7 +1,8 @@
 //! The lines about what is left: the faults of the entries of the new text.
 
 ghost use Rattle.std.specs.{Prelude.{◌≡◌, ◌<◌, ◌++◌, IfOk, OnOk, codes, length}, List.{AllByRecursion, flat_map}};
-ghost use Rattle.ti_commands.specs.{Findings.{ResolvesAt}, Refusals.{refusal_text_of}};
+ghost use Rattle.ti_files.specs.Refusals.{refusal_text_of};
+ghost use Rattle.ti_commands.specs.Findings.{ResolvesAt};
 ghost use Rattle.ti_repairs.specs.Notes as spec;
 ghost use Rattle.ti_source.specs.Raw.{IsRaw};
 ghost use Rattle.ti_places.specs.Refusals.{no_text};
@@ -10,13 +11,12 @@ use crate::notes::own_name;
 use std::alloc::{AllocError, Global};
 use ti_caps::Entry;
 use ti_checker::No;
-use ti_commands::{CommandRefusal, refusal_words};
 use ti_faults::faults;
+use ti_files::{CommandRefusal, push_shown, refusal_words};
 use ti_places::no_words;
 use ti_resolve::{Index, ResolveFault, resolve_from};
 use ti_source::RawEntry;
 use ti_verdicts::{Added, Lines};
-use ti_words::push_shown;
 use vt_term::Size;
 
 /// Appends the line of an entry's name and the words about it.

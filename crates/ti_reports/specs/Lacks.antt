@@ -2,11 +2,11 @@
 use Rattle.std.specs.Prelude.{◌≡◌, ◌⊎◌, ℕ, Bool, true, false, List, [], ◌∷◌, Option, Some, None, string_bytes}
 use Rattle.std.specs.Prelude.{if◌then◌else◌}
 use Rattle.ti_commands.specs.Findings.{IsPath, IsPathAndName}
-use Rattle.ti_commands.specs.Refusals.{refusal_text_of}
-use Rattle.ti_commands.specs.declared.failure.Failure.{Failure}
-use Rattle.ti_commands.specs.declared.failure.Failure.TheVariants.{Refused, RefusedUnwritten, Usage, File, Output}
-use Rattle.ti_commands.specs.declared.failure.Failure.TheVariants.{NoMemory}
-use Rattle.ti_commands.specs.declared.failure.Reply.{Reply}
+use Rattle.ti_files.specs.Refusals.{refusal_text_of}
+use Rattle.ti_files.specs.declared.failure.Failure.{Failure}
+use Rattle.ti_files.specs.declared.failure.Failure.TheVariants.{Refused, RefusedUnwritten, Usage, File, Output}
+use Rattle.ti_files.specs.declared.failure.Failure.TheVariants.{NoMemory}
+use Rattle.ti_files.specs.declared.failure.Reply.{Reply}
 use Rattle.ti_members.specs.Sources.{IsNowhere, IsRefusalPlace}
 use Rattle.ti_reports.specs.Surveys.{IsRefusedReport, file_text}
 use Rattle.ti_members.specs.declared.places.ValuePlace.{ValuePlace}

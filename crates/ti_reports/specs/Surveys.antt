@@ -2,12 +2,12 @@
 use Rattle.std.specs.Prelude.{◌≡◌, ℕ, Bool, List, [], ◌∷◌, ◌++◌, Option, Some, None, codes, string_bytes}
 use Rattle.ti_caps.specs.Entry.{Content}
 use Rattle.ti_checker.specs.declared.causes.No.{No}
-use Rattle.ti_commands.specs.Contents.{Held}
-use Rattle.ti_commands.specs.Refusals.{refusal_text_of}
-use Rattle.ti_commands.specs.Words.{texts_of}
-use Rattle.ti_commands.specs.declared.failure.CommandRefusal.{CommandRefusal}
-use Rattle.ti_commands.specs.declared.failure.Failure.{Failure}
-use Rattle.ti_commands.specs.declared.failure.Reply.{Reply}
+use Rattle.ti_files.specs.Contents.{Held}
+use Rattle.ti_files.specs.Refusals.{refusal_text_of}
+use Rattle.ti_files.specs.Words.{texts_of}
+use Rattle.ti_files.specs.declared.failure.CommandRefusal.{CommandRefusal}
+use Rattle.ti_files.specs.declared.failure.Failure.{Failure}
+use Rattle.ti_files.specs.declared.failure.Reply.{Reply}
 use Rattle.ti_reports.specs.Faults.{AreFoundLines, HasWords, IsReportLine}
 use Rattle.ti_reports.specs.Findings.{AreFaults}
 use Rattle.ti_members.specs.Names.{IsNameIf}

@@ -4,7 +4,7 @@ ghost use Rattle.std.specs.Prelude.{◌≡◌, IfErr, IfOk, Some, map};
 ghost use Rattle.ti_members.specs.Sources.{IsThere, by_name, whereabouts_of};
 ghost use Rattle.ti_reports.specs.Lacks.{is_alone};
 ghost use Rattle.ti_reports.specs.Checks as spec;
-ghost use Rattle.ti_commands.specs.Sizes.{LacksSize};
+ghost use Rattle.ti_files.specs.Sizes.{LacksSize};
 ghost use Rattle.ti_places.specs.Spots.{file_text};
 
 use crate::asked::Asked;
@@ -14,13 +14,13 @@ use crate::lacks::lack_reply;
 use std::alloc::{AllocError, Global};
 use ti_caps::Entry;
 use ti_checker::No;
-use ti_commands::{Failure, Files, Replied, Reply, SourceText, Sourced, size_words, sourced_entry};
+use ti_commands::{SourceText, Sourced, sourced_entry};
+use ti_files::{Failure, Files, Remarks, Replied, Reply, size_words};
 use ti_members::Standing;
 use ti_places::{LinedFile, LinedFiles, NamedSource, no_failure, source_files};
 use ti_requests::FaultsWords;
 use ti_resolve::Index;
 use ti_verdicts::{explain_no, notes_on};
-use ti_words::Remarks;
 use vt_term::Size;
 
 /// The reply that a function makes, or that memory ran out.

@@ -15,6 +15,7 @@ use std::alloc::{AllocError, Global};
 use ti_caps::{Cap, Entry, name};
 use ti_checker::{Cause, No};
 use ti_faults::Mended;
+use ti_files::Remarks;
 use ti_members::{
     Standing, entry_aliases, entry_name, explained, faulty_region, is_judged, mended_if,
     other_kind, own_string, sent_text, suggested, suggested_with, text_of, value_place,
@@ -22,7 +23,7 @@ use ti_members::{
 use ti_places::{Judged, cause_name};
 use ti_surveys::is_part;
 use ti_verdicts::{Lines, explain_no};
-use ti_words::{NO_RESYNC, Remarks};
+use ti_words::NO_RESYNC;
 use vt_term::Size;
 
 /// The report that a function makes, or that memory ran out.

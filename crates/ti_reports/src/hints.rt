@@ -14,7 +14,6 @@ use crate::reports::{Finding, Verdict, report_line};
 use std::alloc::{AllocError, Global};
 use ti_caps::Cap;
 use ti_commands::own_raws;
-use ti_sources::{LinedText, Region};
 use ti_hints::{FieldHint, entry_hints, used_places};
 use ti_members::{Standing, ValuePlace, holder};
 use ti_places::{
@@ -22,6 +21,7 @@ use ti_places::{
 };
 use ti_resolve::Origin;
 use ti_source::RawEntry;
+use ti_sources::{LinedText, Region};
 
 /// A line for each hint about the `subject`. Of an entry that was asked for by its name, the fields are its own and
 /// those of the entries of its file that it uses; of one at a place they are its own, and there are hints only if all

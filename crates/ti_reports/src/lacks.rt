@@ -1,12 +1,13 @@
 //! The report that an entry can't be obtained.
 
 ghost use Rattle.std.specs.Prelude.{◌≡◌, IfErr, IfNone, IfOk, IfSome, option_map};
-ghost use Rattle.ti_commands.specs.{Findings.{IsPath, IsPathAndName}, declared.failure.Failure.TheVariants.{NoMemory}};
+ghost use Rattle.ti_files.specs.declared.failure.Failure.TheVariants.{NoMemory};
+ghost use Rattle.ti_commands.specs.Findings.{IsPath, IsPathAndName};
 ghost use Rattle.ti_reports.specs.Lacks as spec;
 
 use crate::refusals::{file_words, refused_line};
 use std::alloc::{AllocError, Global};
-use ti_commands::{Failure, Replied, Reply, refusal_words};
+use ti_files::{Failure, Replied, Reply, refusal_words};
 use ti_members::{ValuePlace, refusal_place};
 use vt_term::Size;
 

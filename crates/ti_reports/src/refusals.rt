@@ -8,7 +8,7 @@ ghost use Rattle.ti_places.specs.Locations.{place_if};
 
 use crate::reports::{Finding, Report, Verdict, report_line};
 use std::alloc::{AllocError, Global};
-use ti_commands::refusal_words;
+use ti_files::refusal_words;
 use ti_members::{ValuePlace, name_if, refusal_place, text_of};
 use ti_resolve::Origin;
 use ti_surveys::Lacking;

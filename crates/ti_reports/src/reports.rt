@@ -7,9 +7,9 @@ ghost use Rattle.ti_reports.specs.Reports as spec;
 use serde_json::{Map, Value, json, put};
 use std::alloc::{AllocError, Global};
 use ti_hints::HintKind;
-use ti_sources::Region;
 use ti_members::{Explanation, ValuePlace, Written, text_of};
 use ti_objects::printable_json;
+use ti_sources::Region;
 
 /// The version of the form of a report.
 const VERSION: u32 = 1;

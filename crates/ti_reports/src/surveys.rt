@@ -7,11 +7,10 @@ ghost use Rattle.ti_reports.specs.Surveys as spec;
 
 use crate::asked::Asked;
 use std::alloc::Global;
-use ti_commands::{Files, Replied, Reply, size_words};
+use ti_files::{Files, Remarks, Replied, Reply, size_words};
 use ti_places::LinedFile;
 use ti_requests::SurveyWords;
 use ti_surveys::{Said, Surveyed, Watcher, places_lines, strict_failure, survey_paths};
-use ti_words::Remarks;
 
 /// A survey with reports that is wanted.
 #[derive(Drop)]

@@ -5,10 +5,10 @@ use Rattle.std.specs.List.{AllByRecursion, flat_map}
 use Rattle.std.proofs.lemmas.Grind.{flat_map-append}
 use Rattle.std.proofs.lemmas.List.{length-append, map-append, take-append-drop, take_more}
 use Rattle.ti_caps.specs.Fits.{names_fit}
-use Rattle.ti_commands.specs.declared.failure.Failure.{Failure}
-use Rattle.ti_commands.specs.Contents.{Held}
+use Rattle.ti_files.specs.declared.failure.Failure.{Failure}
+use Rattle.ti_files.specs.Contents.{Held}
 use Rattle.ti_commands.specs.Further.{AreHeld, FailsReading, TellsFurther}
-use Rattle.ti_commands.specs.declared.failure.Failure.TheVariants.{NoMemory}
+use Rattle.ti_files.specs.declared.failure.Failure.TheVariants.{NoMemory}
 use Rattle.ti_sources.specs.Files.{AreApartBy, AreApartOf, LacksApart, is_compiled}
 use Rattle.ti_sources.specs.declared.files.FurtherFault.{FurtherFault}
 use Rattle.ti_sources.specs.declared.files.FurtherFault.TheVariants as further_faults

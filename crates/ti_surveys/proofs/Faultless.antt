@@ -3,8 +3,8 @@ use Rattle.std.proofs.Common.{◌≡◌, ◌∙◌, ℕ, List, [], ◌∷◌, Op
 use Rattle.std.specs.Prelude.{map}
 use Rattle.ti_caps.specs.Entry.{Content}
 use Rattle.ti_commands.specs.Findings.{ResolvesAt}
-use Rattle.ti_commands.specs.declared.failure.CommandRefusal.{CommandRefusal}
-use Rattle.ti_commands.specs.declared.failure.CommandRefusal.TheVariants as refusals
+use Rattle.ti_files.specs.declared.failure.CommandRefusal.{CommandRefusal}
+use Rattle.ti_files.specs.declared.failure.CommandRefusal.TheVariants as refusals
 use Rattle.ti_sources.specs.Resolution.{no_faults}
 use Rattle.ti_sources.proofs.Faultless.{faultless_are_resolved}
 use Rattle.ti_source.specs.Apart.{Alone, apart_of, was_read}

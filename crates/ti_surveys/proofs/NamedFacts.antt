@@ -2,7 +2,7 @@
 use Rattle.std.proofs.Common.{◌≡◌, ◌∙◌, ◌<◌, ◌+◌, ℕ, List, ◌∷◌, [], ◌++◌, length, take, get_or, ap, sym, add-one, append_assoc}
 use Rattle.std.specs.Prelude.{map}
 use Rattle.std.proofs.lemmas.List.{map-append}
-use Rattle.ti_commands.specs.Words.{texts_of}
+use Rattle.ti_files.specs.Words.{texts_of}
 use Rattle.ti_surveys.specs.Surveys.{further}
 use Rattle.ti_surveys.proofs.SaidFacts.{taken_text}
 use denote.Ref.{Bor}

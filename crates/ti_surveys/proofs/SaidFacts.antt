@@ -7,9 +7,9 @@ use Rattle.ti_caps.specs.Entry.{Content}
 use Rattle.ti_source.specs.Apart.{Alone, IsApart}
 use Rattle.ti_source.specs.declared.types.RawEntry.{RawEntry}
 use Rattle.ti_source.specs.declared.types.SourceFault.{SourceFault}
-use Rattle.ti_commands.specs.Contents.{Held}
-use Rattle.ti_commands.specs.Words.{texts_of}
-use Rattle.ti_commands.specs.declared.failure.CommandRefusal.{CommandRefusal}
+use Rattle.ti_files.specs.Contents.{Held}
+use Rattle.ti_files.specs.Words.{texts_of}
+use Rattle.ti_files.specs.declared.failure.CommandRefusal.{CommandRefusal}
 use Rattle.ti_surveys.specs.Lines.{IsSourcePart, IsTold, Leaving, Refusing, ResolvesApart, Saying, StandsAt}
 use Rattle.ti_places.specs.Locations.{first_name}
 use Rattle.ti_places.specs.Spots.{PutFiles}

@@ -5,8 +5,8 @@ use Rattle.std.specs.List.{flat_map}
 use Rattle.ti_caps.specs.Entry.{Content}
 use Rattle.ti_checker.specs.declared.causes.Cause.TheVariants.{NoMemory}
 use Rattle.ti_checker.specs.declared.causes.No.{No}
-use Rattle.ti_commands.specs.Refusals.{refusal_text_of}
-use Rattle.ti_commands.specs.declared.failure.CommandRefusal.{CommandRefusal}
+use Rattle.ti_files.specs.Refusals.{refusal_text_of}
+use Rattle.ti_files.specs.declared.failure.CommandRefusal.{CommandRefusal}
 use Rattle.ti_faults.specs.AllFaults.{AreAllFaults}
 use Rattle.ti_surveys.specs.Kinds.{kind_answers, listed_kind}
 use Rattle.ti_surveys.specs.Lines.{Leaving, Refusing, Saying}
@@ -20,7 +20,7 @@ use Rattle.ti_verdicts.specs.declared.answers.Answer.TheVariants as answers
 use Rattle.ti_surveys.specs.declared.asked.Asked.{Asked}
 use Rattle.ti_surveys.specs.declared.kinds.EntryKind.{EntryKind}
 use Rattle.ti_surveys.specs.declared.kinds.EntryKind.TheVariants.{Other, Part, Usual}
-use Rattle.ti_words.specs.Shown.{shown}
+use Rattle.ti_files.specs.Shown.{shown}
 
 -- the line of a name and the words about it, in which each byte that can't be printed is in octal
 abbrev pub line_of : List ℕ → List ℕ → List ℕ

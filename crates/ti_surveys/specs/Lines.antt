@@ -16,8 +16,8 @@ use Rattle.ti_source.specs.declared.types.FaultKind.TheVariants as fault_kinds
 use Rattle.ti_source.specs.declared.types.RawEntry.{RawEntry}
 use Rattle.ti_source.specs.declared.types.SourceFault.{SourceFault}
 use Rattle.ti_commands.specs.Findings.{FitsTo}
-use Rattle.ti_commands.specs.declared.failure.CommandRefusal.{CommandRefusal}
-use Rattle.ti_commands.specs.declared.failure.CommandRefusal.TheVariants.{Pack, Resolve, Source}
+use Rattle.ti_files.specs.declared.failure.CommandRefusal.{CommandRefusal}
+use Rattle.ti_files.specs.declared.failure.CommandRefusal.TheVariants.{Pack, Resolve, Source}
 use Rattle.ti_sources.specs.declared.files.FurtherFile.{FurtherFile}
 use Rattle.ti_surveys.specs.Together.{AllApart, ArePutApart, OneApart, all_in}
 use Rattle.ti_surveys.specs.declared.together.ApartTogether.{ApartTogether}

@@ -1,9 +1,9 @@
 -- The failure of a survey that fails if an entry isn't right.
 use Rattle.std.specs.Prelude.{◌≡◌, ◌&&◌, Bool, true, false, not, List, Option, Some, None, codes}
 use Rattle.std.specs.List.{list_all}
-use Rattle.ti_commands.specs.declared.failure.CommandRefusal.TheVariants.{Verdict}
-use Rattle.ti_commands.specs.declared.failure.Failure.{Failure}
-use Rattle.ti_commands.specs.declared.failure.Failure.TheVariants.{Refused}
+use Rattle.ti_files.specs.declared.failure.CommandRefusal.TheVariants.{Verdict}
+use Rattle.ti_files.specs.declared.failure.Failure.{Failure}
+use Rattle.ti_files.specs.declared.failure.Failure.TheVariants.{Refused}
 use Rattle.ti_verdicts.specs.declared.answers.Answer.{Answer}
 use Rattle.ti_verdicts.specs.declared.answers.Answer.TheVariants as answers
 

@@ -3,13 +3,13 @@ use Rattle.std.specs.Prelude.{◌≡◌, ℕ, List, [], ◌∷◌, ◌++◌, Opt
 use Rattle.std.specs.String.{string_bytes}
 use Rattle.ti_caps.specs.Entry.{Content}
 use Rattle.ti_checker.specs.declared.causes.No.{No}
-use Rattle.ti_commands.specs.Contents.{HasBytes, Held, longest_file}
+use Rattle.ti_files.specs.Contents.{HasBytes, Held, longest_file}
 use Rattle.ti_commands.specs.Further.{AreHeld}
-use Rattle.ti_commands.specs.Sizes.{SizeGiven}
-use Rattle.ti_commands.specs.Words.{texts_of}
-use Rattle.ti_commands.specs.declared.failure.Failure.{Failure}
-use Rattle.ti_commands.specs.declared.failure.Failure.TheVariants.{File}
-use Rattle.ti_commands.specs.declared.failure.Reply.{Reply}
+use Rattle.ti_files.specs.Sizes.{SizeGiven}
+use Rattle.ti_files.specs.Words.{texts_of}
+use Rattle.ti_files.specs.declared.failure.Failure.{Failure}
+use Rattle.ti_files.specs.declared.failure.Failure.TheVariants.{File}
+use Rattle.ti_files.specs.declared.failure.Reply.{Reply}
 use Rattle.ti_sources.specs.declared.files.FurtherFile.{FurtherFile}
 use Rattle.ti_places.specs.Spots.{FileText}
 use Rattle.ti_surveys.specs.Answers.{IsRefused, SaysBy, SaysNothing}
@@ -19,8 +19,8 @@ use Rattle.ti_surveys.specs.Places.{places_text}
 use Rattle.ti_surveys.specs.Strict.{EndsStrictly}
 use Rattle.ti_surveys.specs.Told.{IsToldOrLeft, Told}
 use Rattle.ti_requests.specs.declared.request.SurveyWords.{SurveyWords}
-use Rattle.ti_words.specs.Remarks.{quoted}
-use Rattle.ti_words.specs.Shown.{shown}
+use Rattle.ti_files.specs.Remarks.{quoted}
+use Rattle.ti_files.specs.Shown.{shown}
 
 -- the statements allowed about a file, by its path and its bytes
 abbrev pub OfFile : Type 1

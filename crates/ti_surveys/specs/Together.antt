@@ -1,12 +1,12 @@
 -- The entries of a source and, behind them, those of the files of `--with`, each read by itself.
 use Rattle.std.specs.Prelude.{◌≡◌, ◌⊎◌, ℕ, List, [], ◌∷◌, Option, length, map}
 use Rattle.std.specs.List.{flat_map}
-use Rattle.ti_commands.specs.Contents.{Held}
+use Rattle.ti_files.specs.Contents.{Held}
 use Rattle.ti_commands.specs.Further.{AreHeld, FailsReading}
-use Rattle.ti_commands.specs.Sizes.{HasSize, LacksSize}
-use Rattle.ti_commands.specs.declared.failure.CommandRefusal.TheVariants.{Source, Pack}
-use Rattle.ti_commands.specs.declared.failure.Failure.{Failure}
-use Rattle.ti_commands.specs.declared.failure.Failure.TheVariants.{Refused, NoMemory}
+use Rattle.ti_files.specs.Sizes.{HasSize, LacksSize}
+use Rattle.ti_files.specs.declared.failure.CommandRefusal.TheVariants.{Source, Pack}
+use Rattle.ti_files.specs.declared.failure.Failure.{Failure}
+use Rattle.ti_files.specs.declared.failure.Failure.TheVariants.{Refused, NoMemory}
 use Rattle.ti_sources.specs.Files.{AreApartOf, LacksApart}
 use Rattle.ti_sources.specs.declared.files.FurtherFault.TheVariants as further_faults
 use Rattle.ti_sources.specs.declared.files.FurtherFile.{FurtherFile}

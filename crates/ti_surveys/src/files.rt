@@ -15,14 +15,14 @@ use crate::together::{ApartTogether, all_apart};
 use crate::watchers::{Watcher, pass_on};
 use std::alloc::{AllocError, Global};
 use ti_caps::Entry;
-use ti_commands::{CommandRefusal, Failure, unpacked_entry};
+use ti_commands::unpacked_entry;
 use ti_compiled::{Packed, decode};
-use ti_sources::{ApartFault, FurtherFile, resolve_apart};
+use ti_files::{CommandRefusal, Failure, Remarks};
 use ti_hints::hint_entries;
 use ti_places::{LinedFiles, SourcePlace, first_name, lined_files};
 use ti_resolve::{Index, ResolveFault, entered_from};
 use ti_source::{RawEntry, SourceFault, read_apart};
-use ti_words::Remarks;
+use ti_sources::{ApartFault, FurtherFile, resolve_apart};
 
 /// The statements that a function makes, or that memory ran out.
 type Made = Result<Said, AllocError>;

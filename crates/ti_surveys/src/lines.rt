@@ -15,11 +15,10 @@ use crate::speakers::{FileEntry, Lacking, Speaker};
 use std::alloc::{AllocError, Global};
 use ti_caps::Entry;
 use ti_checker::{Cause, No};
-use ti_commands::{CommandRefusal, refusal_words};
 use ti_faults::{faults, must_claim};
+use ti_files::{CommandRefusal, push_shown, refusal_words};
 use ti_places::{Judged, PlacedFault, no_words, placed};
 use ti_verdicts::{Answer, Certifier};
-use ti_words::push_shown;
 
 impl<'a, C: Certifier> Speaker for Asked<'a, C> {
     ghost says = { λ asked path. spec.SaysTo C.certifies C.refuses asked path };

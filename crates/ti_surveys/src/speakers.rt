@@ -7,7 +7,7 @@ ghost use Rattle.ti_places.specs.Locations.{place_if};
 use crate::said::Said;
 use std::alloc::{AllocError, Global};
 use ti_caps::Entry;
-use ti_commands::CommandRefusal;
+use ti_files::CommandRefusal;
 use ti_places::SourcePlace;
 
 /// An entry that a file has.

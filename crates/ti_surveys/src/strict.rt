@@ -4,7 +4,7 @@ ghost use Rattle.std.specs.{Prelude.{◌≡◌, IfOk, Some}, List.{list_all}};
 ghost use Rattle.ti_surveys.specs.Strict as spec;
 
 use std::alloc::{AllocError, Global};
-use ti_commands::{CommandRefusal, Failure};
+use ti_files::{CommandRefusal, Failure};
 use ti_verdicts::Answer;
 
 /// The failure of a survey whose lines have these `answers`. The `failure` of a path that can't be read comes first;

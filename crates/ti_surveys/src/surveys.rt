@@ -1,7 +1,7 @@
 //! The command `survey`, and the common part of all surveys.
 
 ghost use Rattle.std.specs.Prelude.{◌≡◌, ◌++◌, ◌⊎◌, IfErr, IfOk, OnOk, map};
-ghost use Rattle.ti_commands.specs.Words.{texts_of};
+ghost use Rattle.ti_files.specs.Words.{texts_of};
 ghost use Rattle.ti_places.specs.Spots.{file_text};
 ghost use Rattle.ti_surveys.specs.{Heard.{Hears}, Lines.{AreLines}};
 ghost use Rattle.ti_surveys.specs.Surveys as spec;
@@ -17,13 +17,11 @@ use crate::strict::strict_failure;
 use crate::unread::named;
 use crate::watchers::{Watcher, pass_on};
 use std::alloc::{AllocError, Global};
-use ti_commands::{
-    Failure, Files, LONGEST_FILE, Replied, Reply, further_files, read_whole, size_words,
-};
+use ti_commands::further_files;
+use ti_files::{Failure, Files, LONGEST_FILE, Remarks, Replied, Reply, read_whole, size_words};
 use ti_places::LinedFile;
 use ti_requests::SurveyWords;
 use ti_verdicts::{Certifier, answers_line};
-use ti_words::Remarks;
 
 /// The result of a survey of some paths.
 #[derive(Drop)]

@@ -6,10 +6,10 @@ ghost use Rattle.ti_source.specs.Fitting.{FieldsFit, NamesFit};
 ghost use Rattle.ti_surveys.specs.Together as spec;
 
 use std::alloc::{AllocError, Global};
-use ti_commands::{Failure, further_failure};
-use ti_sources::{FurtherFile, apart_of};
+use ti_commands::further_failure;
+use ti_files::{Failure, Remarks};
 use ti_source::{Apart, RawEntry, SourceFault};
-use ti_words::Remarks;
+use ti_sources::{FurtherFile, apart_of};
 
 /// Entries of several files put together, each read by itself.
 #[derive(Drop)]

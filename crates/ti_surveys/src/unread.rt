@@ -1,12 +1,11 @@
 //! The paths of a survey that can't be read: how they are named.
 
 ghost use Rattle.std.specs.Prelude.{◌≡◌, ◌∷◌, ◌++◌, [], IfOk, OnOk, map};
-ghost use Rattle.ti_commands.specs.Words.{texts_of};
+ghost use Rattle.ti_files.specs.Words.{texts_of};
 ghost use Rattle.ti_surveys.specs.Surveys as spec;
 
 use std::alloc::{AllocError, Global};
-use ti_commands::Failure;
-use ti_words::Remarks;
+use ti_files::{Failure, Remarks};
 
 /// The failure of the first of the `unread` paths, if there is one. The last `remarks` name the others.
 pub fn named(

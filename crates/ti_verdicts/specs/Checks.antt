@@ -9,12 +9,12 @@ use Rattle.ti_checker.specs.declared.causes.Cause.TheVariants as causes
 use Rattle.ti_checker.specs.declared.causes.No.{No}
 use Rattle.ti_checker.specs.declared.note_list.CheckNote.{CheckNote}
 use Rattle.ti_conforms.specs.Conforms.{Conforms}
-use Rattle.ti_commands.specs.Contents.{Held, Stored}
+use Rattle.ti_files.specs.Contents.{Held, Stored}
 use Rattle.ti_commands.specs.Replies.{GivesEntry}
-use Rattle.ti_commands.specs.Sizes.{LacksSize, SizeGiven}
-use Rattle.ti_commands.specs.declared.failure.Failure.{Failure}
-use Rattle.ti_commands.specs.declared.failure.Failure.TheVariants.{File, NoMemory}
-use Rattle.ti_commands.specs.declared.failure.Reply.{Reply}
+use Rattle.ti_files.specs.Sizes.{LacksSize, SizeGiven}
+use Rattle.ti_files.specs.declared.failure.Failure.{Failure}
+use Rattle.ti_files.specs.declared.failure.Failure.TheVariants.{File, NoMemory}
+use Rattle.ti_files.specs.declared.failure.Reply.{Reply}
 use Rattle.ti_places.specs.Refusals.{TellsNo}
 use Rattle.ti_verdicts.specs.Verifications.{FailsAtEntry}
 use Rattle.ti_requests.specs.declared.request.CheckWords.{CheckWords}

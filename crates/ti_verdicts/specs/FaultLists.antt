@@ -3,11 +3,11 @@ use Rattle.std.specs.Prelude.{◌≡◌, ℕ, List, [], ◌∷◌, ◌++◌, Opt
 use Rattle.std.specs.List.{AllByRecursion, flat_map}
 use Rattle.ti_caps.specs.Entry.{Content}
 use Rattle.ti_checker.specs.declared.causes.No.{No}
-use Rattle.ti_commands.specs.Contents.{Held}
-use Rattle.ti_commands.specs.Sizes.{SizeGiven}
+use Rattle.ti_files.specs.Contents.{Held}
+use Rattle.ti_files.specs.Sizes.{SizeGiven}
 use Rattle.ti_commands.specs.Sources.{IsSourced}
-use Rattle.ti_commands.specs.declared.failure.Failure.{Failure}
-use Rattle.ti_commands.specs.declared.failure.Reply.{Reply}
+use Rattle.ti_files.specs.declared.failure.Failure.{Failure}
+use Rattle.ti_files.specs.declared.failure.Reply.{Reply}
 use Rattle.ti_commands.specs.declared.sources.SourceText.{SourceText}
 use Rattle.ti_faults.specs.AllFaults.{AreAllFaults}
 use Rattle.ti_faults.specs.Mended.{IsBestMended}
@@ -21,7 +21,7 @@ use Rattle.ti_places.specs.Locations.{IsLocation}
 use Rattle.ti_places.specs.Spots.{FileText}
 use Rattle.ti_verdicts.specs.Remedies.{HasRemedies}
 use Rattle.ti_places.specs.Refusals.{TellsNo, no_text}
-use Rattle.ti_words.specs.Remarks.{IsRemark}
+use Rattle.ti_files.specs.Remarks.{IsRemark}
 
 -- ---- a fault
 

@@ -7,13 +7,13 @@ use Rattle.ti_cert.specs.Disagreements.{IsAgreeRefused}
 use Rattle.ti_cert.specs.Texts.{IsCertRefused, IsTableOf}
 use Rattle.ti_cert.specs.declared.faults.VerifyFault.{VerifyFault}
 use Rattle.ti_conforms.specs.Conforms.{Conforms}
-use Rattle.ti_commands.specs.Failures.{IsFileFailure}
+use Rattle.ti_files.specs.Failures.{IsFileFailure}
 use Rattle.ti_commands.specs.Findings.{LacksEntry}
-use Rattle.ti_commands.specs.Contents.{Held}
+use Rattle.ti_files.specs.Contents.{Held}
 use Rattle.ti_commands.specs.Replies.{GivesEntry, IsText}
-use Rattle.ti_commands.specs.Sizes.{HasSize, LacksSize, SizeGiven}
-use Rattle.ti_commands.specs.declared.failure.Failure.{Failure}
-use Rattle.ti_commands.specs.declared.failure.Reply.{Reply}
+use Rattle.ti_files.specs.Sizes.{HasSize, LacksSize, SizeGiven}
+use Rattle.ti_files.specs.declared.failure.Failure.{Failure}
+use Rattle.ti_files.specs.declared.failure.Reply.{Reply}
 use Rattle.ti_places.specs.Refusals.{TellsFault}
 use Rattle.ti_requests.specs.declared.request.VerifyWords.{VerifyWords}
 

@@ -1,7 +1,7 @@
 //! The answers about entries, and the number of answers of each kind.
 
 ghost use Rattle.std.specs.{Prelude.{◌≡◌, ◌++◌, IfOk, OnOk, map}, List.{flat_map}};
-ghost use Rattle.ti_commands.specs.Words.{texts_of};
+ghost use Rattle.ti_files.specs.Words.{texts_of};
 ghost use Rattle.ti_verdicts.specs.{FaultAnswers.{fault_answer}, AnswerNames.{answer_name}};
 ghost use Rattle.ti_verdicts.specs.Counts as spec;
 

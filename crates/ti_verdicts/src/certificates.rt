@@ -4,7 +4,7 @@ ghost use Rattle.std.specs.Prelude.{◌≡◌, ℕ, List, Some};
 
 use std::alloc::Global;
 use std::io::Read;
-use ti_commands::{FileCause, FileFault};
+use ti_files::{FileCause, FileFault};
 use ti_lines::{ReadFault, Reader};
 use ti_words::Seen;
 

@@ -9,11 +9,11 @@ use crate::reasons::explain_no;
 use std::alloc::{AllocError, Global};
 use ti_caps::Entry;
 use ti_checker::{Cause, No, notes};
-use ti_commands::{Failure, Files, Replied, Reply, Sourced, file_fault, size_words, sourced_entry};
+use ti_commands::{Sourced, sourced_entry};
+use ti_files::{Failure, Files, Remarks, Replied, Reply, file_fault, size_words};
 use ti_hints::advise;
 use ti_places::no_failure;
 use ti_requests::CheckWords;
-use ti_words::Remarks;
 use vt_term::Size;
 
 /// Replies with the notes on the entry that the `words` give and with the certificate that the `certifier` writes of

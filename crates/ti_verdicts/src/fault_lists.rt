@@ -14,15 +14,15 @@ use crate::written::Lines;
 use std::alloc::{AllocError, Global};
 use ti_caps::Entry;
 use ti_checker::No;
-use ti_commands::{Files, Replied, Reply, SourceText, Sourced, size_words, sourced_entry};
+use ti_commands::{SourceText, Sourced, sourced_entry};
 use ti_faults::{Mended, faults};
+use ti_files::{Files, Remarks, Replied, Reply, size_words};
 use ti_hints::{advise, advise_unchecked};
 use ti_places::{
     Judged, LinedFile, LinedFiles, NamedSource, location, no_failure, no_words, source_files,
 };
 use ti_requests::FaultsWords;
 use ti_resolve::Index;
-use ti_words::Remarks;
 use vt_term::Size;
 
 /// Replies with the notes on the entry that the `words` give, and with all its faults, each with its place, the field

@@ -2,7 +2,8 @@
 
 use std::alloc::{AllocError, Global};
 use ti_cert::{CertFault, CertFaultKind};
-use ti_words::{Remarks, Seen, explain_line, first_line_words, missing_line_words};
+use ti_files::Remarks;
+use ti_words::{Seen, explain_line, first_line_words, missing_line_words};
 use vt_term::Size;
 
 /// Adds to `remarks` what the line with `fault` of the certificate at `path` should say, as far as there is memory. The

@@ -4,12 +4,13 @@ use crate::starts::terminal_at;
 use std::alloc::{AllocError, Global};
 use ti_caps::{Entry, name};
 use ti_checker::{Cause, No};
+use ti_files::Remarks;
 use ti_places::row_of;
 use ti_rows::Row;
 use ti_words::{
-    NO_RESYNC, NOT_TAME, Remarks, STATIC_READ, STAYS_GRAPHIC, Sent, TOO_LONG, explain_absent,
-    explain_field, explain_flag, explain_look, explain_pairs, explain_run, explain_unshown,
-    explain_whole, first_of_resync, unsent_words,
+    NO_RESYNC, NOT_TAME, STATIC_READ, STAYS_GRAPHIC, Sent, TOO_LONG, explain_absent, explain_field,
+    explain_flag, explain_look, explain_pairs, explain_run, explain_unshown, explain_whole,
+    first_of_resync, unsent_words,
 };
 use vt_term::Size;
 

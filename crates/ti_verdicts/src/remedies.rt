@@ -10,8 +10,9 @@ use std::alloc::{AllocError, Global};
 use ti_caps::{Cap, Entry, name};
 use ti_checker::{Cause, No};
 use ti_faults::{Mended, is_of_another_kind, listed_with, suggestion};
+use ti_files::Remarks;
 use ti_source::escape;
-use ti_words::{LEFT_OUT, OF_ANOTHER_KIND, Remarks};
+use ti_words::{LEFT_OUT, OF_ANOTHER_KIND};
 
 /// An entry, all its faults, and the entry with all of them mended, in which each suggested string is right beside the
 /// others.

@@ -11,10 +11,11 @@ use std::alloc::Global;
 use std::io::Read;
 use ti_caps::Entry;
 use ti_cert::{AgreeFault, CertFault, CertFaultKind, Checked, VerifyFault, verify_from};
-use ti_commands::{Failure, Files, Replied, Reply, entry_of, file_fault, size_words};
+use ti_commands::entry_of;
+use ti_files::{Failure, Files, Remarks, Replied, Reply, file_fault, size_words};
 use ti_places::{disagreement_words, fault_words, verdict};
 use ti_requests::VerifyWords;
-use ti_words::{Remarks, explain_disagreement};
+use ti_words::explain_disagreement;
 use vt_term::Size;
 
 /// Says yes if the certificate that the `words` name shows that their entry conforms at their size. Further lines go to

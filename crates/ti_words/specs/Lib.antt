@@ -1,7 +1,5 @@
 -- Numbers and bytes in messages.
 pub mod Numbers
-pub mod Shown
-pub mod Remarks
 pub mod Runs
 pub mod Seen
 pub mod Starts

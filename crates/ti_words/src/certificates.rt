@@ -2,12 +2,11 @@
 
 use crate::checked_strings::{explain_absent, explain_flag, explain_pairs};
 use crate::numbers::push_numbers;
-use crate::remarks::Remarks;
-use crate::results::{Made, Pushed};
 use crate::seen::{SHOWN, Seen};
 use std::alloc::Global;
 use ti_caps::{Cap, Entry, name};
 use ti_conforms::{Unfit, first_unfit};
+use ti_files::{Made, Pushed, Remarks};
 use ti_rows::Params;
 use vt_term::Size;
 

@@ -3,9 +3,9 @@
 ghost use Rattle.std.specs.Prelude.{◌≡◌, ◌++◌, [], ◌∷◌, IfOk, OnOk};
 ghost use Rattle.ti_words.specs.Seen as spec;
 
-use crate::results::Pushed;
 use crate::starts::{chosen, has_look, push_place};
 use std::alloc::{AllocError, Global};
+use ti_files::Pushed;
 use vt_term::{Cell, Terminal};
 
 /// A cell that has changed.

@@ -3,8 +3,6 @@
 
 use crate::escapes::push_spelled;
 use crate::numbers::push_numbers;
-use crate::remarks::Remarks;
-use crate::results::{Made, Pushed};
 use crate::starts::{push_rendition, start_words};
 use crate::states::seen_words;
 use crate::strings::parm_words;
@@ -12,6 +10,7 @@ use crate::wanted::wanted_line;
 use std::alloc::{AllocError, Global};
 use ti_caps::{Cap, Entry, name};
 use ti_conforms::{SendFault, is_checked, misfit, send};
+use ti_files::{Made, Pushed, Remarks};
 use ti_parm::ParmFault;
 use ti_rows::{NO_LOOKS, Row};
 use vt_effects::effect_of;

@@ -1,6 +1,6 @@
 //! Bytes in the escapes of terminfo source.
 
-use crate::results::Pushed;
+use ti_files::Pushed;
 use ti_source::letter_for;
 
 /// The most bytes of a string that are shown.

@@ -6,9 +6,7 @@ mod changes;
 mod checked_strings;
 mod escapes;
 mod numbers;
-mod remarks;
 mod remedies;
-mod results;
 mod runs;
 mod seen;
 mod starts;
@@ -24,14 +22,9 @@ pub use checked_strings::{
 };
 pub use escapes::push_spelled;
 pub use numbers::push_numbers;
-pub use remarks::{Remarks, SUGGESTION_END, push_shown, write_shown};
 pub use remedies::{LEFT_OUT, OF_ANOTHER_KIND};
-pub use results::{Made, Pushed};
 pub use runs::{filled_terminal, run_words};
 pub use seen::Seen;
 pub use starts::{push_after, start_words};
-pub use strings::{
-    explain_escape, explain_length, explain_parm, explain_size, explain_stuck, explain_token,
-    explain_whole,
-};
+pub use strings::{explain_escape, explain_parm, explain_stuck, explain_token, explain_whole};
 pub use wanted::wanted_words;

@@ -3,8 +3,8 @@
 ghost use Rattle.std.specs.{Prelude.{◌≡◌, ◌++◌, ◌∷◌, OnOk}, Fmt.{decimal}};
 ghost use Rattle.ti_words.specs.Numbers.{numbers_text};
 
-use crate::results::Pushed;
 use std::alloc::Global;
+use ti_files::Pushed;
 
 /// Appends each of the `numbers` to `words`, in decimal and after a space.
 pub fn push_numbers(alloc: Global, numbers: &[u16], words: &mut Vec<u8>) -> Pushed

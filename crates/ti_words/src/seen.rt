@@ -2,8 +2,8 @@
 
 ghost use Rattle.std.specs.Prelude.{◌≤◌, length, IfSome};
 
-use crate::results::Pushed;
 use std::alloc::Global;
+use ti_files::Pushed;
 
 /// The most bytes of a line that are shown.
 pub const SHOWN: usize = 200;

@@ -3,8 +3,8 @@
 ghost use Rattle.std.specs.Prelude.{◌≡◌, ◌++◌, if◌then◌else◌, IfOk, OnOk};
 ghost use Rattle.ti_words.specs.Starts as spec;
 
-use crate::results::{Made, Pushed};
 use std::alloc::Global;
+use ti_files::{Made, Pushed};
 use vt_term::{Charset, Color, Rendition, Settings, Size};
 
 /// The words for the state `start` of a terminal of `size`, in which every cell must show the character `fill`: this

@@ -4,9 +4,9 @@ ghost use Rattle.std.specs.Prelude.{◌≡◌, IfOk};
 ghost use Rattle.ti_words.specs.Seen as spec;
 
 use crate::changes::{Change, changed_cells, push_changed};
-use crate::results::Made;
 use crate::starts::{at_rest, push_cursor, push_settings, same_settings};
 use std::alloc::Global;
+use ti_files::Made;
 use vt_term::{Settings, Size, Terminal};
 
 /// The words for the changes by a run from `start`, where every cell shows the character `fill`, to `end`.

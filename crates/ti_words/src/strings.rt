@@ -1,8 +1,7 @@
-//! Explanations why a string can't be read, expanded or run, and of a wrong size or length.
+//! Explanations why a string can't be read, expanded or run.
 
-use crate::remarks::Remarks;
-use crate::results::Pushed;
 use std::alloc::{AllocError, Global};
+use ti_files::{Pushed, Remarks};
 use ti_parm::ParmFault;
 use ti_source::EscapeFault;
 use vt_term::{TokenFault, TokenFaultKind, tokens};
@@ -98,22 +97,5 @@ pub fn parm_words(fault: ParmFault) -> &'static [u8] {
         ParmFault::BadChar => b" writes by %c a number that is not 0 to 255",
         ParmFault::WrongKind => b" takes a text for a number, or a number for a text",
         ParmFault::NoMemory => b" can't be expanded",
-    }
-}
-
-/// Explains the allowed sizes, for `rows` and `cols` that aren't one.
-pub fn explain_size(alloc: Global, rows: u32, cols: u32, remarks: &mut Remarks) {
-    if let Ok(size) = format!(in alloc; "{rows} by {cols}") {
-        remarks.add(
-            size.as_bytes(),
-            b": a terminal has 2 to 200 rows and 2 to 500 columns",
-        );
-    }
-}
-
-/// Explains that the file at `path` has more than `limit` bytes.
-pub fn explain_length(alloc: Global, path: &str, limit: u32, remarks: &mut Remarks) {
-    if let Ok(words) = format!(in alloc; " has more than {limit} bytes") {
-        remarks.add(path.as_bytes(), words.as_bytes());
     }
 }

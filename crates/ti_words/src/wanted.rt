@@ -4,9 +4,9 @@ ghost use Rattle.std.specs.{Prelude.{◌≡◌, ◌++◌, IfOk, OnOk, codes}, Fm
 ghost use Rattle.ti_words.specs.Starts.{if_so};
 ghost use Rattle.ti_words.specs.Wanted as spec;
 
-use crate::results::{Made, Pushed};
 use crate::starts::{push_flags, push_if};
 use std::alloc::Global;
+use ti_files::{Made, Pushed};
 use ti_rows::{Attributes, Row};
 
 /// The result that programs want from the string for `row`, in words.

@@ -1,8 +1,8 @@
 -- Several files that are stored, of which nothing is known.
 use Rattle.std.proofs.Common.{List, [], ◌∷◌, Result, Ok, Err, refl}
 use Rattle.std.specs.Prelude.{OnOk}
-use Rattle.ti_commands.specs.Contents.{AreStored, StoredAll, nothing_held}
-use Rattle.ti_commands.specs.declared.files.NewFile.{NewFile}
+use Rattle.ti_files.specs.Contents.{AreStored, StoredAll, nothing_held}
+use Rattle.ti_files.specs.declared.files.NewFile.{NewFile}
 
 are_stored : (files : List NewFile) → AreStored nothing_held files
 unfolding AreStored

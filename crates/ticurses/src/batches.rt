@@ -5,7 +5,7 @@ use std::alloc::Global;
 use std::fs::Permissions;
 use std::io::ErrorKind;
 use std::{fs, rt};
-use ti_commands::{FileCause, FileFault};
+use ti_files::{FileCause, FileFault};
 
 /// The most names that are tried for a file beside another.
 const NAMES: u32 = 100;

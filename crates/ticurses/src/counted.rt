@@ -2,7 +2,7 @@
 
 ghost use Rattle.std.specs.Prelude.{◌≡◌};
 
-use ti_commands::{FileFault, Files, NewFile};
+use ti_files::{FileFault, Files, NewFile};
 
 /// The files of a command, with the number of lines of the file that it stored last.
 #[derive(Drop)]

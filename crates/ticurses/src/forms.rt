@@ -2,9 +2,8 @@
 
 use std::alloc::{AllocError, Global};
 use ti_arguments::Asked;
-use ti_commands::{Failure, Files, Replied, Reply, read_whole};
+use ti_files::{Failure, Files, Remarks, Replied, Reply, read_whole};
 use ti_objects::{Baseline, has_wrong, sarif_file};
-use ti_words::Remarks;
 
 /// The most bytes of an earlier report.
 const LONGEST_REPORT: u32 = 268_435_456;

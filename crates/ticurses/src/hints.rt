@@ -2,9 +2,8 @@
 
 use std::alloc::{AllocError, Global};
 use std::io::Read;
-use ti_commands::{FileCause, FileFault, Files};
+use ti_files::{FileCause, FileFault, Files, Remarks};
 use ti_requests::Request;
-use ti_words::Remarks;
 
 /// The usual tree of compiled files.
 const USUAL_TREE: &str = "/usr/share/terminfo";

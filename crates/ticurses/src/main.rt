@@ -15,8 +15,7 @@ use std::io::ErrorKind;
 use std::process::ExitCode;
 use std::rt::Env;
 use stored::Stored;
-use ti_commands::{Failure, report, usage_error};
-use ti_words::Remarks;
+use ti_files::{Failure, Remarks, report, usage_error};
 
 /// Runs `command` on the words of the line, the system's files with standard input, standard output
 /// and standard error.

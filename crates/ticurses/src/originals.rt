@@ -4,7 +4,7 @@ use crate::stored::Opened;
 use std::alloc::{AllocError, Global};
 use std::io::{Cursor, Read};
 use ti_arguments::Asked;
-use ti_commands::{Failure, FileFault, Files, LONGEST_FILE, NewFile};
+use ti_files::{Failure, FileFault, Files, LONGEST_FILE, NewFile};
 use ti_places::LinedFile;
 use ti_requests::Request;
 

@@ -4,7 +4,7 @@ ghost use Rattle.std.specs.Prelude.{◌≡◌, Bool, List, Option, ℕ};
 
 use std::alloc::{AllocError, Global};
 use std::io::{IsTerminal, Write};
-use ti_commands::{Failure, Output, Reply};
+use ti_files::{Failure, Output, Reply};
 use ti_surveys::Watcher;
 
 /// The most bytes of the line, so that it is one row of all but the narrowest terminals.

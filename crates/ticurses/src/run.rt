@@ -12,7 +12,13 @@ use cur_commands::{play_script, show_script};
 use std::alloc::Global;
 use std::io::{IsTerminal, Write};
 use ti_arguments::{Asked, ParsedLine, UsageFault, parse_line};
-use ti_commands::{Beside, CommandRefusal, compare_entries, Comparison, compile_entry, expand_string, Failure, feed_file, feed_state, Files, Output, print_entry, Replied, Reply, report, Wrapped, write_reply, write_text, Written};
+use ti_commands::{
+    Comparison, compare_entries, compile_entry, expand_string, feed_file, feed_state, print_entry,
+};
+use ti_files::{
+    Beside, CommandRefusal, Failure, Files, Output, Remarks, Replied, Reply, Wrapped, Written,
+    report, write_reply, write_text,
+};
 use ti_mends::fix_entry;
 use ti_places::LinedFile;
 use ti_repairs::{FixWords, fix_survey};
@@ -21,7 +27,6 @@ use ti_requests::{CheckWords, FaultsWords, Request, ScriptWords, SurveyWords};
 use ti_source::FaultKind;
 use ti_surveys::{Survey, survey_files};
 use ti_verdicts::{Checker, check_all, check_entry, verify_certificate};
-use ti_words::Remarks;
 
 /// The output of a command, and the standard error.
 #[derive(Drop)]

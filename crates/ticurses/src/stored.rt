@@ -6,7 +6,7 @@ use std::fs::{Metadata, OpenFile, Permissions};
 use std::io::{ErrorKind, Read, Write};
 use std::os::unix::fs::MetadataExt;
 use std::{fs, io, rt};
-use ti_commands::{FileCause, FileFault, Files, NewFile};
+use ti_files::{FileCause, FileFault, Files, NewFile};
 
 /// The most names that are tried for a temporary file.
 const TEMPORARY_NAMES: u32 = 100;

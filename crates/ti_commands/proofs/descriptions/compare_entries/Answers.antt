@@ -1,6 +1,6 @@
 use Rattle.std.proofs.Common.{ap, inl, inr, subst}
 use Rattle.std.proofs.lemmas.Result.{err_from_is_err_and}
-use Rattle.ti_commands.specs.Contents.{Held}
+use Rattle.ti_files.specs.Contents.{Held}
 use Rattle.ti_commands.specs.Findings.{LacksEntry}
 use Rattle.ti_commands.proofs.Comparisons.{compared}
 use Rattle.ti_commands.proofs.descriptions.compare_entries.Goals as goal

@@ -1,5 +1,5 @@
 use Rattle.std.proofs.Common.{subst}
-use Rattle.ti_commands.specs.Contents.{Held}
+use Rattle.ti_files.specs.Contents.{Held}
 use Rattle.ti_commands.specs.Replies.{Outcome}
 use Rattle.ti_commands.proofs.descriptions.compile_entry.Goals as goal
 

@@ -1,7 +1,7 @@
 use Rattle.std.proofs.Common.{Result, inr, refl, subst}
 use Rattle.ti_caps.specs.Entry.{Content}
 use Rattle.ti_commands.specs.Findings.{Finds}
-use Rattle.ti_commands.specs.declared.failure.CommandRefusal.{CommandRefusal}
+use Rattle.ti_files.specs.declared.failure.CommandRefusal.{CommandRefusal}
 use Rattle.ti_commands.proofs.descriptions.entry_of.Goals as goal
 
 pub returns-clause-failure : goal.returns-clause-failure

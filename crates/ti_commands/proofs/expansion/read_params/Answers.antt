@@ -1,6 +1,6 @@
 use Rattle.std.proofs.Common.{arith, drop, inl, suc, take}
 use Rattle.ti_parm.specs.Value.{values_of}
-use Rattle.ti_commands.specs.Words.{texts_of}
+use Rattle.ti_files.specs.Words.{texts_of}
 use Rattle.ti_commands.proofs.Params.{params_more, texts_around}
 use Rattle.ti_commands.proofs.expansion.read_params.Goals as goal
 

@@ -1,7 +1,7 @@
 use Rattle.std.proofs.Common.{Result, inl, inr, refl, subst}
 use Rattle.ti_caps.specs.Entry.{Content}
 use Rattle.ti_commands.specs.Findings.{Finds}
-use Rattle.ti_commands.specs.declared.failure.CommandRefusal.{CommandRefusal}
+use Rattle.ti_files.specs.declared.failure.CommandRefusal.{CommandRefusal}
 use Rattle.ti_commands.proofs.sources.sourced_entry.Goals as goal
 
 -- the entry that is refused is the one that the word gives

@@ -1,6 +1,6 @@
 use Rattle.std.proofs.Common.{List, Ok, Some, ap, inl, inr, rules, subst, sym, ℕ}
 use Rattle.std.proofs.lemmas.Result.{err_from_is_err_and}
-use Rattle.ti_commands.specs.Contents.{Held}
+use Rattle.ti_files.specs.Contents.{Held}
 use Rattle.ti_commands.specs.Sources.{IsSourced, together_of}
 use Rattle.ti_mends.proofs.FileFacts.{delivers_many, delivers_one, fixed_as, none_left, several_paths, some_left}
 use Rattle.ti_mends.specs.Delivery.{HandsOver, StoresChanged, own_bytes}

@@ -3,7 +3,7 @@ use Rattle.ti_places.specs.Excerpts.{deeper}
 use Rattle.ti_places.specs.Rows.{rows_of}
 use Rattle.ti_places.proofs.RowFacts.{no_rows, one_more}
 use Rattle.ti_places.proofs.rows.rows_of.Goals as goal
-use Rattle.ti_words.specs.Shown.{shown}
+use Rattle.ti_files.specs.Shown.{shown}
 
 pub loop-passed-init : goal.loop-passed-init
 loop-passed-init c = c.new-lines.ensures.items ∙ sym (no_rows c.args.text.now c.args.region)

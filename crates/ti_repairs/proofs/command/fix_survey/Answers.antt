@@ -1,5 +1,5 @@
 use Rattle.std.proofs.Common.{List, ℕ, ap, sym, subst}
-use Rattle.ti_commands.specs.Contents.{Held}
+use Rattle.ti_files.specs.Contents.{Held}
 use Rattle.ti_repairs.specs.Repairs.{HandsOver, IsRepaired}
 use Rattle.ti_repairs.proofs.command.fix_survey.Goals as goal
 

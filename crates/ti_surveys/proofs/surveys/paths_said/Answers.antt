@@ -1,5 +1,5 @@
 use Rattle.std.proofs.Common.{◌<◌, ◌∙◌, ap, length, refl, arith}
-use Rattle.ti_commands.specs.Words.{texts_of}
+use Rattle.ti_files.specs.Words.{texts_of}
 use Rattle.ti_surveys.specs.Lines.{AreLines}
 use Rattle.ti_surveys.specs.Surveys.{HasLines}
 use Rattle.ti_surveys.specs.Told.{Told, told_of}

@@ -1,8 +1,8 @@
 use Rattle.std.proofs.Common.{List, Bor, subst, sym, ℕ}
 use Rattle.std.proofs.lemmas.Result.{err_from_is_err_and}
-use Rattle.ti_commands.specs.Contents.{Held}
+use Rattle.ti_files.specs.Contents.{Held}
 use Rattle.ti_commands.specs.Further.{AreHeld}
-use Rattle.ti_commands.specs.Words.{texts_of}
+use Rattle.ti_files.specs.Words.{texts_of}
 use Rattle.ti_sources.specs.declared.files.FurtherFile.{FurtherFile}
 use Rattle.ti_surveys.specs.Lines.{AreLines}
 use Rattle.ti_surveys.specs.Surveys.{AreNamed, HasLines}

@@ -1,6 +1,6 @@
 use Rattle.std.proofs.Common.{◌≡◌, ◌++◌, take}
 use Rattle.std.specs.Prelude.{map}
-use Rattle.ti_commands.specs.Words.{texts_of}
+use Rattle.ti_files.specs.Words.{texts_of}
 use Rattle.ti_surveys.specs.Surveys.{further}
 use Rattle.ti_surveys.proofs.unread.name_others.Given as goal
 

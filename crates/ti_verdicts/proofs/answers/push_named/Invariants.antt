@@ -1,5 +1,5 @@
 use Rattle.std.proofs.Common.{◌≡◌, ◌++◌, take, flat_map}
-use Rattle.ti_commands.specs.Words.{texts_of}
+use Rattle.ti_files.specs.Words.{texts_of}
 use Rattle.ti_verdicts.specs.Counts.{answer_part}
 use Rattle.ti_verdicts.proofs.answers.push_named.Given as goal
 

@@ -1,7 +1,0 @@
-use Rattle.std.proofs.Common.{take}
-use Rattle.ti_commands.specs.Wrapped.{AreReadSo}
-use Rattle.ti_commands.proofs.texts.are_read_as_is.Given as goal
-
--- the files so far are read as just their bytes
-abbrev pub invariant-loop-file : goal.invariant-loop-file
-invariant-loop-file l = AreReadSo (take l.file-index l.files)

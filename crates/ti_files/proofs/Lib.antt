@@ -1,0 +1,3 @@
+pub mod Storings
+pub mod WrappedReadings
+pub mod WrappedStorings
