@@ -8,7 +8,10 @@ ghost use Rattle.cur_steps.specs.{Beliefs.{ink_limit}, Steps.{IsGoal, KeepsFrom,
 
 use crate::routes::is_alike;
 use crate::targets::Target;
-use cur_steps::{Brush, Ground, Ink, look_alike, Pen, Picture, Place, resetting_line, same_attributes, Sent, stands, Wire};
+use cur_steps::{
+    Brush, Ground, Ink, Pen, Picture, Place, Sent, Wire, look_alike, resetting_line,
+    same_attributes, stands,
+};
 use ti_conforms::Certificate;
 use ti_rows::{Attributes, Row};
 use vt_term::Color;

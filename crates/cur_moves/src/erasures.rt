@@ -8,7 +8,7 @@ ghost use Rattle.cur_moves.specs.Erasures.{erasure_row, erased};
 use crate::cells::brush_as;
 use crate::reaches::reach_by_line;
 use crate::targets::Target;
-use cur_steps::{Brush, Pen, Picture, Place, send_line, Sent, Wire};
+use cur_steps::{Brush, Pen, Picture, Place, Sent, Wire, send_line};
 use ti_conforms::Certificate;
 use ti_rows::Row;
 

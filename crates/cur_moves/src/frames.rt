@@ -5,7 +5,7 @@ ghost use Rattle.cur_steps.specs.{Pieces.{paints}, declared.beliefs.Belief.{Beli
 ghost use Rattle.ti_rows.specs.declared.rows.Row.TheVariants.{Csr};
 ghost use Rattle.cur_moves.specs.Frames.{Frame, Moves, Reframes, framed};
 
-use cur_steps::{send_all, Sent, Wire};
+use cur_steps::{Sent, Wire, send_all};
 use ti_conforms::Certificate;
 use ti_rows::Row;
 

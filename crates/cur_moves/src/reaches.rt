@@ -8,7 +8,7 @@ ghost use Rattle.cur_moves.specs.{Moves.{IsFewest}, Routes.{IsLeg, IsStop, IsRou
 use crate::moves::shortest;
 use crate::routes::{Leg, Route, Stop};
 use crate::targets::Target;
-use cur_steps::{Pen, Picture, Place, send_line, Sent, stands, Wire};
+use cur_steps::{Pen, Picture, Place, Sent, Wire, send_line, stands};
 use ti_conforms::Certificate;
 
 impl<C: Certificate, N: Picture> Target<'_, C, N> {

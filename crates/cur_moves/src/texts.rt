@@ -4,7 +4,7 @@ ghost use Rattle.cur_steps.specs.{Inks.{CanShow, mixed}, Gaps.{IsAlike}, Steps.{
 
 use crate::routes::is_alike;
 use crate::targets::Target;
-use cur_steps::{Belief, Cells, Ink, Pen, Picture, Place, send_all, Sent, stands, Wire};
+use cur_steps::{Belief, Cells, Ink, Pen, Picture, Place, Sent, Wire, send_all, stands};
 use ti_conforms::Certificate;
 
 impl<C: Certificate, N: Picture> Target<'_, C, N> {

@@ -11,7 +11,8 @@ use Rattle.cur_pads.specs.Displays.{pnoutrefresh}
 use Rattle.ti_conforms.specs.Certified.{Table}
 use Rattle.cur_update.specs.Painters.{set_mode}
 use Rattle.cur_scripts.specs.declared.calls.Call.{Call}
-use Rattle.cur_scripts.specs.declared.calls.Call.TheVariants.{Newwin, Newpad, Part, Dupwin, Plain, Number, Numbers, Flag}
+use Rattle.cur_scripts.specs.declared.calls.Call.TheVariants.{Newwin, Newpad, Part, Dupwin, Plain}
+use Rattle.cur_scripts.specs.declared.calls.Call.TheVariants.{Number, Numbers, Flag}
 use Rattle.cur_scripts.specs.declared.calls.Call.TheVariants.{Attributes, Cell, Addstr, Line, DrawBorder, DrawBox, Lay}
 use Rattle.cur_scripts.specs.declared.calls.Call.TheVariants.{Copywin, Show, ShowPad, CursSet, InitPair}
 use Rattle.cur_play.specs.Scenes.{Scene}

@@ -9,13 +9,15 @@ use Rattle.cur_windows.specs.Desks.{State, DeskStep, on_cursor, on_grid, on_wind
 use Rattle.cur_windows.specs.Creations as make
 use Rattle.cur_pads.specs.Creations as pads
 use Rattle.cur_scripts.specs.declared.calls.Call.{Call}
-use Rattle.cur_scripts.specs.declared.calls.Call.TheVariants.{Newwin, Newpad, Part, Dupwin, Plain, Number, Numbers, Flag}
+use Rattle.cur_scripts.specs.declared.calls.Call.TheVariants.{Newwin, Newpad, Part, Dupwin, Plain}
+use Rattle.cur_scripts.specs.declared.calls.Call.TheVariants.{Number, Numbers, Flag}
 use Rattle.cur_scripts.specs.declared.calls.Call.TheVariants.{Attributes, Cell, Addstr, Line, DrawBorder, DrawBox, Lay}
 use Rattle.cur_scripts.specs.declared.calls.Call.TheVariants.{Copywin, Show, ShowPad, Screen, CursSet, InitPair}
 use Rattle.cur_scripts.specs.declared.groups.PartCall.{PartCall}
 use Rattle.cur_scripts.specs.declared.groups.PartCall.TheVariants.{Subwin, Derwin, Subpad}
 use Rattle.cur_scripts.specs.declared.groups.PlainCall.{PlainCall}
-use Rattle.cur_scripts.specs.declared.groups.PlainCall.TheVariants.{Delwin, Delch, Insertln, Deleteln, Clrtoeol, Clrtobot}
+use Rattle.cur_scripts.specs.declared.groups.PlainCall.TheVariants.{Delwin, Delch, Insertln, Deleteln}
+use Rattle.cur_scripts.specs.declared.groups.PlainCall.TheVariants.{Clrtoeol, Clrtobot}
 use Rattle.cur_scripts.specs.declared.groups.PlainCall.TheVariants.{Erase, Clear, Touchwin}
 use Rattle.cur_scripts.specs.declared.groups.NumberCall.{NumberCall}
 use Rattle.cur_scripts.specs.declared.groups.NumberCall.TheVariants.{Scroll, ColorSet}

@@ -3,8 +3,8 @@ ghost use Rattle.cur_play.specs.Groups.{Makes, making};
 ghost use Rattle.cur_play.specs.Windows as spec;
 
 use crate::answers::Outcome;
-use cur_scripts::{Call, PartCall};
 use cur_pads::{newpad, subpad};
+use cur_scripts::{Call, PartCall};
 use cur_windows::Desk;
 
 /// Makes a window in `desk`, if that is what `call` does; `None` for any other call.

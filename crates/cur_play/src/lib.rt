@@ -12,7 +12,11 @@ mod stale_marks;
 mod windows;
 
 pub use answers::Answer;
-pub use cur_scripts::{Attrs, AttrsCall, Border, Call, CellCall, FlagCall, LayCall, LineCall, LONGEST, NumberCall, NumbersCall, PadCall, PartCall, PlainCall, Put, read_script, ScreenCall, ScriptFault, ScriptFaultKind, ShowCall, Text};
+pub use cur_scripts::{
+    Attrs, AttrsCall, Border, Call, CellCall, FlagCall, LONGEST, LayCall, LineCall, NumberCall,
+    NumbersCall, PadCall, PartCall, PlainCall, Put, ScreenCall, ScriptFault, ScriptFaultKind,
+    ShowCall, Text, read_script,
+};
 pub use paced::Paced;
 pub use runs::{Log, LogEntry, run, run_paced};
 pub use sessions::Session;

@@ -8,8 +8,8 @@ use crate::answers::Answer;
 use crate::paced::Paced;
 use crate::sessions::Session;
 use cur_scripts::Call;
-use cur_update::Wire;
 use cur_steps::Counted;
+use cur_update::Wire;
 use std::alloc::{AllocError, Global};
 use ti_conforms::Certificate;
 

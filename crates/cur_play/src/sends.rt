@@ -5,8 +5,8 @@ ghost use Rattle.cur_play.specs.{Outputs.{Puts}, Sends.{Delivers}};
 ghost use Rattle.cur_play.specs.Steps as spec;
 
 use crate::answers::Answer;
-use cur_scripts::{Call, PadCall, ScreenCall, ShowCall};
 use cur_screens::Virtual;
+use cur_scripts::{Call, PadCall, ScreenCall, ShowCall};
 use cur_update::{Painter, Unsent, Wire};
 use cur_windows::Marks;
 use ti_conforms::Certificate;

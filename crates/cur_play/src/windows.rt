@@ -6,11 +6,11 @@ ghost use Rattle.cur_play.specs.Groups.{Does, changing, shaping};
 ghost use Rattle.cur_play.specs.Windows as spec;
 
 use crate::answers::Outcome;
+use cur_screens::Touched;
 use cur_scripts::{
     Attrs, AttrsCall, Call, CellCall, FlagCall, LayCall, LineCall, NumberCall, NumbersCall,
     PlainCall, Put,
 };
-use cur_screens::Touched;
 use cur_windows::Desk;
 
 /// Does a call that changes windows; `None` for a call that doesn't, or that does more. Marks in `touched` the places

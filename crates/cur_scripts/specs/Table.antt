@@ -10,7 +10,8 @@ use Rattle.cur_scripts.specs.declared.groups.NumberCall.TheVariants.{Scroll, Col
 use Rattle.cur_scripts.specs.declared.groups.NumbersCall.TheVariants.{Move, Mvwin, Setscrreg, Touchline}
 use Rattle.cur_scripts.specs.declared.groups.PadCall.TheVariants.{Pnoutrefresh, Prefresh}
 use Rattle.cur_scripts.specs.declared.groups.PartCall.TheVariants.{Subwin, Derwin, Subpad}
-use Rattle.cur_scripts.specs.declared.groups.PlainCall.TheVariants.{Delch, Insertln, Deleteln, Clrtoeol, Clrtobot, Erase}
+use Rattle.cur_scripts.specs.declared.groups.PlainCall.TheVariants.{Delch, Insertln, Deleteln, Clrtoeol}
+use Rattle.cur_scripts.specs.declared.groups.PlainCall.TheVariants.{Clrtobot, Erase}
 use Rattle.cur_scripts.specs.declared.groups.PlainCall.TheVariants.{Clear, Touchwin, Delwin}
 use Rattle.cur_scripts.specs.declared.groups.ScreenCall.TheVariants.{Doupdate, Endwin}
 use Rattle.cur_scripts.specs.declared.groups.ShowCall.TheVariants.{Noutrefresh, Refresh}

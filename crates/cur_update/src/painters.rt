@@ -14,7 +14,7 @@ use crate::screens::{PrintedScreen, cells_hold};
 use cur_drawing::{Refusal, place_below};
 use cur_paint::{Columns, Knowledge, Screens, Status, Wanted};
 use cur_screens::{Marks, Virtual};
-use cur_steps::{has_line, Mode, Place, Wire, WireFault};
+use cur_steps::{Mode, Place, Wire, WireFault, has_line};
 use std::alloc::{AllocError, Global};
 use std::marker::Model;
 use ti_conforms::Certificate;

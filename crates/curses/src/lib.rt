@@ -7,7 +7,7 @@
 // that was kept, such as the output of `ticurses check`, and shows that it is the entry's.
 pub use ti_caps::Entry;
 pub use ti_cert::{AgreeFault, CertFault, CertFaultKind, Checked, VerifyFault, verify};
-pub use ti_checker::{Cause, certify, No};
+pub use ti_checker::{Cause, No, certify};
 pub use ti_conforms::{Certificate, Miss, MissKind, reach_cup};
 pub use ti_resolve::{ResolveFault, resolve};
 pub use ti_source::{RawEntry, SourceFault, read};
@@ -20,9 +20,12 @@ pub use cur_windows::{Desk, Part, RowMut, View, Virtual, WINDOWS};
 pub use grids::{Area, Place};
 
 // The painter, and the wires that take its bytes.
-pub use cur_update::{Painter, Unsent};
 pub use cur_steps::{Fuse, Tape, Wire, WireFault};
+pub use cur_update::{Painter, Unsent};
 
 // Sessions, calls as values, and texts of calls.
-pub use cur_scripts::{AttrsCall, Call, CellCall, FlagCall, LayCall, LineCall, NumberCall, NumbersCall, PadCall, PartCall, PlainCall, read_script, ScreenCall, ScriptFault, ScriptFaultKind, ShowCall, Text};
 pub use cur_play::{Answer, Log, LogEntry, NoMemory, Session, run};
+pub use cur_scripts::{
+    AttrsCall, Call, CellCall, FlagCall, LayCall, LineCall, NumberCall, NumbersCall, PadCall,
+    PartCall, PlainCall, ScreenCall, ScriptFault, ScriptFaultKind, ShowCall, Text, read_script,
+};

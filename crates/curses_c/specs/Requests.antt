@@ -7,7 +7,8 @@ use Rattle.cur_drawing.specs.declared.cells.Attrs.{Attrs}
 use Rattle.cur_drawing.specs.declared.puts.Border.{Border}
 use Rattle.cur_drawing.specs.declared.puts.Put.{Put}
 use Rattle.cur_scripts.specs.declared.calls.Call.{Call}
-use Rattle.cur_scripts.specs.declared.calls.Call.TheVariants.{Newwin, Newpad, Part, Dupwin, Plain, Number, Numbers, Flag}
+use Rattle.cur_scripts.specs.declared.calls.Call.TheVariants.{Newwin, Newpad, Part, Dupwin, Plain}
+use Rattle.cur_scripts.specs.declared.calls.Call.TheVariants.{Number, Numbers, Flag}
 use Rattle.cur_scripts.specs.declared.calls.Call.TheVariants.{Attributes, Cell, Line, DrawBorder, DrawBox, Lay, Copywin}
 use Rattle.cur_scripts.specs.declared.calls.Call.TheVariants.{Show, ShowPad, Screen, CursSet, InitPair}
 use Rattle.cur_scripts.specs.declared.groups.AttrsCall.{AttrsCall}
@@ -29,7 +30,8 @@ use Rattle.cur_scripts.specs.declared.groups.PadCall.TheVariants.{Pnoutrefresh, 
 use Rattle.cur_scripts.specs.declared.groups.PartCall.{PartCall}
 use Rattle.cur_scripts.specs.declared.groups.PartCall.TheVariants.{Subwin, Derwin, Subpad}
 use Rattle.cur_scripts.specs.declared.groups.PlainCall.{PlainCall}
-use Rattle.cur_scripts.specs.declared.groups.PlainCall.TheVariants.{Delwin, Delch, Insertln, Deleteln, Clrtoeol, Clrtobot}
+use Rattle.cur_scripts.specs.declared.groups.PlainCall.TheVariants.{Delwin, Delch, Insertln, Deleteln}
+use Rattle.cur_scripts.specs.declared.groups.PlainCall.TheVariants.{Clrtoeol, Clrtobot}
 use Rattle.cur_scripts.specs.declared.groups.PlainCall.TheVariants.{Erase, Clear, Touchwin}
 use Rattle.cur_scripts.specs.declared.groups.ScreenCall.{ScreenCall}
 use Rattle.cur_scripts.specs.declared.groups.ScreenCall.TheVariants.{Doupdate, Beep, Endwin}
