@@ -2,19 +2,22 @@
 # The number of expansions a second by `expand`, and by ncurses' tparm and unibilium (Debian: libunibilium-dev) in the
 # same run; and how the time grows with a string's length. Each figure is of the least processor time of seven runs, in
 # turn. A ratio is the peer's time to that of ticurses. The instructions of one expansion follow, by valgrind's
-# callgrind, which doesn't depend on the machine's load. The script needs bash; it says which peers it can't build, and
-# leaves them out.
+# callgrind, which doesn't depend on the machine's load. The program over `expand` (parm_main.txt) is proved first, with
+# ti_parm. The script needs bash; it says which peers it can't build, and leaves them out.
 set -eu
 cd -- "$(dirname -- "$0")/.."
 
 work=$(mktemp -d)
 trap 'rm -rf "$work"' EXIT
 trap 'exit 130' HUP INT TERM
-if ! (cd crates/bench_parm && rt run -- 0 '' >"$work/log" 2>&1); then
+. tests/probing
+lay "$work/repository" ti_parm
+cp bench/parm_main.txt "$work/repository/crates/probe/src/main.rt"
+if ! (cd "$work/repository/crates/probe" && rt run -- 0 '' >"$work/log" 2>&1); then
     cat "$work/log" >&2
     exit 1
 fi
-ours=crates/bench_parm/out/bench_parm
+ours=$work/repository/crates/probe/out/probe
 . bench/instructions.sh
 # the programs that there are
 peers=

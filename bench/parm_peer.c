@@ -1,4 +1,4 @@
-/* Expands a string by tparm of ncurses as often as bench_parm: parm_peer COUNT STRING PARAM.. */
+/* Expands a string by tparm of ncurses as often as parm_main.txt: parm_peer COUNT STRING PARAM.. */
 #include <curses.h>
 #include <stdio.h>
 #include <stdlib.h>

@@ -1,4 +1,4 @@
-/* Expands a string by unibi_run of unibilium as often as bench_parm: unibilium_peer COUNT STRING PARAM.. */
+/* Expands a string by unibi_run of unibilium as often as parm_main.txt: unibilium_peer COUNT STRING PARAM.. */
 #include <stdio.h>
 #include <stdlib.h>
 #include <unibilium.h>

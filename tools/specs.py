@@ -244,8 +244,6 @@ def exported(crate):
     for module in modules:
         own |= set(EXPORTED_TO_C.findall(read(os.path.join(CRATES, crate, "src", module + ".rt"))))
     laws = [m for m in re.findall(r"^pub mod (\w+);", text, re.M)]
-    if crate in ("ti_reach",):
-        own |= set(re.findall(r"^pub (?:fn|enum|struct) (\w+)", text, re.M))
     return own, passed, laws
 
 

@@ -19,6 +19,7 @@ pub use answers::{Answer, answers_line, fault_answers};
 pub use certifiers::{Certifier, Checker};
 pub use checks::{check_entry, notes_on, store_text};
 pub use fault_lists::check_all;
+pub use note_texts::note_lines;
 pub use reasons::explain_no;
 pub use starts::{probe_run_words, probe_words};
 pub use verifications::{checked_at, verify_certificate};
