@@ -58,7 +58,8 @@ PARTS = [
 WHAT_FOR = (
     "Use this page to find the crate and the file for a subject. Each part lists its crates from the top down: the "
     "crate's purpose, the crates that it depends on (without those that it depends on only through another crate), and "
-    "its files, each with the first sentence of the comment at its head. [ARCHITECTURE](ARCHITECTURE.md) says how the "
+    "the files of its src/, each with the first sentence of the comment at its head. [AUDIT](AUDIT.md) lists the "
+    "definitions of specs/. [ARCHITECTURE](ARCHITECTURE.md) says how the "
     "parts work together, and where a change goes."
 )
 
@@ -103,22 +104,19 @@ def subject(crate):
 
 
 def file_rows(crate):
-    """The rows of a crate's table: its files, each with its first sentence."""
+    """The rows of a crate's table: the files of its src/, each with its first sentence."""
     root = "lib" if "lib" in files_of(crate, "src", ".rt") else "main"
-    for folder, ending, mark, left_out in (("src", ".rt", "//!", root), ("specs", ".antt", "--", "Lib")):
-        for name in files_of(crate, folder, ending):
-            if name != left_out:
-                text = head(os.path.join(CRATES, crate, folder, name + ending), mark)
-                text = text.replace("|", "\\|")
-                yield f"| {folder}/{name}{ending} | {text} |"
+    for name in files_of(crate, "src", ".rt"):
+        if name != root:
+            text = head(os.path.join(CRATES, crate, "src", name + ".rt"), "//!")
+            text = text.replace("|", "\\|")
+            yield f"| {name}.rt | {text} |"
 
 
 def section(crate, below):
-    """The lines about a crate, which depends directly on the crates `below`."""
+    """The rows about a crate, which depends directly on the crates `below`."""
     depends = ", ".join(below) or "no other crate"
-    rows = list(file_rows(crate))
-    table = ["| file | what is in it |", "|---|---|", *rows, ""] if rows else []
-    return [f"### {crate}\n", wrapped(f"{subject(crate)} It depends on {depends}.") + "\n", *table]
+    return [f"| **{crate}** | {subject(crate)} It depends on {depends}. |", *file_rows(crate)]
 
 
 def page():
@@ -130,7 +128,8 @@ def page():
         sys.exit(f"pages: no part has {sorted(left)}")
     out = ["# The map\n", MADE, wrapped(WHAT_FOR) + "\n"]
     for part, names in PARTS:
-        out.append(f"## {part}\n")
+        out += [f"## {part}\n", "| crate, file | what is in it |", "|---|---|"]
         for crate in names:
             out += section(crate, below[crate]) if crate in crates else []
+        out.append("")
     return "\n".join(out).rstrip() + "\n"
