@@ -30,7 +30,7 @@ pub struct Region {
 /// The place, in a text with these `lines`, of the byte at `place` of the joined text, which has as many lines. A
 /// joined line begins with the line that has its number, and each line that was joined to it follows without its
 /// leading white space. Behind the last byte the answer is a column behind the last line that was joined.
-#[tactic(auto, unfolding(crate::specs::Places::place_of))]
+#[tactic(auto, unfolding(crate::specs::JoinedPlaces::place_of))]
 pub fn original_place(lines: &[&[u8]], place: Place) -> Place
     ensures place { result ≡ spec.place_of (map (λ line. line.now) lines.now) place }
     ensures room { place.column < 18446744073709551615 → result.column < 18446744073709551615 }
@@ -41,7 +41,7 @@ pub fn original_place(lines: &[&[u8]], place: Place) -> Place
 
 /// The region, in a text with these `lines`, of the bytes of the joined line with this `number` from column `start` up
 /// to column `end`. It ends behind the last of these bytes, on the line that has it.
-#[tactic(auto, unfolding(crate::specs::Places::region_of, crate::specs::Places::end_of))]
+#[tactic(auto, unfolding(crate::specs::JoinedPlaces::region_of, crate::specs::JoinedPlaces::end_of))]
 pub fn original_region(lines: &[&[u8]], number: usize, start: usize, end: usize) -> Region
     ensures { result ≡ spec.region_of (map (λ line. line.now) lines.now) number start end }
 {
@@ -61,7 +61,7 @@ pub fn original_region(lines: &[&[u8]], number: usize, start: usize, end: usize)
 
 /// The place behind the last of the bytes of the joined line with this `number` from column `start` up to column `end`;
 /// the place of the first column, if there are none.
-#[tactic(auto, unfolding(crate::specs::Places::end_of))]
+#[tactic(auto, unfolding(crate::specs::JoinedPlaces::end_of))]
 fn end_of(lines: &[&[u8]], number: usize, start: usize, end: usize) -> Place
     ensures { result ≡ spec.end_of (map (λ line. line.now) lines.now) number start end }
 {

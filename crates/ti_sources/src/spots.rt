@@ -14,7 +14,7 @@ pub struct Spot {
 
 /// The file of the entry at `place` among those put together, and the entry's place there, by the `counts` of entries
 /// of each file; `None` past the last entry.
-#[tactic(auto, unfolding(crate::specs::Places::spot_of))]
+#[tactic(auto, unfolding(crate::specs::Spots::spot_of))]
 pub fn spot_of(counts: &[usize], place: usize) -> Option<Spot>
     ensures spot { result ≡ spec.spot_of counts.now place }
     ensures range { IfSome result (λ spot. spot.file < length counts.now) }
