@@ -1,8 +1,7 @@
 //! Entries, sizes and certificates from the bytes that a program hands over.
 ghost use Rattle.std.specs.Prelude.{◌≡◌, if◌then◌else◌, IfErr, IfOk};
-ghost use Rattle.ti_checker.specs.Certificate.{IsCertificateOf};
 ghost use Rattle.ti_cert.specs.Texts.{IsTableOf};
-ghost use Rattle.ti_checker.specs.Owned.{IsOwnTable};
+ghost use Rattle.ti_checker.specs.{Certificate.{IsCertificateOf}, Owned.{IsOwnTable}};
 ghost use Rattle.ti_conforms.specs.Conforms.{Conforms};
 ghost use Rattle.vt_term.specs.Size.{IsSize};
 ghost use Rattle.curses_c.specs.Entries as spec;
