@@ -1,4 +1,5 @@
-"""The manual pages, the lists of the help texts beside those of the code, standard input as a file, and hints."""
+"""The help and the manual pages, the lists of the help beside those of the code, usage errors, standard input as a file,
+and hints."""
 
 import os
 import pty
@@ -19,6 +20,48 @@ SCRIPT = b"addstr 0 hi\nrefresh 0\n"
 SHOWN = b"hi\n  \ncursor 1 0\n"
 TWICE = b"error: '-' is standard input, which can be read once; a file of that name is './-'\n"
 UNWRITTEN = b"error: '-' is standard input, which can't be written; a file of that name is './-'\n"
+
+# lines with options or words that don't go together, each by the message that it gets
+UNRULY = {
+    "feed shows one of --state, --json and --cases; --plain-text is not for --cases": [
+        "feed --state --json 2 2 f", "feed --state --cases 2 2 f", "feed --json --cases 2 2 f", "feed --cases --plain-text 2 2 f",
+        "feed --state --json --cases --plain-text 2 2 f",
+    ],
+    "infocmp prints one ENTRY, or compares two with either -c or -n": [
+        "infocmp a b", "infocmp -c a", "infocmp -n a", "infocmp -cn a b", "infocmp a b c", "infocmp -c a b c",
+    ],
+    "check --fix writes a source text: --all, --json and --sarif are not for --fix": [
+        "check --fix --all f:e 2 2", "check --fix --json f:e 2 2", "check --fix --sarif f:e 2 2", "check --fix --all f:e 2 2 --out g",
+    ],
+    "check writes a certificate, or with --all lists the faults: --out is not for --all": ["check --all f:e 2 2 --out g"],
+    "check writes a certificate, or reports on the entry: --out is not for --json and --sarif": [
+        "check --json f:e 2 2 --out g", "check --sarif f:e 2 2 --out g", "check --all --json f:e 2 2 --out g",
+    ],
+    "--parts is for --all, and not for --json and --sarif, where part says it of each entry": [
+        "survey --parts 2 2 f", "survey --parts --all --json 2 2 f", "survey --parts --sarif 2 2 f", "survey --parts --fix 2 2 f",
+    ],
+    "--baseline is for --json and --sarif": ["survey --baseline g 2 2 f", "survey --all --baseline g --out h 2 2 f"],
+    "survey writes a text only with --fix: --out is for --fix": [
+        "survey --out g 2 2 f", "survey --json --out g 2 2 f", "survey --sarif --baseline h --out g 2 2 f",
+    ],
+    "survey --fix writes the text of one source FILE: --all, --json, --sarif and --baseline are not for --fix": [
+        "survey --fix 2 2 f g", "survey --fix --all 2 2 f", "survey --fix --json 2 2 f", "survey --fix --sarif 2 2 f",
+        "survey --fix --baseline g 2 2 f", "survey --fix --with g 2 2 f h",
+    ],
+    "survey --fix mends one source FILE that stands alone: --with is not for it; check --fix mends an entry with the files that it "
+    "uses": ["survey --fix --with g 2 2 f", "survey --fix --json --with g 2 2 f"],
+}  # fmt: skip
+
+# a line that each command takes, and lines that are to do the same
+SPELLED = {
+    "expand --cup %p1%d 2 4 7": ["expand %p1%d --cup 2 4 7", "expand %p1%d 2 4 7 --cup", "expand --cup -- %p1%d 2 4 7"],
+    "feed --state --plain-text 2 2 script": ["feed 2 2 script --plain-text --state", "feed 2 --state 2 --plain-text -- script"],
+    "tic --out made mini:mini": ["tic mini:mini --out made", "tic --out=made mini:mini", "tic --out=made -- mini:mini"],
+    "infocmp -c --join mini:mini mini:mini": ["infocmp mini:mini -c mini:mini --join", "infocmp --join -c -- mini:mini mini:mini"],
+    "check --with mini --out made mini:mini 2 2": ["check mini:mini --out=made 2 2 --with=mini"],
+    "check --sarif mini:mini 2 2": ["check --all --json --sarif mini:mini 2 2", "check mini:mini 2 2 --sarif --all"],
+    "survey --fail --json 2 2 mini mini": ["survey 2 2 mini mini --json --fail", "survey 2 2 mini --json mini --fail"],
+}
 
 # the enums whose variants a command's help lists, and those that it doesn't
 LISTED = [
@@ -44,6 +87,64 @@ def helps():
     names = Help(top).commands()
     told = run_cases(PROGRAM, [Case([name, "--help"]) for name in names])
     return {"": top} | {name: it.out.decode() for name, it in zip(names, told)}
+
+
+def judge_help(texts):
+    """What `--help` prints is the text of tests/help, `help` and `-h` print it too, and no other command is there."""
+    names = {f"{name or 'ticurses'}.txt": text for name, text in texts.items()}
+    if sorted(names) != sorted(os.listdir(f"{TOP}/tests/help")):
+        fail(f"tests/help has {sorted(os.listdir(f'{TOP}/tests/help'))}")
+    others = run_cases(PROGRAM, [Case(words) for name in texts for words in (["help", name], [name, "-h"]) if name])
+    wanted = [text for name, text in texts.items() for _ in range(2) if name]
+    wrong = [name for name, text in names.items() if held_in(f"{TOP}/tests/help/{name}").decode() != text]
+    if wrong or [it.out.decode() for it in others] != wanted:
+        fail(f"--help differs from tests/help in {wrong}, or from help and -h")
+    print(f"manual: --help of {len(names)} is that of tests/help")
+
+
+def judge_unruly():
+    """What doesn't go together is a usage error with its own message, and nothing else is done."""
+    rows = [(message, line.split()) for message, lines in UNRULY.items() for line in lines]
+    for (message, words), told in zip(rows, run_cases(PROGRAM, [Case(words) for _, words in rows])):
+        if (told.status, told.out, told.err.decode()) != (2, b"", f"error: {message}\n\nFor more information, try '--help'.\n"):
+            fail(f"{words}: status {told.status}, {told.out}, {told.err}")
+    print(f"manual: {len(rows)} lines of options that don't go together are usage errors")
+
+
+def judge_options(texts):
+    """Each option is refused the second time, but for `--with`; none is taken by a part of its name or by another command."""
+    options = {name: [flag.split() for flag, _ in Help(text).options()] for name, text in texts.items() if name}
+    known = {flag[0] for flags in options.values() for flag in flags}
+    rows = [(name, words) for name, flags in options.items() for words in refused_options(flags, known)]
+    for (name, words), told in zip(rows, run_cases(PROGRAM, [Case([name, *words]) for name, words in rows])):
+        if told.status != 2 or told.out or not told.err.startswith((b"error: the argument '-", b"error: unexpected argument '-")):
+            fail(f"{name} {words}: status {told.status}, {told.out}, {told.err}")
+    print(f"manual: {len(rows)} repeated, shortened or unknown options are refused")
+
+
+def refused_options(flags, known):
+    """The words that a command with these options refuses at once; `known` are the options of all commands."""
+    twice = [[name, *("f" for _ in value)] * 2 for name, *value in flags if name != "--with"]
+    short = [[name[:-1], *("f" for _ in value)] for name, *value in flags if len(name) > 3]
+    others = sorted(known - {name for name, *_ in flags})
+    return [*twice, *short, *([name] for name in others)]
+
+
+def judge_spelled():
+    """Options may be anywhere before `--`, and a value behind `=`."""
+    files = {"mini": MINI, "script": SCRIPT}
+    for line, others in SPELLED.items():
+        told = [answered(words.split(), files) for words in (line, *others)]
+        if any(it != told[0] for it in told) or told[0][0]:
+            fail(f"{line}: {told}")
+    print(f"manual: {sum(map(len, SPELLED.values()))} lines do what {len(SPELLED)} others do")
+
+
+def answered(words, files):
+    """The status and outputs of a run, and the file that it writes."""
+    with tempfile.TemporaryDirectory() as room:
+        told = run_cases(PROGRAM, [Case([it.replace("made", f"{room}/made") for it in words])], files)[0]
+        return told.status, told.out, told.err, os.path.exists(f"{room}/made") and held_in(f"{room}/made")
 
 
 def judge_pages(texts):
@@ -131,6 +232,9 @@ def judge_input():
         (["play", "mini:mini", "2", "2", "cert", "-"], SCRIPT, None),
         (["feed", "2", "2", "-"], b"hi", b"hi\n  \ncursor 0 1\n"),
         (["survey", "2", "2", "-"], MINI, b"mini yes\ntotal 1, yes 1\n"),
+        (["survey", "--json", "--baseline", "-", "2", "2", "mini"], b"", None),
+        (["check", "--with", "-", "mini:mini", "2", "2"], MINI, cert),
+        (["infocmp", "--with", "-", "mini:mini"], MINI, None),
     ]
     for (words, _, out), told in zip(wanted, run_cases(PROGRAM, [Case(words, given) for words, given, _ in wanted], files)):
         if told.status or told.err or not told.out and out != b"" or out is not None and told.out != out:
@@ -154,12 +258,18 @@ def judge_refused(script, files):
         (["play", *script, "-", "-"], TWICE),
         (["show", "--", "-", "2", "2", "cert", "-"], TWICE),
         (["infocmp", "-c", "-", "-"], TWICE),
+        (["infocmp", "-c", "--with", "-", "mini:mini", "mini:mini"], TWICE),
+        (["infocmp", "-n", "--with", "-", "mini:mini", "packed"], TWICE),
+        (["tic", "--with", "-", "--", "-:mini"], TWICE),
+        (["check", "--json", "--with", "-", "-", "2", "2"], TWICE),
         (["survey", "2", "2", "-", "mini", "-"], TWICE),
         (["survey", "--json", "--baseline", "-", "--", "2", "2", "-"], TWICE),
         (["survey", "--json", "--baseline", "-", "--with", "-", "2", "2", "mini"], TWICE),
         (["survey", "--with", "-", "--with", "-", "2", "2", "mini"], TWICE),
         (["tic", "mini:mini", "--out", "-"], UNWRITTEN),
         (["check", "mini:mini", "2", "2", "--out", "-"], UNWRITTEN),
+        (["check", "--fix", "mini:mini", "2", "2", "--out=-"], UNWRITTEN),
+        (["survey", "--fix", "--out", "-", "2", "2", "mini"], UNWRITTEN),
     ]
     for (words, error), told in zip(cases, run_cases(PROGRAM, [Case(words) for words, _ in cases], files)):
         if told.status != 2 or told.out or not told.err.startswith(error):
@@ -216,7 +326,11 @@ def judge_count():
 
 def main():
     texts = helps()
+    judge_help(texts)
     judge_pages(texts)
+    judge_unruly()
+    judge_options(texts)
+    judge_spelled()
     judge_calls(texts["play"])
     judge_causes(texts)
     judge_input()
