@@ -43,13 +43,11 @@ PUBLISHED = [
     "ti_objects",
     "ti_reports",
     "cur_commands",
-    "ti_arguments",
     "curses_c",
 ]
 
 # the commands, with the functions that the program calls for each
 COMMANDS = [
-    ("the command line", [("ti_arguments", "parse_line")]),
     ("expand", [("ti_commands", "expand_string")]),
     ("feed", [("ti_commands", "feed_file")]),
     ("feed --state, --json, --cases", [("ti_commands", "feed_state")]),
@@ -68,8 +66,8 @@ COMMANDS = [
     ("survey --baseline", [("ti_objects", "has_wrong")]),
 ]
 
-# functions by which the program answers all commands
-OF_ALL = {"report", "write_reply", "write_text", "usage_error", "refuse_usage"}
+# functions by which the program answers all commands, and the parser of the line, which has no clause
+OF_ALL = {"report", "write_reply", "write_text", "usage_error", "refuse_usage", "parse_line"}
 
 # how fast a reader goes who looks at each line until it is clear
 LINES_A_MINUTE = 6

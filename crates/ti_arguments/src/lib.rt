@@ -5,5 +5,7 @@ mod commands;
 mod help;
 mod inputs;
 mod parser;
+mod requests;
+mod rules;
 
 pub use parser::{Asked, ParsedLine, UsageFault, parse_line};

@@ -1,5 +1,0 @@
-mod Colons
-pub mod Rows
-pub mod Faults
-pub mod Switches
-pub mod Counts

@@ -1,3 +1,0 @@
-pub mod Inputs
-pub mod Line
-pub mod Requests
