@@ -6,7 +6,7 @@ use ti_requests::Request;
 /// The path that is standard input.
 const INPUT: &str = "-";
 
-/// What is wrong with a line that `asked` to read standard input twice, or to write a file named `-`.
+/// The message about a line that `asked` to read standard input twice, or to write a file named `-`.
 pub fn input_fault(asked: &Asked<'_>) -> Option<&'static str> {
     let beside = read_further(asked).saturating_add(read_earlier(asked));
     if read_by(&asked.request).saturating_add(beside) > 1 {

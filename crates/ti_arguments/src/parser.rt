@@ -76,7 +76,7 @@ fn explain<'a>(alloc: Global, error: &Error) -> Result<ParsedLine<'a>, UsageFaul
     }
 }
 
-/// What a line asks for that clap understands as `matches`.
+/// The command and the options of a line that clap understands as `matches`.
 fn asked_by<'a>(alloc: Global, matches: &ArgMatches<'a>) -> Result<Asked<'a>, UsageFault> {
     let Some((name, words)) = matches.subcommand() else {
         return Err(UsageFault::Usage(String::new(alloc)));

@@ -1,8 +1,8 @@
-//! What a command line may not have, beyond the rules that clap judges.
+//! Rules on options that don't go together, beyond those that clap judges.
 
 use clap::ArgMatches;
 
-/// What is wrong with the `words` of the command `name`, if they don't go together.
+/// The message about the `words` of the command `name`, if they don't go together.
 pub fn fault_of(name: &str, words: &ArgMatches<'_>) -> Option<&'static str> {
     match name {
         "feed" => feed_fault(words),
