@@ -44,7 +44,7 @@ int wattr_off(WINDOW *window, attr_t attrs, void *options) {
 }
 
 int wattr_set(WINDOW *window, attr_t attrs, short pair, void *options) {
-    return options || pair < 0 || pair > 255 ? ERR : set(window, (attrs & ~A_COLOR) | COLOR_PAIR(pair));
+    return options || pair < 0 ? ERR : set(window, (attrs & ~A_COLOR) | (pair > 255 ? 0 : COLOR_PAIR(pair)));
 }
 
 int wattr_get(WINDOW *window, attr_t *attrs, short *pair, void *options) {

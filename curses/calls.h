@@ -31,7 +31,6 @@ int session_cell(int window, int y, int x, chtype *cell);
 int session_cursor(int window, int *y, int *x);
 int session_move(int window, int y, int x);
 int session_addch(int window, chtype cell);
-int session_addstr(int window, const char *text, size_t len);
 /* sets attributes and pair together */
 int session_attrset(int window, chtype attrs);
 /* These write characters and store the place of the first in `y` and `x`. They return false and write nothing unless

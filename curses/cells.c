@@ -8,8 +8,7 @@
  * question mark. */
 static chtype drawable(chtype cell) {
     unsigned byte = TCU_BYTE(cell);
-    chtype known = cell & TCU_SHOWN;
-    if (PAIR_NUMBER(cell) < TCU_PAIRS) known |= cell & A_COLOR;
+    chtype known = tcu_colored(cell) & (TCU_SHOWN | A_COLOR);
     return known | (byte == 0 ? ' ' : byte < 32 || byte > 126 ? '?' : byte);
 }
 
@@ -43,14 +42,14 @@ int waddchstr(WINDOW *window, const chtype *cells) {
 /* Gives `count` cells from the cursor on other attributes and another pair; all cells up to the line's end if `count`
  * is negative. */
 int wchgat(WINDOW *window, int count, attr_t attrs, short pair, const void *options) {
-    chtype cells[TCU_PAD_MAX];
+    chtype cells[TCU_PAD_MAX], color = pair < TCU_PAIRS ? COLOR_PAIR(pair) : 0;
     int y, x;
-    if (!tcu_is_own(window) || options || pair < 0 || pair >= TCU_PAIRS) return ERR;
+    if (!tcu_is_own(window) || options || pair < 0) return ERR;
     if (session_cursor(window->number, &y, &x) != OK) return ERR;
     if (count < 0 || count > window->columns - x) count = window->columns - x;
     for (int at = 0; at < count; at++) {
         if (session_cell(window->number, y, x + at, &cells[at]) != OK) return ERR;
-        cells[at] = (cells[at] & (A_CHARTEXT | A_ALTCHARSET)) | (attrs & TCU_SHOWN) | COLOR_PAIR(pair);
+        cells[at] = (cells[at] & (A_CHARTEXT | A_ALTCHARSET)) | (attrs & TCU_SHOWN) | color;
     }
     return tcu_changed(window, tcu_put_cells(window, y, x, cells, count));
 }

@@ -5,6 +5,7 @@
 
 int werase(WINDOW *window) {
     if (!tcu_is_own(window)) return ERR;
+    window->has_wrapped = false;
     tcu_touch_lines(window, 0, window->lines - 1);
     return tcu_changed(window, session_erase(window->number));
 }
@@ -16,10 +17,8 @@ int wclear(WINDOW *window) {
 }
 
 int wclrtoeol(WINDOW *window) {
-    int y, x;
-    if (!tcu_is_own(window) || session_cursor(window->number, &y, &x) != OK) return ERR;
-    tcu_touch(window, y, x, window->columns - 1);
-    return tcu_changed(window, session_clrtoeol(window->number));
+    if (!tcu_is_own(window) || tcu_clear_rest(window) != OK) return ERR;
+    return tcu_changed(window, OK);
 }
 
 int wclrtobot(WINDOW *window) {

@@ -6,45 +6,77 @@
 
 #include "calls.h"
 
-static bool is_drawn(unsigned byte) {
-    return byte >= 32 && byte < 127;
+/* Where the next character is inserted; past the line's end none is. */
+struct spot {
+    int y, x;
+};
+
+static int insert_one(WINDOW *window, struct spot *at, chtype ch) {
+    if (at->x >= window->columns) return OK;
+    tcu_touch(window, at->y, at->x, window->columns - 1);
+    if (session_move(window->number, at->y, at->x++) != OK) return ERR;
+    return session_insch(window->number, ch);
 }
 
-/* Inserts a character in the form in which it is drawn, such as ^X: the last letter first. */
-static int insert(WINDOW *window, chtype ch, int x) {
-    const char *text = unctrl(ch);
-    chtype marks = ch & ~A_CHARTEXT;
+static int insert_letters(WINDOW *window, struct spot *at, const char *text, chtype marks) {
     int code = OK;
-    if (is_drawn(TCU_BYTE(ch))) return session_insch(window->number, ch);
-    if (TCU_BYTE(ch) == '\t') {
-        for (int count = TABSIZE - x % TABSIZE; count > 0 && code == OK; count--)
-            code = session_insch(window->number, ' ' | marks);
-        return code;
-    }
-    for (size_t at = strlen(text); at > 0 && code == OK; at--)
-        code = session_insch(window->number, (unsigned char)text[at - 1] | marks);
+    for (; *text && code == OK; text++) code = insert_one(window, at, (unsigned char)*text | marks);
     return code;
 }
 
+static int insert_tab(WINDOW *window, struct spot *at, chtype marks) {
+    int code = OK;
+    for (int count = TABSIZE - at->x % TABSIZE; count > 0 && code == OK; count--)
+        code = insert_one(window, at, ' ' | marks);
+    return code;
+}
+
+/* Clears the rest of the line; what follows is inserted in the next one, if the cursor can advance to it. */
+static int insert_newline(WINDOW *window, struct spot *at) {
+    if (at->x < window->columns && session_move(window->number, at->y, at->x) == OK) tcu_clear_rest(window);
+    if (tcu_advance(window, at->y) != OK) return OK;
+    window->has_wrapped = false;
+    return session_cursor(window->number, &at->y, &at->x);
+}
+
+/* Inserts any character, in the form in which it is drawn. Return and backspace only move the place. */
+static int insert(WINDOW *window, struct spot *at, chtype ch) {
+    chtype marks = ch & ~A_CHARTEXT;
+    switch (TCU_BYTE(ch)) {
+    case '\n': return insert_newline(window, at);
+    case '\t': return insert_tab(window, at, marks);
+    case '\r': at->x = 0; break;
+    case '\b':
+        if (at->x == 0) return OK;
+        at->x--;
+        break;
+    default: return insert_letters(window, at, unctrl(ch), marks);
+    }
+    window->has_wrapped = false;
+    return OK;
+}
+
 int winsch(WINDOW *window, chtype ch) {
+    struct spot at;
     int y, x, code;
     if (!tcu_is_own(window) || session_cursor(window->number, &y, &x) != OK) return ERR;
-    /* these have no width */
-    if (strchr("\n\r\b", (int)TCU_BYTE(ch)) && TCU_BYTE(ch)) return waddch(window, ch);
-    code = insert(window, ch, x);
-    tcu_touch(window, y, x, window->columns - 1);
+    at.y = y;
+    at.x = x;
+    code = insert(window, &at, ch);
+    session_move(window->number, y, x);
     return tcu_changed(window, code);
 }
 
 int winsnstr(WINDOW *window, const char *text, int count) {
+    struct spot at;
     size_t len;
     int y, x, code = OK;
     if (!tcu_is_own(window) || !text || session_cursor(window->number, &y, &x) != OK) return ERR;
     len = count <= 0 ? strlen(text) : strnlen(text, (size_t)count);
-    /* characters past the line's end would be shifted out again */
-    if (len > (size_t)(window->columns - x)) len = (size_t)(window->columns - x);
-    while (len > 0 && code == OK) code = insert(window, (unsigned char)text[--len], x);
-    tcu_touch(window, y, x, window->columns - 1);
+    at.y = y;
+    at.x = x;
+    for (size_t next = 0; next < len && code == OK; next++) code = insert(window, &at, (unsigned char)text[next]);
+    session_move(window->number, y, x);
     return tcu_changed(window, code);
 }
 

@@ -1,4 +1,5 @@
-/* Writing at the cursor. */
+/* Writing at the cursor. Only printable characters are written by the session. What leaves the cursor's line is done here,
+ * since a scrolling region counts otherwise in curses than in the session. */
 #define _POSIX_C_SOURCE 200809L
 #include "private.h"
 
@@ -9,78 +10,99 @@
 int wmove(WINDOW *window, int y, int x) {
     if (!tcu_is_own(window) || session_move(window->number, y, x) != OK) return ERR;
     window->is_moved = true;
+    window->has_wrapped = false;
     return OK;
 }
 
-/* A text that was written: where it begins and its `count` of bytes. Some may move the cursor far if `has_moves`. */
-struct written {
-    int y, x;
-    size_t count;
-    bool has_moves;
-};
-
-/* Touches the text's cells, up to the cursor. The window may have scrolled if the cursor is in the last line of the
- * scrolling region. A text that was refused may have written the cell at the cursor. */
-static void touch_written(WINDOW *window, struct written text, int code) {
-    int last = window->columns - 1, from = text.has_moves ? 0 : text.x, y, x;
-    if (text.count == 0 || session_cursor(window->number, &y, &x) != OK) return;
-    if (y != text.y) {
-        tcu_touch(window, text.y, from, last);
-        tcu_touch_lines(window, text.y + 1, y - 1);
-        tcu_touch(window, y, 0, code == OK ? x - 1 : last);
-    } else if (x > text.x && code == OK && !text.has_moves) {
-        tcu_touch(window, y, from, x - 1);
-    } else {
-        tcu_touch(window, y, from, last);
-    }
-    if (window->scrolls && y == window->region_bottom && (text.has_moves || text.count > (size_t)(last - text.x)))
+/* Moves the cursor from line `y` to the first column of the next one. In a scrolling region's last line the region
+ * scrolls, or the cursor stays and the answer is ERR. Below a region the last line has no next one, and the cursor goes
+ * to its first column. */
+int tcu_advance(WINDOW *window, int y) {
+    if (y == window->region_bottom) {
+        if (!window->scrolls) return ERR;
         tcu_touch_lines(window, window->region_top, window->region_bottom);
-}
-
-/* Writes one character in the form in which it is drawn: a byte above 127 as unctrl shows it. */
-static int add(WINDOW *window, chtype ch) {
-    const char *text;
-    int code = OK;
-    if (TCU_BYTE(ch) < 128) return session_addch(window->number, ch);
-    for (text = unctrl(ch); *text && code == OK; text++)
-        code = session_addch(window->number, (unsigned char)*text | (ch & ~A_CHARTEXT));
-    return code;
-}
-
-/* Writes spaces up to the next column that TABSIZE divides; the session itself knows tabs of 8 columns. */
-static int add_tab(WINDOW *window, chtype marks) {
-    int code = OK, y, x, start, columns;
-    if (TABSIZE == 8) return session_addch(window->number, '\t' | marks);
-    if (session_cursor(window->number, &y, &start) != OK) return ERR;
-    columns = TABSIZE - start % TABSIZE;
-    for (int count = 0; count < columns && code == OK; count++) {
-        code = session_addch(window->number, ' ' | marks);
-        if (session_cursor(window->number, &y, &x) != OK || x < start) break;
+        if (session_scroll(window->number, 1) != OK) return ERR;
+    } else if (y < window->lines - 1) {
+        y++;
     }
+    return session_move(window->number, y, 0);
+}
+
+/* Clears the cursor's line from the cursor on. A last line into which text has wrapped, or at whose end it was to wrap,
+ * stays as it is, as in ncurses: a cursor that stays in the last column is behind its character there. */
+int tcu_clear_rest(WINDOW *window) {
+    int y, x;
+    if (session_cursor(window->number, &y, &x) != OK || (window->has_wrapped && y == window->lines - 1)) return ERR;
+    window->has_wrapped = false;
+    tcu_touch(window, y, x, window->columns - 1);
+    return session_clrtoeol(window->number);
+}
+
+/* Writes a character from 32 to 126. One in a line's last column is inserted, which leaves the cursor there. */
+static int put(WINDOW *window, chtype ch) {
+    int y, x;
+    if (session_put(window->number, ch, &y, &x)) {
+        tcu_touch_place(window, y, x);
+        return OK;
+    }
+    if (session_cursor(window->number, &y, &x) != OK || session_insch(window->number, ch) != OK) return ERR;
+    tcu_touch_place(window, y, x);
+    window->has_wrapped = true;
+    return tcu_advance(window, y);
+}
+
+static int put_times(WINDOW *window, chtype ch, int count) {
+    int code = OK;
+    for (; count > 0 && code == OK; count--) code = put(window, ch);
     return code;
 }
 
-/* Writes a character that may leave the cursor's line. */
-static int add_and_go(WINDOW *window, chtype ch) {
-    struct written text = {0, 0, 1, false};
-    int code;
-    unsigned byte = TCU_BYTE(ch);
-    if (session_cursor(window->number, &text.y, &text.x) != OK) return ERR;
-    code = byte == '\t' ? add_tab(window, ch & ~A_CHARTEXT) : add(window, ch);
-    if (byte == '\r' || byte == '\b') return code;
-    text.has_moves = byte == '\n';
-    /* a tab and a character that is drawn as several may have passed the line's end */
-    if (byte < 32 || byte > 126) text.count = (size_t)TABSIZE + 4;
-    touch_written(window, text, code);
-    return tcu_changed(window, code);
+static int put_letters(WINDOW *window, const char *text, chtype marks) {
+    int code = OK;
+    for (; *text && code == OK; text++) code = put(window, (unsigned char)*text | marks);
+    return code;
+}
+
+/* Writes blanks up to the next column that TABSIZE divides. If the line has none, its rest is cleared and the cursor
+ * advances; where it can't, the blanks fill the line. */
+static int add_tab(WINDOW *window, chtype marks, int y, int x) {
+    int count = TABSIZE - x % TABSIZE;
+    bool can_advance = window->scrolls || y != window->region_bottom;
+    if (x + count < window->columns || !can_advance) return put_times(window, ' ' | marks, count);
+    tcu_clear_rest(window);
+    window->has_wrapped = true;
+    return tcu_advance(window, y);
+}
+
+static int add_newline(WINDOW *window, int y) {
+    tcu_clear_rest(window);
+    if (tcu_advance(window, y) != OK) return ERR;
+    window->has_wrapped = false;
+    return OK;
+}
+
+/* Moves the cursor within its line. */
+static int go_to(WINDOW *window, int y, int x) {
+    window->has_wrapped = false;
+    return session_move(window->number, y, x);
+}
+
+/* Writes any character: controls and bytes above 126 in the form that unctrl gives them. */
+static int add(WINDOW *window, chtype ch) {
+    int y, x;
+    if (TCU_BYTE(ch) >= 32 && TCU_BYTE(ch) < 127) return put(window, ch);
+    if (session_cursor(window->number, &y, &x) != OK) return ERR;
+    switch (TCU_BYTE(ch)) {
+    case '\n': return add_newline(window, y);
+    case '\t': return add_tab(window, ch & ~A_CHARTEXT, y, x);
+    case '\r': return go_to(window, y, 0);
+    case '\b': return x > 0 ? go_to(window, y, x - 1) : OK;
+    default: return put_letters(window, unctrl(ch), ch & ~A_CHARTEXT);
+    }
 }
 
 int waddch(WINDOW *window, chtype ch) {
-    int y, x;
-    if (!tcu_is_own(window)) return ERR;
-    if (!session_put(window->number, ch, &y, &x)) return add_and_go(window, ch);
-    tcu_touch_place(window, y, x);
-    return tcu_changed(window, OK);
+    return tcu_is_own(window) ? tcu_changed(window, add(window, ch)) : ERR;
 }
 
 int wechochar(WINDOW *window, chtype ch) {
@@ -88,43 +110,13 @@ int wechochar(WINDOW *window, chtype ch) {
     return waddch(window, ch) == OK ? wrefresh(window) : ERR;
 }
 
-/* The number of bytes that the session takes at once: those before the first that it can't draw. */
-static size_t plain_len(const char *text, size_t len) {
-    size_t count = 0;
-    while (count < len && (unsigned char)text[count] < 128 && (text[count] != '\t' || TABSIZE == 8)) count++;
-    return count;
-}
-
-static int add_text(WINDOW *window, const char *text, size_t len) {
-    int code = OK;
-    while (len > 0 && code == OK) {
-        size_t count = plain_len(text, len);
-        if (count > 0) {
-            code = session_addstr(window->number, text, count);
-        } else {
-            code = *text == '\t' ? add_tab(window, 0) : add(window, (unsigned char)*text);
-            count = 1;
-        }
-        text += count;
-        len -= count;
-    }
-    return code;
-}
-
 int waddnstr(WINDOW *window, const char *text, int count) {
-    struct written what = {0, 0, 0, false};
-    int code, y, x;
+    size_t len;
+    int code = OK, y, x;
     if (!tcu_is_own(window) || !text) return ERR;
-    what.count = count < 0 ? strlen(text) : strnlen(text, (size_t)count);
-    if (session_write(window->number, text, what.count, &y, &x)) {
-        tcu_touch(window, y, x, x + (int)what.count - 1);
-        return tcu_changed(window, OK);
-    }
-    if (session_cursor(window->number, &what.y, &what.x) != OK) return ERR;
-    for (size_t at = 0; at < what.count && !what.has_moves; at++)
-        what.has_moves = (unsigned char)text[at] < 32 || (unsigned char)text[at] > 126;
-    code = add_text(window, text, what.count);
-    touch_written(window, what, code);
+    len = count < 0 ? strlen(text) : strnlen(text, (size_t)count);
+    if (session_write(window->number, text, len, &y, &x)) tcu_touch(window, y, x, x + (int)len - 1);
+    else for (size_t at = 0; at < len && code == OK; at++) code = add(window, (unsigned char)text[at]);
     return tcu_changed(window, code);
 }
 

@@ -19,6 +19,11 @@ enum { TCU_PAD_MAX = 1000, TCU_PAIRS = 64 };
 #define TCU_SHOWN (A_STANDOUT | A_UNDERLINE | A_REVERSE | A_BLINK | A_DIM | A_BOLD | A_INVIS | A_ALTCHARSET)
 #define TCU_BYTE(ch) ((unsigned)((ch) & A_CHARTEXT))
 
+/* A character or attributes in the colors that the session has: a pair that it lacks counts as pair 0. */
+static inline chtype tcu_colored(chtype ch) {
+    return PAIR_NUMBER(ch) < TCU_PAIRS ? ch : ch & ~A_COLOR;
+}
+
 /* The touched columns of a line; none if `first` is above `last`. */
 struct tcu_line {
     int first, last;
@@ -37,6 +42,7 @@ struct ticurses_window {
     bool is_pad;           /* of the program: it has no place on the screen */
     bool is_below_pad;     /* of the session: a pad, or a part of one */
     bool is_moved;         /* the cursor was moved since the last refresh */
+    bool has_wrapped;      /* text has passed a line's end, or was to, and the cursor wasn't moved since */
     bool clears, leaves, scrolls, shifts_lines, shifts_characters, shows_changes, syncs;
     bool has_keypad, waits_in_keys;
     int shown[6];          /* the part of a pad that was shown last, for pechochar */
@@ -70,6 +76,10 @@ int tcu_make_part(int number, const WINDOW *parent, int lines, int columns, int 
 WINDOW *tcu_made(int number, int lines, int columns, WINDOW *parent);
 void tcu_freed(WINDOW *window);
 void tcu_restored(WINDOW *window, int cursor_y, int cursor_x);
+
+/* output.c */
+int tcu_advance(WINDOW *window, int y);
+int tcu_clear_rest(WINDOW *window);
 
 /* touch.c */
 void tcu_touch(WINDOW *window, int line, int first, int last);

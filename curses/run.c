@@ -115,9 +115,9 @@ static void turn_to(chtype marks) {
 
 /* A text that ends before the line's last column leaves the cursor in that line. */
 bool session_put(int window, chtype cell, int *y, int *x) {
-    chtype marks = cell & ~A_CHARTEXT;
+    chtype marks = tcu_colored(cell) & ~A_CHARTEXT;
     bool is_put = false;
-    if (tcu_is_busy || TCU_BYTE(cell) < 32 || TCU_BYTE(cell) > 126 || PAIR_NUMBER(cell) >= TCU_PAIRS) return false;
+    if (tcu_is_busy || TCU_BYTE(cell) < 32 || TCU_BYTE(cell) > 126) return false;
     tcu_is_busy = 1;
     if (is_current(window) && run.x < run.last_x) {
         marks = marks ? joined(marks) : run.wanted;
@@ -161,12 +161,6 @@ int session_addch(int window, chtype cell) {
     return session_done(ticurses_addch(&tcu_session, (size_t)window, session_cell_of(cell)));
 }
 
-int session_addstr(int window, const char *text, size_t len) {
-    int y, x;
-    if (session_write(window, text, len, &y, &x)) return OK;
-    return session_begins() ? session_done(ticurses_addstr(&tcu_session, (size_t)window, text, len)) : ERR;
-}
-
 static int moved(int window, int y, int x) {
     if (!is_current(window)) return ERR;
     if (y < 0 || x < 0 || y >= known[window].lines || x >= known[window].columns) return ERR;
@@ -202,10 +196,10 @@ int session_cursor(int window, int *y, int *x) {
 
 int session_attrset(int window, chtype attrs) {
     int code = ERR;
-    if (tcu_is_busy || PAIR_NUMBER(attrs) >= TCU_PAIRS) return ERR;
+    if (tcu_is_busy) return ERR;
     tcu_is_busy = 1;
     if (is_current(window)) {
-        run.wanted = attrs & (TCU_SHOWN | A_COLOR);
+        run.wanted = tcu_colored(attrs) & (TCU_SHOWN | A_COLOR);
         code = OK;
     }
     tcu_is_busy = 0;

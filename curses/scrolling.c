@@ -13,8 +13,9 @@ int scroll(WINDOW *window) {
     return wscrl(window, 1);
 }
 
+/* A region has two lines or more. */
 int wsetscrreg(WINDOW *window, int top, int bottom) {
-    if (!tcu_is_own(window) || session_setscrreg(window->number, top, bottom) != OK) return ERR;
+    if (!tcu_is_own(window) || top >= bottom || session_setscrreg(window->number, top, bottom) != OK) return ERR;
     window->region_top = top;
     window->region_bottom = bottom;
     return OK;

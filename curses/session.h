@@ -20,7 +20,8 @@ int session_done(int code);
 
 /* A cell in the form of the session. */
 static inline ticurses_cell session_cell_of(chtype cell) {
-    return ticurses_cell_of((uint8_t)TCU_BYTE(cell), (uint8_t)(cell >> 16), (uint8_t)PAIR_NUMBER(cell));
+    uint8_t pair = (uint8_t)PAIR_NUMBER(tcu_colored(cell));
+    return ticurses_cell_of((uint8_t)TCU_BYTE(cell), (uint8_t)(cell >> 16), pair);
 }
 
 /* run.c */

@@ -7,12 +7,16 @@ the attributes, the colors and the cursor of both.
 takes the library from where ./install put it. With names it runs only these programs, and prints the differences.
 NCURSES_TESTS names a folder with the sources of ncurses' test programs, which are no part of this repository."""
 
+import fcntl
 import os
 import pathlib
+import pty
 import re
 import shutil
+import struct
 import subprocess
 import sys
+import termios
 import time
 from concurrent.futures import ThreadPoolExecutor
 
@@ -26,6 +30,8 @@ import curses_library
 PAGE = f"{TOP}/docs/CURSES.md"
 HERE = f"{TOP}/tests/curses"
 ROWS, COLS = 24, 80
+# how many scripts of scrolling regions are compared
+SCRIPTS = 2000
 # seconds after which an unchanged screen is compared, the longest time that a program draws by itself, and the longest
 # that it may take to begin or to end
 QUIET, LONGEST, STARTING = 0.3, 5, 60
@@ -377,6 +383,37 @@ def judge_answers(made):
     print(f"curses: {len(told[0])} calls answer what they answer in ncurses, and {len(shots[0])} screens are the same")
 
 
+def on_terminal(words, rows=10, cols=30):
+    """What a program prints that has a terminal of this size beside."""
+    outer, inner = pty.openpty()
+    try:
+        fcntl.ioctl(outer, termios.TIOCSWINSZ, struct.pack("HHHH", rows, cols, 0, 0))
+        how = {"stdin": inner, "stdout": subprocess.PIPE, "start_new_session": True}
+        ran = subprocess.run(words, preexec_fn=lambda: fcntl.ioctl(0, termios.TIOCSCTTY, 0), **how)
+    finally:
+        os.close(outer)
+        os.close(inner)
+    if ran.returncode:
+        fail(f"{' '.join(words)} ends with status {ran.returncode}")
+    return ran.stdout.decode("latin-1").splitlines()
+
+
+def judge_regions(made):
+    """Random scripts of scrolling regions, scrollok and writes at each edge: after each call its answer, the cursor and
+    the cells are those of ncurses."""
+    if made.make("regions", [f"{HERE}/regions.c"], "-std=c99"):
+        fail("regions.c doesn't compile")
+    programs = [f"{made.work}/{it}/regions" for it in made.words]
+    one, other = (on_terminal([it, "1", str(SCRIPTS)]) for it in programs)
+    differing = [line.split()[0] for line, here in zip(one, other) if line != here]
+    if differing or len(one) != SCRIPTS or len(other) != SCRIPTS:
+        seed = differing[0] if differing else "1"
+        told = zip(*(on_terminal([it, seed, seed, "told"]) for it in programs))
+        first = next((pair for pair in told if pair[0] != pair[1]), "")
+        fail(f"{len(differing)} of {SCRIPTS} scripts of regions differ; script {seed} first in (ncurses, here):\n{first}")
+    print(f"curses: {SCRIPTS} random scripts of scrolling regions and edges go as they go in ncurses, call by call")
+
+
 # stops the program and continues it; prints the terminal's modes in between and at the end
 STOPPED = """set -m; "$0"; echo stopped $?; modes; read key; fg >/dev/null; echo again $?; modes"""
 ENDED = """trap : INT; "$0"; echo over $?; modes"""
@@ -507,6 +544,7 @@ def main():
             return
         made = Compiled(work, prefix)
         judge_answers(made)
+        judge_regions(made)
         judge_signals(made)
         tests = os.path.abspath(os.environ.get("NCURSES_TESTS") or f"{work}/none")
         has_tests = os.path.isfile(f"{tests}/test.priv.h")
