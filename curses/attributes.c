@@ -55,7 +55,7 @@ int wattr_get(WINDOW *window, attr_t *attrs, short *pair, void *options) {
 }
 
 int wcolor_set(WINDOW *window, short pair, void *options) {
-    if (!window || options || pair < 0 || pair > 255) return ERR;
+    if (!window || options || !tcu.has_colors || pair < 0 || pair > 255) return ERR;
     return set(window, (window->attrs & ~A_COLOR) | COLOR_PAIR(pair));
 }
 

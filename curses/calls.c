@@ -152,7 +152,3 @@ int session_curs_set(int visibility) {
 int session_beep(void) {
     return CALL(ticurses_beep(&tcu_session));
 }
-
-int session_endwin(void) {
-    return CALL(ticurses_endwin(&tcu_session));
-}

@@ -11,9 +11,10 @@ bool session_is_busy(void);
 
 /* Opens the session for the entry and the size. If it can't, it writes why to `reason`, at most `room_len` bytes. */
 int session_open(int lines, int columns, char *reason, size_t room_len);
-/* Opens a session of another size in place of this one, which session_former_cell can read until
- * session_forget_former. */
-int session_reopen(int lines, int columns);
+/* Opens a session of another size, which session_begin_next puts in place of this one. session_former_cell can read the
+ * former one until session_forget_former. */
+int session_open_next(int lines, int columns);
+int session_begin_next(void);
 int session_former_cell(int window, int y, int x, chtype *cell);
 void session_forget_former(void);
 void session_close(void);
@@ -21,6 +22,10 @@ void session_close(void);
 int session_send(int fd);
 /* Writes the session's output to `fd`, and then `count` bytes that aren't the session's. */
 int session_send_beside(int fd, const char *bytes, size_t count);
+/* Ends the session and sends what leaves the terminal as other programs need it. */
+int session_end(int fd);
+/* Whether the terminal has got output that session_end hasn't ended. */
+bool session_is_up(void);
 /* Records that the terminal may show anything: the next refresh repairs it. */
 void session_lost(void);
 
@@ -74,7 +79,6 @@ int session_clearok(int window, bool is_on);
 int session_refresh(int window);
 int session_curs_set(int visibility);
 int session_beep(void);
-int session_endwin(void);
 
 /* Copies the string `text` of terminfo without its delays to `room` if T ignores it in every state of a session, which
  * it does if an entry with this bell has a certificate. Returns the number of bytes, or 0 if T doesn't ignore them. */

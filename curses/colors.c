@@ -28,11 +28,10 @@ static void note_pair_0(void) {
     pairs[0][1] = tcu.has_default_colors ? -1 : COLOR_BLACK;
 }
 
+/* On a terminal without colors this is no error: COLORS and COLOR_PAIRS stay 0, and has_colors says no. */
 int start_color(void) {
     if (!tcu.is_open) return ERR;
-    if (tcu.has_colors) return OK;
-    /* COLOR_PAIRS stays 0 without colors, since programs count pairs there too */
-    if (!has_colors()) return ERR;
+    if (tcu.has_colors || !has_colors()) return OK;
     tcu.has_colors = true;
     COLORS = SHADES;
     COLOR_PAIRS = TCU_PAIRS;

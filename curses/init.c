@@ -49,6 +49,14 @@ static bool has_windows(void) {
     return true;
 }
 
+/* The characters of ACS_*. The other character set of a session begins at 95, so signs below are drawn in ASCII. */
+static void map_signs(void) {
+    static const char signs[][2] = {{',', '<'}, {'+', '>'}, {'-', '^'}, {'.', 'v'}, {'0', '#'}};
+    for (unsigned letter = 0; letter < 128; letter++) acs_map[letter] = letter | A_ALTCHARSET;
+    for (size_t at = 0; at < sizeof signs / sizeof *signs; at++)
+        acs_map[(unsigned char)signs[at][0]] = (unsigned char)signs[at][1];
+}
+
 static bool is_begun(const char *type) {
     uint16_t lines, columns;
     int code;
@@ -59,14 +67,14 @@ static bool is_begun(const char *type) {
     if (code != TICURSES_OK || session_open(lines, columns, fault, sizeof fault) != OK) return false;
     LINES = lines;
     COLS = columns;
-    tcu.is_ended = tcu.is_current = tcu.is_cursor_left = tcu.has_colors = tcu.has_default_colors = false;
+    tcu.is_ended = tcu.is_current = tcu.is_unfit = tcu.is_cursor_left = tcu.has_colors = tcu.has_default_colors = false;
     tcu.visibility = 1;
     if (!has_windows()) {
         snprintf(fault, sizeof fault, "%s", ticurses_text(TICURSES_NO_MEMORY));
         session_close();
         return false;
     }
-    for (unsigned letter = 0; letter < 128; letter++) acs_map[letter] = letter | A_ALTCHARSET;
+    map_signs();
     tcu_learn_keys();
     signals_begin();
     tcu.is_open = true;
@@ -116,7 +124,7 @@ int tcu_suspend(void) {
         return OK;
     }
     if (tcu.is_current) code = tcu_leave_cursor();
-    if (session_endwin() != OK || session_send(tcu.output) != OK || tcu_keypad(false) != OK) code = ERR;
+    if (session_end(tcu.output) != OK || tcu_keypad(false) != OK) code = ERR;
     if (modes_are_known() && modes_shell() != OK) code = ERR;
     tcu.is_ended = true;
     tcu.is_current = false;
@@ -125,7 +133,6 @@ int tcu_suspend(void) {
 
 /* Resumes after endwin: the terminal may have another size, and may show anything. */
 void tcu_resume(void) {
-    uint16_t lines, columns;
     bool wants_keys = stdscr && stdscr->has_keypad;
     if (!tcu.is_open || !tcu.is_ended) return;
     tcu.is_ended = false;
@@ -135,8 +142,7 @@ void tcu_resume(void) {
     for (int number = 0; number < TCU_WINDOWS; number++)
         if (tcu.windows[number] && tcu.windows[number]->has_keypad) wants_keys = true;
     if (wants_keys) tcu_keypad(true);
-    if (ticurses_size(tcu.output, &lines, &columns) == TICURSES_OK && (lines != LINES || columns != COLS))
-        resize_term(lines, columns);
+    tcu_resize();
 }
 
 int endwin(void) {

@@ -187,11 +187,12 @@ int wgetch(WINDOW *window) {
     if (!tcu_is_own(window)) return ERR;
     show_before(window);
     if (given_count == 0 && !tcu_modes.is_cbreak && modes_are_known()) return read_line(window);
-    key = read_one(window);
-    if (key == KEY_RESIZE && signals_take_size_change()) {
-        tcu_resize();
-        return key;
-    }
+    do {
+        key = read_one(window);
+        if (key == KEY_RESIZE && !signals_take_size_change()) return key;
+        /* a size that no session can have is no news to the program, and the wait goes on */
+    } while (key == KEY_RESIZE && tcu_resize() != OK);
+    if (key == KEY_RESIZE) return key;
     /* the echo is of the key as it was typed */
     if (tcu_modes.echoes && key >= 0 && key < 256) wechochar(window, (chtype)key);
     return key == '\r' && tcu_modes.reads_newlines ? '\n' : key;

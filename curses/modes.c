@@ -3,6 +3,7 @@
 #include "private.h"
 
 #include <errno.h>
+#include <stdlib.h>
 #include <string.h>
 #include <termios.h>
 #include <unistd.h>
@@ -34,9 +35,24 @@ static void read_lines(void) {
     program_modes.c_cc[VTIME] = shell_modes.c_cc[VTIME];
 }
 
+/* The process that set the modes; a child of it leaves them. */
+static pid_t owner;
+
+/* At the end of a program that didn't call endwin, has the system alter output as before, so that the shell's lines
+ * begin in the first column. All other modes stay, as in ncurses. */
+static void alter_output(void) {
+    struct termios now;
+    if (!tcu.is_open || tcu.is_ended || !are_known || getpid() != owner || tcgetattr(tcu.input, &now) != 0) return;
+    now.c_oflag |= shell_modes.c_oflag & (tcflag_t)OPOST;
+    tcsetattr(tcu.input, TCSANOW, &now);
+}
+
 /* Records the terminal's present modes as the shell's. In the program's modes the terminal passes output on unaltered,
  * returns keys as they are pressed, as the standard has it at the beginning, and doesn't echo. */
 void modes_begin(void) {
+    static bool ends_so;
+    if (!ends_so) ends_so = atexit(alter_output) == 0;
+    owner = getpid();
     memset(&tcu_modes, 0, sizeof tcu_modes);
     tcu_modes.echoes = tcu_modes.reads_newlines = true;
     memset(&shell_modes, 0, sizeof shell_modes);

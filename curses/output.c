@@ -1,5 +1,5 @@
-/* Writing at the cursor. Only printable characters are written by the session. What leaves the cursor's line is done here,
- * since a scrolling region counts otherwise in curses than in the session. */
+/* Writing at the cursor. The session writes printable characters; what leaves the cursor's line is done here, since a
+ * scrolling region counts otherwise in curses than in the session. */
 #define _POSIX_C_SOURCE 200809L
 #include "private.h"
 

@@ -1,13 +1,41 @@
 /* printf and scanf for windows. */
+#define _POSIX_C_SOURCE 200809L
 #include "private.h"
 
 #include <stdlib.h>
+#include <string.h>
+
+/* the most digits of a number in a usual format, and the most bytes of what another one makes */
+enum { DIGITS = 4, LONGEST = 1048576 };
+
+/* Whether a width or a precision of the format may keep printf busy for seconds: an argument, or a long number. */
+static bool is_unusual(const char *format) {
+    static const char digits[] = "0123456789";
+    if (strstr(format, "%*") || strstr(format, ".*") || strstr(format, "$*")) return true;
+    for (format = strpbrk(format, digits); format; format = strpbrk(format, digits)) {
+        size_t count = strspn(format, digits);
+        if (count > DIGITS) return true;
+        format += count;
+    }
+    return false;
+}
+
+/* Writes what an unusual format makes, or nothing if that is too long. */
+static int print_bounded(WINDOW *window, const char *format, va_list rest) {
+    char *text = malloc(LONGEST);
+    FILE *stream = text ? fmemopen(text, LONGEST, "w") : NULL;
+    int len = stream ? vfprintf(stream, format, rest) : -1, code = ERR;
+    if (stream && fclose(stream) == 0 && len >= 0 && len < LONGEST) code = waddnstr(window, text, len);
+    free(text);
+    return code;
+}
 
 int vw_printw(WINDOW *window, const char *format, va_list rest) {
     char room[512], *text = room;
     va_list again;
     int len, code;
     if (!tcu_is_own(window) || !format) return ERR;
+    if (is_unusual(format)) return print_bounded(window, format, rest);
     va_copy(again, rest);
     len = vsnprintf(room, sizeof room, format, rest);
     if (len >= (int)sizeof room) {

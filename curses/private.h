@@ -54,6 +54,7 @@ struct ticurses_screen {
     bool is_open;          /* there is a session */
     bool is_ended;         /* endwin was the last call; a refresh resumes the session */
     bool is_current;       /* the terminal shows what the last refresh was to show */
+    bool is_unfit;         /* the terminal has a size that no session can have */
     int input, output;     /* descriptors */
     FILE *stream;          /* the output as the program has it */
     char type[128];        /* the terminal's name */

@@ -139,8 +139,11 @@ int resize_term(int lines, int columns) {
     for (int number = 0; number < TCU_WINDOWS; number++)
         if (tcu.windows[number]) session_cursor(number, &cursors[number][0], &cursors[number][1]);
     if (session_cursor(TCU_NEWSCR, &y, &x) != OK) return ERR;
-    if (session_send(tcu.output) != OK || session_reopen(lines, columns) != OK) return ERR;
+    if (session_open_next(lines, columns) != OK) return ERR;
     tcu.is_current = false;
+    /* what a session begins with goes to a terminal that has got what one ends with */
+    if (session_is_up()) session_end(tcu.output);
+    if (session_begin_next() != OK) return ERR;
     LINES = lines;
     COLS = columns;
     code = begin_anew(now);
@@ -159,9 +162,16 @@ bool is_term_resized(int lines, int columns) {
     return tcu.is_open && (lines != LINES || columns != COLS);
 }
 
-/* Takes the size that the terminal has now. A size that no session can have changes nothing. */
+/* Takes the size that the terminal has now. Where no session can have it, the one before and its windows stay, and what
+ * they draw meanwhile may look wrong: once the terminal has their size again, the next refresh draws all anew. */
 int tcu_resize(void) {
+    bool was_unfit = tcu.is_unfit;
     uint16_t lines, columns;
-    if (ticurses_size(tcu.output, &lines, &columns) != TICURSES_OK) return ERR;
-    return resize_term(lines, columns);
+    tcu.is_unfit = ticurses_size(tcu.output, &lines, &columns) != TICURSES_OK;
+    if (!tcu.is_unfit) {
+        resize_term(lines, columns);
+        tcu.is_unfit = lines != LINES || columns != COLS;
+    }
+    if (was_unfit && !tcu.is_unfit) session_lost();
+    return tcu.is_unfit ? ERR : OK;
 }

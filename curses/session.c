@@ -12,7 +12,11 @@
 ticurses tcu_session;
 volatile sig_atomic_t tcu_is_busy;
 
-static ticurses former;
+static ticurses former, next;
+
+/* Whether the terminal has got output since the last endwin, and whether the session was lost since: the next refresh
+ * then sends once more what a session begins with. */
+static bool is_up, is_cut;
 
 bool session_is_busy(void) {
     return tcu_is_busy != 0;
@@ -56,24 +60,25 @@ int session_open(int lines, int columns, char *reason, size_t room_len) {
     } else {
         /* an earlier program may have left anything on the terminal */
         ticurses_lost(&tcu_session);
+        is_up = is_cut = false;
         run_begin();
     }
     return session_done(code);
 }
 
-int session_reopen(int lines, int columns) {
-    ticurses next = {0};
-    int code;
+int session_open_next(int lines, int columns) {
+    return session_begins() ? session_done(opened(&next, lines, columns)) : ERR;
+}
+
+int session_begin_next(void) {
     if (!session_begins()) return ERR;
-    code = opened(&next, lines, columns);
-    if (code == TICURSES_OK) {
-        ticurses_close(&former);
-        former = tcu_session;
-        tcu_session = next;
-        ticurses_lost(&tcu_session);
-        run_begin();
-    }
-    return session_done(code);
+    ticurses_close(&former);
+    former = tcu_session;
+    tcu_session = next;
+    memset(&next, 0, sizeof next);
+    ticurses_lost(&tcu_session);
+    run_begin();
+    return session_done(TICURSES_OK);
 }
 
 void session_forget_former(void) {
@@ -108,33 +113,60 @@ static int put(int fd, const char *bytes, size_t count) {
     return 0;
 }
 
+/* Takes the session as lost. */
+static int lose(void) {
+    ticurses_lost(&tcu_session);
+    is_cut = is_up;
+    return TICURSES_OUTPUT_FAILED;
+}
+
+/* Has the terminal leave its second screen before a lost session begins anew with smcup: some keep the cursor of the
+ * last smcup alone, which is then the program's own. An ESC ends whatever was cut off. */
+static int leave(int fd) {
+    char text[256];
+    const char *rmcup = entry_string("rmcup");
+    size_t count = is_cut && rmcup ? beside_plain(rmcup, text, sizeof text) : 0;
+    if (count > 0 && *text == '\033' && put(fd, text, count) != 0) return -1;
+    is_cut = false;
+    return 0;
+}
+
 int session_send(int fd) {
     char piece[4096];
     size_t count;
     int code = TICURSES_OK;
     if (!session_begins()) return ERR;
-    while (code == TICURSES_OK && (count = ticurses_output(&tcu_session, piece, sizeof piece)) > 0) {
-        if (put(fd, piece, count) != 0) {
-            ticurses_lost(&tcu_session);
-            code = TICURSES_OUTPUT_FAILED;
-        }
+    if (ticurses_waiting(&tcu_session) > 0) {
+        if (leave(fd) != 0) code = lose();
+        is_up = true;
     }
+    while (code == TICURSES_OK && (count = ticurses_output(&tcu_session, piece, sizeof piece)) > 0)
+        if (put(fd, piece, count) != 0) code = lose();
     return session_done(code);
 }
 
 int session_send_beside(int fd, const char *bytes, size_t count) {
     int code = TICURSES_OK;
     if (session_send(fd) != OK || !session_begins()) return ERR;
-    if (put(fd, bytes, count) != 0) {
-        ticurses_lost(&tcu_session);
-        code = TICURSES_OUTPUT_FAILED;
-    }
+    if (put(fd, bytes, count) != 0) code = lose();
     return session_done(code);
+}
+
+int session_end(int fd) {
+    if (session_begins() && session_done(ticurses_endwin(&tcu_session)) == OK && session_send(fd) == OK) {
+        is_up = false;
+        return OK;
+    }
+    return ERR;
+}
+
+bool session_is_up(void) {
+    return is_up;
 }
 
 void session_lost(void) {
     if (!session_begins()) return;
-    ticurses_lost(&tcu_session);
+    lose();
     session_done(TICURSES_OK);
 }
 

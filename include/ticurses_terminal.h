@@ -15,6 +15,9 @@
 #include <sys/stat.h>
 #include <termios.h>
 #include <unistd.h>
+#ifdef __linux__
+#include <sys/auxv.h>
+#endif
 
 #ifdef __cplusplus
 extern "C" {
@@ -77,17 +80,20 @@ static inline size_t ticurses_entry_in(const char *folder, size_t folder_len, co
     return 0;
 }
 
-/* The value of a variable; null if the program has rights that its user lacks, since that user could make it read
- * files. */
+/* The value of a variable; null if the program has rights that its user lacks, also those of a file's capabilities,
+ * since that user could make it read files. */
 static inline const char *ticurses_variable(const char *name) {
+#ifdef AT_SECURE
+    if (getauxval(AT_SECURE)) return NULL;
+#endif
     return geteuid() == getuid() && getegid() == getgid() ? getenv(name) : NULL;
 }
 
 /* Reads the compiled entry of the terminal `term`, or of the variable TERM if `term` is null, into `room`, and returns
  * its length; 0 if there is none. It searches where ncurses does: $TERMINFO, ~/.terminfo, the folders of
  * $TERMINFO_DIRS, /etc/terminfo, /lib/terminfo, /usr/share/terminfo. A file that can't be read or is no entry doesn't
- * end the search. If the program has rights that its user lacks (set-user-id), it skips the three places that the user
- * can choose. */
+ * end the search. If the program has rights that its user lacks (set-user-id, capabilities), it skips the three places
+ * that the user can choose. */
 static inline size_t ticurses_entry(const char *term, void *room, size_t room_len) {
     static const char known[] = "/etc/terminfo:/lib/terminfo:/usr/share/terminfo:/usr/lib/terminfo";
     const char *own = ticurses_variable("TERMINFO"), *home = ticurses_variable("HOME");

@@ -46,6 +46,10 @@ struct monitor {
     int fd, failures;
     char piece[4096];
     size_t taken, sent;
+    /* whether a session's screen is on the terminal, and the string that leaves it */
+    int is_up;
+    char rmcup[64];
+    size_t rmcup_len;
     /* the input */
     int key, number;
     struct termios before;
@@ -203,18 +207,82 @@ static void make_windows(struct monitor *m) {
         show_logged(m, m->log.kept[at % KEPT]);
 }
 
-/* Opens the session for the size that the terminal has now, also after a change, and draws all windows. If no session
- * can have this size, the open one stays open, and ends the screen. */
+/* -- the terminal -- */
+
+/* Whether bytes are still to be written. */
+static int is_pending(struct monitor *m) {
+    return m->sent < m->taken || ticurses_waiting(&m->session) > 0;
+}
+
+/* The terminal may show anything, and the next refresh draws all of it. It begins with smcup, so a terminal that has got
+ * one gets rmcup before: some keep the cursor of the last smcup alone, which would be this program's. */
+static void lose(struct monitor *m) {
+    note(m, ticurses_lost(&m->session));
+    m->sent = 0;
+    m->taken = m->is_up ? m->rmcup_len : 0;
+    memcpy(m->piece, m->rmcup, m->taken);
+    m->is_changed = 1;
+}
+
+/* Writes as much as the descriptor takes now. After an error the next refresh begins anew. */
+static void drain(struct monitor *m) {
+    for (;;) {
+        if (m->sent == m->taken) {
+            m->sent = 0;
+            m->taken = ticurses_output(&m->session, m->piece, sizeof m->piece);
+            if (m->taken == 0) return;
+        }
+        ssize_t now = write(m->fd, m->piece + m->sent, m->taken - m->sent);
+        if (now > 0) {
+            m->sent += (size_t)now;
+            m->failures = 0;
+        } else if (now < 0 && ticurses_is_full(errno)) {
+            return;
+        } else if (now == 0 || errno != EINTR) {
+            lose(m);
+            if (++m->failures >= 5) m->is_ending = 1;
+            return;
+        }
+    }
+}
+
+/* Reads rmcup for `lose`: it must begin with an ESC, which ends whatever was cut off, and have no delay. */
+static void read_rmcup(struct monitor *m) {
+    size_t len;
+    int code = ticurses_string(m->entry, m->entry_len, NULL, 0, "rmcup", m->rmcup, sizeof m->rmcup, &len);
+    if (code == TICURSES_OK && len > 0 && m->rmcup[0] == 27 && !memchr(m->rmcup, '$', len)) m->rmcup_len = len;
+}
+
+/* Ends the screen that the session has on the terminal; waits at most two seconds for one that takes no bytes. */
+static void leave(struct monitor *m) {
+    if (!m->is_up) return;
+    ticurses_callf(&m->session, "endwin");
+    for (int turn = 0; turn < 20 && is_pending(m) && m->failures < 5; turn++) {
+        struct pollfd room = {m->fd, POLLOUT, 0};
+        poll(&room, 1, 100);
+        drain(m);
+    }
+    m->is_up = 0;
+}
+
+/* Leaves the terminal as other programs need it. */
+static void restore(struct monitor *m) {
+    leave(m);
+    if (is_pending(m)) tcsetattr(STDIN_FILENO, TCSANOW, &m->before);
+    else ticurses_set_cooked(STDIN_FILENO, &m->before);
+}
+
+/* Opens the session for the size that the terminal has now, also after a change, and draws all windows. The one before
+ * ends its screen first. */
 static int open_session(struct monitor *m) {
     int code = ticurses_size(m->fd, &m->rows, &m->cols);
+    leave(m);
     if (code == TICURSES_OK)
         code = ticurses_open(&m->session, m->entry, m->entry_len, NULL, 0, m->rows, m->cols, NULL, 0);
     if (code != TICURSES_OK) return code;
     /* the terminal may show anything, and may have got only a part of an earlier session's output */
-    note(m, ticurses_lost(&m->session));
-    m->taken = m->sent = 0;
+    lose(m);
     m->is_small = m->rows < 10 || m->cols < 40;
-    m->is_changed = 1;
     m->log_rows = (m->rows - 4) / 3;
     m->page_rows = m->rows - 4 - m->log_rows;
     m->page_cols = m->cols - 2;
@@ -254,6 +322,7 @@ static void draw_status(struct monitor *m) {
 /* Has the session make the terminal show all windows. */
 static void draw(struct monitor *m) {
     m->is_changed = 0;
+    m->is_up = 1;
     if (m->is_small) {
         note(m, ticurses_callf(&m->session, "refresh 0"));
         return;
@@ -267,48 +336,7 @@ static void draw(struct monitor *m) {
     note(m, ticurses_callf(&m->session, "doupdate"));
 }
 
-/* -- the terminal -- */
-
-/* Whether bytes are still to be written. */
-static int is_pending(struct monitor *m) {
-    return m->sent < m->taken || ticurses_waiting(&m->session) > 0;
-}
-
-/* Writes as much as the descriptor takes now. After an error the next refresh begins anew. */
-static void drain(struct monitor *m) {
-    for (;;) {
-        if (m->sent == m->taken) {
-            m->sent = 0;
-            m->taken = ticurses_output(&m->session, m->piece, sizeof m->piece);
-            if (m->taken == 0) return;
-        }
-        ssize_t now = write(m->fd, m->piece + m->sent, m->taken - m->sent);
-        if (now > 0) {
-            m->sent += (size_t)now;
-            m->failures = 0;
-        } else if (now < 0 && ticurses_is_full(errno)) {
-            return;
-        } else if (now == 0 || errno != EINTR) {
-            note(m, ticurses_lost(&m->session));
-            m->taken = m->sent = 0;
-            m->is_changed = 1;
-            if (++m->failures >= 5) m->is_ending = 1;
-            return;
-        }
-    }
-}
-
-/* Leaves the terminal as other programs need it; waits at most two seconds for a terminal that takes no bytes. */
-static void restore(struct monitor *m) {
-    ticurses_callf(&m->session, "endwin");
-    for (int turn = 0; turn < 20 && is_pending(m) && m->failures < 5; turn++) {
-        struct pollfd room = {m->fd, POLLOUT, 0};
-        poll(&room, 1, 100);
-        drain(m);
-    }
-    if (is_pending(m)) tcsetattr(STDIN_FILENO, TCSANOW, &m->before);
-    else ticurses_set_cooked(STDIN_FILENO, &m->before);
-}
+/* -- signals -- */
 
 /* Stops the program after ^Z. When it continues, the terminal may show anything. */
 static void stop(struct monitor *m) {
@@ -316,9 +344,7 @@ static void stop(struct monitor *m) {
     restore(m);
     raise(SIGSTOP);
     ticurses_set_raw(STDIN_FILENO, &m->before);
-    note(m, ticurses_lost(&m->session));
-    m->taken = m->sent = 0;
-    m->is_changed = 1;
+    lose(m);
 }
 
 static void take_signals(void) {
@@ -358,7 +384,7 @@ static void act(struct monitor *m, int letter) {
         case 'g': m->top = 0; break;
         case 'G': m->top = (int)m->text.count; break;
         case '?': m->is_helping = !m->is_helping; break;
-        case 'L' - 64: note(m, ticurses_lost(&m->session)); break;
+        case 'L' - 64: lose(m); break;
         case 'q': m->is_ending = 1; break;
         default: m->is_changed = 0;
     }
@@ -429,6 +455,7 @@ int main(int argc, char **argv) {
         return 2;
     }
     m.entry_len = ticurses_entry(NULL, m.entry, sizeof m.entry);
+    read_rmcup(&m);
     note(&m, m.name ? open_session(&m) : TICURSES_NO_MEMORY);
     if (m.code == TICURSES_OK) {
         take_signals();

@@ -84,7 +84,7 @@ class Monitor:
         self.before = termios.tcgetattr(0)
         self.entry, self.session, self.piece = ticurses.find_entry(), None, b""
         self.top = self.left = self.base = self.failures = 0
-        self.is_helping = self.is_ending = self.is_changed = False
+        self.is_helping = self.is_ending = self.is_changed = self.is_up = False
         self.key, self.number = PLAIN, 0
         self.signals = collections.Counter()
         self.open_session()
@@ -92,17 +92,17 @@ class Monitor:
     # -- the screen --
 
     def open_session(self):
-        """Opens the session for the size that the terminal has now, also after a change, and draws all windows. If no
-        session can have this size, the open one stays open, and ends the screen."""
+        """Opens the session for the size that the terminal has now, also after a change, and draws all windows. The one
+        before ends its screen first."""
+        self.leave()
         self.rows, self.cols = ticurses.terminal_size(self.fd)
         if self.session is None:
             self.session = ticurses.Session(self.entry, self.rows, self.cols)
         else:
             self.session.open(self.entry, self.rows, self.cols)
         # the terminal may show anything, and may have got only a part of an earlier session's output
-        self.session.lost()
-        self.piece = b""
-        self.is_small, self.is_changed = self.rows < 10 or self.cols < 40, True
+        self.lose()
+        self.is_small = self.rows < 10 or self.cols < 40
         self.log_rows = (self.rows - 4) // 3
         self.page_rows, self.page_cols = self.rows - 4 - self.log_rows, self.cols - 2
         self.pad_rows = max(self.page_rows, min(len(self.lines), PAD_MAX))
@@ -173,7 +173,7 @@ class Monitor:
 
     def draw(self):
         """Has the session make the terminal show all windows."""
-        self.is_changed = False
+        self.is_changed, self.is_up = False, True
         if self.is_small:
             self.session.call("refresh 0")
             return
@@ -202,21 +202,33 @@ class Monitor:
             except BlockingIOError:
                 return
             except OSError:
-                self.session.lost()
-                self.piece, self.is_changed = b"", True
+                self.lose()
                 self.failures += 1
                 self.is_ending = self.is_ending or self.failures >= 5
                 return
 
+    def lose(self):
+        """The terminal may show anything, and the next refresh draws all of it."""
+        self.session.lost()
+        self.piece, self.is_changed = b"", True
+
+    def leave(self):
+        """Ends the screen that the session has on the terminal; waits at most two seconds for one that takes no
+        bytes."""
+        if not self.is_up:
+            return
+        self.session.call("endwin")
+        for _ in range(20):
+            if not self.is_pending() or self.failures >= 5:
+                break
+            self.waits([(self.fd, select.POLLOUT)])
+            self.drain()
+        self.is_up = False
+
     def restore(self):
-        """Leaves the terminal as other programs need it; waits at most two seconds for one that takes no bytes."""
+        """Leaves the terminal as other programs need it."""
         try:
-            self.session.call("endwin")
-            for _ in range(20):
-                if not self.is_pending() or self.failures >= 5:
-                    break
-                self.waits([(self.fd, select.POLLOUT)])
-                self.drain()
+            self.leave()
         finally:
             self.set_cooked()
 
@@ -237,8 +249,7 @@ class Monitor:
         self.restore()
         os.kill(os.getpid(), signal.SIGSTOP)
         self.before = ticurses.set_raw()
-        self.session.lost()
-        self.piece, self.is_changed = b"", True
+        self.lose()
 
     def take_signals(self):
         """Has each signal counted and end the wait for keys."""
@@ -264,7 +275,8 @@ class Monitor:
         elif letter == "?":
             self.is_helping = not self.is_helping
         elif letter == "\f":
-            self.session.lost()
+            self.leave()
+            self.lose()
         elif letter == "q":
             self.is_ending = True
         else:

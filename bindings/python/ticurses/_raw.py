@@ -2,6 +2,7 @@
 
 from __future__ import annotations
 
+import contextlib
 import ctypes
 import os
 from typing import Any
@@ -41,9 +42,22 @@ _CALLS: dict[str, tuple[Any, list[Any]]] = {
 }
 
 
+# the word of the system's auxiliary vector that tells rights which a file gave, capabilities among them
+AT_SECURE = 23
+
+
+def _has_more_rights() -> bool:
+    """Whether the system says that this program's file gave it rights that its user lacks."""
+    with contextlib.suppress(AttributeError):
+        word = ctypes.CDLL(None).getauxval
+        word.restype, word.argtypes = ctypes.c_ulong, [ctypes.c_ulong]
+        return bool(word(AT_SECURE))
+    return False
+
+
 def is_trusting() -> bool:
     """Whether variables of the environment may name files: not if the program has rights that its user lacks."""
-    return os.geteuid() == os.getuid() and os.getegid() == os.getgid()
+    return os.geteuid() == os.getuid() and os.getegid() == os.getgid() and not _has_more_rights()
 
 
 def path() -> str:
