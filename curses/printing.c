@@ -1,41 +1,80 @@
 /* printf and scanf for windows. */
-#define _POSIX_C_SOURCE 200809L
 #include "private.h"
 
 #include <stdlib.h>
 #include <string.h>
 
-/* the most digits of a number in a usual format, and the most bytes of what another one makes */
-enum { DIGITS = 4, LONGEST = 1048576 };
+/* the largest width or precision that is printed */
+enum { WIDEST = 1048576 };
 
-/* Whether a width or a precision of the format may keep printf busy for seconds: an argument, or a long number. */
-static bool is_unusual(const char *format) {
-    static const char digits[] = "0123456789";
-    if (strstr(format, "%*") || strstr(format, ".*") || strstr(format, "$*")) return true;
-    for (format = strpbrk(format, digits); format; format = strpbrk(format, digits)) {
-        size_t count = strspn(format, digits);
-        if (count > DIGITS) return true;
-        format += count;
+/* Reads a width or a precision, which may be an argument. Returns 0 if there is none. */
+static long number_of(const char **at, va_list *rest) {
+    long number = 0;
+    if (**at == '*') {
+        (*at)++;
+        return va_arg(*rest, int);
     }
-    return false;
+    for (; **at >= '0' && **at <= '9'; (*at)++)
+        if (number <= WIDEST) number = number * 10 + (**at - '0');
+    return number;
 }
 
-/* Writes what an unusual format makes, or nothing if that is too long. */
-static int print_bounded(WINDOW *window, const char *format, va_list rest) {
-    char *text = malloc(LONGEST);
-    FILE *stream = text ? fmemopen(text, LONGEST, "w") : NULL;
-    int len = stream ? vfprintf(stream, format, rest) : -1, code = ERR;
-    if (stream && fclose(stream) == 0 && len >= 0 && len < LONGEST) code = waddnstr(window, text, len);
-    free(text);
-    return code;
+static void skip_integer(char modifier, bool is_double, va_list *rest) {
+    if (modifier == 'l' && !is_double) va_arg(*rest, long);
+    else if (modifier == 'l') va_arg(*rest, long long);
+    else if (modifier == 'j') va_arg(*rest, intmax_t);
+    else if (modifier == 'z') va_arg(*rest, size_t);
+    else if (modifier == 't') va_arg(*rest, ptrdiff_t);
+    else va_arg(*rest, int);
+}
+
+/* Passes over the argument of a conversion. Returns false if it is none that the standard has. */
+static bool skip_argument(const char **at, va_list *rest) {
+    const char *modifier = *at;
+    *at += strspn(*at, "hlLjzt");
+    if (!**at) return false;
+    if (strchr("diouxX", **at)) skip_integer(*modifier, modifier[0] == modifier[1], rest);
+    else if (**at == 'c') va_arg(*rest, int);
+    else if (strchr("aAeEfFgG", **at) && *modifier == 'L') va_arg(*rest, long double);
+    else if (strchr("aAeEfFgG", **at)) va_arg(*rest, double);
+    else if (strchr("spn", **at)) va_arg(*rest, void *);
+    else return **at == '%';
+    return true;
+}
+
+/* Whether the next directive of the format has a width or a precision that would keep printf busy for seconds. Passes
+ * over it, and to the format's end after one that isn't known. */
+static bool is_huge(const char **at, va_list *rest) {
+    long width, precision = 0;
+    *at += 1 + strspn(*at + 1, "-+ #0'");
+    width = number_of(at, rest);
+    if (**at == '.') {
+        (*at)++;
+        precision = number_of(at, rest);
+    }
+    if (!skip_argument(at, rest)) {
+        *at += strlen(*at);
+        return false;
+    }
+    /* that of a text only makes it shorter */
+    if (*(*at)++ == 's') precision = 0;
+    return width > WIDEST || width < -WIDEST || precision > WIDEST;
+}
+
+static bool has_huge(const char *format, va_list rest) {
+    va_list again;
+    bool is_found = false;
+    va_copy(again, rest);
+    while (!is_found && (format = strchr(format, '%'))) is_found = is_huge(&format, &again);
+    va_end(again);
+    return is_found;
 }
 
 int vw_printw(WINDOW *window, const char *format, va_list rest) {
     char room[512], *text = room;
     va_list again;
     int len, code;
-    if (!tcu_is_own(window) || !format) return ERR;
-    if (is_unusual(format)) return print_bounded(window, format, rest);
+    if (!tcu_is_own(window) || !format || has_huge(format, rest)) return ERR;
     va_copy(again, rest);
     len = vsnprintf(room, sizeof room, format, rest);
     if (len >= (int)sizeof room) {

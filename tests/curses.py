@@ -26,6 +26,7 @@ from trying import TOP, held_in
 sys.path.append(f"{TOP}/tools")
 
 import curses_library
+import curses_terminals
 
 PAGE = f"{TOP}/docs/CURSES.md"
 HERE = f"{TOP}/tests/curses"
@@ -545,6 +546,7 @@ def main():
         made = Compiled(work, prefix)
         judge_answers(made)
         judge_regions(made)
+        curses_terminals.judge(made)
         judge_signals(made)
         tests = os.path.abspath(os.environ.get("NCURSES_TESTS") or f"{work}/none")
         has_tests = os.path.isfile(f"{tests}/test.priv.h")

@@ -127,16 +127,20 @@ def check_rights(program, work, environment):
         print("edge: not root, so that programs with more rights are left out")
         return
     os.chmod(work, 0o755)
-    for owner, group, bit in ((0, 0, 0o4755), (NOBODY, 0, 0o2755)):
+    has_capabilities = not missing("edge", "setcap")
+    for owner, group, bit in ((0, 0, 0o4755), (NOBODY, 0, 0o2755), *([(0, 0, 0o755)] if has_capabilities else [])):
         shutil.copy(program, f"{work}/rights")
         os.chown(f"{work}/rights", owner, group)
         os.chmod(f"{work}/rights", bit)
+        if bit == 0o755 and subprocess.run(["setcap", "cap_net_raw+ep", f"{work}/rights"], stderr=subprocess.DEVNULL).returncode:
+            print("edge: a file can't have capabilities here, and they are left out")
+            continue
         # the loader takes no path of the user's either
         how = {"env": environment, "stdout": subprocess.PIPE, "user": NOBODY, "group": NOBODY, "extra_groups": []}
         ran = subprocess.run([f"{work}/rights"], **how)
         with_rights = os.statvfs(work).f_flag & os.ST_NOSUID == 0
         if with_rights:
-            hold(ran.stdout.split()[:1] == [b"0"], "with more rights it reads what a variable names", ran)
+            hold(ran.stdout.split()[:1] == [b"0"], "with more rights it reads what a variable names", bit, ran)
     by_python = edge_python.run(work, f"os.setresuid({NOBODY}, 0, 0)\nprint(found())", environment)
     hold(int(by_python) == 0, "with more rights Python reads what a variable names", by_python)
 
@@ -213,6 +217,7 @@ def check_programs(work, linked):
             run.is_left(before, 128 + number, last)
         check_sizes(words, environment)
     for words in monitors:
+        check_resized(words, environment)
         check_stopped(words, environment)
         check_gone(words, environment)
         check_fifo(work, words, environment)
@@ -299,6 +304,20 @@ def check_stopped(words, environment):
         run.waits_for(b"<14x50>")
         os.write(run.fd, b"q")
         run.is_left(before, 0)
+
+
+def check_resized(words, environment):
+    """At a change of size the old session ends, once, before the next one begins. Drawn anew by ^L, the monitor leaves the
+    screen before the session begins anew."""
+    run, before = on_terminal(words, environment)
+    run.resize(30, 90)
+    run.waits_for(b"<30x90>")
+    hold(b"<endwin><again><30x90>" in run.sent and run.sent.count(b"<endwin>") == 1, "the old session ends otherwise", run.sent)
+    os.write(run.fd, b"\f")
+    run.waits_for(b"<again>x")
+    hold(re.search(rb"(<endwin>|\033<string>)<again>x", run.sent), "a session begins anew on the old screen", run.sent)
+    os.write(run.fd, b"q")
+    run.is_left(before, 0)
 
 
 def check_gone(words, environment):

@@ -2,7 +2,7 @@
  * session's waiting bytes are a text: `refresh N` adds N bytes and `doupdate` one, the first of them after the
  * session's opening with its size before, as in <24x80>; `endwin` adds <endwin>; after `lost` the next of them begins
  * with <again>; a line that begins with `bad` is no call, and others do nothing. An entry that has the word `wrong` has
- * no certificate above 31 rows. */
+ * no certificate above 31 rows. Each string of an entry is an ESC and <string>. */
 #include <stdint.h>
 #include <stdio.h>
 #include <stdlib.h>
@@ -65,6 +65,15 @@ int32_t ticurses_raw_verify(const uint8_t *entry, size_t entry_len, const uint8_
                             uint16_t cols, const uint8_t *certificate, size_t certificate_len) {
     (void)name, (void)name_len, (void)certificate, (void)certificate_len;
     return judged(entry, entry_len, rows, cols);
+}
+
+int32_t ticurses_raw_string(const uint8_t *entry, size_t entry_len, const uint8_t *name, size_t name_len,
+                            const uint8_t *cap, size_t cap_len, uint8_t *room, size_t room_len, size_t *needed) {
+    static const char text[] = "\033<string>";
+    (void)entry, (void)name, (void)name_len, (void)cap, (void)cap_len, (void)room_len;
+    if (!entry_len) return BAD_ENTRY;
+    memcpy(room, text, *needed = sizeof text - 1);
+    return 0;
 }
 
 static int32_t line(session *it, const char *text, size_t len) {
