@@ -384,7 +384,7 @@ static void act(struct monitor *m, int letter) {
         case 'g': m->top = 0; break;
         case 'G': m->top = (int)m->text.count; break;
         case '?': m->is_helping = !m->is_helping; break;
-        case 'L' - 64: lose(m); break;
+        case 'L' - 64: leave(m), lose(m); break;
         case 'q': m->is_ending = 1; break;
         default: m->is_changed = 0;
     }
