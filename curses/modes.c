@@ -39,10 +39,11 @@ static void read_lines(void) {
 static pid_t owner;
 
 /* At the end of a program that didn't call endwin, has the system alter output as before, so that the shell's lines
- * begin in the first column. All other modes stay, as in ncurses. */
+ * begin in the first column. All other modes stay, as in ncurses. A program in the background leaves all of them. */
 static void alter_output(void) {
     struct termios now;
-    if (!tcu.is_open || tcu.is_ended || !are_known || getpid() != owner || tcgetattr(tcu.input, &now) != 0) return;
+    if (!tcu.is_open || tcu.is_ended || !are_known || getpid() != owner) return;
+    if (tcgetpgrp(tcu.input) != getpgrp() || tcgetattr(tcu.input, &now) != 0) return;
     now.c_oflag |= shell_modes.c_oflag & (tcflag_t)OPOST;
     tcsetattr(tcu.input, TCSANOW, &now);
 }
