@@ -125,18 +125,23 @@ def looks(grid):
     return [it for it in runs if it[3]]
 
 
+def vectors():
+    """Each case of vectors/: the file, its rows and columns, the case and the state."""
+    for path in sorted(Path(f"{TOP}/vectors").glob("*.cases")):
+        cases, states = (path.with_suffix(it).read_text(encoding="ascii").splitlines() for it in (".cases", ".states"))
+        rows, cols = map(int, path.stem.rsplit("-", 1)[1].split("x"))
+        yield from ((path.name, rows, cols, case, told) for case, told in zip(cases, states))
+
+
 def beside_vectors():
     """The terminal leaves the states of vectors/. How many cases."""
-    count = 0
-    for path in sorted(Path(f"{TOP}/vectors").glob("*.cases")):
-        rows, cols = map(int, path.stem.rsplit("-", 1)[1].split("x"))
-        for case, told in zip(path.read_text().splitlines(), path.with_suffix(".states").read_text().splitlines()):
-            name, data = case.split(" ")
-            seen = state_of(name, rows, cols, bytes.fromhex(data.strip("-")))
-            if seen != json.loads(told):
-                fail(f"{path.name} {case}\nvectors have {told}\nthe second terminal {json.dumps(seen)}")
-            count += 1
-    return count
+    known = list(vectors())
+    for file, rows, cols, case, told in known:
+        name, data = case.split(" ")
+        seen = state_of(name, rows, cols, bytes.fromhex(data.strip("-")))
+        if seen != json.loads(told):
+            fail(f"{file} {case}\nvectors have {told}\nthe second terminal {json.dumps(seen)}")
+    return len(known)
 
 
 def certified(chance):
@@ -367,11 +372,10 @@ def beside_first(cases):
 def bad_input():
     """Files and sizes that can't be judged: status 2, one line on standard error, and nothing printed. How many."""
     with tempfile.TemporaryDirectory() as room:
-        files = {name: f"{room}/{name}" for name in ("mini", "cert", "two", "uses", "binary", "cut", "open", "kind")}
-        for name, held in BAD_FILES.items():
-            Path(files[name]).write_bytes(held)
-        for words in (it.split() for it in BAD_WORDS):
-            words = [files.get(it, it) for it in words]
+        files = {name: f"{room}/{name}" for name in BAD_FILES}
+        for name, path in files.items():
+            Path(path).write_bytes(BAD_FILES[name])
+        for words in ([files.get(it, it) for it in line.split()] for line in BAD_WORDS):
             ran = subprocess.run([sys.executable, f"{TOP}/tools/second/verify.py", *words], stdin=subprocess.DEVNULL, capture_output=True, text=True)
             if (ran.returncode, ran.stdout, ran.stderr.count("\n")) != (2, "", 1) or not ran.stderr.startswith("verify.py: "):
                 fail(f"verify.py {' '.join(words)}: {ran.returncode} {ran.stdout!r} {ran.stderr!r}")

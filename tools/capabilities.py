@@ -149,8 +149,8 @@ LOOKS = (
 
 TOGETHER = (
     "All strings together: `smacs` must leave the graphic set active and `rmacs` the plain one, from every state of "
-    "the sets in which strings of the entry can leave them; `acsc` may list only characters of 32 to 126; and the "
-    "strings that lead out of an unknown state (`smcup`, `enacs`, `sgr0`, `rmacs`, `csr`, `clear`, in this order) "
+    "the sets in which strings of the entry can leave them; `acsc` may give only characters of 32 to 126 to "
+    "the 25 letters that stand for a line or a sign (CERTIFICATE.md lists them); and the strings that lead out of an unknown state (`smcup`, `enacs`, `sgr0`, `rmacs`, `csr`, `clear`, in this order) "
     "must do so even after output that was cut off within a sequence. An entry with `xmc`, `hc`, `gn` or `os` gets no"
     " certificate."
 )
