@@ -84,7 +84,7 @@ def erase(grid, first, begin, last, end, cell):
 
 
 def ending(data, at):
-    """What a text that stops being whole at a place has there: the place at which T is stuck, or the bytes of an open sequence."""
+    """How a text goes on at the place after its whole functions: the place at which T is stuck, or the bytes of an open sequence."""
     begun = terminal.OPEN.match(data, at)
     known = min(begun.end(), at + terminal.LONGEST - 1) if begun else at
     return (None, data[at:]) if known == len(data) else (known, b"")

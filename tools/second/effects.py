@@ -1,4 +1,4 @@
-"""What lines of a certificate promise, and whether their bytes keep it from every start.
+"""The promises of a certificate's lines, and whether their bytes keep it from every start.
 
 A line is shown in this way: its bytes run on `terminal`, which splits the starts of its capability into cases by what the
 run asks of edges, margins and columns, and in each case every part of the state at the end has to be the one that the
@@ -91,7 +91,7 @@ class Line:
         return found
 
     def cases(self, seen):
-        """What is seen of the state that the bytes leave, for each case."""
+        """The view of the state that the bytes leave, for each case."""
         for pending in [False] if self.is_calm else [False, True]:
             last = [("", "col", 1 - self.cols)] if pending else []
             most = terminal.limits(self.rows, self.cols, *self.limits(), *last)

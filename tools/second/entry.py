@@ -44,7 +44,7 @@ def read(data):
 
 
 def compiled(data, form):
-    """The entry of a compiled file. What follows its table of strings isn't read."""
+    """The entry of a compiled file. Bytes after its table of strings aren't read."""
     names, flags, numbers, strings, size = struct.unpack_from("<5H", data, 2)
     at = 12 + names
     entry = {name: True for name, place in FLAGS.items() if place < flags and data[at + place] == 1}
