@@ -59,8 +59,10 @@ if [ "$does" = uninstall ]; then
     for file in $files lib/pkgconfig/ticurses.pc lib/pkgconfig/ticurses-curses.pc; do
         rm -f -- "$(place_of "$file")"
     done
-    rm -rf -- "$DESTDIR$PYTHONDIR/ticurses/__pycache__" "$DESTDIR$PYTHONDIR/ticurses/curses/__pycache__"
+    rm -rf -- "$DESTDIR$PYTHONDIR/ticurses/__pycache__" "$DESTDIR$PYTHONDIR/ticurses/curses/__pycache__" \
+        "$DESTDIR$PREFIX/share/ticurses/second/__pycache__"
     for folder in "$DESTDIR$PYTHONDIR/ticurses/curses" "$DESTDIR$PYTHONDIR/ticurses" \
+        "$DESTDIR$PREFIX/share/ticurses/second" "$DESTDIR$PREFIX/share/ticurses" \
         "$DESTDIR$PREFIX/share/doc/ticurses/examples/c" \
         "$DESTDIR$PREFIX/share/doc/ticurses/examples/curses" "$DESTDIR$PREFIX/share/doc/ticurses/examples/python" \
         "$DESTDIR$PREFIX/share/doc/ticurses/examples" \

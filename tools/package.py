@@ -175,7 +175,7 @@ def add_common(tree, proved, prefix, libdir, python, pages_zipped):
         tree.add(f"{prefix}share/man/man{page[-1]}/{page}{ending}", held)
     for name in sorted(os.listdir(f"{TOP}/tools/second")):
         if name.endswith(".py"):
-            tree.add(f"{prefix}{DOC}/second/{name}", read(f"{TOP}/tools/second/{name}"), 0o755 if name == "verify.py" else 0o644)
+            tree.add(f"{prefix}share/ticurses/second/{name}", read(f"{TOP}/tools/second/{name}"), 0o755 if name == "verify.py" else 0o644)
     for at, _, names in os.walk(f"{TOP}/examples"):
         for name in names:
             path = os.path.relpath(f"{at}/{name}", TOP)
