@@ -2,76 +2,52 @@
 
     python3 tools/conform                      every emulator that is installed
     python3 tools/conform tmux xterm           these
+    python3 tools/conform --only DCH xterm     the cases of one function, one file or one case
     python3 tools/conform --certificate CERT tmux    which lines of a certificate aren't so there
     python3 tools/conform --command 'myterm -e {}'   any program that runs a command in a terminal and answers CPR
+    python3 tools/conform --command 'mytest {rows} {cols}'    a program that reads cases and writes screens
+    python3 tools/conform --write-expected FILE tmux    writes the differences, and later
+    python3 tools/conform --expected FILE tmux          says which are new, and which have vanished
 
-No package is needed; an emulator that isn't installed is named and left out. The status is 0 if each that ran is as T."""
+No package is needed; an emulator that isn't installed is named and left out. The status is 0 if each that ran is as T, or
+as FILE says; 1 if not; 2 for a command line that can't be understood; 3 if an emulator that was asked for can't be run, or
+a file can't be read or written. docs/TERMINAL.md has more."""
 
 import argparse
 import json
 import os
+import signal
 import sys
 import time
-from pathlib import Path
 
 import cases as asked
-from emulator import STARTS, Missing, OtherSize
-from emulators import ALL, Display, Given, Windowed
-from screens import differences, of_state
-
-# what a session sends while a wrap is pending (counted over the sessions of four entries: 3,900 strings): for the other
-# capabilities, what a terminal does with a pending wrap never reaches a session
-SENT_PENDING = {"cr", "cup", "hpa", "home", "sgr", "sgr0", "setaf", "setab", "op", "smacs", "rmacs", "enacs", "bel", "civis", "cnorm", "cvvis", "clear", "smcup", "rmcup", "csr"}  # fmt: skip
-ERASES = {"el", "el1", "ed", "ech", "ind", "ri"}
-
-
-def reach(name, start):
-    """Whether a session of the curses library ever sends the string from such a start."""
-    if start == "wrap pending":
-        return "sent" if name in SENT_PENDING else "never sent with a wrap pending"
-    if start in ("background", "negative") and name in ERASES:
-        return "sessions erase and scroll in the default rendition"
-    return "sent"
+from emulator import Missing, OtherSize
+from emulators import ALL
+from expected import Expected, write, write_expected
+from given import Answering, Given
+from screens import Screen, differences, of_state
+from told import Told, objects, print_meanings, print_shortest, print_table, table
+from windows import Display, Windowed
 
 
-class Told:
-    """The cases that an emulator was given, and where it differed."""
-
-    def __init__(self):
-        self.asked, self.differ, self.first = {}, {}, {}
-
-    def add(self, case, found):
-        key = case.group, case.situation
-        self.asked[key] = self.asked.get(key, 0) + 1
-        if found:
-            self.differ[key] = self.differ.get(key, 0) + 1
-            self.first.setdefault(key, (case, found[0]))
-
-
-def run(kind, sizes, told, note):
+def run(kind, sizes, note):
+    """The cases of all sizes that the emulator can have."""
+    told = Told()
     for (rows, cols), group in sizes.items():
-        emulator, failed = None, 0
         try:
-            emulator = kind(rows, cols)
+            for case, seen in kind.played(rows, cols, group):
+                told.add(case, compared(kind, case, seen))
         except OtherSize as missing:
             if (rows, cols) == max(sizes):
                 raise
             note(f"{rows} by {cols} is left out: {missing}")
-            continue
-        try:
-            for case in group:
-                try:
-                    seen = emulator.show(case.data)
-                    found, failed = differences(wanted(kind, case.state), seen, kind.reads), 0
-                except Exception as error:  # whatever an emulator fails with is its answer
-                    found, failed = [f"it fails: {error!r}"], failed + 1
-                    emulator.close()
-                    if failed > STARTS:
-                        raise Missing(f"it failed {failed} times, one after another") from None
-                    emulator = kind(rows, cols)
-                told.add(case, found)
-        finally:
-            emulator.close()
+    told.version = kind.version()
+    return told
+
+
+def compared(kind, case, seen):
+    """The differences of a case, in words."""
+    return differences(wanted(kind, case.state), seen, kind.reads) if isinstance(seen, Screen) else [f"it fails: {seen!r}"]
 
 
 def wanted(kind, state):
@@ -81,75 +57,30 @@ def wanted(kind, state):
     return screen
 
 
-def table(results, by_situation):
-    """A row for each function or capability, and a column for each emulator: how many of its cases differ."""
-    keys = sorted({(key[0], key[1] if by_situation else "") for told in results.values() for key in told.asked})
-    rows = []
-    for group, situation in keys:
-        row = []
-        for told in results.values():
-            mine = [key for key in told.asked if key[0] == group and situation in ("", key[1])]
-            total, wrong = sum(told.asked[key] for key in mine), sum(told.differ.get(key, 0) for key in mine)
-            row.append("" if not total else "-" if not wrong else f"{wrong}/{total}")
-        if any(cell not in ("", "-") for cell in row):
-            rows.append([f"{group} {situation}".strip(), *row])
-    return rows
+class Runs:
+    """The runs of all emulators: what they found, and which could not be run."""
 
+    def __init__(self):
+        self.results, self.missing, self.display = {}, [], None
 
-def printed(results, versions, rows, markdown):
-    heads = ["", *results]
-    widths = [max(len(str(row[at])) for row in [heads, *rows]) for at in range(len(heads))]
-    for row in [heads, *([["-" * width for width in widths]] if markdown else []), *rows]:
-        cells = [str(cell).ljust(width) for cell, width in zip(row, widths)]
-        print("| " + " | ".join(cells) + " |" if markdown else "  ".join(cells).rstrip())
-    print()
-    for name, told in results.items():
-        wrong, total = sum(told.differ.values()), sum(told.asked.values())
-        print(f"{name} {versions[name]}: {wrong} of {total} cases differ")
+    def run_all(self, kinds, sizes):
+        try:
+            for name, kind in kinds.items():
+                self.run_one(name, kind, sizes)
+        finally:
+            if self.display:
+                self.display.close()
 
-
-def firsts(results):
-    print("\nThe first difference of each kind (the case is in vectors/, its bytes as `feed` takes them with xxd -r -p):")
-    for name, told in results.items():
-        for (group, situation), (case, why) in sorted(told.first.items()):
-            print(f"  {name} {group} ({situation}): {why}: {case.name}: {case.data.hex()}")
-
-
-def meanings(results):
-    print("\nWhat that means for the certificate:")
-    for name, told in results.items():
-        for (group, situation), (case, why) in sorted(told.first.items()):
-            print(f"  {name}: {case.name}: not so ({why}); {reach(group, situation)}")
-        if not told.first:
-            print(f"  {name}: each line that was tried is so")
-
-
-def choose(words, parser):
-    for word in words:
-        if word not in ALL:
-            parser.error(f"no adapter for {word}: there are {', '.join(ALL)}, and --command")
-    return {word: ALL[word] for word in words} if words else dict(ALL)
-
-
-def arguments():
-    parser = argparse.ArgumentParser(prog="tools/conform", description=__doc__, formatter_class=argparse.RawDescriptionHelpFormatter)
-    parser.add_argument("emulators", nargs="*", metavar="EMULATOR", help=", ".join(ALL))
-    parser.add_argument("--most", type=int, metavar="N", help="at most N cases of each file of vectors, chosen at random")
-    parser.add_argument("--sessions", type=int, default=50, metavar="N", help="N random sessions beside the vectors (50)")
-    parser.add_argument("--seed", type=int, default=1, help="of the random sessions (1)")
-    parser.add_argument("--certificate", metavar="CERT", help="the lines of this certificate in place of the vectors")
-    parser.add_argument("--command", metavar="LINE", help="a program of your own, with {} where the command to run in it belongs, {rows} and {cols}")
-    parser.add_argument("--situations", action="store_true", help="a row for each function in each situation")
-    parser.add_argument("--markdown", action="store_true", help="print the table for a page")
-    parser.add_argument("--json", metavar="FILE", help="also write all differences to this file")
-    given = parser.parse_args()
-    kinds = choose(given.emulators, parser)
-    if given.command:
-        if "{}" not in given.command:
-            parser.error("--command has no {}, which stands for the command that its terminal is to run")
-        Given.line = given.command
-        kinds = {"command": Given, **(kinds if given.emulators else {})}
-    return given, kinds
+    def run_one(self, name, kind, sizes):
+        began = time.monotonic()
+        try:
+            if (issubclass(kind, Windowed) or getattr(kind, "wants_display", False)) and not self.display:
+                self.display = opened(kind)
+            self.results[name] = run(kind, sizes, lambda text: say(f"{name}: {text}"))
+            say(f"{name}: {time.monotonic() - began:.0f} s")
+        except Missing as missing:
+            self.missing.append(name)
+            say(f"{name} is left out: {missing}")
 
 
 def opened(kind):
@@ -164,41 +95,111 @@ def opened(kind):
     return display
 
 
-def main():
-    given, kinds = arguments()
+def say(text):
+    print(f"conform: {text}", file=sys.stderr, flush=True)
+
+
+# ---- the command line
+
+
+def parser():
+    it = argparse.ArgumentParser(prog="tools/conform", description=__doc__, formatter_class=argparse.RawDescriptionHelpFormatter)
+    it.add_argument("emulators", nargs="*", metavar="EMULATOR", help=", ".join(ALL))
+    it.add_argument("--only", action="append", default=[], metavar="WORD", help="the cases of this function, file (DCH, numbers-6x20) or name (DCH/7); may be given again")
+    it.add_argument("--most", type=int, metavar="N", help="at most N cases of each file of vectors, chosen at random")
+    it.add_argument("--sessions", type=int, default=50, metavar="N", help="N random sessions beside the vectors (50)")
+    it.add_argument("--seed", type=int, default=1, help="of the random sessions (1)")
+    it.add_argument("--certificate", metavar="CERT", help="the lines of this certificate in place of the vectors")
+    it.add_argument("--command", metavar="LINE", help="a program of your own: a terminal, with {} where the command to run in it belongs; or, without {}, one that reads cases and writes screens. {rows} and {cols} are the size")
+    it.add_argument("--situations", action="store_true", help="a row for each function in each situation")
+    it.add_argument("--markdown", action="store_true", help="print the table for a page")
+    it.add_argument("--json", metavar="FILE", help="also write all differences to this file")
+    it.add_argument("--expected", metavar="FILE", help="say only what is new beside this file, and what has vanished")
+    it.add_argument("--write-expected", metavar="FILE", help="write such a file")
+    return it
+
+
+def choose(given, usage):
+    """The emulators of the command line."""
+    for word in given.emulators:
+        if word not in ALL:
+            usage.error(f"no adapter for {word}: there are {', '.join(ALL)}, and --command")
+    kinds = {word: ALL[word] for word in given.emulators}
+    if given.command:
+        own = Given if "{}" in given.command else Answering
+        own.line = given.command
+        return {"command": own, **kinds}
+    return kinds or dict(ALL)
+
+
+def chosen_cases(given, usage):
+    """All cases that there are, and those that are to be run, by size."""
     if given.certificate:
         sizes = asked.certificate(given.certificate)
     else:
-        sizes = asked.vectors(given.most)
-        for size, more in asked.sessions(given.sessions, given.seed).items():
-            sizes.setdefault(size, []).extend(more)
-    results, versions, display = {}, {}, None
-    try:
-        for name, kind in kinds.items():
-            try:
-                if (issubclass(kind, Windowed) or getattr(kind, "wants_display", False)) and not display:
-                    display = opened(kind)
-                told, began = Told(), time.monotonic()
-                run(kind, sizes, told, lambda text: print(f"conform: {name}: {text}", file=sys.stderr))
-                results[name], versions[name] = told, kind.version()
-                print(f"conform: {name}: {time.monotonic() - began:.0f} s", file=sys.stderr)
-            except Missing as missing:
-                print(f"conform: {name} is left out: {missing}", file=sys.stderr)
-    finally:
-        if display:
-            display.close()
-    if not results:
-        sys.exit("conform: none of these emulators could be run")
-    printed(results, versions, table(results, given.situations or given.certificate), given.markdown)
-    (meanings if given.certificate else firsts)(results)
+        sizes = asked.joined(asked.vectors(), asked.sessions(given.sessions, given.seed))
+    chosen, unknown = asked.narrowed(sizes, given.only, given.most)
+    if unknown:
+        usage.error(f"--only {unknown[0]}: no function, file or case is named so")
+    if not chosen:
+        usage.error("there is no case to run")
+    return {case.key() for cases in sizes.values() for case in cases}, chosen
+
+
+def report(given, results):
+    print_table(results, table(results, given.situations or given.certificate), given.markdown)
+    if given.certificate:
+        print_meanings(results)
+    elif not given.expected:
+        print_shortest(results)
+
+
+def judged(given, expected, known, results):
+    """Whether all is as it should be; with --expected its lines are printed."""
+    if expected:
+        lines = [line for name, told in results.items() for line in expected.compare(name, told, known)]
+        print(f"\nBeside {given.expected}: " + (f"{len(lines)} changes" if lines else "nothing is new, and nothing has vanished"))
+        print("".join(f"  {line}\n" for line in lines), end="")
+        return not lines
+    return bool(given.write_expected) or not any(told.differ() for told in results.values())
+
+
+def whole(given):
+    usage = parser()
+    kinds = choose(given, usage)
+    known, sizes = chosen_cases(given, usage)
+    expected, runs = Expected(given.expected) if given.expected else None, Runs()
+    runs.run_all(kinds, sizes)
+    if not runs.results:
+        raise asked.Wrong("none of these emulators could be run")
+    report(given, runs.results)
+    as_wanted = judged(given, expected, known, runs.results)
     if given.json:
-        Path(given.json).write_text(json.dumps({
-            name: {"version": versions[name], "differ": [
-                {"function": group, "situation": situation, "differ": told.differ[group, situation], "of": told.asked[group, situation],
-                 "case": told.first[group, situation][0].name, "bytes": told.first[group, situation][0].data.hex(), "why": told.first[group, situation][1]}
-                for group, situation in sorted(told.differ)]}
-            for name, told in results.items()}, indent=1) + "\n", encoding="utf-8")  # fmt: skip
-    sys.exit(1 if any(told.differ for told in results.values()) else 0)
+        told = {name: held for one, found in runs.results.items() for name, held in objects(one, found).items()}
+        write(given.json, json.dumps(told, indent=1) + "\n")
+    if given.write_expected:
+        write_expected(given.write_expected, runs.results)
+    needed = {*given.emulators, *(["command"] if given.command else []), *(expected.of if expected else [])}
+    if needed & set(runs.missing):
+        return 3
+    return 0 if as_wanted else 1
+
+
+def ended(number, _frame):
+    """A signal: what was started is ended, and what was written is removed."""
+    sys.exit(128 + number)
+
+
+def main():
+    for number in (signal.SIGTERM, signal.SIGHUP):
+        signal.signal(number, ended)
+    try:
+        sys.exit(whole(parser().parse_args()))
+    except asked.Wrong as wrong:
+        say(str(wrong))
+        sys.exit(3)
+    except KeyboardInterrupt:
+        sys.exit(130)
 
 
 if __name__ == "__main__":

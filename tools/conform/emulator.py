@@ -57,6 +57,32 @@ class Emulator:
         ran = subprocess.run(["dpkg-query", "-W", "-f", "${Version}", cls.package], capture_output=True, text=True, check=False) if shutil.which("dpkg-query") else None
         return ran.stdout if ran and ran.returncode == 0 and ran.stdout else "unknown version"
 
+    # -- cases
+
+    @classmethod
+    def played(cls, rows, cols, cases):
+        """Each case with the screen that it leaves, or with what the emulator fails with, where it fails twice: each
+        time it is started again."""
+        emulator, failed = cls(rows, cols), 0
+        try:
+            for case in cases:
+                emulator, seen = emulator.twice(case.data)
+                failed = 0 if isinstance(seen, Screen) else failed + 1
+                if failed > STARTS:
+                    raise Missing(f"it failed {failed} times, one after another")
+                yield case, seen
+        finally:
+            emulator.close()
+
+    def twice(self, data, again=True):
+        """The emulator that is there afterwards, and the screen, or what it fails with."""
+        try:
+            return self, self.show(data)
+        except Exception as error:  # whatever an emulator fails with is its answer
+            self.close()
+            new = type(self)(self.rows, self.cols)
+            return new.twice(data, False) if again else (new, error)
+
     # -- starting and ending
 
     def command(self, words):

@@ -10,10 +10,12 @@ import sys
 import time
 from pathlib import Path
 
+from alacritty import Alacritty
 from emulator import HERE, Emulator, Missing, need
 from libraries import Libtsm, Libvterm, Pyte
 from screens import Screen, alike, read_sgr
 from vte import Vte
+from windows import Windowed
 
 
 # a user without rights
@@ -25,32 +27,6 @@ def text_cells(text, rows, cols):
     lines = text.split("\n")[:rows]
     lines += [""] * (rows - len(lines))
     return [[(alike(char), None) for char in line.ljust(cols)[:cols]] for line in lines]
-
-
-class Display:
-    """An X server of its own, for the emulators with a window."""
-
-    def __init__(self):
-        need("Xvfb")
-        read, write = os.pipe()
-        words = ["Xvfb", "-displayfd", str(write), "-screen", "0", "1600x1000x24", "-nolisten", "tcp"]
-        self.process = subprocess.Popen(words, pass_fds=[write], stdout=subprocess.DEVNULL, stderr=subprocess.DEVNULL, start_new_session=True)
-        os.close(write)
-        with os.fdopen(read) as file:
-            self.name = ":" + file.readline().strip()
-
-    def close(self):
-        self.process.terminate()
-        self.process.wait()
-
-
-class Windowed(Emulator):
-    """An emulator with a window of X; `display` is set before it starts."""
-
-    display = None
-
-    def environment(self):
-        return {"DISPLAY": Windowed.display.name}
 
 
 class Xterm(Windowed):
@@ -170,48 +146,6 @@ class Kitty(Windowed):
         fields = [part.split("m", 1) for part in text.split("\033[")]
         parts = [fields[0][0]] + [f"\033[{'22;' if {'1', '2'} & set(code.split(';')) else ''}{code}m{rest}" for code, rest in fields[1:]]
         return read_sgr("".join(parts).replace("\r\n", "\n").replace("\r", "\n"), self.rows, self.cols)
-
-
-class Alacritty(Windowed):
-    """alacritty's --ref-test: its grid, which it writes when it ends; a process for each stream."""
-
-    name, package, reads, answers_mode = "alacritty", "alacritty", "BDURIfb", False
-    COLORS = ["Black", "Red", "Green", "Yellow", "Blue", "Magenta", "Cyan", "White"]
-    FLAGS = {"R": (1, "INVERSE"), "B": (2, "BOLD"), "U": (8, "UNDERLINE"), "D": (0x80, "DIM"), "I": (0x100, "HIDDEN")}
-
-    def command(self, words):
-        need("alacritty")
-        options = [f"window.dimensions.columns={self.cols}", f"window.dimensions.lines={self.rows}", "scrolling.history=0", "font.size=6"]
-        return ["alacritty", "--config-file", "/dev/null", "--ref-test", "-o", *options, "window.padding.x=0", "window.padding.y=0", "-e", *words]
-
-    def environment(self):
-        return {**super().environment(), "WINIT_UNIX_BACKEND": "x11"}
-
-    def cells(self):
-        self.peer.close()
-        self.process.wait(20)
-        raw = json.loads(Path(f"{self.room}/grid.json").read_text(encoding="utf-8"))["raw"]
-        for name in ("grid.json", "size.json", "config.json", "alacritty.recording"):
-            Path(f"{self.room}/{name}").unlink(missing_ok=True)
-        self.got = b""
-        self.start()
-        lines = raw["inner"][raw["zero"] :] + raw["inner"][: raw["zero"]]
-        return [[self.cell_of(cell) for cell in line["inner"]] for line in lines[: raw["visible_lines"]][::-1]]
-
-    def cell_of(self, cell):
-        flags = cell["flags"]
-        flags = flags["bits"] if isinstance(flags, dict) else flags
-        named = {part.strip() for part in flags.split("|")} if isinstance(flags, str) else None
-        marks = {mark for mark, (bit, name) in self.FLAGS.items() if (name in named if named is not None else flags & bit)}
-        for place, key, default in (("f", "fg", "Foreground"), ("b", "bg", "Background")):
-            color = cell[key]
-            if "Named" not in color:
-                marks.add(f"{place}{color.get('Indexed', 999)}")
-            elif color["Named"] in self.COLORS:
-                marks.add(f"{place}{self.COLORS.index(color['Named'])}")
-            elif color["Named"] != default:
-                marks.add(f"{place}999")
-        return alike(cell["c"]), frozenset(marks)
 
 
 class Tmux(Emulator):
@@ -335,27 +269,6 @@ class Foot(Emulator):
         if self.process:
             self.process.terminate()
         super().close()
-
-
-class Given(Windowed):
-    """Any program that runs a command in a terminal and answers cursor reports: the cursor alone is compared."""
-
-    name, reads, answers_mode, line = "command", "", False, ""
-
-    @classmethod
-    def version(cls):
-        return cls.line
-
-    def command(self, words):
-        inner = " ".join("'" + word.replace("'", "'\\''") + "'" for word in words)
-        line = self.line.replace("{rows}", str(self.rows)).replace("{cols}", str(self.cols)).replace("{}", inner)
-        return ["/bin/sh", "-c", line]
-
-    def environment(self):
-        return super().environment() if Windowed.display else {}
-
-    def cells(self):
-        return []
 
 
 ALL = {kind.name: kind for kind in (Xterm, Tmux, GnuScreen, Vte, Libvterm, Libtsm, Pyte, Kitty, Alacritty, Foot, Urxvt, St)}

@@ -14,8 +14,10 @@ OFF = {22: "BD", 24: "U", 25: "K", 27: "R", 28: "I"}
 
 
 class Screen:
-    def __init__(self, cells, cursor):
-        self.cells, self.cursor = cells, cursor
+    """`reads` are the marks that this screen tells, where that isn't known of its emulator."""
+
+    def __init__(self, cells, cursor, reads=None):
+        self.cells, self.cursor, self.reads = cells, cursor, reads
 
 
 def drawn(char, graphic):
@@ -46,17 +48,41 @@ def of_state(state):
     return Screen(cells, (*state["cursor"], state["visible"]))
 
 
+def seen_marks(char, marks):
+    """The marks of a cell that one can see. A blank shows its background, and nothing else of its look unless it is
+    underlined or negative; so does a concealed character."""
+    if marks & {"R", "U"} or (char != " " and "I" not in marks):
+        return marks
+    return frozenset(mark for mark in marks if mark[0] == "b" or (mark == "I" and char != " "))
+
+
+def looks_apart(wanted, seen, reads):
+    """Whether two cells of one character look different, as far as the emulator tells. Where T conceals a character,
+    its color isn't asked for, even if the emulator doesn't tell what it conceals."""
+    (char, marks), (other, others) = wanted, seen
+    if "I" in marks and "I" not in reads:
+        others = others | {"I"}
+    one, two = (seen_marks(*cell) for cell in ((char, marks), (other, others)))
+    return {mark for mark in one if mark[0] in reads} != {mark for mark in two if mark[0] in reads}
+
+
+def cell_difference(place, wanted, seen, reads):
+    """What is visibly different in a cell, in words, or nothing. Marks that are None aren't known."""
+    (char, marks), (other, others) = wanted, seen
+    hidden = "I" in marks and others is not None
+    if alike(char) != alike(other) and not (hidden and alike(other) == " "):
+        return f"{place} is {other!r} and not {char!r}"
+    if others is not None and looks_apart((alike(char), marks), (alike(char), others), reads):
+        return f"{place} {char!r} is {words(others, reads)} and not {words(marks, reads)}"
+    return ""
+
+
 def differences(wanted, seen, reads):
-    """The differences, in words. `reads` are the marks that the emulator can be asked for; marks that are None aren't
-    known."""
-    found = []
+    """The visible differences, in words. `reads` are the marks that the emulator can be asked for."""
+    found, reads = [], reads if seen.reads is None else seen.reads
     for row, (one, two) in enumerate(zip(wanted.cells, seen.cells)):
-        for col, ((char, marks), (other, others)) in enumerate(zip(one, two)):
-            hidden = "I" in marks and others is not None
-            if alike(char) != alike(other) and not (hidden and alike(other) == " "):
-                found.append(f"{row},{col} is {other!r} and not {char!r}")
-            elif others is not None and {m for m in marks if m[0] in reads} != {m for m in others if m[0] in reads}:
-                found.append(f"{row},{col} {char!r} is {words(others, reads)} and not {words(marks, reads)}")
+        told = [cell_difference(f"{row},{col}", *cells, reads) for col, cells in enumerate(zip(one, two))]
+        found += [words for words in told if words]
     if seen.cursor[:2] != (None, None) and wanted.cursor[:2] != seen.cursor[:2]:
         found.append("the cursor is at {},{} and not at {},{}".format(*seen.cursor[:2], *wanted.cursor[:2]))
     if seen.cursor[2] is not None and wanted.cursor[2] != seen.cursor[2]:
