@@ -41,7 +41,7 @@ def run(kind, sizes, note):
             if (rows, cols) == max(sizes):
                 raise
             note(f"{rows} by {cols} is left out: {missing}")
-    told.version = kind.version()
+    told.version, told.reads = kind.version(), kind.reads
     return told
 
 

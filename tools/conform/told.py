@@ -5,10 +5,10 @@ SHORT = 80
 
 
 class Told:
-    """The cases that an emulator was given, each with its differences in words, and its version."""
+    """The cases that an emulator was given, each with its differences in words; its version, and the marks that it tells."""
 
     def __init__(self):
-        self.found, self.version = [], ""
+        self.found, self.version, self.reads = [], "", ""
 
     def add(self, case, found):
         self.found.append((case, found))
@@ -56,15 +56,20 @@ def cell(wrong, total):
 
 def print_table(results, rows, markdown):
     heads = ["", *results]
-    widths = [max(len(str(row[at])) for row in [heads, *rows]) for at in range(len(heads))]
-    for row in [heads, *([["-" * width for width in widths]] if markdown else []), *rows]:
-        cells = [str(cell).ljust(width) for cell, width in zip(row, widths)]
-        print("| " + " | ".join(cells) + " |" if markdown else "  ".join(cells).rstrip())
-    print()
+    if rows:
+        print_rows([heads, *rows], markdown)
     for name, told in results.items():
         alone = [bool(found) for case, found in told.found if case.alone]
         among = f"; T stands alone in {len(alone)} of the cases, and {sum(alone)} of them differ" if alone else ""
         print(f"{name} {told.version}: {len(told.differ())} of {len(told.found)} cases differ{among}")
+
+
+def print_rows(rows, markdown):
+    widths = [max(len(row[at]) for row in rows) for at in range(len(rows[0]))]
+    for row in [rows[0], *([["-" * width for width in widths]] if markdown else []), *rows[1:]]:
+        cells = [cell.ljust(width) for cell, width in zip(row, widths)]
+        print("| " + " | ".join(cells) + " |" if markdown else "  ".join(cells).rstrip())
+    print()
 
 
 def shortest(told):
@@ -77,6 +82,8 @@ def shortest(told):
 
 
 def print_shortest(results):
+    if not any(told.differ() for told in results.values()):
+        return
     print("\nThe shortest case of each kind that differs (FILE/CASE of vectors/; `feed` takes its bytes with xxd -r -p):")
     for name, told in results.items():
         for (case, found), count in shortest(told):
@@ -123,4 +130,4 @@ def objects(name, told):
         }
         for case, found in told.differ()
     ]  # fmt: skip
-    return {name: {"version": told.version, "cases": len(told.found), "differ": differ}}
+    return {name: {"version": told.version, "reads": told.reads, "cases": len(told.found), "differ": differ}}
