@@ -46,6 +46,29 @@ def made_anew():
     return count
 
 
+# one number too many (`CSI 2 ; 3 A`, `CSI ; A`): T does nothing where every emulator that has the function takes the first
+# number; of ECH, the character after it hides that one cell was erased
+TOO_MANY = re.compile(rb"\033\[([0-9]*;[0-9;]*[ABCDGd@PLM]|2;[0-9;]*X)X$")
+
+
+def alone():
+    """Each line of alone.txt names a case that is there, once, with a count that its head allows; and it has each case of one number too many of the functions that every emulator has."""
+    head, versions, *lines = (VECTORS / "alone.txt").read_text(encoding="ascii").splitlines()
+    count = int(re.fullmatch(r"# .* how many of (\d+) emulators differ there\.", head)[1])
+    if versions.count(",") != count - 1 or not versions.startswith("# "):
+        fail(f"alone.txt names not as many emulators as {count}")
+    names = {(path.stem, line.split(b" ")[0].decode()): bytes.fromhex(line.split(b" ")[1].decode().strip("-")) for path, _, _, cases, _ in files() for line in cases.splitlines()}
+    listed = [tuple(line.split(" ")[:2]) for line in lines]
+    if [pair for pair in listed if pair not in names] or len(set(listed)) != len(listed):
+        fail("alone.txt has a case that isn't there, or one twice")
+    if any(int(line.split(" ")[2]) not in (count - 1, count) for line in lines):
+        fail("alone.txt has a case in which two emulators are as T")
+    lacking = {pair for pair, data in names.items() if pair[0].startswith("numbers-") and TOO_MANY.search(data)} - set(listed)
+    if lacking:
+        fail(f"alone.txt lacks {sorted(lacking)}")
+    return len(listed)
+
+
 def named():
     """The page's names of vttest's tests are in the program, and the files beside them are there. How many there are."""
     page = (VECTORS / "README.md").read_text(encoding="utf-8").partition("## What of other test suites they cover\n")[2]
@@ -188,6 +211,7 @@ def main():
     print(f"vectors: {count} cases leave the states that the model gives")
     print(f"vectors: {one_by_one()} runs with --json and --state print those states")
     print(f"vectors: {named()} tests of vttest are named as it names them")
+    print(f"vectors: {alone()} cases in which T stands alone are there")
     damaged()
     recordings()
     refused_together()
