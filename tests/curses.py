@@ -385,7 +385,7 @@ def judge_answers(made):
 
 
 def on_terminal(words, rows=10, cols=30):
-    """What a program prints that has a terminal of this size beside."""
+    """The output of a program that has a terminal of this size beside."""
     outer, inner = pty.openpty()
     try:
         fcntl.ioctl(outer, termios.TIOCSWINSZ, struct.pack("HHHH", rows, cols, 0, 0))

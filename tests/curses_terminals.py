@@ -1,5 +1,5 @@
-"""What programs of <ticurses/curses.h> leave on a terminal whose size changes, which loses output, or which they leave
-without endwin. tests/curses.py runs this."""
+"""The state in which programs of <ticurses/curses.h> leave a terminal whose size changes, which loses output, or which
+they leave without endwin. tests/curses.py runs this."""
 
 import os
 import subprocess
@@ -26,7 +26,7 @@ class Run(Terminal):
     """A program on a terminal."""
 
     def waits_for(self, text, begin=0):
-        """Waits until the text was sent after so many bytes."""
+        """Waits until the text was sent, at or after byte `begin` of the output."""
         end = time.monotonic() + PATIENCE
         while text not in self.sent[begin:]:
             hold(time.monotonic() < end, f"{text} doesn't come", self.sent[begin:])

@@ -90,7 +90,7 @@ def helps():
 
 
 def judge_help(texts):
-    """What `--help` prints is the text of tests/help, `help` and `-h` print it too, and no other command is there."""
+    """The text that `--help` prints is that of tests/help, `help` and `-h` print it too, and no other command is there."""
     names = {f"{name or 'ticurses'}.txt": text for name, text in texts.items()}
     if sorted(names) != sorted(os.listdir(f"{TOP}/tests/help")):
         fail(f"tests/help has {sorted(os.listdir(f'{TOP}/tests/help'))}")
@@ -103,7 +103,7 @@ def judge_help(texts):
 
 
 def judge_unruly():
-    """What doesn't go together is a usage error with its own message, and nothing else is done."""
+    """Options that don't go together are a usage error with its own message, and nothing else is done."""
     rows = [(message, line.split()) for message, lines in UNRULY.items() for line in lines]
     for (message, words), told in zip(rows, run_cases(PROGRAM, [Case(words) for _, words in rows])):
         if (told.status, told.out, told.err.decode()) != (2, b"", f"error: {message}\n\nFor more information, try '--help'.\n"):

@@ -4,8 +4,8 @@
     python3 -B tools/plants.py --check      without any proof: each still applies to its file; which crates have edits
     python3 -B tools/plants.py [CRATE..]    tries those of plants/, of all crates or of these: the prover must refuse each
 
-It tries them in a clone of what is committed, in which only these crates have edits, by `rt ci CRATE..`. What that has
-proved on this machine before isn't proved again. Each crate takes the time of a proof, and each wrong body up to a minute."""
+It tries them in a clone of what is committed, in which only these crates have edits, by `rt ci CRATE..`. Proofs that
+`rt ci` has kept on this machine count. Each crate takes the time of a proof, and each wrong body up to a minute."""
 
 import os
 import shutil
@@ -61,7 +61,7 @@ def apply(path, crate):
 
 
 def faults():
-    """What is wrong with the wrong bodies, a line each, and how many there are: of plants/, and of the crates."""
+    """The faults of the wrong bodies, a line each, and how many there are: of plants/, and of the crates."""
     crates = listed()
     planted = [(crate, it) for crate in sorted(os.listdir(f"{TOP}/plants")) if crate != "README.md" for it in edits_in(f"{TOP}/plants/{crate}")]
     edits = [(crate, it) for crate in crates for it in edits_in(f"{TOP}/crates/{crate}/must-fail")]

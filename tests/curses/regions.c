@@ -1,6 +1,6 @@
-/* regions FIRST LAST [told]: random calls that write at the edges of windows and of scrolling regions, a script of them
+/* regions FIRST LAST [listed]: random calls that write at the edges of windows and of scrolling regions, a script of them
  * for each seed from FIRST to LAST: on the screen, a window, a part of one and a pad in turn. For each seed it prints a
- * number made of the answer of each call, the cursor and the cells after it. With `told` it prints the calls. */
+ * number made of the answer of each call, the cursor and the cells after it. With `listed` it prints the calls. */
 #include <curses.h>
 
 #include <stdlib.h>

@@ -9,7 +9,7 @@ static void draw(int count) {
     mvprintw(2, 4, "<%d by %d, window %d by %d, %d>", LINES, COLS, getmaxy(stdscr), getmaxx(stdscr), count);
 }
 
-/* Draws while the terminal takes nothing. Returns whether that is told and then repaired. */
+/* Draws while the terminal takes nothing. Returns whether the library says so and then repairs it. */
 static bool is_cut_told(void) {
     int terminal = dup(STDOUT_FILENO), full = open("/dev/full", O_WRONLY);
     bool is_told;

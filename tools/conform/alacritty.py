@@ -1,7 +1,7 @@
 """alacritty's --ref-test: its grid, which it writes when it ends.
 
 A process serves many cases: when one is over, its screen is pushed into the history, and below it a line that tells its
-number. What a case leaves beside the screen is then set back. A screen that isn't in the history in the end (the case has
+number. The state that a case leaves beside the screen is then set back. A screen that isn't in the history in the end (the case has
 erased it, or was in the alternate screen, which has none) is made again by the next process, which has fewer cases: the
 screen of the last one is always there."""
 

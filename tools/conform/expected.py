@@ -55,7 +55,7 @@ def write_expected(path, results):
 
 
 class Expected:
-    """What a file says: by emulator, then by file and case, how many differences and the first."""
+    """The content of a file: by emulator, then by file and case, how many differences and the first."""
 
     def __init__(self, path):
         try:
@@ -86,7 +86,7 @@ class Expected:
         cases[key] = (told["count"], told["first"])
 
     def compare(self, name, told, known):
-        """What is new and what has vanished: words for each. A case that was not run says nothing, but for one that isn't
+        """The new differences and the vanished ones: words for each. A case that was not run says nothing, but for one that isn't
         among the known ones any more."""
         wanted, ran = self.of.get(name, {}), {case.key(): found for case, found in told.found}
         gone = {key for key in wanted if key[0] in {file for file, _ in known} and key not in known}
@@ -96,7 +96,7 @@ class Expected:
 
 
 def change(before, found, is_gone):
-    """What has changed in a case, and how it differs now."""
+    """The change of a case, and how it differs now."""
     if is_gone:
         return "vanished", ": there is no such case now"
     if found and before is None:

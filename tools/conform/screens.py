@@ -67,7 +67,7 @@ def looks_apart(wanted, seen, reads):
 
 
 def cell_difference(place, wanted, seen, reads):
-    """What is visibly different in a cell, in words, or nothing. Marks that are None aren't known."""
+    """The visible difference of a cell, in words, or nothing. Marks that are None aren't known."""
     (char, marks), (other, others) = wanted, seen
     hidden = "I" in marks and others is not None
     if alike(char) != alike(other) and not (hidden and alike(other) == " "):

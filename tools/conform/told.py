@@ -1,4 +1,4 @@
-"""What was found: counts for tables, each difference, and how both are printed."""
+"""The findings: counts for tables, each difference, and how both are printed."""
 
 # longer bytes are in vectors/, and in the file of --json
 SHORT = 80
