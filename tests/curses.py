@@ -409,7 +409,7 @@ def judge_regions(made):
     differing = [line.split()[0] for line, here in zip(one, other) if line != here]
     if differing or len(one) != SCRIPTS or len(other) != SCRIPTS:
         seed = differing[0] if differing else "1"
-        told = zip(*(on_terminal([it, seed, seed, "told"]) for it in programs))
+        told = zip(*(on_terminal([it, seed, seed, "listed"]) for it in programs))
         first = next((pair for pair in told if pair[0] != pair[1]), "")
         fail(f"{len(differing)} of {SCRIPTS} scripts of regions differ; script {seed} first in (ncurses, here):\n{first}")
     print(f"curses: {SCRIPTS} random scripts of scrolling regions and edges go as they go in ncurses, call by call")
