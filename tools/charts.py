@@ -115,9 +115,10 @@ def sending(tables):
 
 
 def program(tables):
+    """The scenes that draw; the last column is for programs of curses.h, whose cells have another form."""
     names, *rows = tables[0]
     return [
-        (row[0], ratios(names, row, 3, 1)) for row in rows if row[1] == "24 by 80" and row[0] not in ("lines", "open")
+        (row[0], ratios(names[:-1], row[:-1], 3, 1)) for row in rows if row[1] == "24 by 80" and row[0] != "open"
     ]
 
 
