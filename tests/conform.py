@@ -105,8 +105,12 @@ FOLDERS = ["/etc/terminfo", "/lib/terminfo", "/usr/share/terminfo"]
 def certificates(most):
     """Certificates of the system's entries, of the first for which there is one."""
     paths = sorted({str(path) for folder in FOLDERS for path in Path(folder).glob("*/*") if path.name[0] in "adlrstvx"}, key=lambda it: it.split("/terminfo/")[1])
-    told = run_cases(PROGRAM, [Case(["check", path, "6", "20"]) for path in paths[:: max(1, len(paths) // 150)]])
-    return [one.out for one in told if one.status == 0][:most]
+    chosen, texts = paths[:: max(1, len(paths) // 150)], []
+    while chosen and len(texts) < most:
+        told = run_cases(PROGRAM, [Case(["check", path, "6", "20"]) for path in chosen[:most]])
+        texts += [one.out for one in told if one.status == 0]
+        chosen = chosen[most:]
+    return texts[:most]
 
 
 def on_database(room):
