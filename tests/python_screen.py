@@ -344,10 +344,11 @@ def check_stopped(package, work):
     write(f"{work}/demo.sh", f"exec '{sys.executable}' -m ticurses.demo\n".encode())
     pane = package.pane(work, "stopped", ["sh", "-c", STOPPED, f"{work}/demo.sh"])
     pane.until(lambda it: "24 lines" in it)
-    shots = [re.sub(r"\x1b\[[\d;]*m", "", text) for text, _ in pane.shots(["C-z", "Enter", "x", "q"])]
+    # on a busy machine the interpreter takes a while to end
+    shots = [re.sub(r"\x1b\[[\d;]*m", "", text) for text, _ in pane.shots(["C-z", "Enter", "x", "q", "@3000"])]
     shows = ["24 lines, 80 columns" in it for it in shots]
-    hold(shows == [True, False, True, True, False], "stopped, the demo shows", shots)
-    left = ["stopped 148\nopost icanon echo" in shots[1], "over 0\nopost icanon echo" in shots[4]]
+    hold(shows == [True, False, True, True, False, False], "stopped, the demo shows", shots)
+    left = ["stopped 148\nopost icanon echo" in shots[1], "over 0\nopost icanon echo" in shots[5]]
     hold(all(left), "the demo leaves the shell", shots)
     print("python: ^Z stops the demo with the terminal as it was before, and it goes on")
 
