@@ -24,9 +24,9 @@ import screens  # noqa: E402
 
 # where each is known to differ (docs/TERMINAL.md): the function and what the cases are about
 KNOWN = {
-    "libvterm": {("DL", "margins"), ("IL", "margins"), ("ECH", "backgrounds"), ("ED", "backgrounds")},
+    "libvterm": {("DL", "margins"), ("IL", "margins"), ("ECH", "backgrounds")},
     "tmux": {("IL", "margins"), ("LF", "wrap-pending"), ("VPA", "wrap-pending")},
-    "pyte": {("ED", "backgrounds"), ("VPA", "wrap-pending"), ("SU", "functions")},
+    "pyte": {("ECH", "backgrounds"), ("VPA", "wrap-pending"), ("SU", "functions")},
 }
 # and where none of them does
 ALIKE, PLAIN = {"CUP", "HVP", "CHA", "CR"}, {"functions", "backgrounds", "wrap-pending"}

@@ -22,8 +22,9 @@ from trying import PROGRAM, TOP, Case, held_in, run_cases
 sys.path.append(f"{TOP}/tools/conform")
 
 from emulator import Missing  # noqa: E402
-from emulators import ALL, Display, Windowed  # noqa: E402
+from emulators import ALL  # noqa: E402
 from screens import differences, of_state  # noqa: E402
+from windows import Display, Windowed  # noqa: E402
 
 TERMINALS = ["xterm", "vte", "libvterm", "tmux"]
 # an entry of the examples, so that what the system describes plays no part
