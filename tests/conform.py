@@ -318,7 +318,7 @@ VISIBLE = [
     (" ", "R", "", "R", True), (" ", "Rf1", "Rf2", "Rfb", True), (" ", "U", "", "U", True), (" ", "Uf1", "Uf2", "Uf", True),
     ("a", "f1", "f2", "fb", True), ("a", "K", "", "K", True), ("a", "K", "", "B", False),
     ("a", "If1", "f2", "fb", False), ("a", "Ib1", "b2", "fb", True), ("a", "If1", "If2", "If", False), ("a", "I", "", "I", True),
-    ("a", "IRf1", "IRf2", "IRf", True), (" ", "I", "", "I", False),
+    ("a", "IRf1", "IRf2", "IRf", True), (" ", "I", "", "I", False), ("a", "BIR", "B", "BUK", False), (" ", "BR", "B", "BUK", False),
 ]  # fmt: skip
 
 

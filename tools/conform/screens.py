@@ -57,11 +57,10 @@ def seen_marks(char, marks):
 
 
 def looks_apart(wanted, seen, reads):
-    """Whether two cells of one character look different, as far as the emulator tells. Where T conceals a character,
-    its color isn't asked for, even if the emulator doesn't tell what it conceals."""
+    """Whether two cells of one character look different, as far as the emulator tells. A mark that decides what one can
+    see of a cell, and that the emulator doesn't tell, is taken to be as T has it."""
     (char, marks), (other, others) = wanted, seen
-    if "I" in marks and "I" not in reads:
-        others = others | {"I"}
+    others = others | {mark for mark in marks & {"R", "U", "I"} if mark not in reads}
     one, two = (seen_marks(*cell) for cell in ((char, marks), (other, others)))
     return {mark for mark in one if mark[0] in reads} != {mark for mark in two if mark[0] in reads}
 
