@@ -1,5 +1,6 @@
 """A VTE widget (GTK 3), in this process: its text and attributes as HTML."""
 
+import html
 import os
 import re
 import sys
@@ -9,6 +10,8 @@ from emulator import Emulator, Missing, OtherSize
 from screens import alike
 
 FRONT, BACK = "E0E0E0", "101010"
+# the columns from one tab stop to the next
+TAB = 8
 PALETTE = ["000000", "C00000", "00C000", "C0C000", "0000C0", "C000C0", "00C0C0", "B0B0B0"]
 
 
@@ -89,7 +92,8 @@ class Vte(Emulator):
         cells = [cell for line in html_lines(got.decode("utf-16")) for cell in [*line, None]]
         lines, top = [], self.terminal.get_cursor_position()[1] - self.cursor()[0]
         for row in range(top, top + self.rows):
-            length = len(self.terminal.get_text_range(row, 0, row, self.cols, None, None)[0].rstrip("\n"))
+            text = self.terminal.get_text_range(row, 0, row, self.cols, None, None)[0].rstrip("\n")
+            length = len(text.expandtabs(TAB))
             line, cells = cells[:length], cells[length:]
             lines.append((line + [(" ", frozenset())] * self.cols)[: self.cols])
             if cells and cells[0] is None:
@@ -104,7 +108,7 @@ class Vte(Emulator):
 
 
 def html_lines(text):
-    """The cells of VTE's HTML."""
+    """The cells of VTE's HTML. Blanks that HT has passed over are one tab there."""
     text = text[text.index("<pre>") + 5 : text.rindex("</pre>")]
     lines, stack = [[]], []
     for part in re.findall(r"<[^>]*>|&[^;]*;|.|\n", text, re.S):
@@ -114,8 +118,9 @@ def html_lines(text):
             stack.append(part)
         elif part == "\n":
             lines.append([])
+        elif part == "\t":
+            lines[-1] += [(" ", frozenset())] * (TAB - len(lines[-1]) % TAB)
         else:
-            char = {"&lt;": "<", "&gt;": ">", "&amp;": "&", "&nbsp;": " "}.get(part, part)
             tags = " ".join(stack)
-            lines[-1].append((alike(char), frozenset(mark for mark, tag in zip("BUK", ("<b>", "<u", "<blink>")) if tag in tags)))
+            lines[-1].append((alike(html.unescape(part)), frozenset(mark for mark, tag in zip("BUK", ("<b>", "<u", "<blink>")) if tag in tags)))
     return lines
