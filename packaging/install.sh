@@ -59,10 +59,11 @@ if [ "$does" = uninstall ]; then
     for file in $files lib/pkgconfig/ticurses.pc lib/pkgconfig/ticurses-curses.pc; do
         rm -f -- "$(place_of "$file")"
     done
+    shared=$DESTDIR$PREFIX/share/ticurses
     rm -rf -- "$DESTDIR$PYTHONDIR/ticurses/__pycache__" "$DESTDIR$PYTHONDIR/ticurses/curses/__pycache__" \
-        "$DESTDIR$PREFIX/share/ticurses/second/__pycache__"
+        "$shared/second/__pycache__"
     for folder in "$DESTDIR$PYTHONDIR/ticurses/curses" "$DESTDIR$PYTHONDIR/ticurses" \
-        "$DESTDIR$PREFIX/share/ticurses/second" "$DESTDIR$PREFIX/share/ticurses" \
+        "$shared/second" "$shared/certificates" "$shared" \
         "$DESTDIR$PREFIX/share/doc/ticurses/examples/c" \
         "$DESTDIR$PREFIX/share/doc/ticurses/examples/curses" "$DESTDIR$PREFIX/share/doc/ticurses/examples/python" \
         "$DESTDIR$PREFIX/share/doc/ticurses/examples" \

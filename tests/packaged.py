@@ -242,6 +242,25 @@ def check_sums(folder):
     hold({"ticurses", "curses_c"} <= crates and crates == verdicts, "crates without a verdict", crates - verdicts)
 
 
+def check_shared(bare, program, shared):
+    """The certificates, by both verifiers where that takes no minutes; one that is altered is refused by both."""
+    folder = f"{shared}/certificates"
+    ran(["sha256sum", "--check", "--quiet", "SHA256SUMS"], cwd=folder)
+    names = sorted(name[: -len(".cert.gz")] for name in os.listdir(folder) if name.endswith(".cert.gz"))
+    hold(len(names) >= 40, "few certificates", names)
+    hold(f"{len(names)} entries" in held_in(f"{folder}/README").decode(), "README has another count")
+    for name in names:
+        entry, held = f"{folder}/{name}.ti", gzip.decompress(held_in(f"{folder}/{name}.cert.gz"))
+        verifiers = [[program, "verify", f"{entry}:{name}", "24", "80", "-"]]
+        if name in ("linux", "vt100", "xterm-256color"):
+            verifiers.append(["python3", "-B", f"{shared}/second/verify.py", entry, "24", "80", "-"])
+        for words in verifiers:
+            said = subprocess.run(bare.line(words), input=held, capture_output=True)
+            hold((said.returncode, said.stdout) == (0, b"yes\n"), f"no yes for {name}", words, said)
+            said = subprocess.run(bare.line(words), input=held.replace(b"row=1 ", b"row=2 ", 1), capture_output=True)
+            hold(said.returncode == 1 and b"NotShown" in said.stderr, f"an altered {name} passes", words, said)
+
+
 def check_tarball(bare, package, work):
     """The archive: run in place, installed, used, and removed."""
     with tarfile.open(package) as archive:
@@ -252,6 +271,7 @@ def check_tarball(bare, package, work):
     check_sums(f"{top}/share/doc/ticurses")
     ran(["sha256sum", "--check", "--quiet", "share/doc/ticurses/BUILT"], cwd=top)
     check_program(bare, f"{top}/bin/ticurses", work)
+    check_shared(bare, f"{top}/bin/ticurses", f"{top}/share/ticurses")
     prefix = f"{work}/prefix"
     os.makedirs(f"{prefix}/bin")
     held_in_place = f"{prefix}/bin/other"
@@ -296,7 +316,8 @@ def main():
         check_dpkg(debian, work)
         check_tarball(bare, tarball, work)
     print(
-        "package: the same bytes twice; without a toolchain both answer, compile hello.c and draw; both are removed again"
+        "package: the same bytes twice; without a toolchain both answer, compile hello.c and draw; their certificates are "
+        "verified; both are removed again"
     )
 
 

@@ -6,9 +6,8 @@
 They go to FOLDER, or to out/. Nothing is proved that is proved already: the program and the library are taken as they
 are, as they were kept, or as ./build and ./install build them. Packages of equal sources have equal bytes: files are
 sorted, belong to root, and are as old as $SOURCE_DATE_EPOCH says, or else as the last commit, or else as the first of
-January
-2026. Both have the toolchain's verdict on each crate (PROVED) and the checksums of what was proved (SHA256SUMS). The
-status is 0, 1 if a file could not be written, 125 if a crate or a tool failed, 127 without a tool, 2 for other words."""
+January 2026. Both have the toolchain's verdict on each crate (PROVED) and the checksums of what was proved (SHA256SUMS),
+certificates of well-known entries, and the second verifier. The status is 0, 1 if a file could not be written, 125 if a crate or a tool failed, 127 without a tool, 2 for other words."""
 
 import contextlib
 import gzip
@@ -24,6 +23,7 @@ import tempfile
 import time
 
 import build
+import certificates
 import curses_library as curses
 import kept
 import verdicts
@@ -39,7 +39,9 @@ MULTIARCH = "x86_64-linux-gnu"
 NAME = f"ticurses-{VERSION}-{MULTIARCH}"
 DEBIAN = f"ticurses_{VERSION}_amd64.deb"
 MAINTAINER = "Tayraniello maintainers <maintainers@users.noreply.tayraniello.example>"
-DOC = "share/doc/ticurses"
+DOC, SHARED = "share/doc/ticurses", "share/ticurses"
+# folders of the sources that are in share/ticurses as they are, by their names there
+FOLDERS = {"second": "tools/second"}
 # the packages of Debian that have the shared libraries
 PACKAGED = {"libc.so.6": "libc6", "libm.so.6": "libc6", "ld-linux-x86-64.so.2": "libc6", "libgcc_s.so.1": "libgcc-s1"}
 
@@ -135,6 +137,7 @@ class Proved:
         sources = PROVED.sources(), LIBRARY.sources()
         said = [verdicts.read(it, own) for it, own in zip((PROVED, LIBRARY), sources)]
         self.verdicts = "".join(dict.fromkeys(line for lines in said for line in lines))
+        self.certificates = certificates.files(PROVED.files[0], zipped)
         self.sums = "".join(
             sorted({*sources[0].splitlines(True), *sources[1].splitlines(True)}, key=lambda it: it.split("  ", 1)[1])
         )
@@ -158,6 +161,19 @@ def add_curses(tree, prefix, libdir, searched):
     tree.links[f"{libdir}/{curses.ARCHIVE[:-2]}.so"] = curses.SONAME
 
 
+def add_shared(tree, proved, at):
+    """The files that need no library: certificates and the second verifier."""
+    for name, folder in FOLDERS.items():
+        for file in sorted(os.listdir(f"{TOP}/{folder}")):
+            if os.path.isfile(f"{TOP}/{folder}/{file}"):
+                mode = 0o755 if (name, file) == ("second", "verify.py") else 0o644
+                tree.add(f"{at}/{name}/{file}", read(f"{TOP}/{folder}/{file}"), mode)
+    for file, held in proved.certificates.items():
+        tree.add(f"{at}/certificates/{file}", held)
+    count = sum(file.endswith(".ti") for file in proved.certificates)
+    tree.add(f"{at}/certificates/README", filled("certificates/README", COUNT=str(count)))
+
+
 def add_common(tree, proved, prefix, libdir, python, pages_zipped):
     """The files of both packages, below a prefix."""
     tree.add(f"{prefix}bin/ticurses", proved.program, 0o755)
@@ -173,9 +189,7 @@ def add_common(tree, proved, prefix, libdir, python, pages_zipped):
         if pages_zipped:
             held, ending = zipped(held), ".gz"
         tree.add(f"{prefix}share/man/man{page[-1]}/{page}{ending}", held)
-    for name in sorted(os.listdir(f"{TOP}/tools/second")):
-        if name.endswith(".py"):
-            tree.add(f"{prefix}share/ticurses/second/{name}", read(f"{TOP}/tools/second/{name}"), 0o755 if name == "verify.py" else 0o644)
+    add_shared(tree, proved, f"{prefix}{SHARED}")
     for at, _, names in os.walk(f"{TOP}/examples"):
         for name in names:
             path = os.path.relpath(f"{at}/{name}", TOP)
@@ -215,14 +229,20 @@ def changelog(age):
 
 def copyright_text():
     """The license in Debian's form."""
-    text = read(f"{TOP}/LICENSE").decode()
-    found = re.search(r"^Copyright \(c\) (.*)$", text, re.M)
-    lines = text[text.index("Permission is hereby") :].strip().splitlines()
-    body = "".join(f" {line}\n" if line.strip() else " .\n" for line in lines)
+    own, of_ncurses = license_in(read(f"{TOP}/LICENSE").decode()), license_in(certificates.heading())
     return (
         "Format: https://www.debian.org/doc/packaging-manuals/copyright-format/1.0/\nUpstream-Name: ticurses\n\n"
-        f"Files: *\nCopyright: {found[1]}\nLicense: Expat\n\nLicense: Expat\n{body}"
+        f"Files: *\nCopyright: {own[0]}\nLicense: Expat\n\n"
+        f"Files: {SHARED}/certificates/*\nCopyright: {of_ncurses[0]}\nLicense: X11\n\n"
+        f"License: Expat\n{own[1]}\nLicense: X11\n{of_ncurses[1]}"
     )
+
+
+def license_in(text):
+    """The holders and the terms of a license, as Debian writes them."""
+    holders = "\n ".join(re.findall(r"^Copyright (?:\(c\) )?(.*)$", text, re.M))
+    lines = text[text.index("Permission is hereby") :].strip().splitlines()
+    return holders, "".join(f" {line}\n" if line.strip() else " .\n" for line in lines)
 
 
 def debian(proved, age):
