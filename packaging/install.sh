@@ -61,9 +61,9 @@ if [ "$does" = uninstall ]; then
     done
     shared=$DESTDIR$PREFIX/share/ticurses
     rm -rf -- "$DESTDIR$PYTHONDIR/ticurses/__pycache__" "$DESTDIR$PYTHONDIR/ticurses/curses/__pycache__" \
-        "$shared/second/__pycache__"
+        "$shared/second/__pycache__" "$shared/conform/__pycache__" "$shared/vectors/__pycache__"
     for folder in "$DESTDIR$PYTHONDIR/ticurses/curses" "$DESTDIR$PYTHONDIR/ticurses" \
-        "$shared/second" "$shared/certificates" "$shared" \
+        "$shared/second" "$shared/conform" "$shared/vectors" "$shared/certificates" "$shared" \
         "$DESTDIR$PREFIX/share/doc/ticurses/examples/c" \
         "$DESTDIR$PREFIX/share/doc/ticurses/examples/curses" "$DESTDIR$PREFIX/share/doc/ticurses/examples/python" \
         "$DESTDIR$PREFIX/share/doc/ticurses/examples" \

@@ -261,6 +261,52 @@ def check_shared(bare, program, shared):
             hold(said.returncode == 1 and b"NotShown" in said.stderr, f"an altered {name} passes", words, said)
 
 
+# a Makefile, and what the workflow's runner has beside it
+MAKEFILE = "screens: screens.py\n\tprintf '#!/bin/sh\\nexec /usr/bin/python3 -B screens.py \"$$@\"\\n' >$@\n\tchmod +x $@\n"
+SUDO = '#!/bin/sh\n[ "$1 $2 $3" = "apt-get install --yes" ] && exec dpkg -x "$4" root\nexit 9\n'
+
+
+def block(page, language):
+    """The first block of code in a language."""
+    return re.search(rf"^```{language}\n(.*?)^```$", page, re.M | re.S)[1]
+
+
+def steps_of(workflow):
+    """The commands of a workflow's steps."""
+    found = re.findall(r"^( *)- run: (?:\|\n((?:\1    .*\n)+)|(.*)\n)", workflow, re.M)
+    return ["\n".join(line.strip() for line in many.splitlines()) or one for _, many, one in found]
+
+
+def check_workflow(package, work):
+    """The steps of docs/TERMINAL.md's workflow, in a folder as a checkout would be, over the page's adapter for pyte."""
+    words = ["/usr/bin/python3", "-c", "import pyte"]
+    if missing("package", "dpkg", "make", "bash") or subprocess.run(words, capture_output=True).returncode:
+        print("package: pyte isn't installed, or a tool is missing, and the page's workflow is left out")
+        return
+    page, room = held_in(f"{TOP}/docs/TERMINAL.md").decode(), f"{work}/workflow"
+    os.makedirs(f"{room}/ci")
+    os.makedirs(f"{room}/bin")
+    shutil.copy(package, f"{room}/ci")
+    for name, text in (("Makefile", MAKEFILE), ("screens.py", block(page, "python")), ("bin/sudo", SUDO)):
+        with open(f"{room}/{name}", "w", encoding="utf-8") as file:
+            file.write(text)
+    os.chmod(f"{room}/bin/sudo", 0o755)
+    [first] = re.findall(r"^    (python3 .* --write-expected expected.jsonl)$", page, re.M)
+    install, make, judge = steps_of(block(page, "yaml"))
+    how = {"cwd": room, "env": {**os.environ, "PATH": f"{room}/bin:/usr/bin:/bin"}}
+    for step in (install, make, first, judge):
+        step = step.replace("/usr/share/ticurses", f"{room}/root/usr/share/ticurses")
+        ran(["bash", "--noprofile", "--norc", "-eo", "pipefail", "-c", step], **how)
+    hold(os.path.exists(f"{room}/found.json"), "the workflow writes no found.json")
+    with open(f"{room}/expected.jsonl", encoding="utf-8") as file:
+        lines = file.read().splitlines(True)
+    with open(f"{room}/expected.jsonl", "w", encoding="utf-8") as file:
+        file.writelines(line for line in lines if "VPA/" not in line)
+    judge = judge.replace("/usr/share/ticurses", f"{room}/root/usr/share/ticurses").replace("--json", "--only VPA --json")
+    said = subprocess.run(["bash", "-eo", "pipefail", "-c", judge], capture_output=True, text=True, **how)
+    hold(said.returncode == 1 and "new: command" in said.stdout, "a new difference passes the workflow", said)
+
+
 def check_tarball(bare, package, work):
     """The archive: run in place, installed, used, and removed."""
     with tarfile.open(package) as archive:
@@ -314,6 +360,7 @@ def main():
         bare = Bare()
         check_debian(bare, debian, work)
         check_dpkg(debian, work)
+        check_workflow(debian, work)
         check_tarball(bare, tarball, work)
     print(
         "package: the same bytes twice; without a toolchain both answer, compile hello.c and draw; their certificates are "

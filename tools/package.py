@@ -7,7 +7,8 @@ They go to FOLDER, or to out/. Nothing is proved that is proved already: the pro
 are, as they were kept, or as ./build and ./install build them. Packages of equal sources have equal bytes: files are
 sorted, belong to root, and are as old as $SOURCE_DATE_EPOCH says, or else as the last commit, or else as the first of
 January 2026. Both have the toolchain's verdict on each crate (PROVED) and the checksums of what was proved (SHA256SUMS),
-certificates of well-known entries, and the second verifier. The status is 0, 1 if a file could not be written, 125 if a crate or a tool failed, 127 without a tool, 2 for other words."""
+certificates of well-known entries, the second verifier, and conform with its vectors. The status is 0, 1 if a file could
+not be written, 125 if a crate or a tool failed, 127 without a tool, 2 for other words."""
 
 import contextlib
 import gzip
@@ -41,7 +42,7 @@ DEBIAN = f"ticurses_{VERSION}_amd64.deb"
 MAINTAINER = "Tayraniello maintainers <maintainers@users.noreply.tayraniello.example>"
 DOC, SHARED = "share/doc/ticurses", "share/ticurses"
 # folders of the sources that are in share/ticurses as they are, by their names there
-FOLDERS = {"second": "tools/second"}
+FOLDERS = {"second": "tools/second", "conform": "tools/conform", "vectors": "vectors"}
 # the packages of Debian that have the shared libraries
 PACKAGED = {"libc.so.6": "libc6", "libm.so.6": "libc6", "ld-linux-x86-64.so.2": "libc6", "libgcc_s.so.1": "libgcc-s1"}
 
@@ -162,7 +163,7 @@ def add_curses(tree, prefix, libdir, searched):
 
 
 def add_shared(tree, proved, at):
-    """The files that need no library: certificates and the second verifier."""
+    """The files that need no library: certificates, the second verifier, conform and its vectors."""
     for name, folder in FOLDERS.items():
         for file in sorted(os.listdir(f"{TOP}/{folder}")):
             if os.path.isfile(f"{TOP}/{folder}/{file}"):

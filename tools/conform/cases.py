@@ -7,7 +7,9 @@ import re
 import sys
 from pathlib import Path
 
-VECTORS = Path(__file__).resolve().parents[2] / "vectors"
+# the vectors are beside conform in a package, and beside tools/ in the sources
+FOLDERS = [folder / "vectors" for folder in Path(__file__).resolve().parents[1:3]]
+VECTORS = next((folder for folder in FOLDERS if folder.is_dir()), FOLDERS[-1])
 sys.path.insert(0, str(VECTORS))
 
 from make import at, at_random  # noqa: E402
