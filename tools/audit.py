@@ -4,6 +4,8 @@ that every word on which a published clause depends."""
 import math
 import re
 
+import kit_words
+from crates import TOP
 from specs import (
     CRATES,
     cited,
@@ -68,6 +70,8 @@ COMMANDS = [
 
 # functions by which the program answers all commands, and the parser of the line, which has no clause
 OF_ALL = {"report", "write_reply", "write_text", "usage_error", "refuse_usage", "parse_line"}
+
+PAGE = f"{TOP}/docs/AUDIT.md"
 
 # how fast a reader goes who looks at each line until it is clear
 LINES_A_MINUTE = 6
@@ -137,15 +141,27 @@ def files_in(known, crates):
 
 
 def types_of(known):
-    """The types of the code that these words name: for each crate their names."""
+    """The types of the code that these words name: for each file of src/ their names."""
     found = {}
     for crate, module, word in known:
         there = spec(crate, module)
         names = set(" ".join(there.blocks[word]).replace("(", " ").replace(")", " ").replace(";", " ").split())
         for name in names & set(there.types):
-            owner, _, kind = there.types[name]
-            found.setdefault(owner, set()).add(kind)
+            owner, path, kind = there.types[name]
+            found.setdefault((owner, path), set()).add(kind)
     return found
+
+
+def library_of(known):
+    """The words of the toolchain's library that these words name: for each file of the kit its words as the files of
+    specs/ write them, and the lines of what states each."""
+    found = {}
+    for module, word in kit_words.imported(known):
+        path, owner, lines = kit_words.place_of(module, word)
+        words, stated = found.setdefault(path, (set(), {}))
+        words.add(word)
+        stated[owner] = lines
+    return {path: (sorted(words), sum(stated.values())) for path, (words, stated) in found.items()}
 
 
 def named(key, words):
@@ -186,19 +202,37 @@ class Lists:
         self.read |= known
 
     def types(self, known):
-        """A sentence that names the types of the code."""
-        rows = [
-            f"{crate} {', '.join(f'`{it}`' for it in sorted(names))}"
-            for crate, names in sorted(types_of(known).items())
-        ]
-        self.out += [
-            self.wrapped(
-                "Types of the code that these words name, each with its doc comments in the crate's `src/`: "
-                + "; ".join(rows)
-                + "."
-            ),
-            "",
-        ]
+        """A table of the types of the code."""
+        rows, count, lines = [], 0, 0
+        for (crate, path), names in sorted(types_of(known).items()):
+            text = read(f"{CRATES}/{crate}/src/{path}.rt")
+            own = sum(kit_words.declaration(text, it) for it in names)
+            link = f"[{crate} `{path}`](../crates/{crate}/src/{path}.rt)"
+            rows.append(f"| {link} | {', '.join(f'`{it}`' for it in sorted(names))} | {own} |")
+            count, lines = count + len(names), lines + own
+        self.say(f"These {count} types of the code are named by the words of the table. The lines are those of each "
+                 "declaration in the crate's `src/`, with its doc comments.")
+        self.out += ["| file | types | lines |", "|---|---|---|", *rows, f"| {len(rows)} files | {count} types | {lines} |", ""]
+        self.totals["the types of code"] = count, lines
+
+    def library(self, known):
+        """A table of the words of the toolchain's library. Without the toolchain the page keeps what it has."""
+        if not kit_words.folder():
+            kept = re.search(r"^And these (\d+) words.*?\| (\d+) \|\n\n(?=### )", read(PAGE), re.M | re.S)
+            self.out += kept[0].rstrip("\n").split("\n") + [""]
+            self.totals["the library's words"] = int(kept[1]), int(kept[2])
+            return
+        found = library_of(known)
+        words, lines = sum(len(it) for it, _ in found.values()), sum(it for _, it in found.values())
+        self.say(f"And these {words} words of the toolchain's library are named there: numbers, lists, options, sums, and what "
+                 "Rust's operators mean. The files are those of the kit, in the folder `rattle` beside the page that `rt doc` "
+                 "names; those of `Prim` are built into the prover. A constructor counts with its type.")
+        self.out += ["| file of the kit | words | lines |", "|---|---|---|"]
+        for path, (names, own) in sorted(found.items()):
+            shown = ", ".join(f"`{it.replace('|', chr(92) + '|')}`" for it in names)
+            self.out.append(f"| {'`' + path + '`' if path != kit_words.BUILT_IN else 'built in'} | {shown} | {own or ''} |")
+        self.out += [f"| {len(found) - 1} files | {words} words | {lines} |", ""]
+        self.totals["the library's words"] = words, lines
 
     def say(self, text):
         self.out += [self.wrapped(text), ""]
@@ -214,6 +248,7 @@ def reading(lists):
     theorem = closure({("cur_play", "Log", "Ran")})
     lists.table("the main theorem", theorem, ("cur_play", "Log"))
     lists.types(theorem)
+    lists.library(theorem)
     lists.out += ["### What `verify` adds", ""]
     lists.say(
         "`run` takes a certificate that `verify` has accepted (the trait `Certificate` of ti_conforms, whose `rows` promises "

@@ -37,15 +37,18 @@ def what_is_read(totals):
     """The definitions that a reader has to understand, by the tables of docs/AUDIT.md."""
     why = {
         "the main theorem": "they say what a run promises, and what T, windows and calls are",
+        "the types of code": "the definitions of the main theorem name them",
+        "the library's words": "likewise; they are the toolchain's",
         "verify": "they say what a certificate's yes means",
         "the library for C": "they say what C and Python are promised",
         "the commands": "they say what the program replies",
         "the other calls": "they say what the libraries' other calls promise",
     }
-    rows = [
-        row(f"definitions of {name}", f"{files} files, {lines:,} lines", why[name])
-        for name, (files, lines) in totals.items()
-    ]
+    of = {"the types of code": ("types of the code", "types"), "the library's words": ("words of the library", "words")}
+    rows = []
+    for name, (count, lines) in totals.items():
+        part, unit = of.get(name, (f"definitions of {name}", "files"))
+        rows.append(row(part, f"{count} {unit}, {lines:,} lines", why[name]))
     return "\n".join(HEAD + rows)
 
 
