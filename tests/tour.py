@@ -1,5 +1,5 @@
-"""The commands of docs/TOUR.md and docs/KEEPING.md, those of each page one after another in an empty folder, and what each
-is to print."""
+"""The commands of README.md, docs/TOUR.md and docs/KEEPING.md, those of each page one after another in an empty folder,
+and what each is to print."""
 
 import os
 import shutil
@@ -28,14 +28,15 @@ def steps(text):
 
 def run(page):
     """Runs the commands of a page. Without jq those that need it are left out."""
-    with open(f"{TOP}/docs/{page}", encoding="utf-8") as file:
+    with open(f"{TOP}/{page}", encoding="utf-8") as file:
         found = steps(file.read())
     tried = [it for it in found if shutil.which("jq") or "jq " not in it[0]]
     with tempfile.TemporaryDirectory() as room:
         for name in ("ticurses", "examples", "tools"):
             os.symlink(f"{TOP}/{name}", f"{room}/{name}")
         for command, lines in tried:
-            ran = subprocess.run(["sh", "-c", command], cwd=room, stdout=subprocess.PIPE, stderr=subprocess.PIPE)
+            how = {"cwd": room, "env": {**os.environ, "TERM": "xterm-256color"}, "stdout": subprocess.PIPE, "stderr": subprocess.PIPE}
+            ran = subprocess.run(["sh", "-c", command], **how)
             wanted = "".join(f"{line}\n" for line in lines)
             if ran.returncode != 0 or ran.stdout.decode() != wanted:
                 sys.exit(f"tour: {command}: status {ran.returncode}\n{ran.stdout.decode()}{ran.stderr.decode()}and was to print\n{wanted}")
@@ -44,7 +45,11 @@ def run(page):
 
 
 def main():
-    for page in ("TOUR.md", "KEEPING.md"):
+    pages = ["README.md", "docs/TOUR.md", "docs/KEEPING.md"]
+    if not shutil.which("infocmp") or not shutil.which("tic"):
+        print("tour: infocmp or tic is not installed, and the commands of README are left out")
+        pages.remove("README.md")
+    for page in pages:
         run(page)
 
 

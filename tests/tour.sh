@@ -1,6 +1,6 @@
 #!/bin/sh
-# The commands of docs/TOUR.md and docs/KEEPING.md print what the pages say. They are the indented lines that begin with
-# `$`.
+# The commands of README.md, docs/TOUR.md and docs/KEEPING.md print what the pages say. They are the indented lines that
+# begin with `$`.
 set -eu
 cd -- "$(dirname -- "$0")"
 ../build

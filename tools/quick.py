@@ -7,6 +7,7 @@ interrupted leaves nothing that a further run would take for the program. Then i
 The status is that of the program, 125 if there is none or the checkout can't be written, 127 without the toolchain, and
 128 and the number of a signal that ended the build."""
 
+import contextlib
 import errno
 import fcntl
 import glob
@@ -19,12 +20,12 @@ import tempfile
 import time
 
 import ending
-from crates import TOP
+from crates import TOP, below, listed
 from ending import Ended, heed, held, started, stop, why
 from program import current
 from sources import UNPROVED
 
-FOLDER = f"{TOP}/crates/{UNPROVED.crate}"
+FOLDER, SOURCES = f"{TOP}/crates/{UNPROVED.crate}", below([UNPROVED.crate], listed())
 LOG = f"{FOLDER}/out/unproved.log"
 # how often it is looked whether the program has started, and how often progress is reported, in seconds
 LOOKS, REPORTS = 0.1, 10
@@ -44,6 +45,24 @@ def is_read(fifo):
         return None
 
 
+def at(pid):
+    """What the toolchain is at. One run of it reads and compiles all crates, and so has no single one to name."""
+    parents = {}
+    for folder in glob.glob("/proc/[0-9]*"):
+        # one that has ended meanwhile isn't there
+        with contextlib.suppress(OSError, IndexError, ValueError):
+            with open(f"{folder}/stat", encoding="ascii", errors="replace") as file:
+                name, rest = file.read().split("(", 1)[1].rsplit(")", 1)
+            parents[int(os.path.basename(folder))] = int(rest.split()[1]), name
+    names, next_ones = set(), {pid}
+    while next_ones:
+        next_ones = {child for child, (parent, _) in parents.items() if parent in next_ones}
+        names |= {parents[child][1] for child in next_ones}
+    if "clang" in names:
+        return "making machine code of all crates"
+    return f"reading and compiling {len(SOURCES)} crates at once"
+
+
 def wait_for_reader(run, fifo):
     """Waits until the program reads from the FIFO. Returns the descriptor, or None if the run has ended before."""
     began, reported = time.monotonic(), 0
@@ -54,7 +73,7 @@ def wait_for_reader(run, fifo):
         seconds = time.monotonic() - began
         if seconds >= reported + REPORTS:
             reported = seconds
-            say(f"building without proof, {seconds:.0f} seconds so far")
+            say(f"building without proof, {seconds:.0f} seconds so far: {at(run.pid)}")
         time.sleep(LOOKS)
     return None
 
@@ -101,7 +120,7 @@ def bring():
         fcntl.flock(lock, fcntl.LOCK_EX)
         if UNPROVED.is_current():
             return 0
-        say("building the program without proof, which takes a minute or two")
+        say("building the program without proof, once: two minutes on an idle machine, more beside other work")
         with tempfile.TemporaryDirectory(prefix="quick-", dir=f"{FOLDER}/out") as room:
             if build(room):
                 return 0

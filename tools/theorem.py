@@ -67,17 +67,16 @@ def plain(text):
 
 
 def unclaimed(page):
-    """The sentences of README's theorem that the page doesn't take up, and rows that README or the code doesn't bear out."""
-    readme = plain(read(os.path.join(TOP, "README.md")))
+    """The sentences of the theorem in words that no row takes up, and rows that neither they, nor TRUST, nor the code bear out."""
+    section = re.search(r"^## In words\n(.*?)^## ", page, re.M | re.S)
+    said = plain(section[1]) if section else ""
     claims = [plain(quoted).strip('"') for quoted, _ in CLAIM.findall(page)]
     for claim in claims:
-        if claim.removesuffix(" ..") not in readme:
-            yield f"THEOREM.md cites README, which doesn't say: {claim}"
-    source = read(os.path.join(TOP, "README.md"))
-    section = re.search(r"^## The theorem\n(.*?)^## ", source, re.M | re.S)
-    for sentence in re.split(r"(?<=\.) (?=[A-Z])", plain(section.group(1)) if section else ""):
-        if sentence and not any(sentence.startswith(claim.removesuffix(" ..")) for claim in claims):
-            yield f"THEOREM.md has no row for README's sentence: {sentence}"
+        if claim.removesuffix(" ..") not in f"{said} {plain(read(os.path.join(TOP, 'docs', 'TRUST.md')))}":
+            yield f"THEOREM.md has a row for a sentence that isn't there: {claim}"
+    for sentence in re.split(r"(?<=\.) (?=[A-Z])", said):
+        if not any(sentence.startswith(claim.removesuffix(" ..")) for claim in claims):
+            yield f"THEOREM.md has no row for its sentence: {sentence}"
     for _, clauses in CLAIM.findall(page):
         for crate, call, names in CLAUSE.findall(clauses):
             rows = [
