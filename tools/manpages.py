@@ -1,5 +1,6 @@
 #!/usr/bin/env python3
-"""Writes the manual pages in man/ (mdoc) from what `ticurses --help` and `ticurses COMMAND --help` print.
+"""Writes the manual pages in man/ (mdoc) from what `ticurses --help` and `ticurses COMMAND --help` print, and the members
+of a report from docs/report.schema.json.
 
 tests/manual.sh compares them with what the program prints."""
 
@@ -7,6 +8,7 @@ import re
 import subprocess
 
 from crates import TOP
+from members import members
 
 DATE = "November 27, 2026"
 MADE = '.\\" Made by tools/manpages.py from what ticurses COMMAND --help prints.\n'
@@ -125,6 +127,8 @@ def program_page(helps):
         lines += [f".Ss {name}", *(escaped(line) for line in page.about.split("\n"))]
         lines += tagged([*((flag(it), [text]) for it, text in page.options()), *words])
         lines += [line for block in page.body for line in block_lines(block)]
+    lines += [".Sh MEMBERS", "An object of", ".Fl \\-json", "has these members:"]
+    lines += tagged((f"Li {word(name)}", [text]) for name, text in members())
     lines += [".Sh EXIT STATUS", *block_lines(statuses[1:])[1:]]
     return MADE + "\n".join([*lines, ".Sh SEE ALSO", ".Xr infocmp 1 ,", ".Xr tic 1 ,", ".Xr ticurses 3 ,", ".Xr terminfo 5 ,", ".Xr ticurses\\-script 5", ""])
 

@@ -1,8 +1,8 @@
 #!/usr/bin/env python3
 """The pages of docs/ that are made from the sources.
 
-pages.py          writes docs/MAP.md, docs/CAPABILITIES.md, the lists of docs/AUDIT.md, the statement in docs/THEOREM.md
-                  and the sizes in docs/TRUST.md
+pages.py          writes docs/MAP.md, docs/CAPABILITIES.md, the lists of docs/AUDIT.md, the statement in docs/THEOREM.md,
+                  the sizes in docs/TRUST.md and the members in docs/KEEPING.md
 pages.py --check  says which of them differ from the sources, which pages name or link a file that isn't there, and
                   which words or sentences docs/THEOREM.md leaves out; status 1 if there is one"""
 
@@ -13,6 +13,7 @@ import audit
 import capabilities
 import links
 import map_page
+import members
 import theorem
 import trust
 from crates import TOP
@@ -47,12 +48,18 @@ def theorem_page():
     return between(read(page_at("THEOREM.md")), "the statement", theorem.statement())
 
 
+def keeping_page():
+    """docs/KEEPING.md, with the members of a report made anew."""
+    return between(read(page_at("KEEPING.md")), "members", members.table())
+
+
 PAGES = {
     "MAP.md": map_page.page,
     "AUDIT.md": audit_page,
     "THEOREM.md": theorem_page,
     "TRUST.md": trust_page,
     "CAPABILITIES.md": capabilities.page,
+    "KEEPING.md": keeping_page,
 }
 
 

@@ -56,7 +56,7 @@ const WITH: Argument = Argument::Paths(
 
 const SARIF: Argument = Argument::Switch(
     "sarif",
-    "Report all faults as one file of SARIF, which code hosts show at the line",
+    "Report all faults as SARIF, which code hosts display at the lines",
 );
 
 const FIX: Argument = Argument::Switch(
@@ -123,7 +123,7 @@ const CHECK: &[Argument] = &[
     ),
     Argument::Switch(
         "json",
-        "Report in JSON, an object a line, and write no certificate",
+        "Report in JSON, an object on each line, and write no certificate",
     ),
     SARIF,
     FIX,
@@ -149,7 +149,7 @@ const VERIFY: &[Argument] = &[
 
 const SURVEY: &[Argument] = &[
     Argument::Switch("all", "List all faults of each entry, a line for each"),
-    Argument::Switch("json", "Report in JSON, an object a line"),
+    Argument::Switch("json", "Report in JSON, an object on each line"),
     SARIF,
     Argument::Switch(
         "fail",

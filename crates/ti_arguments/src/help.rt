@@ -180,9 +180,9 @@ Standard error gets a line `note CAP HEX` for each sequence of the entry's strin
 that the terminal ignores, or of which it ignores a number. There are none where a string can't be expanded, or doesn't
 send text and whole sequences. Of an entry of a source, and of those that it uses, it gets a line `hint line N: NAME is
 no capability` for each name that is none, and hints at names that the entry has twice, and at escapes without a
-meaning. Behind a certificate it gets a line `advice CAP: ..` for what is never seen although the entry has a string for
-it: an attribute that sgr never shows, colors without setaf, setab or op, acsc without smacs or rmacs, civis without
-cnorm. Neither changes what is answered.
+meaning. After a certificate, it also gets a line `advice CAP: ..` for each feature that the entry has a string for but
+never shows: an attribute that sgr leaves out, colors without setaf, setab or op, acsc without smacs or rmacs, civis
+without cnorm. Neither changes what is answered.
 
 If there is no certificate, standard error has a line `refused: no CAP P..: CAUSE` with a capability and its parameters,
 the first in the order of a certificate's lines. The lines below it say what the string sends for these parameters, from
@@ -190,8 +190,8 @@ which state of the terminal it goes wrong, what was wanted there, and what happe
 
 With --all there is no certificate. The output is all that is wrong: a line `no CAP P..: CAUSE` for what the entry as a
 whole has or lacks (FlagOut, Absent, AcsByte), and one for each other capability that goes wrong, with the first of its
-parameters for which it does; then what is wrong with strings together that are right by themselves, and may go once the
-others are mended. Below each of an entry of a source is a line `FILE:LINE:COLUMN: CAP of NAME`, with the place of its
+parameters for which it does; then conflicts between strings that are each right on their own, which mending the faults
+above may resolve. Below each of an entry of a source is a line `FILE:LINE:COLUMN: CAP of NAME`, with the place of its
 field and the first name of the entry that has it, through `use=`. Then comes the field itself, after four spaces, with
 `^~~~` below the code, the control function or its parameter that is at fault, or below all of its value where none is
 alone; with --join it comes as it is in the file, up to the line on which the marks begin, which go no further than
@@ -204,23 +204,11 @@ last line is the number of faults, and then how many have which CAUSE. Standard 
 but don't do on T what their names say, and a line `strings: ..` that counts those that were checked and those that were
 not looked at.
 
-With --json there is no certificate either. The output is a JSON object on a line of its own: what is wrong first, or
-with --all one for each fault, or one with the verdict `yes`; and behind it one with the verdict `advice` for each
-advice, and one with the verdict `hint` for each hint. An entry that can't be obtained has one with the verdict
-`refused`. Each has the members version (1), verdict, rule (a name for each kind of answer), entry (the first name),
-aliases (the others), part (whether the entry is only there to be used by others), size (rows and cols), capability,
-parameters, cause, bytes (what the string sends, in hexadecimal), start, wanted and seen (the words of the lines that
-begin so), explanation (the lines below the fault, or the words of the advice or the hint), file (its path), line (on
-which the value stands, or the field of a hint, or what can't be read), column (of the first byte of that field),
-end_line and end_column (behind its last byte, with --join perhaps on a later line; all from 1), fault_line,
-fault_column, fault_end_line and fault_end_column (the same for the part of its value that is at fault), source_entry
-(the first name of the entry that has the field), source_file (the file of the line; none for an entry that check can't
-obtain with --with), string and, with --all, suggestion (the string at fault and the one that would be right, as a
-source has them) and suggested_with (the fields that are to be given with it), judged (whether the string could be
-judged) and, with --all, another_kind (whether the entry seems to be for a terminal of another kind). entry_hex,
-aliases_hex, source_entry_hex, string_hex and suggestion_hex have the bytes in hexadecimal. Where a member doesn't
-apply, it is null, or an empty list. Characters outside 32 to 126 are escapes of JSON. The notes, the line `refused: `
-and the exit status are those of the form without --json.
+With --json there is no certificate either. The output is JSON, an object on each line: what is wrong first, or with
+--all one for each fault, or one with the verdict `yes`; then one with the verdict `advice` for each advice, and one
+with the verdict `hint` for each hint. An entry that can't be obtained has one with the verdict `refused`. ticurses(1)
+lists the members of an object; one that doesn't apply is null, or an empty list. Characters outside 32 to 126 are
+escapes of JSON. The notes, the line `refused: ` and the exit status are those of the form without --json.
 
 With --sarif the output is one file of SARIF 2.1.0, which code hosts show at the lines of FILE: a result for each object
 of --json --all but a yes. ruleId is the rule. The level is error for what was shown to be wrong and for what can't be
@@ -229,7 +217,7 @@ terminal of another kind. The message has the line of the fault, its explanation
 whole field, and has a fix if a string is suggested that is right without others.
 
 With --fix there is no certificate. The output is the text of the source file in which each string that --all suggests
-is taken: the field is replaced where it stands, in the entry that --all names, and a missing one is put behind the last
+is taken: the field is replaced in its place, in the entry that --all names, and a missing one is added after the last
 field of the entry; nothing else of the text is changed. With --out it is written to FILE, whole or not at all; only
 here FILE may be the source itself. Standard error has a line `kept CAP: REASON` for each of these strings that isn't
 taken: no place for its field was found, or an entry of the source would lose its yes. The text is judged again:

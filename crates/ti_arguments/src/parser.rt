@@ -16,7 +16,7 @@ pub struct Asked<'a> {
     pub request: Request<'a>,
     /// Whether the line has `--join`: a field of a source may continue on further lines.
     pub joins: bool,
-    /// The paths behind `--with`, in order: files whose entries those of a source may use.
+    /// The paths after `--with`, in order: files whose entries those of a source may use.
     pub further: Vec<&'a str>,
     /// Whether the line has `--fix`: a `check` or a `survey` is to write a mended source text.
     pub fixes: bool,
