@@ -29,7 +29,7 @@ int tcu_advance(WINDOW *window, int y) {
 }
 
 /* Clears the cursor's line from the cursor on. A last line into which text has wrapped, or at whose end it was to wrap,
- * stays as it is, as in ncurses: a cursor that stays in the last column is behind its character there. */
+ * stays as it is, as in ncurses: a cursor that stays in the last column is after its character there. */
 int tcu_clear_rest(WINDOW *window) {
     int y, x;
     if (session_cursor(window->number, &y, &x) != OK || (window->has_wrapped && y == window->lines - 1)) return ERR;

@@ -63,7 +63,7 @@ def infocmp(option, folder, name):
 
 
 def standard(printed):
-    """A listing of ncurses in the standard's spelling. Of `%` and the character behind it ncurses prints, and reads, both
+    """A listing of ncurses in the standard's spelling. Of `%` and the character after it ncurses prints, and reads, both
     as they are: the caret of `%^`, exclusive or, begins no control character there, and in standard text it would."""
     return re.sub(rb"%([ -~])", lambda code: b"%\\^" if code[1] == b"^" else code[0], printed)
 

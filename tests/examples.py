@@ -99,7 +99,7 @@ FILES = {
     "uses": b"x|x, use=y, use=z,\ny|y, el@,\nz|z, el=\\E[K, am,\n",
     "loop": b"a|a, use=b,\nb|b, use=a,\n",
     "unknown_use": b"a|a, use=q,\n",
-    # an entry that can't be read, and what uses it, before and behind it and with names that no comma ends
+    # an entry that can't be read, and what uses it, before and after it and with names that no comma ends
     "unread": b"u|uses it, use=b,\nb|one of two,\n\tcols#80,\n\tlines#8x,\n" + MINI + b"b|the other, am,\nv|as well,\n\tuse=u,\n"
     b"o|open\nw|of that, use=o,\nl|last, use=gone, use=b,\n",
     "unread_front": b"\n# none\n\tam,\n" + MINI,
@@ -452,7 +452,7 @@ RUNS += [
         "",
     ),
     (["survey", "24", "80", "absent", "mini"], 3, "mini yes\ntotal 1, yes 1\n", "file: absent\n"),
-    # with --fail the lines are those without it; any no or refused is status 1, behind a file that can't be read
+    # with --fail the lines are those without it; any no or refused is status 1, after a file that can't be read
     (["survey", "--fail", "24", "80", "samples"], 0, "mini yes\nvt yes\nxt yes\nxc yes\ntotal 4, yes 4\n", ""),
     (["survey", "--all", "--fail", "24", "80", "mini"], 0, "mini yes\ntotal 1, yes 1\n", ""),
     (["survey", "--fail", "24", "80", "empty.cert"], 0, "total 0\n", ""),
@@ -503,7 +503,7 @@ HINTS = [
 OTHERS = [
     "hint line 11: bar is no capability",
     "hint line 11: in setf `%^` is read as `%` and a control character; exclusive or is written `%\\^`",
-    # a caret takes the backslash behind it
+    # a caret takes the backslash after it
     "hint line 12: quux is no capability",
 ]
 DULL = [

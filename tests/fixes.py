@@ -250,7 +250,7 @@ def suggestions(told):
 
 
 def is_only(before, after, taken):
-    """Whether just these fields have changed, each where it was; the missing ones stand behind the entry's last. Each
+    """Whether just these fields have changed, each where it was; the missing ones stand after the entry's last. Each
     field of the text is on a line of its own."""
     wanted = {named(field): f"\t{field}," for field in taken}
     lines = []

@@ -17,7 +17,7 @@ def fail(text):
     sys.exit(f"joins: {text}")
 
 
-# a field over three lines, a field that goes on behind another one, one whose comma has a line of its own, a comment
+# a field over three lines, a field that goes on after another one, one whose comma has a line of its own, a comment
 # between fields, an entry that uses another
 WRAPPED = rb"""# a comment that ends in an open field, el=\E[1K
 wrapped|strings over several lines,
@@ -50,7 +50,7 @@ user|another entry,
 MENDED = JOINED.replace(rb"el=\E[1K,", rb"el=\E[K,")
 WRAPPED_MENDED = WRAPPED.replace(b"el=\\E[1K\n\t,", b"el=\\E[K\n\t,")
 # a wrapped entry with faults: a field that begins on the third line, goes on to the fifth and is wrong as a whole, one
-# that is wrong by a parameter on its second line, one whose wrong control function goes over two lines, one behind a
+# that is wrong by a parameter on its second line, one whose wrong control function goes over two lines, one after a
 # wrapped field, and a hint about a wrapped field
 FAULTY = rb"""faulty|wrong strings over several lines,
 	sgr0=\E[m, clear=\E[H

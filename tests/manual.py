@@ -131,7 +131,7 @@ def refused_options(flags, known):
 
 
 def judge_spelled():
-    """Options may be anywhere before `--`, and a value behind `=`."""
+    """Options may be anywhere before `--`, and a value after `=`."""
     files = {"mini": MINI, "script": SCRIPT}
     for line, others in SPELLED.items():
         told = [answered(words.split(), files) for words in (line, *others)]

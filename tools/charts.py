@@ -76,7 +76,7 @@ def resolving(tables):
 
 
 def beside(names, row, first):
-    """The bars of a row which has, from a column on, a figure of each peer and the ratio behind it."""
+    """The bars of a row which has, from a column on, a figure of each peer and the ratio after it."""
     return [(names[at], figure(row[at + 1])) for at in range(first, len(names), 2)]
 
 

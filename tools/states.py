@@ -1,4 +1,4 @@
-"""States of the terminal, read from the words behind `start: `, `wanted: ` and `seen: ` of a report.
+"""States of the terminal, read from the words after `start: `, `wanted: ` and `seen: ` of a report.
 
 A state is a dictionary: `cursor` (row and column), `pending` (the next character wraps), `region` (the first and the last
 row that scroll; None is the whole screen), `marks` (the parts of the rendition that are on), `fore` and `back` (names of
@@ -72,7 +72,7 @@ PARTS = [
 
 
 def state(words, size):
-    """The state that the words behind `start: ` or `seen: ` name: what they leave out is as after a reset. None if there are
+    """The state that the words after `start: ` or `seen: ` name: what they leave out is as after a reset. None if there are
     words among them that say something else."""
     found, rest = at_rest(), words
     for pattern, means in PARTS:
@@ -86,7 +86,7 @@ def state(words, size):
 
 
 def seen(words, start, size):
-    """The state behind `seen: ` after a start."""
+    """The state that `seen: ` has after a start."""
     after_reset = re.fullmatch(rf"sent after a reset, it makes the rendition {LOOK}", words)
     if after_reset:
         return {**start, **pen(*after_reset.groups())}

@@ -1,7 +1,7 @@
 """Writes the vectors: cases and, beside them, the states that the model gives.   vectors/make.py [FOLDER]
 
 Each case is a name and a stream of bytes that is fed to a terminal in its reset state. The names of a file's cases begin
-with what the file is about; the part behind the slash tells the cases apart."""
+with what the file is about; the part after the slash tells the cases apart."""
 
 import random
 import sys

@@ -132,7 +132,7 @@ class Kitty(Windowed):
         return told["data"]
 
     def screen(self):
-        # its report of a cursor behind the last column is the line below; the answer has it as it is shown
+        # its report of a cursor after the last column is the line below; the answer has it as it is shown
         self.cursor()
         told = self.asked()
         found = re.fullmatch(r"(.*)\033\[\?25([hl])\033\[(\d+);(\d+)H[^H]*", told, re.S)
