@@ -20,6 +20,8 @@ from crates import listed
 from specs import block_at, each_clause, exported, files_of, read
 
 CRATES = f"{TOP}/crates"
+# a crate that is copied into another repository says its license
+LICENSE = "License: MIT, copyright (c) 2026 the ticurses authors ([LICENSE](../../LICENSE))."
 HEADINGS = ["Contracts", "Words", "A caller", "Only tested", "Not done", "Trusted", "Rules"]
 NEEDED = ["Contracts", "A caller", "Only tested", "Trusted"]
 HEAD = "| call | clauses | what they say |"
@@ -163,6 +165,8 @@ def form_faults(text):
     if names != [name for name in HEADINGS if name in names]:
         yield f"its headings are {names}, and not, in this order, of {HEADINGS}"
     yield from (f"it has no heading {name}" for name in NEEDED if name not in names)
+    if not text.endswith(f"\n\n{LICENSE}\n"):
+        yield f"its last line isn't: {LICENSE}"
     yield from (f"there is nothing below {name}" for name, part in parts if not part.strip())
     for row in rows(text):
         for cell in row:

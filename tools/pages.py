@@ -2,7 +2,7 @@
 """The pages of docs/ that are made from the sources.
 
 pages.py          writes docs/MAP.md, docs/CAPABILITIES.md, the lists of docs/AUDIT.md, the statement in docs/THEOREM.md,
-                  the sizes in docs/TRUST.md and the members in docs/KEEPING.md
+                  the sizes in docs/TRUST.md, the members in docs/KEEPING.md and the tables of docs/LIBRARY.md
 pages.py --check  says which of them differ from the sources, which pages name or link a file that isn't there, and
                   which words or sentences docs/THEOREM.md leaves out; status 1 if there is one"""
 
@@ -11,6 +11,7 @@ import sys
 
 import audit
 import capabilities
+import copies
 import links
 import map_page
 import members
@@ -53,6 +54,12 @@ def keeping_page():
     return between(read(page_at("KEEPING.md")), "members", members.table())
 
 
+def library_page():
+    """docs/LIBRARY.md, with the exported names and the crates to copy made anew."""
+    text = between(read(page_at("LIBRARY.md")), "exported names", wrapped(copies.exported()))
+    return between(text, "crates to copy", copies.table())
+
+
 PAGES = {
     "MAP.md": map_page.page,
     "AUDIT.md": audit_page,
@@ -60,6 +67,7 @@ PAGES = {
     "TRUST.md": trust_page,
     "CAPABILITIES.md": capabilities.page,
     "KEEPING.md": keeping_page,
+    "LIBRARY.md": library_page,
 }
 
 
