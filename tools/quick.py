@@ -46,7 +46,7 @@ def is_read(fifo):
 
 
 def at(pid):
-    """What the toolchain is at. One run of it reads and compiles all crates, and so has no single one to name."""
+    """The phase that the toolchain is in. One run of it reads and compiles all crates, and so has no single one to name."""
     parents = {}
     for folder in glob.glob("/proc/[0-9]*"):
         # one that has ended meanwhile isn't there
