@@ -262,7 +262,10 @@ def check_shared(bare, program, shared):
 
 
 # a Makefile, and what the workflow's runner has beside it
-MAKEFILE = "screens: screens.py\n\tprintf '#!/bin/sh\\nexec /usr/bin/python3 -B screens.py \"$$@\"\\n' >$@\n\tchmod +x $@\n"
+MAKEFILE = """screens: screens.py
+\tprintf '#!/bin/sh\\nexec /usr/bin/python3 -B screens.py "$$@"\\n' >$@
+\tchmod +x $@
+"""
 SUDO = '#!/bin/sh\n[ "$1 $2 $3" = "apt-get install --yes" ] && exec dpkg -x "$4" root\nexit 9\n'
 
 
@@ -278,7 +281,7 @@ def steps_of(workflow):
 
 
 def check_workflow(package, work):
-    """The steps of docs/TERMINAL.md's workflow, in a folder as a checkout would be, over the page's adapter for pyte."""
+    """The steps of docs/TERMINAL.md's workflow, in a folder as a checkout would be, over its adapter for pyte."""
     words = ["/usr/bin/python3", "-c", "import pyte"]
     if missing("package", "dpkg", "make", "bash") or subprocess.run(words, capture_output=True).returncode:
         print("package: pyte isn't installed, or a tool is missing, and the page's workflow is left out")
@@ -302,7 +305,7 @@ def check_workflow(package, work):
         lines = file.read().splitlines(True)
     with open(f"{room}/expected.jsonl", "w", encoding="utf-8") as file:
         file.writelines(line for line in lines if "VPA/" not in line)
-    judge = judge.replace("/usr/share/ticurses", f"{room}/root/usr/share/ticurses").replace("--json", "--only VPA --json")
+    judge = judge.replace("/usr/share", f"{room}/root/usr/share").replace("--json", "--only VPA --json")
     said = subprocess.run(["bash", "-eo", "pipefail", "-c", judge], capture_output=True, text=True, **how)
     hold(said.returncode == 1 and "new: command" in said.stdout, "a new difference passes the workflow", said)
 
@@ -363,8 +366,8 @@ def main():
         check_workflow(debian, work)
         check_tarball(bare, tarball, work)
     print(
-        "package: the same bytes twice; without a toolchain both answer, compile hello.c and draw; their certificates are "
-        "verified; both are removed again"
+        "package: the same bytes twice; without a toolchain both answer, compile hello.c and draw; their certificates "
+        "are verified; both are removed again"
     )
 
 

@@ -35,8 +35,8 @@ def run(page):
         for name in ("ticurses", "examples", "tools"):
             os.symlink(f"{TOP}/{name}", f"{room}/{name}")
         for command, lines in tried:
-            how = {"cwd": room, "env": {**os.environ, "TERM": "xterm-256color"}, "stdout": subprocess.PIPE, "stderr": subprocess.PIPE}
-            ran = subprocess.run(["sh", "-c", command], **how)
+            how = {"cwd": room, "env": {**os.environ, "TERM": "xterm-256color"}}
+            ran = subprocess.run(["sh", "-c", command], stdout=subprocess.PIPE, stderr=subprocess.PIPE, **how)
             wanted = "".join(f"{line}\n" for line in lines)
             if ran.returncode != 0 or ran.stdout.decode() != wanted:
                 sys.exit(f"tour: {command}: status {ran.returncode}\n{ran.stdout.decode()}{ran.stderr.decode()}and was to print\n{wanted}")

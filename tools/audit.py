@@ -210,9 +210,12 @@ class Lists:
             link = f"[{crate} `{path}`](../crates/{crate}/src/{path}.rt)"
             rows.append(f"| {link} | {', '.join(f'`{it}`' for it in sorted(names))} | {own} |")
             count, lines = count + len(names), lines + own
-        self.say(f"These {count} types of the code are named by the words of the table. The lines are those of each "
-                 "declaration in the crate's `src/`, with its doc comments.")
-        self.out += ["| file | types | lines |", "|---|---|---|", *rows, f"| {len(rows)} files | {count} types | {lines} |", ""]
+        self.say(
+            f"These {count} types of the code are named by the words of the table. The lines are those of each "
+            "declaration in the crate's `src/`, with its doc comments."
+        )
+        total = f"| {len(rows)} files | {count} types | {lines} |"
+        self.out += ["| file | types | lines |", "|---|---|---|", *rows, total, ""]
         self.totals["the types of code"] = count, lines
 
     def library(self, known):
@@ -224,13 +227,16 @@ class Lists:
             return
         found = library_of(known)
         words, lines = sum(len(it) for it, _ in found.values()), sum(it for _, it in found.values())
-        self.say(f"And these {words} words of the toolchain's library are named there: numbers, lists, options, sums, and what "
-                 "Rust's operators mean. The files are those of the kit, in the folder `rattle` beside the page that `rt doc` "
-                 "names; those of `Prim` are built into the prover. A constructor counts with its type.")
+        self.say(
+            f"And these {words} words of the toolchain's library are named there: numbers, lists, options, sums, and "
+            "what Rust's operators mean. The files are those of the kit, in the folder `rattle` beside the page that "
+            "`rt doc` names; a word without a file is built into the prover. A constructor counts with its type."
+        )
         self.out += ["| file of the kit | words | lines |", "|---|---|---|"]
         for path, (names, own) in sorted(found.items()):
             shown = ", ".join(f"`{it.replace('|', chr(92) + '|')}`" for it in names)
-            self.out.append(f"| {'`' + path + '`' if path != kit_words.BUILT_IN else 'built in'} | {shown} | {own or ''} |")
+            file = "built in" if path == kit_words.BUILT_IN else f"`{path}`"
+            self.out.append(f"| {file} | {shown} | {own} |")
         self.out += [f"| {len(found) - 1} files | {words} words | {lines} |", ""]
         self.totals["the library's words"] = words, lines
 

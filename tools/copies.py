@@ -34,13 +34,14 @@ def exported():
 def table():
     """A row for each library."""
     of, uses = {name: held for name, *held in sizes.sizes()}, listed()
-    rows = ["| for | crates | lines of code; of specs and proofs | to prove | libraries of the kit |", "|---|---|---|---|---|"]
+    rows = ["| for | crates | lines of code; of specs and proofs | to prove | libraries of the kit |"]
+    rows.append("|---|---|---|---|---|")
     rate = MINUTES / sum(sizes_of(held) for held in of.values())
     for part, crate in LIBRARIES:
         names = below([crate], uses)
         code, others = sum(of[it][1] for it in names), sum(of[it][2] + of[it][3] for it in names)
         minutes = max(1, round(rate * sum(sizes_of(of[it]) for it in names)))
         kit = sorted({it for name in names for it in uses[name] if it not in uses})
-        shown = ", ".join(f"[{name}](../crates/{name}/README.md)" if name == crate else name for name in reversed(names))
+        shown = ", ".join([f"[{crate}](../crates/{crate}/README.md)", *reversed(names[:-1])])
         rows.append(f"| {part} | {len(names)}: {shown} | {code:,}; {others:,} | {minutes} min | {', '.join(kit)} |")
     return "\n".join(rows)

@@ -48,7 +48,8 @@ def imported(known):
         source = apart(read(os.path.join(CRATES, crate, "specs", f"{module}.antt")))
         for library, path, listed in IMPORT.findall(source):
             if not os.path.isdir(os.path.join(CRATES, library)):
-                found |= {(f"Rattle.{library}.specs.{path}", it) for it, local in names_in(listed) if is_in(local, text)}
+                named = (it for it, local in names_in(listed) if is_in(local, text))
+                found |= {(f"Rattle.{library}.specs.{path}", it) for it in named}
     return found
 
 
@@ -72,10 +73,11 @@ def variant(module, name):
 
 
 def declaration(text, name):
-    """The lines of a type's declaration in Rust, with its doc comments and the names of its bits, and without blank ones;
-    0 where there is none."""
+    """The lines of a type's declaration in Rust, with its doc comments and the names of its bits, but no blank ones; 0
+    where there is none."""
     lines = text.splitlines()
-    at = next((i for i, line in enumerate(lines) if re.match(rf"pub (?:ghost )?(?:struct|enum|type) {name}\b", line)), None)
+    declares = re.compile(rf"pub (?:ghost )?(?:struct|enum|type) {name}\b")
+    at = next((i for i, line in enumerate(lines) if declares.match(line)), None)
     if at is None:
         return 0
     first = at
@@ -90,8 +92,8 @@ def declaration(text, name):
 
 
 def stated(lines, name):
-    """The word that states a name in these lines of a module, which is the name or the type whose constructor it is, and
-    in how many lines; None where none does."""
+    """The word that states a name in these lines of a module, which is the name or the type whose constructor it is,
+    and in how many lines; None where none does."""
     # constructors of one type may have one line
     signed = re.compile(rf"\s*{KINDS}(?:[^\W\d]\w* )*?{re.escape(name)}(?: [^\W\d]\w*)*\s+(?:[({{].*)?:(?:\s|$)")
     uses = re.compile(r"\s*(?:unfoldable )?(?:pub )?use ")
@@ -117,8 +119,8 @@ def indent(line):
 
 
 def place_of(module, name, seen=()):
-    """Where the kit states a word: the file, the word's name there, and the lines; the file of built in words is `Prim`,
-    and that of words that aren't found is empty."""
+    """Where the kit states a word: the file, the word's name there, and the lines. The file of built in words is
+    `Prim`, and that of words that aren't found is empty."""
     if module.split(".")[0] == BUILT_IN:
         return BUILT_IN, name, 0
     found = variant(module, name)

@@ -6,9 +6,9 @@
 They go to FOLDER, or to out/. Nothing is proved that is proved already: the program and the library are taken as they
 are, as they were kept, or as ./build and ./install build them. Packages of equal sources have equal bytes: files are
 sorted, belong to root, and are as old as $SOURCE_DATE_EPOCH says, or else as the last commit, or else as the first of
-January 2026. Both have the toolchain's verdict on each crate (PROVED) and the checksums of what was proved (SHA256SUMS),
-certificates of well-known entries, the second verifier, and conform with its vectors. The status is 0, 1 if a file could
-not be written, 125 if a crate or a tool failed, 127 without a tool, 2 for other words."""
+January 2026. Both have the toolchain's verdict on each crate (PROVED), the checksums of what was proved (SHA256SUMS),
+certificates of well-known entries, the second verifier, and conform with its vectors. The status is 0, 1 if a file
+could not be written, 125 if a crate or a tool failed, 127 without a tool, 2 for other words."""
 
 import contextlib
 import gzip

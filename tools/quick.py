@@ -46,7 +46,7 @@ def is_read(fifo):
 
 
 def at(pid):
-    """The phase that the toolchain is in. One run of it reads and compiles all crates, and so has no single one to name."""
+    """The phase that the toolchain is in. One run of it reads and compiles all crates, so that it names no single one."""
     parents = {}
     for folder in glob.glob("/proc/[0-9]*"):
         # one that has ended meanwhile isn't there

@@ -67,7 +67,8 @@ def plain(text):
 
 
 def unclaimed(page):
-    """The sentences of the theorem in words that no row takes up, and rows that neither they, nor TRUST, nor the code bear out."""
+    """The sentences of the theorem in words that no row takes up, and rows that neither they, nor TRUST, nor the code
+    bear out."""
     section = re.search(r"^## In words\n(.*?)^## ", page, re.M | re.S)
     said = plain(section[1]) if section else ""
     claims = [plain(quoted).strip('"') for quoted, _ in CLAIM.findall(page)]
