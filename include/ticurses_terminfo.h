@@ -1,24 +1,25 @@
 /* ticurses for programs that draw for themselves: the capabilities of a compiled terminfo entry, and the expansion of
  * parameter strings, both proved. No certificate is asked for: the program sends what it wants.
  *
+ *     const int32_t place[2] = {row, col};
  *     ticurses_terminfo entry = {0};
  *     code = ticurses_terminfo_open(&entry, file, file_len);
  *     code = ticurses_terminfo_string(&entry, "cup", cup, sizeof cup, &cup_len);
- *     code = ticurses_terminfo_expand_numbers(&entry, cup, cup_len, (int32_t[]){row, col}, 2, out, sizeof out, &out_len);
+ *     code = ticurses_terminfo_expand_numbers(&entry, cup, cup_len, place, 2, out, sizeof out, &out_len);
  *     ticurses_terminfo_close(&entry);
  *
  * Link with -lticurses_terminfo. The header is C99 and C++11, stands alone, and may be included beside ticurses.h.
  *
  * Bytes are passed as a pointer and a length. If the length is 0, the pointer may be null. An entry is a
- * `ticurses_terminfo` that must begin as {0} (in C++ {}). A program passes its address, and must not read, copy or write
- * its fields. Entries are independent of each other, and any number may be open. Only one call at a time may be made on
- * an entry. The library takes memory by malloc, realloc and free; it opens no file, writes none, and keeps nothing
- * outside of entries.
+ * `ticurses_terminfo` that must begin as {0} (in C++ {}). A program passes its address, and must not read, copy or
+ * write its fields. Entries are independent of each other, and any number may be open. Only one call at a time may be
+ * made on an entry. The library takes memory by malloc, realloc and free; it opens no file, writes none, and keeps
+ * nothing outside of entries.
  *
  * A call returns one of the codes below: 0 (TICURSES_TERMINFO_OK) if it was done. These have undefined behavior: a
  * pointer that isn't null and doesn't lead to as many bytes as its length says; two pointers of one call to the same
- * bytes, where the call writes through one of them; an entry that didn't begin as {0} or whose fields the program wrote;
- * two calls on one entry at the same time. */
+ * bytes; an entry that didn't begin as {0} or whose fields the program wrote; two calls on one entry at the same time.
+ */
 #ifndef TICURSES_TERMINFO_H
 #define TICURSES_TERMINFO_H
 
@@ -148,8 +149,8 @@ static inline int ticurses_terminfo_names(ticurses_terminfo *entry, void *room, 
 
 /* Writes the string of the capability that terminfo names `cap` ("kcuu1") to `room`: its bytes unchanged, with
  * parameters and delays, and without a zero byte at the end. *needed becomes its length, even if `room` is shorter
- * (TICURSES_TERMINFO_NO_ROOM). A string may be empty: TICURSES_TERMINFO_OK with *needed 0. An absent or cancelled string
- * is none: TICURSES_TERMINFO_NO_CAP. TICURSES_TERMINFO_BAD_NAME if no string capability has the name,
+ * (TICURSES_TERMINFO_NO_ROOM). A string may be empty: TICURSES_TERMINFO_OK with *needed 0. An absent or cancelled
+ * string is none: TICURSES_TERMINFO_NO_CAP. TICURSES_TERMINFO_BAD_NAME if no string capability has the name,
  * TICURSES_TERMINFO_CLOSED. On these three *needed is 0. */
 static inline int ticurses_terminfo_string(ticurses_terminfo *entry, const char *cap, void *room, size_t room_len,
                                            size_t *needed) {
@@ -234,11 +235,13 @@ static inline int ticurses_terminfo_expand(ticurses_terminfo *entry, const void 
                                            const ticurses_terminfo_param *params, size_t count, void *room,
                                            size_t room_len, size_t *needed) {
     ticurses_raw_terminfo_param given[TICURSES_TERMINFO_PARAMS];
-    uint8_t none;
+    uint8_t none = 0;
     size_t i;
     if (!entry || ticurses_terminfo_is_bad(string, string_len) || (!params && count) ||
         ticurses_terminfo_is_bad(room, room_len) || !needed)
         return TICURSES_TERMINFO_NULL;
+    /* so that the first is there even if none is passed */
+    memset(given, 0, sizeof *given);
     for (i = 0; i < count && i < TICURSES_TERMINFO_PARAMS; i++) {
         given[i].text = ticurses_terminfo_bytes(params[i].text);
         given[i].len = params[i].text ? params[i].len : 0;
