@@ -1,6 +1,6 @@
 #!/bin/sh
 # The callers in the crates' READMEs compile: all of them as modules of one program, with the crates that they use, and
-# the one in C against include/.
+# those in C against include/.
 set -eu
 cd -- "$(dirname -- "$0")/.."
 . tests/probing
@@ -25,10 +25,12 @@ mv "$work"/sources/*.rt "$work/callers/crates/probe/src"
 attempt "$work/callers"
 must_run "$work/callers" "callers: not each caller of a README compiles"
 if command -v cc >/dev/null 2>&1; then
-    sed -n '/^```c$/,/^```$/p' crates/curses_c/README.md | grep -v '^```' >"$work/caller.c"
-    cc -std=c99 -Wall -Wextra -Werror -fsyntax-only -Iinclude "$work/caller.c"
-    echo "callers: the caller in C compiles"
+    for crate in curses_c terminfo_c; do
+        sed -n '/^```c$/,/^```$/p' "crates/$crate/README.md" | grep -v '^```' >"$work/caller.c"
+        cc -std=c99 -Wall -Wextra -Werror -fsyntax-only -Iinclude "$work/caller.c"
+    done
+    echo "callers: the callers in C compile"
 else
-    echo "callers: the caller in C is skipped, since cc is missing"
+    echo "callers: the callers in C are skipped, since cc is missing"
 fi
 echo "callers: the callers of $(wc -l <"$work/names") READMEs compile"

@@ -46,6 +46,7 @@ PUBLISHED = [
     "ti_reports",
     "cur_commands",
     "curses_c",
+    "terminfo_c",
 ]
 
 # the commands, with the functions that the program calls for each
@@ -270,6 +271,8 @@ def reading(lists):
     lists.out += ["### The library for C", ""]
     lists.say("To believe the library for C, also read these words, of its exported functions and its laws.")
     lists.table("the library for C", closure(roots_of("curses_c")))
+    lists.say("To believe the library of entries alone, read these.")
+    lists.table("the library of entries", closure(roots_of("terminfo_c")))
     lists.out += ["### The commands", ""]
     lists.say("To believe a command's answer, also read its table: the words of the functions that answer it.")
     for command, functions in commands():

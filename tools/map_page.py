@@ -31,7 +31,7 @@ PARTS = [
             "ti_files",
         ],
     ),
-    ("For programs", ["curses", "hello", "curses_c"]),
+    ("For programs", ["curses", "hello", "curses_c", "terminfo_c"]),
     (
         "Descriptions",
         [

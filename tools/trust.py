@@ -41,6 +41,7 @@ def what_is_read(totals):
         "the library's words": "likewise; they are the toolchain's",
         "verify": "they say what a certificate's yes means",
         "the library for C": "they say what C and Python are promised",
+        "the library of entries": "they say what the calls on entries are promised",
         "the commands": "they say what the program replies",
         "the other calls": "they say what the libraries' other calls promise",
     }

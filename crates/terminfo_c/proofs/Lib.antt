@@ -1,0 +1,3 @@
+mod Filled
+mod Looses
+mod Slots

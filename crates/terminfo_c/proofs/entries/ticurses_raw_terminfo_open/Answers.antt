@@ -1,0 +1,5 @@
+use Rattle.std.proofs.Common.{inl, refl}
+use Rattle.terminfo_c.proofs.entries.ticurses_raw_terminfo_open.Goals as goal
+
+pub returns-in-Ok : goal.returns-in-Ok
+returns-in-Ok c = inl (c.in-Ok.held.value, c.in-Ok.ensures.opened, c.put.ensures, refl)

@@ -1,0 +1,7 @@
+pub mod Answers
+pub mod Capabilities
+pub mod Codes
+pub mod Entries
+pub mod Expansions
+pub mod Handles
+pub mod Parameters
