@@ -53,10 +53,12 @@ place_of() {
 }
 
 library=$PREFIX/lib/libticurses.so.@MAJOR@
+terminfo=$PREFIX/lib/libticurses_terminfo.so.@MAJOR@
 files=$(cd -- "$here" && find bin include lib python share \( -type f -o -type l \) | LC_ALL=C sort)
 
 if [ "$does" = uninstall ]; then
-    for file in $files lib/pkgconfig/ticurses.pc lib/pkgconfig/ticurses-curses.pc; do
+    for file in $files lib/pkgconfig/ticurses.pc lib/pkgconfig/ticurses-terminfo.pc \
+        lib/pkgconfig/ticurses-curses.pc; do
         rm -f -- "$(place_of "$file")"
     done
     shared=$DESTDIR$PREFIX/share/ticurses
@@ -115,7 +117,9 @@ END
     put "lib/pkgconfig/$1.pc" "$made"
 }
 configure ticurses "Curses sessions with a proved refresh" "" -lticurses
+configure ticurses-terminfo "Terminfo entries and a proved expansion of their strings" "" -lticurses_terminfo
 configure ticurses-curses "X/Open Curses over sessions with a proved refresh" /ticurses "-lticurses_curses -lticurses"
-printf '"""Where the library is installed, as install.sh wrote it."""\n\nLIBRARY: str = "%s"\n' "$library" >"$made"
+printf '"""Where the libraries are installed, as install.sh wrote it."""\n\nLIBRARY: str = "%s"\nTERMINFO: str = "%s"\n' \
+    "$library" "$terminfo" >"$made"
 put python/ticurses/_installed.py "$made"
 echo "install.sh: ticurses @VERSION@ is installed in $DESTDIR$PREFIX, its Python package in $DESTDIR$PYTHONDIR"

@@ -19,7 +19,7 @@ from trying import PATIENCE, PROGRAM, TOP, Case, held_in, run_cases
 sys.path.append(f"{TOP}/tools")
 
 from build import is_there
-from sources import LIBRARY
+from sources import LIBRARIES
 
 STRICT = ["-Wall", "-Wextra", "-pedantic", "-Werror"]
 SANITIZED = ["-g", "-fsanitize=address,undefined", "-fno-sanitize-recover=all"]
@@ -45,11 +45,11 @@ def missing(script, *tools):
 
 
 def is_built(script, left_out="nothing of this is tried"):
-    """Whether the library for C is there, or else a line that says it isn't, and what is left out. The gate leaves it unbuilt, and to build it
+    """Whether the libraries for C are there, or else a line that says it isn't, and what is left out. The gate leaves it unbuilt, and to build it
     proves the crates below it once more, so that where it is neither built nor kept nothing is tried."""
-    built = is_there(LIBRARY)
+    built = all(map(is_there, LIBRARIES))
     if not built:
-        print(f"{script}: the library for C isn't built: `./install` or `./test --library` builds it; {left_out}")
+        print(f"{script}: the libraries for C aren't built: `./install` or `./test --library` builds it; {left_out}")
     return built
 
 

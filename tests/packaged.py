@@ -21,7 +21,7 @@ sys.path.append(f"{TOP}/tools")
 
 from build import is_there
 from package import is_known
-from sources import LIBRARY, PROVED
+from sources import LIBRARIES, PROVED
 from version import SONAME, VERSION
 
 TERMINALS = f"{TOP}/examples/terminals.ti"
@@ -239,7 +239,7 @@ def check_sums(folder):
     proved = held_in(f"{folder}/PROVED").decode()
     crates = set(re.findall(r"^(\w+): ", proved, re.M))
     verdicts = set(re.findall(r"^(\w+): logic=proved functions=\d+ ", proved, re.M))
-    hold({"ticurses", "curses_c"} <= crates and crates == verdicts, "crates without a verdict", crates - verdicts)
+    hold({"ticurses", "curses_c", "terminfo_c"} <= crates and crates == verdicts, "crates without a verdict", crates - verdicts)
 
 
 def check_shared(bare, program, shared):
@@ -352,7 +352,7 @@ def check_tarball(bare, package, work):
 
 
 def main():
-    for made in (PROVED, LIBRARY):
+    for made in (PROVED, *LIBRARIES):
         if not is_there(made) or not is_known(made):
             print(f"package: no {made.name} of these sources is built or kept with its verdicts; nothing of this is tried")
             return

@@ -1,6 +1,6 @@
 #!/usr/bin/env python3
 """Proves and builds the program and the crates that it depends on, as many side by side as there are processors. With
-the word `library` it does so for the library for C.
+the word `library` it does so for the libraries for C.
 
 Each crate is built in a room of its own: a folder with links to its files and to the built libraries below it. The
 toolchain lets no two runs work in one folder, and most crates depend on the same few. Whenever a run ends, its proofs
@@ -25,7 +25,7 @@ import verdicts
 from crates import TOP, below, heads, listed
 from ending import Ended, heed, held, say, started, stop, why
 from linking import Failed, link
-from sources import LIBRARY, PROVED, size_of
+from sources import LIBRARIES, PROVED, size_of
 
 # the memory that a check of one crate takes, in bytes
 NEEDS = 3_000_000_000
@@ -230,7 +230,7 @@ def built(made):
         status = build.run()
         if status:
             return status
-        if made is LIBRARY:
+        if made in LIBRARIES:
             link(made)
         if made.sources() != sources:
             say("ticurses: a source changed during the build, which is to be run again")
@@ -274,11 +274,15 @@ def bring(made):
         return status
 
 
+def bring_libraries():
+    """Has the libraries for C current, as `bring` does. Returns the status of the first that isn't."""
+    return next((status for status in map(bring, LIBRARIES) if status), 0)
+
+
 def main():
-    made = LIBRARY if sys.argv[1:] == ["library"] else PROVED
     heed()
     try:
-        return bring(made)
+        return bring_libraries() if sys.argv[1:] == ["library"] else bring(PROVED)
     except Ended as ended:
         say("ticurses: stopped; ./build goes on from here")
         return ended.status

@@ -20,7 +20,7 @@ import build
 import kept
 from crates import TOP, listed
 from ending import Ended, heed, held, started, stop, why
-from sources import LIBRARY, PROVED
+from sources import PROVED
 
 WORDS = {"--library", "--anew"}
 # how a script says that it tries less than all
@@ -29,7 +29,7 @@ LEFT_OUT = re.compile(r".*(left out|nothing of this is tried|skipped).*")
 OF_PROGRAM = {
     "c.sh", "compiled.sh", "conform.sh", "curses.sh", "edge.sh", "examples.sh", "expansions.sh", "faults.sh", "fixes.sh", "hello.sh", "infocmp.sh", "joins.sh", "manual.sh", "package.sh",
     "pictures.sh", "python.sh",
-    "reality.sh", "report.sh", "reports.sh", "sarif.sh", "screens.sh", "scripts.sh", "second.sh", "terminals.sh", "tour.sh", "vectors.sh", "with.sh",
+    "reality.sh", "report.sh", "reports.sh", "sarif.sh", "screens.sh", "scripts.sh", "second.sh", "terminals.sh", "terminfo.sh", "tour.sh", "vectors.sh", "with.sh",
 }
 
 
@@ -167,8 +167,8 @@ def run(given):
     names = sorted(it for it in os.listdir("tests") if it.endswith(".sh"))
     if not OF_PROGRAM <= set(names):
         sys.exit(f"test: tests/ lacks {', '.join(sorted(OF_PROGRAM - set(names)))}")
-    if "--library" in given and build.bring(LIBRARY):
-        say("FAILED: the library for C isn't built")
+    if "--library" in given and build.bring_libraries():
+        say("FAILED: a library for C isn't built")
         return 1
     first, others = Scripts([it for it in names if it not in OF_PROGRAM]), Scripts(sorted(OF_PROGRAM))
     say(f"{len(first.paths)} scripts come first, then rt ci, and then {len(others.paths)} scripts that run the program")
@@ -176,7 +176,7 @@ def run(given):
         return 1
     status, last = proved(rt_ci("--anew" in given))
     # `rt ci` sets aside what was built; where nothing could be kept, it is built once more
-    status = status or ("--library" in given and build.bring(LIBRARY))
+    status = status or ("--library" in given and build.bring_libraries())
     if status or not others.run_all():
         say(f"FAILED; rt ci said: {last.strip()}")
         return 1

@@ -1,13 +1,14 @@
 #!/usr/bin/env python3
-"""Builds the library for C and Python, and installs it; with the word `uninstall` it removes what an install with the
-same words has placed.
+"""Builds the libraries for C and Python, and installs them; with the word `uninstall` it removes what an install with
+the same words has placed.
 
     ./install [uninstall] [PREFIX=/usr/local] [DESTDIR=] [LIBDIR=PREFIX/lib] [PYTHONDIR=..]
 
 Without PREFIX it is /usr/local. Files go below DESTDIR, but are made for PREFIX: the headers, libticurses.a,
-libticurses.so, ticurses.pc for pkg-config, the same of ticurses-curses, the manual pages, and the Python package, in
-the folder below PREFIX in which python3 looks for packages. The program comes along where it is built. CC, AR and
-OBJCOPY are the C compiler, the archiver and the copier of objects, cc, ar and objcopy if they aren't set.
+libticurses.so, ticurses.pc for pkg-config, the same of ticurses-terminfo and ticurses-curses, the manual pages, and the
+Python package, in the folder below PREFIX in which python3 looks for packages. The program comes along where it is
+built. CC, AR and OBJCOPY are the C compiler, the archiver and the copier of objects, cc, ar and objcopy if they aren't
+set.
 
 The status is 0, 1 if a file could not be written, 2 for other words than these and for folders that a .pc file can't
 have, 125 if a crate, the compiler or the archiver failed, 127 without one of them, and 128 and the number of a signal
@@ -27,8 +28,8 @@ import curses_library as curses
 from crates import TOP
 from ending import Ended, heed, say, why
 from linking import Failed
-from sources import LIBRARY, PROVED
-from version import SONAME, VERSION
+from sources import LIBRARIES, LIBRARY, PROVED
+from version import SONAME, TERMINFO_SONAME, VERSION
 
 PKGCONFIG = """prefix={prefix}
 includedir=${{prefix}}/include
@@ -40,17 +41,33 @@ Version: {version}
 Cflags: -I${{includedir}}
 Libs: -L${{libdir}}{found} -lticurses
 """
+TERMINFO_PKGCONFIG = """prefix={prefix}
+includedir=${{prefix}}/include
+libdir={libdir}
+
+Name: ticurses-terminfo
+Description: Terminfo entries and a proved expansion of their strings
+Version: {version}
+Cflags: -I${{includedir}}
+Libs: -L${{libdir}}{found} -lticurses_terminfo
+"""
 # where programs find shared libraries by themselves; elsewhere a program gets the path
 KNOWN = ("/lib", "/usr/lib")
-HEADERS = ("ticurses.h", "ticurses_calls.h", "ticurses_terminal.h")
+HEADERS = ("ticurses.h", "ticurses_calls.h", "ticurses_terminal.h", "ticurses_terminfo.h")
 PAGES = ("ticurses.1", "ticurses.3", "ticurses-calls.3", "ticurses-curses.3", "ticurses-script.5")
 WORDS = ("PREFIX", "DESTDIR", "LIBDIR", "PYTHONDIR")
 BINDING = f"{TOP}/bindings/python/ticurses"
-# where the Python package looks for the library
-INSTALLED = '''"""Where the library is installed, as ./install wrote it."""
+# where the Python package looks for the libraries
+INSTALLED = '''"""Where the libraries are installed, as ./install wrote it."""
 
 LIBRARY: str = {path!r}
+TERMINFO: str = {terminfo!r}
 '''
+
+
+def installed(libdir):
+    """What the Python package says of the folder of the libraries."""
+    return INSTALLED.format(path=f"{libdir}/{SONAME}", terminfo=f"{libdir}/{TERMINFO_SONAME}")
 
 
 def package_files():
@@ -142,14 +159,17 @@ def files(where):
     """All files but those of the library of curses.h and the program, in the order in which they are placed."""
     top, libdir = f"{where.destination}{where.prefix}", f"{where.destination}{where.libdir}"
     package = f"{where.destination}{where.python}/ticurses"
-    archive, shared = LIBRARY.files
     found = [File(f"{top}/include/{it}", f"{TOP}/include/{it}") for it in HEADERS]
-    found += [File(f"{libdir}/libticurses.a", archive), File(f"{libdir}/{SONAME}", shared, mode=0o755)]
-    found.append(File(f"{libdir}/pkgconfig/ticurses.pc", text=where.pkgconfig(PKGCONFIG)))
+    for made in LIBRARIES:
+        archive, shared = (File(f"{libdir}/{os.path.basename(it)}", it) for it in made.files)
+        shared.mode = 0o755
+        found += [archive, shared]
+    for name, form in (("ticurses", PKGCONFIG), ("ticurses-terminfo", TERMINFO_PKGCONFIG)):
+        found.append(File(f"{libdir}/pkgconfig/{name}.pc", text=where.pkgconfig(form)))
     for page in PAGES:
         found.append(File(f"{top}/share/man/man{page[-1]}/{page}", f"{TOP}/man/{page}"))
     found += [File(f"{package}/{it}", f"{BINDING}/{it}") for it in package_files()]
-    found.append(File(f"{package}/_installed.py", text=INSTALLED.format(path=f"{where.libdir}/{SONAME}")))
+    found.append(File(f"{package}/_installed.py", text=installed(where.libdir)))
     return found
 
 
@@ -158,9 +178,9 @@ def program(where):
 
 
 def links(where):
-    """The links by which -lticurses and -lticurses_curses find the shared libraries, and where they lead."""
+    """The links by which -lticurses and the like find the shared libraries, and where they lead."""
     libdir = f"{where.destination}{where.libdir}"
-    return {f"{libdir}/{it.partition('.so')[0]}.so": it for it in (SONAME, curses.SONAME)}
+    return {f"{libdir}/{it.partition('.so')[0]}.so": it for it in (SONAME, TERMINFO_SONAME, curses.SONAME)}
 
 
 def built_curses(where, room):
@@ -213,11 +233,11 @@ def uninstall(where):
 
 
 def brought():
-    """Has the library built; returns the status."""
+    """Has the libraries built; returns the status."""
     try:
-        return build.bring(LIBRARY)
+        return build.bring_libraries()
     except OSError as error:
-        raise Failed(125, f"the library can't be built here: {why(error)}") from error
+        raise Failed(125, f"the libraries can't be built here: {why(error)}") from error
 
 
 def main():

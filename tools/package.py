@@ -30,10 +30,10 @@ import kept
 import verdicts
 from crates import TOP
 from ending import Ended, heed, say, why
-from install import BINDING, HEADERS, INSTALLED, PKGCONFIG, package_files
+from install import BINDING, HEADERS, PKGCONFIG, TERMINFO_PKGCONFIG, installed, package_files
 from linking import Failed, run
-from sources import LIBRARY, PROVED
-from version import SONAME, VERSION
+from sources import LIBRARIES, LIBRARY, PROVED
+from version import SONAME, TERMINFO_SONAME, VERSION
 
 PACKAGING = f"{TOP}/packaging"
 MULTIARCH = "x86_64-linux-gnu"
@@ -127,20 +127,21 @@ class Curses:
 
 
 class Proved:
-    """The program and the library, what the toolchain said of them, and the checksums of what was proved."""
+    """The program and the libraries, what the toolchain said of them, and the checksums of what was proved."""
 
     def __init__(self):
         self.program = stripped(PROVED.files[0])
-        self.archive = read(LIBRARY.files[0])
-        self.shared = stripped(LIBRARY.files[1])
-        libraries, versions = zip(*(needs(it) for it in (PROVED.files[0], LIBRARY.files[1])))
+        self.archives = {os.path.basename(it.files[0]): read(it.files[0]) for it in LIBRARIES}
+        self.shared = {os.path.basename(it.files[1]): stripped(it.files[1]) for it in LIBRARIES}
+        libraries, versions = zip(*(needs(it) for it in (PROVED.files[0], *(it.files[1] for it in LIBRARIES))))
         self.libraries, self.glibc = set().union(*libraries), ".".join(map(str, max(versions)))
-        sources = PROVED.sources(), LIBRARY.sources()
-        said = [verdicts.read(it, own) for it, own in zip((PROVED, LIBRARY), sources)]
+        all_made = (PROVED, *LIBRARIES)
+        sources = [it.sources() for it in all_made]
+        said = [verdicts.read(it, own) for it, own in zip(all_made, sources)]
         self.verdicts = "".join(dict.fromkeys(line for lines in said for line in lines))
         self.certificates = certificates.files(PROVED.files[0], zipped)
         self.sums = "".join(
-            sorted({*sources[0].splitlines(True), *sources[1].splitlines(True)}, key=lambda it: it.split("  ", 1)[1])
+            sorted({line for it in sources for line in it.splitlines(True)}, key=lambda it: it.split("  ", 1)[1])
         )
 
     def depends(self):
@@ -180,9 +181,10 @@ def add_common(tree, proved, prefix, libdir, python, pages_zipped):
     tree.add(f"{prefix}bin/ticurses", proved.program, 0o755)
     for header in HEADERS:
         tree.add(f"{prefix}include/{header}", read(f"{TOP}/include/{header}"))
-    tree.add(f"{libdir}/libticurses.a", proved.archive)
-    tree.add(f"{libdir}/{SONAME}", proved.shared)
-    tree.links[f"{libdir}/libticurses.so"] = SONAME
+    for name, held in {**proved.archives, **proved.shared}.items():
+        tree.add(f"{libdir}/{name}", held)
+    for name in proved.shared:
+        tree.links[f"{libdir}/{name.partition('.so')[0]}.so"] = name
     for name in ("_installed.py", *package_files()):
         tree.add(f"{python}/ticurses/{name}", read(f"{BINDING}/{name}"))
     for page in sorted(os.listdir(f"{TOP}/man")):
@@ -202,7 +204,7 @@ def tarball(proved, age):
     tree = Tree()
     add_common(tree, proved, "", "lib", "python", False)
     add_curses(tree, "", "lib", "$ORIGIN")
-    names = ("bin/ticurses", "lib/libticurses.a", f"lib/{SONAME}", f"lib/{curses.ARCHIVE}", f"lib/{curses.SONAME}")
+    names = ["bin/ticurses", *(f"lib/{it}" for it in (*proved.archives, *proved.shared, curses.ARCHIVE, curses.SONAME))]
     made = [(name, tree.files[name][0]) for name in names]
     tree.add(f"{DOC}/PROVED", proved.verdicts)
     tree.add(f"{DOC}/SHA256SUMS", proved.sums)
@@ -252,12 +254,13 @@ def debian(proved, age):
     libdir = f"usr/lib/{MULTIARCH}"
     add_common(tree, proved, "usr/", libdir, "usr/lib/python3/dist-packages", True)
     add_curses(tree, "usr/", libdir, "")
-    for name, form in (("ticurses", PKGCONFIG), ("ticurses-curses", curses.PKGCONFIG)):
+    forms = {"ticurses": PKGCONFIG, "ticurses-terminfo": TERMINFO_PKGCONFIG, "ticurses-curses": curses.PKGCONFIG}
+    for name, form in forms.items():
         text = form.format(prefix="/usr", libdir=f"${{prefix}}/lib/{MULTIARCH}", version=VERSION, found="")
         tree.add(f"{libdir}/pkgconfig/{name}.pc", text)
     tree.add(
         "usr/lib/python3/dist-packages/ticurses/_installed.py",
-        INSTALLED.format(path=f"/{libdir}/{SONAME}").replace("./install", "the package"),
+        installed(f"/{libdir}").replace("./install", "the package"),
     )
     doc = f"usr/{DOC}"
     tree.add(f"{doc}/changelog.gz", zipped(changelog(age).encode()))
@@ -272,7 +275,7 @@ def debian(proved, age):
         "md5sums",
         "".join(f"{hashlib.md5(held).hexdigest()}  {path}\n" for path, (held, _) in sorted(tree.files.items())),
     )
-    names = [it.partition(".so")[0] for it in (SONAME, curses.SONAME)]
+    names = [it.partition(".so")[0] for it in (SONAME, TERMINFO_SONAME, curses.SONAME)]
     control.add("shlibs", "".join(f"{it} {VERSION.split('.')[0]} ticurses (>= {VERSION})\n" for it in names))
     control.add("triggers", "activate-noawait ldconfig\n")
     members = [
@@ -292,8 +295,8 @@ def is_known(made):
 
 
 def bring():
-    """Has the program and the library, with what the toolchain said of them; returns the status."""
-    for made in (PROVED, LIBRARY):
+    """Has the program and the libraries, with what the toolchain said of them; returns the status."""
+    for made in (PROVED, *LIBRARIES):
         status = build.bring(made)
         if not status and not is_known(made):
             # the toolchain goes over what it has kept of each crate

@@ -1,4 +1,4 @@
-"""The sources of the program and of the library for C, and whether the built files were made from the present sources.
+"""The sources of the program and of the libraries for C, and whether the built files were made from the present sources.
 
 Built files have a record beside them: the checksum of each source and of each file that was made, as sha256sum prints
 them. Built files are current if their record is the one that would be written now. Times don't show that: a source may
@@ -8,7 +8,7 @@ import hashlib
 import os
 
 from crates import TOP, below, listed
-from version import SONAME
+from version import SONAME, TERMINFO_SONAME
 
 
 def checksum(path):
@@ -93,5 +93,6 @@ PROVED = Made("program", "ticurses", ["ticurses"])
 UNPROVED = Made("unproved", "ticurses", ["unproved"])
 # both forms of the library, as they are linked
 LIBRARY = Made("library", "curses_c", ["linked/libticurses.a", f"linked/{SONAME}"])
-# what the toolchain leaves of the library's crate
-ARCHIVE = f"{LIBRARY.out}/libcurses_c.a"
+# the library of entries alone
+TERMINFO = Made("terminfo", "terminfo_c", ["linked/libticurses_terminfo.a", f"linked/{TERMINFO_SONAME}"])
+LIBRARIES = (LIBRARY, TERMINFO)

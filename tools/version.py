@@ -23,12 +23,14 @@ def written():
 VERSION = written()
 # a program that was linked with a library finds every later one of the same first number
 SONAME = f"libticurses.so.{VERSION.split('.')[0]}"
+TERMINFO_SONAME = f"libticurses_terminfo.so.{VERSION.split('.')[0]}"
 
 # what names the version or the library by it: the file, and how
 NAMED = [
     ("NEWS.md", r"^## (\d+\.\d+\.\d+)", VERSION),
     ("README.md", r"\bticurses[-_](\d+\.\d+\.\d+)", VERSION),
     ("bindings/python/ticurses/_raw.py", r"\b(libticurses\.so\.\d+)", SONAME),
+    ("bindings/python/ticurses/_entry.py", r"\b(libticurses_terminfo\.so\.\d+)", TERMINFO_SONAME),
 ]
 
 
