@@ -290,7 +290,7 @@ def check_import(work):
         out = printed(work, line, library)
         if "./install" not in out or "TICURSES_LIBRARY" not in out or (library or SONAME).split("/")[-1] not in out:
             sys.exit(f"edge: of Python: without its library it says {out!r}")
-    write(f"{work}/a/b/ticurses/_installed.py", f"LIBRARY: str = {work + '/libstub.so'!r}\n".encode())
+    write(f"{work}/a/b/ticurses/_installed.py", f"LIBRARY: str = {work + '/libstub.so'!r}\nTERMINFO: str = ''\n".encode())
     out = printed(work, "import ticurses\nprint(ticurses.__version__)", "")
     if out != f"{VERSION}\n":
         sys.exit(f"edge: of Python: the version is {out}, and {VERSION} was wanted")

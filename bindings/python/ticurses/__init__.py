@@ -11,7 +11,10 @@ Calls are lines in the language of scripts (man 5 ticurses-script). The session 
 or `send` writes it; `read` waits for keys. A call that isn't done raises an `Error`, whose `code` is a `Code`. However
 the block ends, by an exception, an interrupt or SIGTERM too, the terminal is then as it was before.
 
-The library is $TICURSES_LIBRARY, or the one that was installed with this package, or the one that the system finds."""
+An `Entry` has the capabilities of a compiled terminfo entry, and expands parameter strings.
+
+The library is $TICURSES_LIBRARY, or the one that was installed with this package, or the one that the system finds; the
+one of `Entry` is $TICURSES_TERMINFO_LIBRARY, and so on."""
 
 from __future__ import annotations
 
@@ -29,14 +32,15 @@ from typing import Any, Callable, Iterator, NamedTuple, NoReturn, Union
 import enum
 
 from ._codes import TEXTS, Code, Error
+from ._entry import ENTRY_TEXTS, Entry, EntryCode, EntryError
 from ._raw import RAW, SHORT, SIZE, Handle
 from ._raw import Cell as _Cell
 from ._terminal import find_entry, set_cooked, set_raw, terminal_size
 
 __version__ = "1.0.0"
 __all__ = [
-    "TEXTS", "Attrs", "Cell", "Code", "Error", "Session", "check", "find_entry", "reason", "set_cooked", "set_raw",
-    "terminal_size", "verify",
+    "ENTRY_TEXTS", "TEXTS", "Attrs", "Cell", "Code", "Entry", "EntryCode", "EntryError", "Error", "Session", "check",
+    "find_entry", "reason", "set_cooked", "set_raw", "terminal_size", "verify",
 ]
 
 Text = Union[str, bytes, bytearray, memoryview]

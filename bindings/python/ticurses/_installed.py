@@ -1,3 +1,4 @@
-"""The path of the installed library, which ./install writes here; empty in a checkout."""
+"""The paths of the installed libraries, which ./install writes here; empty in a checkout."""
 
 LIBRARY: str = ""
+TERMINFO: str = ""
