@@ -13,8 +13,9 @@
 #ifndef __cplusplus
 #include <stdbool.h>
 #endif
-#include <stdint.h>
 #include <stdio.h>
+
+#include "attributes.h"
 
 #if defined(__GNUC__)
 #define TICURSES_CURSES_PRINTF(at, rest) __attribute__((__format__(__printf__, at, rest)))
@@ -32,9 +33,6 @@ extern "C" {
 
 #define TICURSES_CURSES 1
 
-/* A character with attributes and a color pair: the byte in bits 0 to 7, the pair in 8 to 15, attributes from 16 on. */
-typedef uint32_t chtype;
-typedef chtype attr_t;
 typedef struct ticurses_window WINDOW;
 typedef struct ticurses_screen SCREEN;
 
@@ -42,37 +40,6 @@ typedef struct ticurses_screen SCREEN;
 #undef FALSE
 #define TRUE 1
 #define FALSE 0
-#undef OK
-#undef ERR
-#define OK 0
-#define ERR (-1)
-
-/* Attributes. A_PROTECT is 0, since no terminal with protected characters is known here. */
-#define A_NORMAL 0u
-#define A_CHARTEXT 0x000000ffu
-#define A_COLOR 0x0000ff00u
-#define A_ATTRIBUTES 0xffffff00u
-#define A_STANDOUT 0x00010000u
-#define A_UNDERLINE 0x00020000u
-#define A_REVERSE 0x00040000u
-#define A_BLINK 0x00080000u
-#define A_DIM 0x00100000u
-#define A_BOLD 0x00200000u
-#define A_INVIS 0x00400000u
-#define A_ALTCHARSET 0x00800000u
-#define A_PROTECT 0u
-
-#define WA_NORMAL A_NORMAL
-#define WA_ATTRIBUTES A_ATTRIBUTES
-#define WA_STANDOUT A_STANDOUT
-#define WA_UNDERLINE A_UNDERLINE
-#define WA_REVERSE A_REVERSE
-#define WA_BLINK A_BLINK
-#define WA_DIM A_DIM
-#define WA_BOLD A_BOLD
-#define WA_INVIS A_INVIS
-#define WA_ALTCHARSET A_ALTCHARSET
-#define WA_PROTECT A_PROTECT
 
 #define COLOR_PAIR(n) (((chtype)(n) << 8) & A_COLOR)
 #define PAIR_NUMBER(a) ((int)(((chtype)(a) & A_COLOR) >> 8))
