@@ -57,7 +57,7 @@ terminfo=$PREFIX/lib/libticurses_terminfo.so.@MAJOR@
 files=$(cd -- "$here" && find bin include lib python share \( -type f -o -type l \) | LC_ALL=C sort)
 
 if [ "$does" = uninstall ]; then
-    for file in $files lib/pkgconfig/ticurses.pc lib/pkgconfig/ticurses-terminfo.pc \
+    for file in $files lib/pkgconfig/ticurses.pc lib/pkgconfig/ticurses-terminfo.pc lib/pkgconfig/ticurses-tinfo.pc \
         lib/pkgconfig/ticurses-curses.pc; do
         rm -f -- "$(place_of "$file")"
     done
@@ -69,7 +69,8 @@ if [ "$does" = uninstall ]; then
         "$DESTDIR$PREFIX/share/doc/ticurses/examples/c" \
         "$DESTDIR$PREFIX/share/doc/ticurses/examples/curses" "$DESTDIR$PREFIX/share/doc/ticurses/examples/python" \
         "$DESTDIR$PREFIX/share/doc/ticurses/examples" \
-        "$DESTDIR$PREFIX/share/doc/ticurses" "$DESTDIR$PREFIX/include/ticurses"; do
+        "$DESTDIR$PREFIX/share/doc/ticurses" "$DESTDIR$PREFIX/include/ticurses" \
+        "$DESTDIR$PREFIX/lib/ticurses/tinfo6" "$DESTDIR$PREFIX/lib/ticurses"; do
         # one that has files of others stays
         rmdir -- "$folder" 2>/dev/null || :
     done
@@ -118,6 +119,8 @@ END
 }
 configure ticurses "Curses sessions with a proved refresh" "" -lticurses
 configure ticurses-terminfo "Terminfo entries and a proved expansion of their strings" "" -lticurses_terminfo
+configure ticurses-tinfo "terminfo and termcap over a proved expansion of parameter strings" /ticurses \
+    "-lticurses_tinfo -lticurses_terminfo"
 configure ticurses-curses "X/Open Curses over sessions with a proved refresh" /ticurses "-lticurses_curses -lticurses"
 printf '"""Where the libraries are installed, as install.sh wrote it."""\n\nLIBRARY: str = "%s"\nTERMINFO: str = "%s"\n' \
     "$library" "$terminfo" >"$made"

@@ -5,8 +5,8 @@ the same words has placed.
     ./install [uninstall] [PREFIX=/usr/local] [DESTDIR=] [LIBDIR=PREFIX/lib] [PYTHONDIR=..]
 
 Without PREFIX it is /usr/local. Files go below DESTDIR, but are made for PREFIX: the headers, libticurses.a,
-libticurses.so, ticurses.pc for pkg-config, the same of ticurses-terminfo and ticurses-curses, the manual pages, and the
-Python package, in the folder below PREFIX in which python3 looks for packages. The program comes along where it is
+libticurses.so, ticurses.pc for pkg-config, the same of ticurses-terminfo, ticurses-curses and ticurses-tinfo, the
+drop-in for ncurses' libtinfo, the manual pages, and the Python package, in the folder below PREFIX in which python3 looks for packages. The program comes along where it is
 built. CC, AR and OBJCOPY are the C compiler, the archiver and the copier of objects, cc, ar and objcopy if they aren't
 set.
 
@@ -25,10 +25,11 @@ import tempfile
 
 import build
 import curses_library as curses
+import tinfo_library as tinfo
 from crates import TOP
 from ending import Ended, heed, say, why
 from linking import Failed
-from sources import LIBRARIES, LIBRARY, PROVED
+from sources import LIBRARIES, LIBRARY, PROVED, TERMINFO
 from version import SONAME, TERMINFO_SONAME, VERSION
 
 PKGCONFIG = """prefix={prefix}
@@ -54,7 +55,7 @@ Libs: -L${{libdir}}{found} -lticurses_terminfo
 # where programs find shared libraries by themselves; elsewhere a program gets the path
 KNOWN = ("/lib", "/usr/lib")
 HEADERS = ("ticurses.h", "ticurses_calls.h", "ticurses_terminal.h", "ticurses_terminfo.h")
-PAGES = ("ticurses.1", "ticurses.3", "ticurses-calls.3", "ticurses-curses.3", "ticurses-script.5")
+PAGES = ("ticurses.1", "ticurses.3", "ticurses-calls.3", "ticurses-curses.3", "ticurses-tinfo.3", "ticurses-script.5")
 WORDS = ("PREFIX", "DESTDIR", "LIBDIR", "PYTHONDIR")
 BINDING = f"{TOP}/bindings/python/ticurses"
 # where the Python package looks for the libraries
@@ -145,18 +146,21 @@ class File:
             return file.read()
 
 
-def curses_files(where, room="."):
-    """The files of the library of curses.h, which is in the room."""
+def compiled_files(where, room="."):
+    """The files of the libraries of curses.h and of term.h, which are in the room."""
     top, libdir = f"{where.destination}{where.prefix}", f"{where.destination}{where.libdir}"
-    found = [File(f"{top}/include/ticurses/{it}", f"{curses.INCLUDE}/{it}") for it in curses.HEADERS]
-    found.append(File(f"{libdir}/{curses.ARCHIVE}", f"{room}/{curses.ARCHIVE}"))
-    found.append(File(f"{libdir}/{curses.SONAME}", f"{room}/{curses.SONAME}", mode=0o755))
-    found.append(File(f"{libdir}/pkgconfig/ticurses-curses.pc", text=where.pkgconfig(curses.PKGCONFIG)))
+    headers = dict.fromkeys((*curses.HEADERS, *tinfo.HEADERS))
+    found = [File(f"{top}/include/ticurses/{it}", f"{curses.INCLUDE}/{it}") for it in headers]
+    for library, name in ((curses, "curses"), (tinfo, "tinfo")):
+        found.append(File(f"{libdir}/{library.ARCHIVE}", f"{room}/{library.ARCHIVE}"))
+        found.append(File(f"{libdir}/{library.SONAME}", f"{room}/{library.SONAME}", mode=0o755))
+        found.append(File(f"{libdir}/pkgconfig/ticurses-{name}.pc", text=where.pkgconfig(library.PKGCONFIG)))
+    found.append(File(f"{libdir}/{tinfo.DROP_IN_FOLDER}/{tinfo.DROP_IN}", f"{room}/{tinfo.DROP_IN}", mode=0o755))
     return found
 
 
 def files(where):
-    """All files but those of the library of curses.h and the program, in the order in which they are placed."""
+    """All files but those that are compiled from C and the program, in the order in which they are placed."""
     top, libdir = f"{where.destination}{where.prefix}", f"{where.destination}{where.libdir}"
     package = f"{where.destination}{where.python}/ticurses"
     found = [File(f"{top}/include/{it}", f"{TOP}/include/{it}") for it in HEADERS]
@@ -180,19 +184,21 @@ def program(where):
 def links(where):
     """The links by which -lticurses and the like find the shared libraries, and where they lead."""
     libdir = f"{where.destination}{where.libdir}"
-    return {f"{libdir}/{it.partition('.so')[0]}.so": it for it in (SONAME, TERMINFO_SONAME, curses.SONAME)}
+    return {f"{libdir}/{it.partition('.so')[0]}.so": it for it in (SONAME, TERMINFO_SONAME, curses.SONAME, tinfo.SONAME)}
 
 
-def built_curses(where, room):
-    """The files of the library of curses.h, compiled into the room; none where there is no compiler."""
+def compiled(where, room):
+    """The files of the libraries of curses.h and of term.h, compiled into the room; none where there is no compiler."""
+    searched = "" if where.is_known() else "$ORIGIN"
     try:
-        curses.built(room, LIBRARY.files[1], "" if where.is_known() else "$ORIGIN")
+        curses.built(room, LIBRARY.files[1], searched)
+        tinfo.built(room, *TERMINFO.files, searched)
     except Failed as failed:
         if failed.status != 127:
             raise
-        print(f"install: {failed}, and the library of <ticurses/curses.h> is left out")
+        print(f"install: {failed}, and the libraries of <ticurses/curses.h> and <ticurses/term.h> are left out")
         return []
-    return curses_files(where, room)
+    return compiled_files(where, room)
 
 
 def install(where):
@@ -200,7 +206,7 @@ def install(where):
     # what is installed is for all users
     os.umask(0o022)
     with tempfile.TemporaryDirectory() as room:
-        placed = files(where) + built_curses(where, room)
+        placed = files(where) + compiled(where, room)
         if PROVED.is_current():
             placed.append(program(where))
         else:
@@ -220,14 +226,16 @@ def uninstall(where):
     """Removes the files that `install` places. A missing file is no error."""
     package = f"{where.destination}{where.python}/ticurses"
     modules = sorted({os.path.dirname(f"{package}/{it}") for it in package_files()}, key=len, reverse=True)
-    for at in [*(it.at for it in files(where) + curses_files(where)), program(where).at, *links(where)]:
+    for at in [*(it.at for it in files(where) + compiled_files(where)), program(where).at, *links(where)]:
         if os.path.lexists(at):
             os.remove(at)
             print(f"install: {at} is removed")
     for folder in modules:
         shutil.rmtree(f"{folder}/__pycache__", ignore_errors=True)
     # a folder that has files of others stays
-    for folder in (*modules, f"{where.destination}{where.prefix}/include/ticurses"):
+    libdir = f"{where.destination}{where.libdir}"
+    folders = [f"{libdir}/{tinfo.DROP_IN_FOLDER}", f"{libdir}/{os.path.dirname(tinfo.DROP_IN_FOLDER)}"]
+    for folder in (*modules, f"{where.destination}{where.prefix}/include/ticurses", *folders):
         with contextlib.suppress(OSError):
             os.rmdir(folder)
 

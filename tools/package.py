@@ -27,12 +27,13 @@ import build
 import certificates
 import curses_library as curses
 import kept
+import tinfo_library as tinfo
 import verdicts
 from crates import TOP
 from ending import Ended, heed, say, why
 from install import BINDING, HEADERS, PKGCONFIG, TERMINFO_PKGCONFIG, installed, package_files
 from linking import Failed, run
-from sources import LIBRARIES, LIBRARY, PROVED
+from sources import LIBRARIES, LIBRARY, PROVED, TERMINFO
 from version import SONAME, TERMINFO_SONAME, VERSION
 
 PACKAGING = f"{TOP}/packaging"
@@ -116,14 +117,16 @@ def zipped(held, age=0):
     return packed.getvalue()
 
 
-class Curses:
-    """The library of curses.h, whose shared form looks for that of sessions where this says."""
+class Compiled:
+    """The libraries of curses.h and of term.h, whose shared forms look for the proved ones where this says."""
 
     def __init__(self, searched):
         with tempfile.TemporaryDirectory() as room:
             curses.built(room, LIBRARY.files[1], searched)
-            self.archive = read(f"{room}/{curses.ARCHIVE}")
-            self.shared = stripped(f"{room}/{curses.SONAME}")
+            tinfo.built(room, *TERMINFO.files, searched)
+            self.archives = {it.ARCHIVE: read(f"{room}/{it.ARCHIVE}") for it in (curses, tinfo)}
+            self.shared = {it.SONAME: stripped(f"{room}/{it.SONAME}") for it in (curses, tinfo)}
+            self.drop_in = stripped(f"{room}/{tinfo.DROP_IN}")
 
 
 class Proved:
@@ -153,14 +156,21 @@ class Proved:
         return ", ".join(f"libc6 (>= {self.glibc})" if it == "libc6" else it for it in sorted(names))
 
 
-def add_curses(tree, prefix, libdir, searched):
-    """The library of curses.h and its headers."""
-    made = Curses(searched)
-    for header in curses.HEADERS:
+def add_libraries(tree, libdir, made):
+    """Both forms of libraries, and the links to the shared ones."""
+    for name, held in {**made.archives, **made.shared}.items():
+        tree.add(f"{libdir}/{name}", held)
+    for name in made.shared:
+        tree.links[f"{libdir}/{name.partition('.so')[0]}.so"] = name
+
+
+def add_compiled(tree, prefix, libdir, searched):
+    """The libraries of curses.h and of term.h, the drop-in, and the headers."""
+    made = Compiled(searched)
+    for header in (*curses.HEADERS, *tinfo.HEADERS):
         tree.add(f"{prefix}include/ticurses/{header}", read(f"{curses.INCLUDE}/{header}"))
-    tree.add(f"{libdir}/{curses.ARCHIVE}", made.archive)
-    tree.add(f"{libdir}/{curses.SONAME}", made.shared)
-    tree.links[f"{libdir}/{curses.ARCHIVE[:-2]}.so"] = curses.SONAME
+    add_libraries(tree, libdir, made)
+    tree.add(f"{libdir}/{tinfo.DROP_IN_FOLDER}/{tinfo.DROP_IN}", made.drop_in)
 
 
 def add_shared(tree, proved, at):
@@ -181,10 +191,7 @@ def add_common(tree, proved, prefix, libdir, python, pages_zipped):
     tree.add(f"{prefix}bin/ticurses", proved.program, 0o755)
     for header in HEADERS:
         tree.add(f"{prefix}include/{header}", read(f"{TOP}/include/{header}"))
-    for name, held in {**proved.archives, **proved.shared}.items():
-        tree.add(f"{libdir}/{name}", held)
-    for name in proved.shared:
-        tree.links[f"{libdir}/{name.partition('.so')[0]}.so"] = name
+    add_libraries(tree, libdir, proved)
     for name in ("_installed.py", *package_files()):
         tree.add(f"{python}/ticurses/{name}", read(f"{BINDING}/{name}"))
     for page in sorted(os.listdir(f"{TOP}/man")):
@@ -203,8 +210,8 @@ def tarball(proved, age):
     """The archive that installs itself."""
     tree = Tree()
     add_common(tree, proved, "", "lib", "python", False)
-    add_curses(tree, "", "lib", "$ORIGIN")
-    names = ["bin/ticurses", *(f"lib/{it}" for it in (*proved.archives, *proved.shared, curses.ARCHIVE, curses.SONAME))]
+    add_compiled(tree, "", "lib", "$ORIGIN")
+    names = ["bin/ticurses", *(it for it in tree.files if re.match(r"lib/.*(\.a|\.so\.\d+)$", it))]
     made = [(name, tree.files[name][0]) for name in names]
     tree.add(f"{DOC}/PROVED", proved.verdicts)
     tree.add(f"{DOC}/SHA256SUMS", proved.sums)
@@ -253,8 +260,9 @@ def debian(proved, age):
     tree = Tree()
     libdir = f"usr/lib/{MULTIARCH}"
     add_common(tree, proved, "usr/", libdir, "usr/lib/python3/dist-packages", True)
-    add_curses(tree, "usr/", libdir, "")
+    add_compiled(tree, "usr/", libdir, "")
     forms = {"ticurses": PKGCONFIG, "ticurses-terminfo": TERMINFO_PKGCONFIG, "ticurses-curses": curses.PKGCONFIG}
+    forms["ticurses-tinfo"] = tinfo.PKGCONFIG
     for name, form in forms.items():
         text = form.format(prefix="/usr", libdir=f"${{prefix}}/lib/{MULTIARCH}", version=VERSION, found="")
         tree.add(f"{libdir}/pkgconfig/{name}.pc", text)
@@ -275,7 +283,7 @@ def debian(proved, age):
         "md5sums",
         "".join(f"{hashlib.md5(held).hexdigest()}  {path}\n" for path, (held, _) in sorted(tree.files.items())),
     )
-    names = [it.partition(".so")[0] for it in (SONAME, TERMINFO_SONAME, curses.SONAME)]
+    names = [it.partition(".so")[0] for it in (SONAME, TERMINFO_SONAME, curses.SONAME, tinfo.SONAME)]
     control.add("shlibs", "".join(f"{it} {VERSION.split('.')[0]} ticurses (>= {VERSION})\n" for it in names))
     control.add("triggers", "activate-noawait ldconfig\n")
     members = [
