@@ -11,6 +11,9 @@ int ripoffline(int line, int (*start)(WINDOW *, int)) {
 void filter(void) {
 }
 
+void nofilter(void) {
+}
+
 void use_env(bool is_used) {
     (void)is_used;
 }

@@ -3,6 +3,7 @@
 #include "private.h"
 
 #include <errno.h>
+#include <stdlib.h>
 #include <string.h>
 #include <termios.h>
 #include <unistd.h>
@@ -24,26 +25,92 @@ static bool is_keypad_on;
  * of a function key for the next read or takes each as a key. */
 static enum { WAITS, LEAVES_REST, TAKES_REST } manner;
 
-/* The strings of the entry's keys. */
+/* The strings of keys: those of the entry, and those that define_key has added, which own their texts. One that keyok
+ * has turned off is of no key. */
 static struct {
     const char *text;
     int key;
-} known[256];
+    bool is_own, is_off;
+} known[512];
 static size_t known_count;
 
+/* Removes a string of a key. */
+static void forget_string(size_t at) {
+    if (known[at].is_own) free((char *)known[at].text);
+    known_count--;
+    memmove(&known[at], &known[at + 1], (known_count - at) * sizeof *known);
+}
+
 void tcu_learn_keys(void) {
-    known_count = 0;
+    while (known_count > 0) forget_string(known_count - 1);
     for (size_t at = 0; at < tcu_key_count && known_count < sizeof known / sizeof *known; at++) {
         const char *text = entry_learn(tcu_keys[at].name);
         if (!text || !*text) continue;
         known[known_count].text = text;
+        known[known_count].is_own = known[known_count].is_off = false;
         known[known_count++].key = tcu_keys[at].key;
     }
 }
 
+/* Removes the strings of a key, and this one unless it is null. Returns OK if there was any. */
+static int undefine(const char *text, int key) {
+    int code = ERR;
+    for (size_t at = known_count; at > 0; at--) {
+        bool is_it = known[at - 1].key == key || (text && strcmp(known[at - 1].text, text) == 0);
+        if (known[at - 1].is_off || !is_it) continue;
+        forget_string(at - 1);
+        code = OK;
+    }
+    return code;
+}
+
+int key_defined(const char *text) {
+    int found = 0;
+    if (!tcu.is_open || !text) return ERR;
+    for (size_t at = 0; at < known_count && found <= 0; at++) {
+        size_t len = strlen(known[at].text);
+        if (known[at].is_off || strncmp(known[at].text, text, strlen(text) < len ? strlen(text) : len) != 0) continue;
+        found = strlen(text) < len ? ERR : known[at].key;
+    }
+    return found;
+}
+
+int define_key(const char *text, int key) {
+    char *copy;
+    if (!tcu.is_open) return ERR;
+    if (key <= 0) return text ? undefine(text, 0) : ERR;
+    if (!text) return undefine(NULL, key);
+    /* a string that another key has is bound anew */
+    undefine(text, 0);
+    if (!*text || key_defined(text) != 0 || known_count == sizeof known / sizeof *known) return ERR;
+    copy = strdup(text);
+    if (!copy) return ERR;
+    known[known_count].text = copy;
+    known[known_count].is_own = true;
+    known[known_count].is_off = false;
+    known[known_count++].key = key;
+    return OK;
+}
+
+char *keybound(int key, int count) {
+    for (size_t at = 0; tcu.is_open && at < known_count; at++)
+        if (!known[at].is_off && known[at].key == key && count-- == 0) return strdup(known[at].text);
+    return NULL;
+}
+
+int keyok(int key, bool is_on) {
+    int code = ERR;
+    for (size_t at = 0; tcu.is_open && at < known_count; at++) {
+        if (known[at].key != key || known[at].is_off != is_on) continue;
+        known[at].is_off = !is_on;
+        code = OK;
+    }
+    return code;
+}
+
 int has_key(int key) {
     for (size_t at = 0; tcu.is_open && at < known_count; at++)
-        if (known[at].key == key) return TRUE;
+        if (known[at].key == key && !known[at].is_off) return TRUE;
     return FALSE;
 }
 
@@ -106,7 +173,7 @@ static int key_of(const char *bytes, size_t count, bool *is_beginning) {
     for (size_t at = 0; at < known_count; at++) {
         size_t len = strlen(known[at].text);
         /* a zero byte is of no key */
-        if (len < count || memcmp(known[at].text, bytes, count) != 0) continue;
+        if (known[at].is_off || len < count || memcmp(known[at].text, bytes, count) != 0) continue;
         if (len > count) *is_beginning = true;
         else if (found == 0) found = known[at].key;
     }

@@ -174,3 +174,13 @@ int pechochar(WINDOW *pad, chtype ch) {
     at = pad->shown;
     return pad->is_shown ? prefresh(pad, at[0], at[1], at[2], at[3], at[4], at[5]) : ERR;
 }
+
+void setsyx(int y, int x) {
+    if (!tcu.is_open) return;
+    tcu.is_cursor_left = y == -1 && x == -1;
+    if (!tcu.is_cursor_left) session_move(TCU_NEWSCR, y, x);
+}
+
+void ticurses_getsyx(int *y, int *x) {
+    if (!tcu.is_open || tcu.is_cursor_left || session_cursor(TCU_NEWSCR, y, x) != OK) *y = *x = -1;
+}

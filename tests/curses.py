@@ -27,6 +27,7 @@ sys.path.append(f"{TOP}/tools")
 
 import curses_library
 import curses_terminals
+import tinfo_library
 
 PAGE = f"{TOP}/docs/CURSES.md"
 HERE = f"{TOP}/tests/curses"
@@ -114,6 +115,8 @@ def judge_page():
     header = functions | variables | MACROS
     absent = held_in(f"{curses_library.INCLUDE}/not_there.h").decode()
     absent = set(re.findall(r"^#define (\w+)\(\.\.\.\)", absent, re.M))
+    # another library has these
+    absent |= set(tinfo_library.exported()) - header
     past = held_in(PAGE).decode().partition("\n## Past the standard\n")[2].partition("\n## ")[0]
     past = set(re.findall(r"`(\w+)`", past))
     wrong = {it for it, kind in page.items() if (it in absent) != (kind == "not there")}

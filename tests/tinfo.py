@@ -322,7 +322,7 @@ def judge_page(work, prefix):
 
 def judge_headers(work, prefix):
     """Both compilers take the headers, in C and C++, in either order."""
-    orders = ("term.h", "termcap.h"), ("termcap.h", "term.h")
+    orders = ("term.h", "termcap.h"), ("termcap.h", "term.h"), ("curses.h", "term.h"), ("curses.h", "termcap.h")
     tries = [(it, "c", f"-std={standard}") for it in ("gcc", "clang") for standard in ("c99", "c11", "gnu17")]
     tries += [(it, "c++", f"-std={standard}") for it in ("g++", "clang++") for standard in ("c++11", "c++17")]
     tries = [it for it in tries if shutil.which(it[0])]
@@ -336,6 +336,47 @@ def judge_headers(work, prefix):
             if subprocess.run(words).returncode:
                 fail(f"{' '.join(words)} is refused, with {order}")
     print(f"tinfo: the headers compile without a warning in {len(tries)} ways and {len(orders)} orders")
+
+
+# what both modules print: expansions, errors, and what putp sends
+PYTHON = """
+import sys
+curses = __import__(sys.argv[1], fromlist=["x"])
+try:
+    curses.tparm(b"x")
+except curses.error as error:
+    print(error)
+curses.setupterm("xterm-256color", 1)
+for name, *given in (("cup", 3, 4), ("sgr", 1, 0, 1, 0, 0, 1, 0, 0, 1), ("setaf", 200), ("cub", 7), ("bel",)):
+    print(name, curses.tparm(curses.tigetstr(name), *given))
+print(curses.tparm(b"%p1%PA%p9%d", 5, 0, 0, 0, 0, 0, 0, 0, 9))
+print(curses.tparm(b"%gA%d"))
+for wrong in (("a",), (b"a", "b"), (b"a", 2**40), ()):
+    try:
+        curses.tparm(*wrong)
+    except (TypeError, OverflowError) as error:
+        print(type(error).__name__)
+sys.stdout.flush()
+curses.putp(b"put $<5>here")
+"""
+
+
+def judge_python(prefix):
+    """tparm and putp of ticurses.curses beside those of the standard module."""
+    library = f"{prefix}/lib/libticurses.so.1"
+    standard = subprocess.run([sys.executable, "-c", "import curses"], stderr=subprocess.DEVNULL)
+    if not os.path.exists(library) or standard.returncode:
+        print("tinfo: the library of sessions or the standard curses module is missing, and Python's tparm is left out")
+        return
+    given = {**os.environ, "TICURSES_LIBRARY": library, "PYTHONPATH": f"{TOP}/bindings/python", "TERM": "xterm"}
+    given["PYTHONDONTWRITEBYTECODE"] = "1"
+    told = [
+        subprocess.run([sys.executable, "-c", PYTHON, it], env=given, capture_output=True)
+        for it in ("curses", "ticurses.curses")
+    ]
+    if told[0].returncode or (told[0].stdout, told[0].returncode) != (told[1].stdout, told[1].returncode):
+        fail(f"Python's calls tell {told[0]}, and here {told[1]}")
+    print("tinfo: Python's tparm and putp answer and send what those of the standard module do")
 
 
 # -- sources --
@@ -409,6 +450,7 @@ def judge_all(work, prefix, folder, strings):
     judge_rights(work, prefix)
     judge_random(work, prefix, strings)
     judge_valgrind(work, folder)
+    judge_python(prefix)
     judge_sources(work, prefix)
     same, tried = tinfo_programs.judge_programs(work, folder, [])
     if same < tried:

@@ -16,7 +16,7 @@ from version import VERSION
 SOURCES = f"{TOP}/curses"
 INCLUDE = f"{TOP}/include/ticurses"
 # curses.h and what it includes, and the two names by which programs include it too
-HEADERS = ("curses.h", "ncurses.h", "unctrl.h", "not_there.h", "attributes.h")
+HEADERS = ("curses.h", "ncurses.h", "unctrl.h", "not_there.h", "attributes.h", "panel.h", "menu.h", "form.h")
 ARCHIVE = "libticurses_curses.a"
 SONAME = f"libticurses_curses.so.{VERSION.split('.')[0]}"
 FLAGS = ["-std=c99", "-O2", "-fPIC", "-Wall", "-Wextra", "-Wconversion", "-Wshadow"]

@@ -448,6 +448,20 @@ bool has_mouse(void);
 int use_default_colors(void);
 int assume_default_colors(int foreground, int background);
 int has_key(int key);
+/* Binds one more string to a key, instead of the key that had it. A null string removes those of the key, and a key of 0
+ * or less unbinds the string. ERR if a key's string begins with this one, or is its beginning. */
+int define_key(const char *text, int key);
+/* The key that has this string or its beginning: 0 if none has, -1 if longer strings of keys begin so. */
+int key_defined(const char *text);
+/* A copy, for free, of the string of a key, counted from 0; null if it has none of this number. */
+char *keybound(int key, int count);
+/* Turns the strings of a key off or on. ERR if there are none that are on or off. */
+int keyok(int key, bool is_on);
+void nofilter(void);
+/* The place of the cursor after the next doupdate; -1 and -1 if it may stay anywhere. getsyx sets both variables. */
+void setsyx(int y, int x);
+void ticurses_getsyx(int *y, int *x);
+#define getsyx(y, x) ticurses_getsyx(&(y), &(x))
 int set_escdelay(int milliseconds);
 int get_escdelay(void);
 int set_tabsize(int columns);

@@ -15,8 +15,6 @@
 /* none of these is in the library: without the attribute the linker reports each use */
 int ticurses_has_no_wide_characters(void) TICURSES_NOT_THERE("ticurses-curses has no wide characters");
 int ticurses_has_no_window_files(void) TICURSES_NOT_THERE("ticurses-curses doesn't save windows to files");
-int ticurses_has_no_terminfo_calls(void)
-    TICURSES_NOT_THERE("ticurses-curses has no calls of <term.h>: what is sent is proved to be what the screen needs");
 
 #define add_wch(...) ticurses_has_no_wide_characters()
 #define wadd_wch(...) ticurses_has_no_wide_characters()
@@ -108,8 +106,6 @@ int ticurses_has_no_terminfo_calls(void)
 #define mvwins_wch(...) ticurses_has_no_wide_characters()
 #define slk_wset(...) ticurses_has_no_wide_characters()
 #define unget_wch(...) ticurses_has_no_wide_characters()
-#define vid_attr(...) ticurses_has_no_wide_characters()
-#define vid_puts(...) ticurses_has_no_wide_characters()
 #define wunctrl(...) ticurses_has_no_wide_characters()
 
 /* declared only for programs that ask for wide characters, since others have functions of this name */
@@ -123,22 +119,3 @@ int ticurses_has_no_terminfo_calls(void)
 #define scr_init(...) ticurses_has_no_window_files()
 #define scr_restore(...) ticurses_has_no_window_files()
 #define scr_set(...) ticurses_has_no_window_files()
-
-#define del_curterm(...) ticurses_has_no_terminfo_calls()
-#define putp(...) ticurses_has_no_terminfo_calls()
-#define restartterm(...) ticurses_has_no_terminfo_calls()
-#define set_curterm(...) ticurses_has_no_terminfo_calls()
-#define setupterm(...) ticurses_has_no_terminfo_calls()
-#define tgetent(...) ticurses_has_no_terminfo_calls()
-#define tgetflag(...) ticurses_has_no_terminfo_calls()
-#define tgetnum(...) ticurses_has_no_terminfo_calls()
-#define tgetstr(...) ticurses_has_no_terminfo_calls()
-#define tgoto(...) ticurses_has_no_terminfo_calls()
-#define tigetflag(...) ticurses_has_no_terminfo_calls()
-#define tigetnum(...) ticurses_has_no_terminfo_calls()
-#define tigetstr(...) ticurses_has_no_terminfo_calls()
-#define tiparm(...) ticurses_has_no_terminfo_calls()
-#define tparm(...) ticurses_has_no_terminfo_calls()
-#define tputs(...) ticurses_has_no_terminfo_calls()
-#define vidattr(...) ticurses_has_no_terminfo_calls()
-#define vidputs(...) ticurses_has_no_terminfo_calls()

@@ -250,6 +250,42 @@ static void pads(void) {
     delwin(pad);
 }
 
+static void bound(int key, int count) {
+    char *text = keybound(key, count);
+    for (const char *at = text; at && *at; at++) fprintf(told, "%02x", (unsigned)(unsigned char)*at);
+    fprintf(told, " %s\n", text ? "is bound" : "none");
+    free(text);
+}
+
+/* strings of keys, one of which no entry has */
+static void call_bindings(void) {
+    SAY(key_defined("no key"));
+    SAY(define_key("\033[77;9x", 600));
+    SAY(key_defined("\033[77;9x"));
+    SAY(key_defined("\033[77"));
+    SAY(key_defined("\033[77;9xy"));
+    SAY(define_key("a key", 600));
+    bound(600, 0);
+    bound(600, 1);
+    bound(600, 2);
+    SAY(define_key("a key", 601));
+    SAY(key_defined("a key"));
+    SAY(define_key("a k", 602));
+    SAY(define_key("a key and more", 602));
+    SAY(keyok(601, FALSE));
+    SAY(keyok(601, FALSE));
+    SAY(key_defined("a key"));
+    bound(601, 0);
+    SAY(keyok(601, TRUE));
+    SAY(keyok(601, TRUE));
+    SAY(define_key(NULL, 600));
+    SAY(has_key(600));
+    SAY(define_key("a key", 0));
+    SAY(key_defined("a key"));
+    SAY(keyok(602, TRUE));
+    nofilter();
+}
+
 static void options(void) {
     SAY(cbreak());
     SAY(noecho());
@@ -266,6 +302,7 @@ static void options(void) {
     SAY(curs_set(3));
     SAY(isendwin());
     SAY(has_key(KEY_LEFT));
+    call_bindings();
     fprintf(told, "%s %s %s %s %s\n", keyname(KEY_LEFT), keyname(KEY_F(3)), keyname(1), keyname('a'),
             keyname(KEY_RESIZE));
     fprintf(told, "%s %s %s %s\n", unctrl(1), unctrl('a'), unctrl(127), unctrl(27));

@@ -20,6 +20,7 @@ from . import _constants
 from ._colors import *
 from ._constants import *
 from ._errors import *
+from ._expanding import *
 from ._keys import *
 from ._modes import *
 from ._screen import *

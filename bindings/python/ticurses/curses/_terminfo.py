@@ -31,6 +31,11 @@ def setupterm(term: str | None = None, fd: int = -1) -> None:
         raise error("setupterm: could not find terminal") from None
 
 
+def is_set_up() -> bool:
+    """Whether setupterm has read an entry."""
+    return bool(_entry)
+
+
 def _asked(kind: str, capname: str, *room: Any) -> int:
     """The library's answer about a capability."""
     if not isinstance(capname, str):
