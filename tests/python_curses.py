@@ -23,7 +23,7 @@ from trying import PATIENCE, TOP, held_in, write
 HEADER = f"{TOP}/include/ticurses/curses.h"
 STANDARD = os.path.dirname(os.__file__)
 # tests of the interpreter that fail, as the page explains
-EXPLAINED = {"test_terminfo"}
+EXPLAINED = set()
 # until 3.9 the tests expect errors of other types for colors and pairs that don't exist
 if sys.version_info < (3, 10):
     EXPLAINED |= {"test_color_content", "test_init_pair", "test_pair_content"}
