@@ -7,6 +7,9 @@
 # those of `lines` are lines of text. The entry has no `rep`, which ticurses doesn't use. If ticurses and ncurses leave
 # different characters on the screen, a line says so; colors of blanks and the cursor of a pad aren't compared.
 # curses.sh [ROWSxCOLS..]: 24x80 50x132 200x500 if none is given. ENTRY is the terminal, xterm-256color if it isn't set.
+# In the scenes from `on` to `edit` a page moves: a line on or back with a line of status below, a title above, or both;
+# half a page; two panes that scroll; two panes that are drawn anew, one on and one back; a list whose chosen entry leaves
+# the view; a line that comes into the middle, or goes. `wrap` is a text in place of blanks, and blanks in its place.
 # S-Lang, termbox and libtickit (Debian: libslang2-dev libtermbox-dev libtickit-dev), if they are installed, draw the
 # same scenes, each with a line below. If such a library lacks windows or scrolling, its program does that work, which
 # counts too. A scene has at most 2,000 refreshes, since a library that compares all cells takes milliseconds for one.
@@ -84,7 +87,8 @@ table() {
     printf '%-10s %12s %12s %7s %12s %7s %9s %9s %9s\n' "$1 by $2" "ncurses" "curses.h" "ratio" "session" "ratio" \
         "ncurses" "curses.h" "session"
     [ -z "$peers" ] || echo "           others: time, the session's to it, bytes"
-    for scene in full chars lines cell typing log windows pad colours open; do
+    for scene in full chars lines cell typing log windows pad colours \
+        on back title titleback both half panes split list edit wrap open; do
         if [ "$count" ]; then instructions "$1" "$2" "$scene"; else timed "$1" "$2" "$scene"; fi >"$work/runs"
         awk -v scene="$scene" -v peers="$peers" '
             !($1 in best) || $2 < best[$1] { best[$1] = $2; sent[$1] = $3 }

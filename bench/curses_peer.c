@@ -108,6 +108,11 @@ static void play_delch(char *rest)
     wdelch(window(&rest));
 }
 
+static void play_deleteln(char *rest)
+{
+    wdeleteln(window(&rest));
+}
+
 static void play_doupdate(char *rest)
 {
     (void)rest;
@@ -130,6 +135,11 @@ static void play_init_pair(char *rest)
     long pair = number(&rest), foreground = number(&rest);
     colours();
     init_pair(pair, foreground, number(&rest));
+}
+
+static void play_insertln(char *rest)
+{
+    winsertln(window(&rest));
 }
 
 static void play_move(char *rest)
@@ -212,8 +222,8 @@ struct call {
 /* in the order of their names */
 static const struct call calls[] = {
     {"addch", play_addch}, {"addstr", play_addstr}, {"attrset", play_attrset}, {"box", play_box}, {"clrtoeol", play_clrtoeol},
-    {"color_set", play_color_set}, {"delch", play_delch}, {"doupdate", play_doupdate}, {"erase", play_erase}, {"idlok", play_idlok},
-    {"init_pair", play_init_pair}, {"move", play_move}, {"mvwin", play_mvwin}, {"newpad", play_newpad}, {"newwin", play_newwin},
+    {"color_set", play_color_set}, {"delch", play_delch}, {"deleteln", play_deleteln}, {"doupdate", play_doupdate},
+    {"erase", play_erase}, {"idlok", play_idlok}, {"init_pair", play_init_pair}, {"insertln", play_insertln}, {"move", play_move}, {"mvwin", play_mvwin}, {"newpad", play_newpad}, {"newwin", play_newwin},
     {"noutrefresh", play_noutrefresh}, {"prefresh", play_prefresh}, {"refresh", play_refresh}, {"scroll", play_scroll},
     {"scrollok", play_scrollok}, {"setscrreg", play_setscrreg}, {"touchwin", play_touchwin},
 };

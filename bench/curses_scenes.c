@@ -91,6 +91,12 @@ static void set_scroll(int w) {
 static void scroll_up(int w) {
     wscrl(windows[w], 1);
 }
+static void insert_line(int w) {
+    winsertln(windows[w]);
+}
+static void delete_line(int w) {
+    wdeleteln(windows[w]);
+}
 static void copy(int w) {
     touchwin(windows[w]);
     wnoutrefresh(windows[w]);
@@ -192,6 +198,12 @@ static void set_scroll(int w) {
 }
 static void scroll_up(int w) {
     done(ticurses_scroll(&session, (size_t)w, 1));
+}
+static void insert_line(int w) {
+    done(ticurses_insertln(&session, (size_t)w));
+}
+static void delete_line(int w) {
+    done(ticurses_deleteln(&session, (size_t)w));
 }
 static void copy(int w) {
     done(ticurses_noutrefresh(&session, (size_t)w));
@@ -379,6 +391,145 @@ static void colored_cells(int step) {
     show(0);
 }
 
+/* The number of characters of a line of a long text. */
+static int length_of_text(int number) {
+    return number % 7 == 3 ? 0 : 8 + number * 37 % (cols - 16);
+}
+
+/* Draws a line: these bytes, in bold if so, and spaces to the end of the row. */
+static void draw_line(int w, int row, const char *bytes, int len, int is_bold) {
+    static char spaces[1024];
+    memset(spaces, ' ', (size_t)cols);
+    go(w, row, 0);
+    if (is_bold) bold(w, 1);
+    text(w, bytes, len);
+    if (is_bold) bold(w, 0);
+    text(w, spaces, cols - 1 - len);
+}
+
+static void draw_text_line(int w, int row, int number, int is_bold) {
+    draw_line(w, row, pool + number * 131 % 8192, length_of_text(number), is_bold);
+}
+
+/* Draws the rows from top up to, but not including, end of a page that shows the text from the line first on. */
+static void draw_text(int w, int top, int end, int first) {
+    for (int row = top; row < end; row++) draw_text_line(w, row, first + row - top, 0);
+}
+
+/* Draws a row that says in bold where the page is. */
+static void draw_place(int row, int first) {
+    char line[64];
+    draw_line(0, row, line, snprintf(line, sizeof line, "-- line %d of 9999: %d %% --", first, first / 100), 1);
+}
+
+/* Draws a page of a text, with as many rows at the top and at the bottom that say where it is. */
+static void draw_page(int above, int below, int first) {
+    if (above) draw_place(0, first);
+    draw_text(0, above, rows - below, first);
+    if (below) draw_place(rows - 1, first);
+    show(0);
+}
+
+static void set_pages(void) {
+    draw_page(0, 1, 0);
+}
+
+static void paged_on(int step) {
+    draw_page(0, 1, step + 1);
+}
+
+static void paged_back(int step) {
+    draw_page(0, 1, 9999 - step);
+}
+
+static void titled_on(int step) {
+    draw_page(1, 0, step + 1);
+}
+
+static void titled_back(int step) {
+    draw_page(1, 0, 9999 - step);
+}
+
+static void between(int step) {
+    draw_page(1, 1, step + 1);
+}
+
+static void half_on(int step) {
+    draw_page(0, 1, (step + 1) * ((rows - 1) / 2));
+}
+
+/* Two panes, one above the other, and a row between them. */
+static void set_panes(void) {
+    int half = rows / 2;
+    keep_page();
+    draw_place(half, 0);
+    show(0);
+    make_window(1, half, cols, 0, 0);
+    make_window(2, rows - half - 1, cols, half + 1, 0);
+    set_scroll(1);
+    set_scroll(2);
+}
+
+static void add_row(int w, int height, int number) {
+    scroll_up(w);
+    draw_text_line(w, height - 1, number, 0);
+    copy(w);
+}
+
+static void scrolled_panes(int step) {
+    add_row(1, rows / 2, step);
+    add_row(2, rows - rows / 2 - 1, step + 5000);
+    show_all();
+}
+
+/* Two panes that are drawn anew: the upper one goes on, the lower one goes back. */
+static void split(int step) {
+    int half = rows / 2;
+    draw_text(0, 0, half, step);
+    draw_place(half, step);
+    draw_text(0, half + 1, rows, 9999 - step);
+    show(0);
+}
+
+/* A list of 200 entries, one of which is chosen and in view. */
+static void listed(int step) {
+    static int first;
+    int chosen = step % 200;
+    if (chosen < first) first = chosen;
+    if (chosen >= first + rows) first = chosen - rows + 1;
+    for (int row = 0; row < rows; row++) draw_text_line(0, row, (first + row) % 200, first + row == chosen);
+    show(0);
+}
+
+/* A line comes into the middle or goes from there, and another one below it changes. */
+static void edited(int step) {
+    int row = rows / 3;
+    go(0, row, 0);
+    if (step % 2) {
+        delete_line(0);
+    } else {
+        insert_line(0);
+        draw_text_line(0, row, step, 0);
+    }
+    draw_text_line(0, 2 * row, step + 1, 0);
+    show(0);
+}
+
+/* A text in place of blank rows, and then blank rows in place of the text. */
+static void wrapped(int step) {
+    char blanks[1024];
+    memset(blanks, ' ', sizeof blanks);
+    for (int row = 0; row < rows * 3 / 4; row++) {
+        go(0, row, 0);
+        text(0, step % 2 ? blanks : words(cols), cols);
+    }
+    show(0);
+}
+
+static void set_blank(void) {
+    show(0);
+}
+
 static void none(void) {}
 
 static void opened(int step) {
@@ -404,6 +555,17 @@ static const struct scene {
     {"windows", set_windows, moved, 2000, 1},
     {"pad", set_pad, padded, 1000, 1},
     {"colours", set_colours, colored_cells, 500, 1},
+    {"on", set_pages, paged_on, 1000, 1},
+    {"back", set_pages, paged_back, 1000, 1},
+    {"title", set_pages, titled_on, 1000, 1},
+    {"titleback", set_pages, titled_back, 1000, 1},
+    {"both", set_pages, between, 1000, 1},
+    {"half", set_pages, half_on, 1000, 1},
+    {"panes", set_panes, scrolled_panes, 1000, 1},
+    {"split", set_pages, split, 1000, 1},
+    {"list", set_pages, listed, 1000, 1},
+    {"edit", set_log, edited, 1000, 1},
+    {"wrap", set_blank, wrapped, 1000, 1},
     {"open", none, opened, 20, 0},
 };
 

@@ -115,6 +115,21 @@ static void scroll_up(int w) {
     memset(row_of(desk, desk->height - 1), ' ', (size_t)desk->width);
 }
 
+/* Moves the rows from the cursor's row on down by one, and the rows below it up by one. */
+static void insert_line(int w) {
+    struct desk *desk = &desks[w];
+    unsigned char *row = row_of(desk, desk->row);
+    memmove(row + desk->width, row, (size_t)((desk->height - 1 - desk->row) * desk->width));
+    memset(row, ' ', (size_t)desk->width);
+}
+
+static void delete_line(int w) {
+    struct desk *desk = &desks[w];
+    unsigned char *row = row_of(desk, desk->row);
+    memmove(row, row + desk->width, (size_t)((desk->height - 1 - desk->row) * desk->width));
+    memset(row_of(desk, desk->height - 1), ' ', (size_t)desk->width);
+}
+
 static void show_all(void) {
     struct desk *desk = &desks[shown_last];
     paint_cursor(desk->top + desk->row, desk->left + desk->col);

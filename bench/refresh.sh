@@ -42,7 +42,8 @@ table() {
         "$ours" check "samples.ti:$entry" "$1" "$2" --out "$work/$entry" 2>"$work/log"
     done
     printf '%-10s %15s %15s %15s %15s\n' "$1 by $2" mini vt xt xc
-    for kind in full blank cell word cursor typed box status colours scroll region pad lines window nothing; do
+    for kind in full blank cell word cursor typed box status colours scroll region pad lines window nothing \
+        on back title both half panes insert; do
         awk -v kind="$kind" -v rows="$1" -v cols="$2" -f scripts.awk >"$work/script"
         for entry in mini vt xt xc; do
             count "$entry" "$1" "$2"

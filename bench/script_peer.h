@@ -43,6 +43,12 @@ static void set_scroll(int w) {
 static void scroll_up(int w) {
     fprintf(script, "scroll %d 1\n", w);
 }
+static void insert_line(int w) {
+    fprintf(script, "insertln %d\n", w);
+}
+static void delete_line(int w) {
+    fprintf(script, "deleteln %d\n", w);
+}
 static void copy(int w) {
     fprintf(script, "noutrefresh %d\n", w);
 }

@@ -145,6 +145,47 @@ function nothing() {
     shown_text(2, 3)
     print "touchwin 0\nrefresh 0"
 }
+# the rows from `top` up to, but not including, `end`: the lines of a text from the line `first` on
+function page(top, end, first, row) {
+    for (row = top; row < end; row++)
+        text_at(0, row, 0, text_line[first + row - top])
+}
+# a page of a text between rows that say where it is: it moves by so many lines
+function paged(above, below, by, row) {
+    for (row = 0; row < 3 * rows; row++)
+        text_line[row] = words(cols - 1)
+    if (above) text_at(0, 0, 0, "-- a title: line " 100 + rows)
+    page(above, rows - below, rows)
+    if (below) text_at(0, rows - 1, 0, "-- line " 100 + rows)
+    print "refresh 0\n# from here"
+    if (above) text_at(0, 0, 0, "-- a title: line " 100 + rows + by)
+    page(above, rows - below, rows + by)
+    if (below) text_at(0, rows - 1, 0, "-- line " 100 + rows + by)
+    print "refresh 0"
+}
+# two panes of half the rows, one above the other, each of which scrolls by a line
+function panes(w) {
+    for (w = 1; w <= 2; w++) {
+        print "newwin " w " " middle_row " " cols " " (w - 1) * middle_row " 0\nscrollok " w " 1\nidlok " w " 1"
+        fill(w, middle_row, cols - 1, 0)
+        print "noutrefresh " w
+    }
+    print "doupdate\n# from here"
+    for (w = 1; w <= 2; w++) {
+        print "scroll " w " 1"
+        text_at(w, middle_row - 1, 0, words(cols - 20))
+        print "noutrefresh " w
+    }
+    print "doupdate"
+}
+# a line comes into the middle, and another one below it changes
+function inserted() {
+    shown_text(2, 3)
+    move(0, int(rows / 3), 0)
+    print "insertln 0\naddstr 0 " words(cols - 1)
+    text_at(0, 2 * int(rows / 3), 0, words(cols - 1))
+    print "refresh 0"
+}
 # fifty calls in one of nine windows of 8 by 26, at most 524 bytes
 function frame(w, count) {
     for (count = 0; count < 6; count++) {
@@ -213,6 +254,13 @@ BEGIN {
     else if (kind == "lines") lines()
     else if (kind == "window") moved()
     else if (kind == "nothing") nothing()
+    else if (kind == "on") paged(0, 1, 1)
+    else if (kind == "back") paged(0, 1, -1)
+    else if (kind == "title") paged(1, 0, 1)
+    else if (kind == "both") paged(1, 1, -2)
+    else if (kind == "half") paged(0, 1, middle_row)
+    else if (kind == "panes") panes()
+    else if (kind == "insert") inserted()
     else if (kind == "calls") many_calls()
     else if (kind == "texts") many_texts()
     else if (kind == "cells" || kind == "typing" || kind == "log") many(kind)

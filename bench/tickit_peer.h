@@ -172,6 +172,24 @@ static void scroll_up(int w) {
     tickit_window_scroll(desk->window, 1, 0);
 }
 
+static void insert_line(int w) {
+    struct desk *desk = &desks[w];
+    TickitRect below = {.top = desk->row, .lines = desk->height - desk->row, .cols = desk->width};
+    unsigned char *row = desk->cells + desk->row * desk->width;
+    memmove(row + desk->width, row, (size_t)((below.lines - 1) * desk->width));
+    memset(row, ' ', (size_t)desk->width);
+    tickit_window_scrollrect(desk->window, &below, -1, 0, NULL);
+}
+
+static void delete_line(int w) {
+    struct desk *desk = &desks[w];
+    TickitRect below = {.top = desk->row, .lines = desk->height - desk->row, .cols = desk->width};
+    unsigned char *row = desk->cells + desk->row * desk->width;
+    memmove(row, row + desk->width, (size_t)((below.lines - 1) * desk->width));
+    memset(desk->cells + (desk->height - 1) * desk->width, ' ', (size_t)desk->width);
+    tickit_window_scrollrect(desk->window, &below, 1, 0, NULL);
+}
+
 /* does nothing else: the library knows which windows cover which */
 static void copy(int w) {
     shown_last = w;
