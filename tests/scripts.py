@@ -277,16 +277,27 @@ def judge_full(name, whole, files):
 
 
 def judge_scrolled(files):
-    """Scripts of windows that scroll: the screen that the model has, and margins that are the whole screen. Returns how many
-    scroll once."""
-    single = scrolling.each_way()
-    scripts = single + scrolling.randomly(RANDOM)
+    """Scripts of windows that scroll, and of pages that move: the screen that the model has, and margins that are the whole
+    screen. Of the pages `show` prints that screen too. Returns how many scroll once."""
+    single, pages = scrolling.each_way(), scrolling.turned(RANDOM)
+    scripts = single + scrolling.randomly(RANDOM) + pages
     for entry in ("vt", "xt"):
+        judge_pages(files, entry, pages)
         for seed, (script, seen) in enumerate(zip(scripts, fed_screens(files, entry, scripts))):
             wanted = (script.shown, scrolling.next_screen(script.shown))
             if seen != wanted:
                 sys.exit(f"scripts: the script {seed} of scrolls on {entry}, {script.lines}, leaves\n{seen}\nand was to leave\n{wanted}")
     return len(single)
+
+
+def judge_pages(files, entry, pages):
+    """`show` prints the screens of these scripts."""
+    size = [str(scrolling.ROWS), str(scrolling.COLS)]
+    held = files | {f"random{seed:04}": scrolling.stored(script.lines) for seed, script in enumerate(pages)}
+    shown = run_cases(PROGRAM, [Case(words("show", entry, *size, f"random{seed:04}")) for seed in range(len(pages))], held)
+    for seed, (script, answer) in enumerate(zip(pages, shown)):
+        if answer.status or answer.out.decode().splitlines()[: scrolling.ROWS] != script.shown:
+            sys.exit(f"scripts: show of the pages {seed} on {entry}, {script.lines}: {answer}, and was to be\n{script.shown}")
 
 
 def fed_screens(files, entry, scripts):
@@ -326,7 +337,7 @@ def main():
     for name, whole in zip(STORED, played[-len(STORED) :]):
         judge_full(name, whole, files)
     print(f"scripts: {len(runs)} scripts show the screens that are known, {len(STORED)} of them examples; played and fed they show the same")
-    print(f"scripts: {2 * single} scrolls, and {2 * RANDOM} random scripts of windows that scroll, leave the screen that a model has, and whole margins")
+    print(f"scripts: {2 * single} scrolls, {2 * RANDOM} random scripts of windows that scroll and as many of pages that move, leave the screen that a model has, and whole margins")
     print(f"scripts: {len(REFUSED)} lines are refused, and a closed output is told after the run, as is a disk that is full after each byte of an example")
 
 

@@ -1,5 +1,6 @@
-"""Random scripts of windows that scroll, beside a model of the windows that is made here: after all refreshes the
-terminal shows the model's screen, and its margins are the whole screen."""
+"""Random scripts of windows that scroll, and of pages that are drawn anew where they have moved, beside a model of the
+windows that is made here: after all refreshes the terminal shows the model's screen, and its margins are the whole
+screen."""
 
 import random
 
@@ -132,6 +133,79 @@ class Script:
             self.newwin,
         ]
         pick.choice(kinds)()
+
+
+class Pages(Script):
+    """A script of pages: each is drawn anew, and most of its lines have moved."""
+
+    def __init__(self, seed, rows=ROWS, cols=COLS):
+        super().__init__(seed, rows, cols)
+        self.lines += [f"init_pair {pair} {pair} {7 - pair}" for pair in range(1, 6)]
+        for _ in range(self.pick.randrange(4, 9)):
+            self.pick.choice([self.turn_page, self.turn_page, self.turn_panes, self.edit_line])()
+            self.copy(0, "noutrefresh")
+            self.update()
+
+    def draw(self, row, text):
+        """A line in a look that its text decides, so that it keeps its look where it moves."""
+        look = ord((text.strip() or " ")[0]) % 8
+        self.lines += [f"attrset 0 {'RB-'[min(look, 2)]}", f"color_set 0 {look if 2 < look < 6 else 0}"]
+        self.write(0, row, 0, text[: self.cols - 1])
+
+    def new_text(self):
+        return self.word(self.pick.randrange(self.cols)).ljust(self.cols) if self.pick.random() < 0.9 else " " * self.cols
+
+    def turn(self, first, last, by, changed):
+        """Draws the lines from `first` to `last` as they were `by` lines below, and new ones where none were, and
+        where a line may have `changed`."""
+        before = list(self.windows[0].lines)
+        for row in range(first, last + 1):
+            is_kept = first <= row + by <= last and self.pick.random() >= changed
+            self.draw(row, before[row + by] if is_kept else self.new_text())
+
+    def by(self, lines):
+        count = self.pick.choice([1, 1, 1, 2, 3, lines // 2, lines * 3 // 4, lines])
+        return self.pick.choice([count, -count])
+
+    def turn_page(self):
+        """A page between titles and lines of status, some of which change, and perhaps a line within it."""
+        first, below = self.pick.choice([0, 0, 1, 2]), self.pick.choice([0, 0, 1, 2])
+        last = self.rows - 1 - below
+        self.turn(first, last, self.by(last - first + 1), self.pick.choice([0, 0, 0.1, 0.4]))
+        for row in [*range(first), *range(last + 1, self.rows)]:
+            if self.pick.random() < 0.7:
+                self.draw(row, self.new_text())
+
+    def turn_panes(self):
+        """Two panes, each drawn anew or scrolled by a call, and a line between them."""
+        middle = self.pick.randrange(3, self.rows - 3)
+        by = self.by(3)
+        for first, last in ((0, middle - 1), (middle + 1, self.rows - 1)):
+            if self.pick.random() < 0.5:
+                window = self.windows[0]
+                window.first, window.last = first, last
+                self.lines.append(f"setscrreg 0 {first} {last}")
+                self.scroll(0, by)
+                self.draw(last if by > 0 else first, self.new_text())
+            else:
+                self.turn(first, last, by, 0)
+            by = self.pick.choice([by, by, -by, self.by(4)])
+
+    def edit_line(self):
+        """A line comes or goes in the middle, and another one changes."""
+        window, row = self.windows[0], self.pick.randrange(self.rows)
+        call, by = self.pick.choice([("insertln", -1), ("deleteln", 1)])
+        self.lines += [f"move 0 {row} 0", f"{call} 0"]
+        was = window.first, window.last
+        window.first, window.last = row, window.rows - 1
+        window.scroll(by)
+        window.first, window.last = was
+        self.draw(self.pick.randrange(self.rows), self.new_text())
+
+
+def turned(count):
+    """So many random scripts of pages that move."""
+    return [Pages(seed) for seed in range(count)]
 
 
 def randomly(count):

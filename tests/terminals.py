@@ -2,8 +2,9 @@
 
     python3 -B tests/terminals.py [COUNT [TERMINAL..]]
 
-Of the COUNT sessions (25) of each terminal every other one scrolls. Then five sessions are cut with the library for C,
-where it is built: each loses output at up to three places, and its last refresh repairs the screen."""
+Of the COUNT sessions (25) of each terminal every other one scrolls. In 20 more, pages move that are drawn anew. Then ten
+sessions, five of each kind, are cut with the library for C, where it is built: each loses output at up to three places,
+and its last refresh repairs the screen."""
 
 import json
 import os
@@ -29,7 +30,7 @@ from windows import Display, Windowed  # noqa: E402
 TERMINALS = ["xterm", "vte", "libvterm", "tmux"]
 # an entry of the examples, so that what the system describes plays no part
 SOURCE, ENTRY, ROWS, COLS = f"{TOP}/examples/terminals.ti", "xc", 24, 80
-COUNT, CUT = 25, 5
+COUNT, PAGES, CUT = 25, 20, 5
 ATTRIBUTES = ["R", "U", "B", "RB", "D", "-", "-"]
 # what leads out of a cut inside a sequence is tried most
 SEQUENCE = re.compile(rb"\033(\[[0-9;?]*[A-Za-z]|[()].|.)")
@@ -52,9 +53,16 @@ def scrolling_script(seed):
     return lines
 
 
-def script(seed):
-    lines = scrolling_script(seed) if seed % 2 else drawing.Script(seed, True, ROWS, COLS).lines
+def stored(lines):
     return "".join(f"{line}\n" for line in [*lines, "refresh 0"]).encode()
+
+
+def script(seed):
+    return stored(scrolling_script(seed) if seed % 2 else drawing.Script(seed, True, ROWS, COLS).lines)
+
+
+def pages(seed):
+    return stored(scrolling.Pages(seed, ROWS, COLS).lines)
 
 
 def ticurses(words, given):
@@ -79,9 +87,9 @@ def sessions_of(names, sent):
     return [Session(*it) for it in zip(names, sent, states)]
 
 
-def whole_sessions(count, certificate):
-    sent = ticurses(["play", f"terminals.ti:{ENTRY}", ROWS, COLS, certificate, "{}"], [script(seed) for seed in range(count)])
-    return sessions_of([f"session {seed}" for seed in range(count)], sent)
+def whole_sessions(name, scripts, certificate):
+    sent = ticurses(["play", f"terminals.ti:{ENTRY}", ROWS, COLS, certificate, "{}"], scripts)
+    return sessions_of([f"{name} {seed}" for seed in range(len(scripts))], sent)
 
 
 def places_of(data, seed):
@@ -101,13 +109,12 @@ def cut_at(loser, places, lines, work):
     return ran.stdout
 
 
-def cut_sessions(whole, work):
+def cut_sessions(loser, whole, scripts, work):
     """The first sessions, each cut. T shows what it shows without the cuts."""
-    loser = compiled(installed_at(work), f"{TOP}/tests/c/loser.c", f"{work}/loser")
     places = [places_of(session.data, seed) for seed, session in enumerate(whole[:CUT])]
     # refreshes after one that is cut
-    sent = [cut_at(loser, it, script(seed) + b"refresh 0\n" * 3, work) for seed, it in enumerate(places)]
-    names = [f"session {seed}, cut after {', '.join(map(str, it))} bytes" for seed, it in enumerate(places)]
+    sent = [cut_at(loser, it, lines + b"refresh 0\n" * 3, work) for it, lines in zip(places, scripts)]
+    names = [f"{session.name}, cut after {', '.join(map(str, it))} bytes" for session, it in zip(whole, places)]
     cut = sessions_of(names, sent)
     for session, repaired in zip(whole, cut):
         wrong = differences(session.screen, repaired.screen, "BDUKRIfb")
@@ -155,11 +162,16 @@ def main():
     with tempfile.TemporaryDirectory() as work:
         certificate = f"{work}/certificate"
         Path(certificate).write_bytes(ticurses(["check", f"terminals.ti:{ENTRY}", ROWS, COLS], [b""])[0])
-        whole = whole_sessions(count, certificate)
-        cut = cut_sessions(whole, work) if is_built("terminals", "sessions that are cut are left out") else []
-    compared = run(names, whole + cut)
+        kinds = [("session", [script(seed) for seed in range(count)]), ("pages", [pages(seed) for seed in range(PAGES)])]
+        whole = [whole_sessions(name, scripts, certificate) for name, scripts in kinds]
+        cut = []
+        if is_built("terminals", "sessions that are cut are left out"):
+            loser = compiled(installed_at(work), f"{TOP}/tests/c/loser.c", f"{work}/loser")
+            cut = [it for sessions, (_, scripts) in zip(whole, kinds) for it in cut_sessions(loser, sessions, scripts, work)]
+    played = [it for sessions in whole for it in sessions]
+    compared = run(names, played + cut)
     if compared:
-        print(f"terminals: {len(whole)} sessions and {len(cut)} that were cut and repaired show the virtual screen on {', '.join(compared)}")
+        print(f"terminals: {len(played)} sessions and {len(cut)} that were cut and repaired show the virtual screen on {', '.join(compared)}")
 
 
 if __name__ == "__main__":
