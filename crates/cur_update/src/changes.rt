@@ -6,7 +6,7 @@ ghost use Rattle.cur_drawing.specs.Cells.{IsCell};
 ghost use Rattle.cur_paint.specs.Differ.{AreSameOutside};
 ghost use Rattle.cur_update.specs.{Inks.{content_at}, Shift.{AreAlikeOutside, AreFound, Shifts, found_at}};
 
-use crate::scrolls::{found_scroll, scroll_of};
+use crate::scrolls::found_scroll;
 use cur_drawing::{Cell, Span};
 use cur_moves::{Scroll, line_before};
 use cur_paint::{Changes, Columns, LineRange};
@@ -167,14 +167,11 @@ impl<'a, C: Certificate> Changes for Found<'a, C> {
     }
 
     fn scroll(&self) -> Option<Scroll> {
-        if let Some(hint) = self.shift.screen.hint() {
-            return scroll_of(hint);
-        }
         let found = Findings {
             lines: self.lines,
             columns: self.columns,
         };
-        found_scroll(self.shift.shown, self.shift.screen, &found)
+        found_scroll(self.shift.shown, self.shift.screen, found)
     }
 
     fn columns_after(&self, scroll: Scroll, row: usize, cols: usize) -> Columns {
@@ -203,13 +200,20 @@ fn kept(columns: &[Columns], row: usize, cols: usize) -> Option<Columns>
     }
 }
 
+/// The columns in which the line `row` may differ: none if it doesn't.
+pub(crate) fn columns_at(found: &Findings<'_>, row: u16) -> Columns {
+    let row = usize::from(row);
+    let is_found = found.lines.from <= row && row < found.lines.end;
+    if !is_found || row >= found.columns.len() {
+        return Columns { from: 0, end: 0 };
+    }
+    found.columns[row]
+}
+
 /// Whether the line `row` may differ.
 pub(crate) fn may_differ(found: &Findings<'_>, row: u16) -> bool {
-    let row = usize::from(row);
-    if row < found.lines.from || row >= found.lines.end {
-        return false;
-    }
-    row < found.columns.len() && found.columns[row].from < found.columns[row].end
+    let columns = columns_at(found, row);
+    columns.from < columns.end
 }
 
 /// The columns in which two lines of one length may differ: none if they are equal.

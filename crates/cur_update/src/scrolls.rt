@@ -1,12 +1,351 @@
-//! Lines that have moved, found by comparing a few of them.
-ghost use Rattle.std.specs.Prelude.{◌≡◌, ◌+◌, ◌-◌, ◌<◌, ◌≤◌, IfSome};
+//! Lines that have moved, found by comparing lines. Nothing here is believed: a scroll is compared before it is used.
+ghost use Rattle.std.specs.Prelude.{◌≡◌, ◌<◌, ◌≤◌, IfSome};
 
-use crate::changes::{Findings, may_differ};
+use crate::changes::{Findings, columns_at, may_differ};
+use cur_drawing::Cell;
 use cur_moves::Scroll;
 use cur_screens::{Hint, Virtual, first_diff};
 
+/// The least number of lines that a scroll must spare if no call has named it.
+const LEAST: u16 = 3;
+
+/// The number of cells that may be painted once more to save the margins of a scroll.
+const MARGINS: usize = 28;
+
+/// How lines move: by `count` lines, up if `up`, else down.
+#[derive(Clone, Copy)]
+struct Way {
+    count: u16,
+    up: bool,
+}
+
+/// The lines from `from` to `last`, most of which have come there the same `way`, and the number of lines that needn't
+/// be painted after a scroll, less those that must then be painted again.
+#[derive(Clone, Copy)]
+struct Run {
+    way: Way,
+    from: u16,
+    last: u16,
+    spared: u16,
+}
+
+/// What a scroll does to a line.
+enum Fate {
+    /// It needn't be painted any more.
+    Spared,
+    /// It must be painted because of the scroll.
+    Lost,
+    /// Neither.
+    Even,
+}
+
+/// A cell that tells its line from most other lines.
+#[derive(Clone, Copy)]
+struct Key {
+    row: u16,
+    col: usize,
+    number: u32,
+}
+
+/// The screen that was shown last and the one to be shown, which are of one size, and the lines that may differ: none
+/// above `top`, none from `end` on.
+#[derive(Clone, Copy)]
+struct Pages<'a> {
+    old: &'a Virtual,
+    new: &'a Virtual,
+    found: Findings<'a>,
+    top: u16,
+    end: u16,
+}
+
+impl<'a> Pages<'a> {
+    /// Whether line `to` of the new screen is line `from` of the old one.
+    fn is_moved(&self, from: u16, to: u16) -> bool
+        requires rows { (self.now.old.now).rows ≡ (self.now.new.now).rows }
+        requires cols { (self.now.old.now).cols ≡ (self.now.new.now).cols }
+        requires from { from < (self.now.new.now).rows }
+        requires to { to < (self.now.new.now).rows }
+    {
+        first_diff(self.old.row(from), self.new.row(to)).is_none()
+    }
+
+    /// The line of the old screen that comes to the line `y` if lines move that `way`.
+    fn source(&self, y: u16, way: Way) -> Option<u16>
+        requires { y < self.now.end }
+        ensures { IfSome result (λ x. x < self.now.end) }
+    {
+        if way.up && way.count < self.end - y {
+            return Some(y + way.count);
+        }
+        if !way.up && way.count <= y.saturating_sub(self.top) {
+            return Some(y - way.count);
+        }
+        None
+    }
+
+    /// What happens to the line `y` if lines move that `way`.
+    fn fate(&self, y: u16, way: Way) -> Fate
+        requires rows { (self.now.old.now).rows ≡ (self.now.new.now).rows }
+        requires cols { (self.now.old.now).cols ≡ (self.now.new.now).cols }
+        requires within { self.now.end ≤ (self.now.new.now).rows }
+        requires line { y < self.now.end }
+    {
+        let Some(from) = self.source(y, way) else {
+            return Fate::Even;
+        };
+        match (may_differ(&self.found, y), self.is_moved(from, y)) {
+            (true, true) => spared(self.new.row(y)),
+            (false, false) => Fate::Lost,
+            (true, false) | (false, true) => Fate::Even,
+        }
+    }
+
+    /// The lines for which a scroll that `way` is best, if it spares enough lines.
+    fn run(&self, way: Way) -> Option<Run>
+        requires rows { (self.now.old.now).rows ≡ (self.now.new.now).rows }
+        requires cols { (self.now.old.now).cols ≡ (self.now.new.now).cols }
+        requires within { self.now.end ≤ (self.now.new.now).rows }
+    {
+        let mut run = Run {
+            way,
+            from: self.top,
+            last: self.top,
+            spared: 0,
+        };
+        let mut best = run;
+        for y in self.top..self.end {
+            run = grown(run, y, self.fate(y, way));
+            if run.spared > best.spared {
+                best = run;
+            }
+        }
+        (best.spared >= LEAST).then_some(best)
+    }
+
+    /// The first cell of line `row` that may differ, unless that is a space.
+    fn key_of(&self, row: u16) -> Option<Key>
+        requires within { self.now.end ≤ (self.now.new.now).rows }
+        requires row { row < self.now.end }
+        ensures { IfSome result (λ k. k.row < self.now.end) }
+    {
+        let columns = columns_at(&self.found, row);
+        let line = self.new.row(row);
+        let col = columns.from;
+        if col >= columns.end || col >= line.len() {
+            return None;
+        }
+        let cell = line[col];
+        let number = cell.number();
+        (cell.byte() != b' ').then_some(Key { row, col, number })
+    }
+
+    /// The key of the first line from `y` on that has one.
+    fn key_near(&self, y: u16) -> Option<Key>
+        requires within { self.now.end ≤ (self.now.new.now).rows }
+        ensures { IfSome result (λ k. k.row < self.now.end) }
+    {
+        for row in y..self.end {
+            let key = self.key_of(row);
+            if key.is_some() {
+                return key;
+            }
+        }
+        None
+    }
+
+    /// Whether the line of `key` has come that `way` to its place.
+    fn has_come(&self, key: Key, way: Way) -> bool
+        requires rows { (self.now.old.now).rows ≡ (self.now.new.now).rows }
+        requires cols { (self.now.old.now).cols ≡ (self.now.new.now).cols }
+        requires within { self.now.end ≤ (self.now.new.now).rows }
+        requires row { key.row < self.now.end }
+    {
+        let Some(from) = self.source(key.row, way) else {
+            return false;
+        };
+        let line = self.old.row(from);
+        if key.col >= line.len() || line[key.col].number() != key.number {
+            return false;
+        }
+        self.is_moved(from, key.row)
+    }
+
+    /// The better one of `best` and the run of the line of `key` that `way`, if that line has come there so.
+    fn tried(&self, best: Option<Run>, key: Key, way: Way) -> Option<Run>
+        requires rows { (self.now.old.now).rows ≡ (self.now.new.now).rows }
+        requires cols { (self.now.old.now).cols ≡ (self.now.new.now).cols }
+        requires within { self.now.end ≤ (self.now.new.now).rows }
+        requires row { key.row < self.now.end }
+    {
+        if self.has_come(key, way) {
+            better(best, self.run(way))
+        } else {
+            best
+        }
+    }
+
+    /// The run that spares the most lines among those that a line near `y` belongs to, by at most three quarters of
+    /// the lines.
+    fn seek(&self, y: u16) -> Option<Run>
+        requires rows { (self.now.old.now).rows ≡ (self.now.new.now).rows }
+        requires cols { (self.now.old.now).cols ≡ (self.now.new.now).cols }
+        requires within { self.now.end ≤ (self.now.new.now).rows }
+    {
+        let key = self.key_near(y)?;
+        let lines = self.end.saturating_sub(self.top);
+        let mut best = None;
+        for less in 0..lines - lines / 4 {
+            let count = less + 1;
+            best = self.tried(best, key, Way { count, up: true });
+            best = self.tried(best, key, Way { count, up: false });
+            if self.is_long(best) {
+                return best;
+            }
+        }
+        best
+    }
+
+    /// Whether `run` spares at least half of the lines.
+    fn is_long(&self, run: Option<Run>) -> bool {
+        match run {
+            Some(run) => run.spared >= self.end.saturating_sub(self.top) / 2,
+            None => false,
+        }
+    }
+
+    /// The run that spares the most lines, among those of a line in the upper part, the middle and the lower part.
+    fn longest(&self) -> Option<Run>
+        requires rows { (self.now.old.now).rows ≡ (self.now.new.now).rows }
+        requires cols { (self.now.old.now).cols ≡ (self.now.new.now).cols }
+        requires within { self.now.end ≤ (self.now.new.now).rows }
+        requires order { self.now.top < self.now.end }
+    {
+        let lines = self.end - self.top;
+        let upper = self.seek(self.top + lines / 8);
+        if self.is_long(upper) {
+            return upper;
+        }
+        let middle = better(upper, self.seek(self.top + lines / 2));
+        if self.is_long(middle) {
+            return middle;
+        }
+        better(middle, self.seek(self.end - 1 - lines / 6))
+    }
+
+    /// The number of cells to paint in the lines from `from` up to, but not including, `end` if a scroll takes them,
+    /// beyond those that may differ in any case.
+    fn repainted(&self, from: u16, end: u16) -> usize
+        requires { end ≤ (self.now.new.now).rows }
+    {
+        let mut count = 0usize;
+        for y in from..end {
+            let columns = columns_at(&self.found, y);
+            let width = columns.end.saturating_sub(columns.from);
+            count = count.saturating_add(written(self.new.row(y)).saturating_sub(width));
+        }
+        count
+    }
+
+    /// The scroll that makes `run`; of the whole screen if the lines outside of it are cheaper to paint than margins
+    /// are to set.
+    fn scroll_of_run(&self, run: Run) -> Scroll {
+        let Way { count, up } = run.way;
+        let rows = self.new.size().0;
+        let top = run.from.saturating_sub(if up { 0 } else { count });
+        let bottom = run.last.saturating_add(if up { count } else { 0 });
+        let above = self.repainted(0, top.min(rows));
+        let below = self.repainted(bottom.saturating_add(1), rows);
+        if above.saturating_add(below) > MARGINS {
+            return Scroll {
+                top,
+                bottom,
+                count,
+                up,
+            };
+        }
+        Scroll {
+            top: 0,
+            bottom: rows.saturating_sub(1),
+            count,
+            up,
+        }
+    }
+}
+
+/// The pages of `old` and `new`, if they have one size and lines that may differ.
+fn pages_of<'a>(old: &'a Virtual, new: &'a Virtual, found: Findings<'a>) -> Option<Pages<'a>>
+    ensures rows { IfSome result (λ p. (p.old.now).rows ≡ (p.new.now).rows) }
+    ensures cols { IfSome result (λ p. (p.old.now).cols ≡ (p.new.now).cols) }
+    ensures within { IfSome result (λ p. p.end ≤ (p.new.now).rows) }
+    ensures order { IfSome result (λ p. p.top < p.end) }
+{
+    let (rows, cols) = old.size();
+    let (new_rows, new_cols) = new.size();
+    let lines = found.lines;
+    if rows != new_rows || cols != new_cols {
+        return None;
+    }
+    if lines.from >= lines.end || lines.end > usize::from(rows) {
+        return None;
+    }
+    let (top, end) = (lines.from as u16, lines.end as u16);
+    Some(Pages {
+        old,
+        new,
+        found,
+        top,
+        end,
+    })
+}
+
+/// What happens to a line that comes to its place by a scroll: a blank one is erased at once without it too.
+fn spared(line: &[Cell]) -> Fate {
+    if written(line) > 0 {
+        Fate::Spared
+    } else {
+        Fate::Even
+    }
+}
+
+/// The number of cells of a line up to the last one that isn't a space without attributes.
+fn written(line: &[Cell]) -> usize {
+    let space = Cell::space().number();
+    for k in 0..line.len() {
+        let end = line.len() - k;
+        if line[end - 1].number() != space {
+            return end;
+        }
+    }
+    0
+}
+
+/// The run that spares more lines.
+fn better(one: Option<Run>, other: Option<Run>) -> Option<Run> {
+    match (one, other) {
+        (Some(a), Some(b)) if a.spared < b.spared => other,
+        (None, _) => other,
+        (Some(_), _) => one,
+    }
+}
+
+/// The lines of `run` and the line `y`, to which a scroll does as `fate` says; `y` alone if those lines spare nothing.
+fn grown(run: Run, y: u16, fate: Fate) -> Run {
+    let from = if run.spared == 0 { y } else { run.from };
+    let spared = match fate {
+        Fate::Spared => run.spared.saturating_add(1),
+        Fate::Lost => run.spared.saturating_sub(1),
+        Fate::Even => run.spared,
+    };
+    Run {
+        way: run.way,
+        from,
+        last: y,
+        spared,
+    }
+}
+
 /// The scroll that `hint` names, if it names one, by at most as many lines as the region has.
-pub(crate) fn scroll_of(hint: Hint) -> Option<Scroll> {
+fn scroll_of(hint: Hint) -> Option<Scroll> {
     let lines = u32::from(hint.bottom.saturating_sub(hint.top).saturating_add(1));
     let count = hint.up.unsigned_abs().min(lines) as u16;
     if count == 0 {
@@ -20,103 +359,67 @@ pub(crate) fn scroll_of(hint: Hint) -> Option<Scroll> {
     })
 }
 
-/// Whether line `to` of the screen `new` isn't line `from` of the screen `old`.
-fn differs(old: &Virtual, new: &Virtual, from: u16, to: u16) -> bool
-    requires from { from < (old.now).rows }
-    requires to { to < (new.now).rows }
-    requires cols { (old.now).cols ≡ (new.now).cols }
-{
-    first_diff(old.row(from), new.row(to)).is_some()
-}
-
-/// The first line before line `end` that may differ according to `found`.
-fn first_changed(found: &Findings<'_>, end: u16) -> Option<u16>
-    ensures { IfSome result (λ y. y < end) }
-{
-    for y in 0..end {
-        if may_differ(found, y) {
-            return Some(y);
-        }
-    }
-    None
-}
-
-/// The last line before line `end` that may differ according to `found`.
-fn last_changed(found: &Findings<'_>, end: u16) -> Option<u16>
-    ensures { IfSome result (λ y. y < end) }
-{
-    for k in 0..end {
-        let y = end - 1 - k;
-        if may_differ(found, y) {
-            return Some(y);
-        }
-    }
-    None
-}
-
-/// The number of lines, at most half of those from `top` to `bottom`, by which the lines of the screen `old` have moved
-/// on the screen `new`, judged by two lines.
-fn moved_between(old: &Virtual, new: &Virtual, top: u16, bottom: u16) -> Option<Scroll>
-    requires rows { (old.now).rows ≡ (new.now).rows }
-    requires cols { (old.now).cols ≡ (new.now).cols }
-    requires top { top ≤ bottom }
-    requires within { bottom < (new.now).rows }
-{
-    let half = (bottom - top) / 2;
-    for less in 0..half {
-        let count = less + 1;
-        let up = !differs(old, new, top + count, top)
-            && !differs(old, new, top + half + count, top + half);
-        let down = !differs(old, new, bottom - count, bottom)
-            && !differs(old, new, bottom - half - count, bottom - half);
-        if up || down {
-            return Some(Scroll {
-                top,
-                bottom,
-                count,
-                up,
-            });
-        }
-    }
-    None
-}
-
 /// Whether two of three lines, in the upper part, the middle and the lower part, may differ, so that the others are
 /// worth comparing.
-fn differ_much(found: &Findings<'_>, rows: u16) -> bool
-    requires { 0 < rows }
+fn differ_much(pages: &Pages<'_>) -> bool
+    requires { pages.now.top < pages.now.end }
 {
-    let middle = may_differ(found, rows / 2);
-    let upper = may_differ(found, rows / 4);
-    match (middle, upper) {
+    let quarter = (pages.end - pages.top) / 4;
+    let upper = may_differ(&pages.found, pages.top + quarter);
+    let lower = may_differ(&pages.found, pages.end - 1 - quarter);
+    match (upper, lower) {
         (true, true) => true,
         (false, false) => false,
-        _ => may_differ(found, rows - 1 - rows / 4),
+        (true, false) | (false, true) => may_differ(&pages.found, pages.top + 2 * quarter),
     }
 }
 
-/// A scroll that may turn much of the screen `old` into the screen `new`, judged by a few of their lines; `found` has
-/// the lines that may differ. None is sought if at most a quarter of the lines may differ.
-pub(crate) fn found_scroll(old: &Virtual, new: &Virtual, found: &Findings<'_>) -> Option<Scroll> {
+/// A scroll that may turn much of the screen `old` into the screen `new`, of which `found` has the lines that may
+/// differ: the one that a call has named, perhaps of more lines, or else one that is found. None is sought if at most a
+/// quarter of the screen's lines may differ beside those of the named scroll.
+pub(crate) fn found_scroll(old: &Virtual, new: &Virtual, found: Findings<'_>) -> Option<Scroll> {
     let lines = found.lines.end.saturating_sub(found.lines.from);
-    if lines <= usize::from(new.size().0 / 4) {
-        return None;
+    let few = usize::from(new.size().0 / 4);
+    match new.hint() {
+        Some(hint) => {
+            let named = scroll_of(hint)?;
+            let region = usize::from(named.bottom.saturating_sub(named.top));
+            if lines <= region + 1 + few {
+                return Some(named);
+            }
+            Some(wider(old, new, found, named))
+        }
+        None if lines <= few => None,
+        None => scroll_between(old, new, found),
     }
-    scroll_between(old, new, found)
 }
 
 /// Slow path of `found_scroll`: seeks a scroll, however many lines differ.
 #[inline(never)]
-fn scroll_between(old: &Virtual, new: &Virtual, found: &Findings<'_>) -> Option<Scroll> {
-    let (rows, cols) = old.size();
-    let (new_rows, new_cols) = new.size();
-    if rows != new_rows || cols != new_cols || rows == 0 {
+fn scroll_between(old: &Virtual, new: &Virtual, found: Findings<'_>) -> Option<Scroll> {
+    let pages = pages_of(old, new, found)?;
+    if !differ_much(&pages) {
         return None;
     }
-    if !differ_much(found, rows) {
-        return None;
+    let run = pages.longest()?;
+    Some(pages.scroll_of_run(run))
+}
+
+/// Slow path of `found_scroll` beside a scroll that a call has `named`: a scroll of more lines the same way, if that
+/// spares more.
+#[inline(never)]
+fn wider(old: &Virtual, new: &Virtual, found: Findings<'_>, named: Scroll) -> Scroll {
+    let Some(pages) = pages_of(old, new, found) else {
+        return named;
+    };
+    let way = Way {
+        count: named.count,
+        up: named.up,
+    };
+    match pages.run(way) {
+        Some(run) if run.spared > named.bottom.saturating_sub(named.top) => pages.scroll_of_run(
+            run,
+        ),
+        Some(_) | None => named,
     }
-    let bottom = last_changed(found, rows)?;
-    let top = first_changed(found, bottom)?;
-    moved_between(old, new, top, bottom)
 }
