@@ -156,7 +156,7 @@ def judge_entries(made):
 
 
 def judge_calls(made):
-    """Calls without a terminal, failures, what vidattr sends, and the end of a program that can't be told."""
+    """Calls without a terminal, failures, what vidattr sends, and how a program ends without a terminal."""
     count = len(compare(made, ["calls"]))
     names = [it for it in ("xterm", "vt100", "linux", "wy50", "dumb", "adm3a") if it in entries()]
     count += len(compare(made, ["drawing", *names]))
@@ -215,7 +215,7 @@ def judge_expansions(made, strings):
 
 
 def judge_padding(made, strings):
-    """What tputs sends: of each string, and of random ones of the characters that padding is made of."""
+    """The bytes that tputs sends: of each string, and of random ones of the characters that padding is made of."""
     chance = random.Random(5)
     tokens = ["$", "<", "$<", ">", "1", "25", ".", "*", "/", "$<5>", "$<1.5*/>", "$<.1*>", "a", "\\", "\x1b[H"]
     made_up = ["".join(chance.choice(tokens) for _ in range(chance.randrange(1, 12))) for _ in range(20000)]
@@ -289,7 +289,7 @@ def judge_valgrind(work, folder):
         line = f"valgrind -q --error-exitcode=77 --log-file={log} {words}"
         given = {**os.environ, "TERM": "xterm", "LD_LIBRARY_PATH": folder}
         ran = subprocess.run(["script", "-qec", line, "/dev/null"], input=keys, env=given, capture_output=True)
-        # what the program loses itself isn't told: only errors are
+        # memory that the program itself loses doesn't count: only errors are
         if ran.returncode or os.path.getsize(log):
             fail(f"valgrind says of {name}: {ran.returncode} {held_in(log).decode()[:2000]}")
     print("tinfo: less and bash over the drop-in make no error that valgrind sees")

@@ -67,7 +67,7 @@ TERMINFO: str = {terminfo!r}
 
 
 def installed(libdir):
-    """What the Python package says of the folder of the libraries."""
+    """The text of the Python package that names the folder of the libraries."""
     return INSTALLED.format(path=f"{libdir}/{SONAME}", terminfo=f"{libdir}/{TERMINFO_SONAME}")
 
 

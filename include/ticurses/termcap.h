@@ -10,8 +10,8 @@
 extern "C" {
 #endif
 
-/* What tgetent finds: the pad character, or 0; the string that moves the cursor up; the one that moves it left, if that
- * isn't a backspace. ospeed is the speed of the terminal's line, as cfgetospeed gives it. */
+/* Of the entry that tgetent finds: the pad character, or 0; the string that moves the cursor up; the one that moves it
+ * left, if that isn't a backspace. ospeed is the speed of the terminal's line, as cfgetospeed gives it. */
 extern char PC, *UP, *BC;
 extern short ospeed;
 
