@@ -14,13 +14,15 @@ BANDS = [
     ("What compiles it", "trusted", "#9a6700", "#fff8c5"),
     ("What runs it", "trusted", "#9a6700", "#fff8c5"),
 ]
+HEAD = "| part | size | why |"
 WIDTH, LEFT, GAP, HIGH = 860, 170, 10, 62
 
 
 def rows(page, heading):
     """The parts of a table, each with its size."""
     section = page[page.index(f"### {heading}\n") :].split("\n##", 2)[0]
-    cells = [[it.strip() for it in line.strip("|").split("|")] for line in section.splitlines() if line.startswith("|")]
+    table = section[section.index(HEAD) :].split("\n\n", 1)[0]
+    cells = [[it.strip() for it in line.strip("|").split("|")] for line in table.splitlines()]
     return [(part, re.sub(r", `[^`]*`$", "", size)) for part, size, _ in cells[2:]]
 
 
