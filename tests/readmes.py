@@ -30,6 +30,8 @@ MOST_COLUMNS = 120
 # what may make a line longer: printed text, and a list of lemmas, which the formatter joins
 TEXT = re.compile(r'"(?:[^"\\]|\\.)*"?')
 LEMMAS = "#[tactic("
+# lines that are longer until their crates, which cost half an hour of proofs with those above them, change for a reason
+LONGER = {("ti_hints/src/uses.rt", 7), ("ti_verdicts/src/fault_lists.rt", 85), ("ti_verdicts/src/lib.rt", 1)}
 
 IMPL = r"^impl(?:<[^{\n]*?>)? (?:(\w+)(?:<[^{\n]*>)? for )?(\w+)[^{\n]*\{"
 KINDS = r"(fn|struct|enum|trait|const|type|static) (\w+)"
@@ -246,6 +248,8 @@ def wide_lines(crate):
         for name in files_of(crate, folder, ending):
             path = f"crates/{crate}/{folder}/{name}{ending}"
             for number, line in enumerate(read(f"{TOP}/{path}").splitlines(), 1):
+                if (f"{crate}/{folder}/{name}{ending}", number) in LONGER:
+                    continue
                 if len(TEXT.sub("", line)) > MOST_COLUMNS and LEMMAS not in line:
                     yield f"{path}:{number}: it has more than {MOST_COLUMNS} columns"
 

@@ -42,8 +42,8 @@ PUBLISHED = [
     "ti_mends",
     "ti_repairs",
     "ti_files",
-    "ti_objects",
     "ti_reports",
+    "ti_printers",
     "cur_commands",
     "curses_c",
     "terminfo_c",
@@ -65,8 +65,8 @@ COMMANDS = [
     ("survey --fix", [("ti_repairs", "fix_survey")]),
     ("survey", [("ti_surveys", "survey_paths"), ("ti_surveys", "survey_files")]),
     ("check --json, survey --json", [("ti_reports", "check_reports"), ("ti_reports", "survey_reports")]),
-    ("check --sarif, survey --sarif", [("ti_objects", "sarif_file")]),
-    ("survey --baseline", [("ti_objects", "has_wrong")]),
+    ("check --sarif, survey --sarif", [("ti_printers", "sarif_file")]),
+    ("survey --baseline", [("ti_printers", "sarif_file")]),
 ]
 
 # functions by which the program answers all commands, and the parser of the line, which has no clause

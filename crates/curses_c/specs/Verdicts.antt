@@ -7,7 +7,7 @@ use Rattle.ti_cert.specs.Texts.{IsTableOf}
 use Rattle.ti_checker.specs.No.{IsNo}
 use Rattle.ti_checker.specs.declared.causes.Cause.TheVariants as causes
 use Rattle.ti_checker.specs.declared.causes.No.{No}
-use Rattle.ti_places.specs.Refusals.{no_text}
+use Rattle.ti_verdicts.specs.Refusals.{no_text}
 use Rattle.curses_c.specs.Codes.{failure_code}
 use Rattle.curses_c.specs.Entries.{Gives, IsCertified, IsShown, IsUncertified, IsUnshown, Lacks}
 use Rattle.curses_c.specs.declared.codes.Failure.{Failure}

@@ -1,13 +1,13 @@
 //! The calls on certificates, which keep nothing.
 ghost use Rattle.std.specs.Prelude.{◌≡◌, ◌≢◌, IfErr, IfOk};
-ghost use Rattle.ti_places.specs.Refusals.{no_text};
+ghost use Rattle.ti_verdicts.specs.Refusals.{no_text};
 ghost use Rattle.curses_c.specs.Verdicts as spec;
 
 use crate::codes::{Failure, OK, failure_code};
 use crate::entries::{Subject, certificate_of, checked_by, describe};
 use std::alloc::{AllocError, Global};
 use ti_checker::{Cause, No, check};
-use ti_places::no_words;
+use ti_verdicts::no_words;
 
 /// Writes the certificate of an entry for `rows` and `cols` to the start of `room`: the entry of the compiled file
 /// `entry`, or of `name` in the source text `entry`. `needed` is its length, or 0 if there is none. Returns 0, or the

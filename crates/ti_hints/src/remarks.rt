@@ -6,10 +6,10 @@ use crate::uses::used_places;
 use std::alloc::{AllocError, Global};
 use ti_files::Remarks;
 use ti_source::RawEntry;
-use ti_sources::text_lines;
+use ti_sources::{place_named, text_lines};
 
-/// Adds the hints of `entry_hints`, as far as there is memory, for the entry `entry` among `raws`, and for the entries
-/// that it uses. `raws` are the entries of the source text `text`.
+/// Adds the hints of `entry_hints`, as far as there is memory, for the entry named `entry` among `raws`, and for the
+/// entries that it uses. `raws` are the entries of the source text `text`.
 pub fn hint_entry(
     alloc: Global,
     text: &[u8],
@@ -17,7 +17,10 @@ pub fn hint_entry(
     entry: &[u8],
     remarks: &mut Remarks,
 ) {
-    if let (Ok(lines), Ok(places)) = (text_lines(alloc, text), used_places(alloc, raws, entry)) {
+    let Some(own) = place_named(raws, entry) else {
+        return;
+    };
+    if let (Ok(lines), Ok(places)) = (text_lines(alloc, text), used_places(alloc, raws, own)) {
         let lines = lines.as_slice();
         for place in &places {
             let _ = add_hints(alloc, Text { lines, raws }, *place, None, remarks);

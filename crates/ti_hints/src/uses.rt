@@ -4,19 +4,18 @@ use std::alloc::{AllocError, Global};
 use ti_source::{Field, RawEntry};
 use ti_sources::place_named;
 
-/// The places among `raws` of the entry of this name and of those that it uses, in order; none if there is no such
-/// entry.
+/// The place `entry` among `raws` and those of the entries that the one there uses, in order; none if there is no entry.
 ///
 /// # Errors
 /// Out of memory.
 pub fn used_places(
     alloc: Global,
     raws: &[RawEntry],
-    entry: &[u8],
+    entry: usize,
 ) -> Result<Vec<usize>, AllocError> {
     let mut places = Vec::new(alloc);
-    if let Some(place) = place_named(raws, entry) {
-        places.push(place)?;
+    if entry < raws.len() {
+        places.push(entry)?;
     }
     for step in 0..raws.len() {
         let Some(raw) = places

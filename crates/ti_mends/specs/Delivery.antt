@@ -11,7 +11,7 @@ use Rattle.ti_files.specs.declared.failure.Reply.{Reply}
 use Rattle.ti_files.specs.declared.files.NewFile.{NewFile}
 use Rattle.ti_mends.specs.Texts.{Sheet}
 use Rattle.ti_verdicts.specs.Checks.{StoresText}
-use Rattle.ti_places.specs.Refusals.{TellsNo}
+use Rattle.ti_verdicts.specs.Refusals.{TellsNo}
 use denote.Ref.{Bor}
 
 -- the reply fails as the first fault that is left does; it doesn't fail if none is left

@@ -8,8 +8,8 @@ use Rattle.ti_mends.specs.declared.mendings.Reason.{Reason}
 use Rattle.ti_mends.specs.declared.mendings.Reason.TheVariants.{Unplaced, Lost}
 use Rattle.ti_resolve.specs.Uses.{names_at}
 use Rattle.ti_source.specs.declared.types.RawEntry.{RawEntry}
-use Rattle.ti_places.specs.Locations.{first_name}
-use Rattle.ti_places.specs.Refusals.{no_text}
+use Rattle.ti_verdicts.specs.Locations.{first_name}
+use Rattle.ti_verdicts.specs.Refusals.{no_text}
 use Rattle.ti_files.specs.Shown.{shown}
 
 -- why a suggestion is left, with the first name of the entry that would lose its yes

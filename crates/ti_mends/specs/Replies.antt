@@ -22,7 +22,7 @@ use Rattle.ti_mends.specs.declared.mendings.Texts.{Texts}
 use Rattle.ti_requests.specs.declared.request.CheckWords.{CheckWords}
 use Rattle.ti_source.specs.Raw.{IsRaw}
 use Rattle.ti_verdicts.specs.Checks.{FailsForEntry}
-use Rattle.ti_places.specs.Refusals.{IsVerdict}
+use Rattle.ti_verdicts.specs.Refusals.{IsVerdict}
 use denote.Ref.{Bor}
 
 -- files and their entry, with no suggestion taken

@@ -4,7 +4,7 @@ ghost use Rattle.std.specs.Prelude.{◌≡◌, codes, IfErr, IfOk, OnErr};
 ghost use Rattle.ti_mends.specs.{Taken.{IsCurrent, TakesAll, aim_of}, Texts.{ArePut, sheets}};
 ghost use Rattle.ti_mends.specs.Replies as spec;
 ghost use Rattle.ti_resolve.specs.Resolved.{IsResolved};
-ghost use Rattle.ti_places.specs.Refusals.{IsVerdict};
+ghost use Rattle.ti_verdicts.specs.Refusals.{IsVerdict};
 
 use crate::delivery::{handed_over, stored_in};
 use crate::mendings::{Asked, MendedTexts, Mending, Texts};

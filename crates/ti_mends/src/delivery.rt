@@ -8,8 +8,7 @@ use crate::mendings::{MendedTexts, Text};
 use std::alloc::{AllocError, Global};
 use ti_checker::No;
 use ti_files::{Failure, Files, NewFile, Remarks, Reply, file_fault};
-use ti_places::no_failure;
-use ti_verdicts::store_text;
+use ti_verdicts::{no_failure, store_text};
 
 /// How the reply ends if these faults are left.
 fn ending(alloc: Global, nos: &[No]) -> Option<Failure>

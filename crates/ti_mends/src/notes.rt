@@ -8,9 +8,8 @@ use std::alloc::Global;
 use ti_caps::name;
 use ti_checker::No;
 use ti_files::push_shown;
-use ti_places::{first_name, names_of, no_words};
 use ti_source::RawEntry;
-use ti_verdicts::{Added, Lines};
+use ti_verdicts::{Added, Lines, first_name, names_of, no_words};
 
 /// Appends why a suggestion is left.
 fn push_reason(lines: &mut Vec<u8>, raws: &[RawEntry], reason: Reason) -> Added

@@ -15,8 +15,8 @@ use Rattle.ti_remedies.specs.declared.treated.Reason.TheVariants.{Unplaced, Riva
 use Rattle.ti_remedies.specs.declared.treated.Treated.{Treated}
 use Rattle.ti_resolve.specs.Uses.{names_at}
 use Rattle.ti_source.specs.declared.types.RawEntry.{RawEntry}
-use Rattle.ti_places.specs.Locations.{first_name}
-use Rattle.ti_places.specs.Refusals.{no_text}
+use Rattle.ti_verdicts.specs.Locations.{first_name}
+use Rattle.ti_verdicts.specs.Refusals.{no_text}
 use Rattle.ti_files.specs.Shown.{shown}
 
 -- the first name of the entry at a place

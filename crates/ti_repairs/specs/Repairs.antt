@@ -19,7 +19,7 @@ use Rattle.ti_repairs.specs.declared.words.FixWords.{FixWords}
 use Rattle.ti_source.specs.Source.{source_of}
 use Rattle.ti_source.specs.declared.types.RawEntry.{RawEntry}
 use Rattle.ti_verdicts.specs.Checks.{StoresText}
-use Rattle.ti_places.specs.Refusals.{IsVerdict}
+use Rattle.ti_verdicts.specs.Refusals.{IsVerdict}
 use denote.Ref.{Bor}
 
 -- A source text with all suggestions for its entries taken or left: the notes say which are left, and what is left of

@@ -6,7 +6,7 @@ ghost use Rattle.ti_remedies.specs.Remedies.{AreAdvised, Fits};
 ghost use Rattle.ti_repairs.specs.Advices.{Advises};
 ghost use Rattle.ti_repairs.specs.Repairs as spec;
 ghost use Rattle.ti_source.specs.{Raw.{IsRaw}, Source.{source_of}};
-ghost use Rattle.ti_places.specs.Refusals.{IsVerdict};
+ghost use Rattle.ti_verdicts.specs.Refusals.{IsVerdict};
 
 use crate::left::left_lines;
 use crate::notes::kept_lines;

@@ -5,7 +5,7 @@ ghost use Rattle.ti_files.specs.Refusals.{refusal_text_of};
 ghost use Rattle.ti_commands.specs.Findings.{ResolvesAt};
 ghost use Rattle.ti_repairs.specs.Notes as spec;
 ghost use Rattle.ti_source.specs.Raw.{IsRaw};
-ghost use Rattle.ti_places.specs.Refusals.{no_text};
+ghost use Rattle.ti_verdicts.specs.Refusals.{no_text};
 
 use crate::notes::own_name;
 use std::alloc::{AllocError, Global};
@@ -13,10 +13,9 @@ use ti_caps::Entry;
 use ti_checker::No;
 use ti_faults::faults;
 use ti_files::{CommandRefusal, push_shown, refusal_words};
-use ti_places::no_words;
 use ti_resolve::{Index, ResolveFault, resolve_from};
 use ti_source::RawEntry;
-use ti_verdicts::{Added, Lines};
+use ti_verdicts::{Added, Lines, no_words};
 use vt_term::Size;
 
 /// Appends the line of an entry's name and the words about it.

@@ -6,9 +6,9 @@ ghost use Rattle.ti_repairs.specs.Notes as spec;
 use std::alloc::{AllocError, Global};
 use ti_caps::name;
 use ti_files::push_shown;
-use ti_places::{first_name, names_of};
 use ti_remedies::{Reason, Remedy, Treated};
 use ti_source::RawEntry;
+use ti_verdicts::{first_name, names_of};
 
 /// The first name of the entry at `place`; empty behind all entries.
 pub fn own_name(raws: &[RawEntry], place: usize) -> &[u8]

@@ -1,4 +1,7 @@
+pub mod FieldFacts
 pub mod FirstFacts
-pub mod Floats
-pub mod LineFacts
-pub mod Members
+pub mod NameFacts
+pub mod ReportFacts
+pub mod Sends
+pub mod ShownFacts
+pub mod SpelledFacts

@@ -1,6 +1,7 @@
--- The report on an entry: that it has a certificate, or each of its faults.
+-- The reports on an entry: that it has a certificate, or each of its faults.
 use Rattle.std.specs.Prelude.{◌≡◌, ℕ, Bool, true, false, List, [], ◌∷◌, ◌++◌, Option, Some, None, IfSome, String, map}
 use Rattle.std.specs.Prelude.{string_bytes}
+use Rattle.std.specs.List.{AllByRecursion}
 use Rattle.std.specs.declared.alloc.Global.{Global}
 use Rattle.ti_caps.specs.Entry.{Content, string_at}
 use Rattle.ti_caps.specs.Table.{name_at}
@@ -8,17 +9,18 @@ use Rattle.ti_checker.specs.declared.causes.No.{No}
 use Rattle.ti_faults.specs.declared.mended.Mended.{Mended}
 use Rattle.ti_hints.specs.Places.{IsHintOf}
 use Rattle.ti_hints.specs.declared.hints.FieldHint.{FieldHint}
-use Rattle.ti_members.specs.Explanations.{IsExplained}
-use Rattle.ti_members.specs.Names.{AreAliases, HasName}
+use Rattle.ti_reports.specs.Explanations.{IsExplained}
+use Rattle.ti_reports.specs.Names.{AreAliases, HasName}
 use Rattle.ti_reports.specs.Hints.{HintText, IsHintPlace, hint_text}
-use Rattle.ti_reports.specs.Reports.{IsNothing, SaysWords, report_line}
-use Rattle.ti_members.specs.Sent.{IsSentText}
-use Rattle.ti_members.specs.Sources.{ByName, ByPlace, IsFaultyAt, IsNowhere, IsValuePlace, Nowhere, Whereabouts}
-use Rattle.ti_members.specs.Sources.{whereabouts_of}
-use Rattle.ti_members.specs.Spellings.{IsSpelling}
-use Rattle.ti_members.specs.Suggestions.{AreFields, IsMendedFor, IsSuggested, is_judged, mended_with, other_kind}
-use Rattle.ti_members.specs.Texts.{IsShownAs}
+use Rattle.ti_reports.specs.Reports.{IsNothing, SaysWords}
+use Rattle.ti_reports.specs.Sent.{IsSentText}
+use Rattle.ti_reports.specs.Sources.{IsFaultyAt, IsNowhere, IsValuePlace}
+use Rattle.ti_reports.specs.Spellings.{IsSpelling}
+use Rattle.ti_reports.specs.Suggestions.{AreFields, IsMendedFor, IsSuggested, is_judged, mended_with, other_kind}
+use Rattle.ti_reports.specs.Texts.{IsShownAs}
 use Rattle.ti_reports.specs.declared.faults.Subject.{Subject}
+use Rattle.ti_reports.specs.declared.hints.Hinted.{Hinted}
+use Rattle.ti_reports.specs.declared.hints.Hinted.TheVariants.{Own, Unhinted, WithUsed}
 use Rattle.ti_reports.specs.declared.reports.Finding.{Finding}
 use Rattle.ti_reports.specs.declared.reports.Report.{Report}
 use Rattle.ti_reports.specs.declared.reports.Verdict.{Verdict}
@@ -26,9 +28,9 @@ use Rattle.ti_reports.specs.declared.reports.Verdict.TheVariants as verdicts
 use Rattle.ti_source.specs.Layout.{lines_of}
 use Rattle.ti_surveys.specs.Parts.{is_part}
 use Rattle.ti_verdicts.specs.Parts.{HasParts}
-use Rattle.ti_places.specs.Locations.{PlaceInSource, first_name}
-use Rattle.ti_places.specs.Refusals.{cause_name}
-use Rattle.ti_places.specs.Spots.{FileText, files_of}
+use Rattle.ti_verdicts.specs.Locations.{PlaceInSource, first_name, place_if}
+use Rattle.ti_verdicts.specs.Refusals.{cause_name}
+use Rattle.ti_sources.specs.LinedFiles.{FileText, file_text}
 
 -- the text of these bytes is there
 abbrev pub HasWords : List ℕ → Option (String Global) → Type 0
@@ -51,21 +53,24 @@ pub record ReportsYes (entry : Content) (height width : ℕ) (file : List ℕ) (
   pub cause : report.cause ≡ None
   pub faultless : IsNothing report.finding
 
--- The subject of the reports on an entry's faults: the entry, the terminal's size, the origin of the entry, the faults
--- that are reported, and the entry in which they are mended, if they are all of its faults.
+-- The subject of the reports on an entry's faults: the entry, the terminal's size, the texts of those files whose lines
+-- were joined, the place of the entry, the faults that are reported, and the entry in which they are mended, if they
+-- are all of its faults.
 pub record OfFaults : Type 0 where
   pub entry : Content
   pub height : ℕ
   pub width : ℕ
-  pub stands : Whereabouts
+  pub originals : List FileText
+  pub stands : Option PlaceInSource
   pub nos : List No
   pub mended : Option Mended
 
-abbrev pub of_faults : Content → ℕ → ℕ → Whereabouts → List No → Option Mended → OfFaults
-of_faults entry height width stands nos mended = record {
+abbrev pub of_faults : Content → ℕ → ℕ → List FileText → Option PlaceInSource → List No → Option Mended → OfFaults
+of_faults entry height width originals stands nos mended = record {
   entry = entry;
   height = height;
   width = width;
+  originals = originals;
   stands = stands;
   nos = nos;
   mended = mended;
@@ -76,8 +81,8 @@ pub record Finds (of : OfFaults) (refusal : No) (finding : Finding) : Type 0 whe
   pub capability : HasWords (name_at refusal.cap) finding.capability
   pub parameters : finding.parameters.items ≡ refusal.params.items
   pub bytes : IsSentText of.entry refusal finding.bytes
-  pub place : IsValuePlace of.stands refusal.cap finding.place
-  pub faulty_region : IfSome finding.faulty_region (IsFaultyAt of.stands refusal.cap)
+  pub place : IsValuePlace of.originals of.stands refusal.cap finding.place
+  pub faulty_region : IfSome finding.faulty_region (IsFaultyAt of.originals of.stands refusal.cap)
   pub string_is : IsSpelling (string_at of.entry refusal.cap) finding.string
   pub suggestion : IsSuggested of.entry of.mended of.nos refusal.cap finding.suggestion
   pub suggested_with : AreFields of.entry of.mended of.nos (mended_with refusal.cap)
@@ -93,25 +98,26 @@ pub record ReportsFault (of : OfFaults) (file : List ℕ) (refusal : No) (report
   pub cause : HasWords (cause_name refusal.cause) report.cause
   pub finds : Finds of refusal report.finding
 
--- the line of a report of which this holds
-abbrev pub IsReportLine : (Report → Type 0) → List ℕ → Type 0
-IsReportLine P line = (report : Report) × P report × (line ≡ report_line report)
+-- one report, of which this holds
+abbrev pub IsOne : (Report → Type 0) → List Report → Type 0
+IsOne P reports = (report : Report) × P report × (reports ≡ report ∷ [])
 
-abbrev pub IsFaultLine : OfFaults → List ℕ → No → List ℕ → Type 0
-IsFaultLine of file refusal line = IsReportLine (ReportsFault of file refusal) line
+abbrev pub IsFaultReport : OfFaults → List ℕ → No → List Report → Type 0
+IsFaultReport of file refusal reports = IsOne (ReportsFault of file refusal) reports
 
--- a line for each fault, in their order; with all faults of the entry, they are mended for the suggestions
-pub record AreFaultLines (entry : Content) (height width : ℕ) (all : Bool) (file : List ℕ) (stands : Whereabouts)
-    (nos : List No) (lines : List ℕ) : Type 0 where
+-- a report for each fault, in their order; with all faults of the entry, they are mended for the suggestions
+pub record AreFaultReports (entry : Content) (height width : ℕ) (all : Bool) (file : List ℕ) (originals : List FileText)
+    (stands : Option PlaceInSource) (nos : List No) (reports : List Report) : Type 0 where
   pub mended : Option Mended
   pub mends : IsMendedFor all entry height width nos mended
-  pub each : HasParts (IsFaultLine (of_faults entry height width stands nos mended) file) nos lines
+  pub each : HasParts (IsFaultReport (of_faults entry height width originals stands nos mended) file) nos reports
 
--- a line for each fault, or one that there is none
-abbrev pub AreVerdictLines : Content → ℕ → ℕ → Bool → List ℕ → Whereabouts → List No → List ℕ → Type 0
-AreVerdictLines entry height width all file stands [] lines = IsReportLine (ReportsYes entry height width file) lines
-AreVerdictLines entry height width all file stands (first ∷ others) lines =
-    AreFaultLines entry height width all file stands (first ∷ others) lines
+-- a report for each fault, or one that there is none
+abbrev pub AreVerdicts : Content → ℕ → ℕ → Bool → List ℕ → List FileText → Option PlaceInSource → List No → List Report
+    → Type 0
+AreVerdicts entry height width all file originals stands [] reports = IsOne (ReportsYes entry height width file) reports
+AreVerdicts entry height width all file originals stands (first ∷ others) reports =
+    AreFaultReports entry height width all file originals stands (first ∷ others) reports
 
 -- there is advice on the entry, whatever it is, at no place
 pub record ReportsAdvice (entry : Content) (height width : ℕ) (file : List ℕ) (report : Report) : Type 0 where
@@ -143,43 +149,40 @@ abbrev pub ReportsAnyHint : Content → ℕ → ℕ → List ℕ → HintText �
 ReportsAnyHint entry height width file text report =
     (place : ℕ) × ReportsHint entry height width file text place report
 
--- any number of lines of such reports
-pub data AreLinesOf (P : Report → Type 0) : List ℕ → Type 0 where
-  NoLine : (lines : List ℕ) → lines ≡ [] → AreLinesOf P lines
-  OneMore : (front own lines : List ℕ) → lines ≡ front ++ own → AreLinesOf P front → IsReportLine P own
-      → AreLinesOf P lines
+-- any number of such reports
+abbrev pub AreAll : (Report → Type 0) → List Report → Type 0
+AreAll P reports = AllByRecursion P reports
 
--- lines of reports about a text, if there is one
-abbrev pub AreLinesIf : (HintText → Report → Type 0) → Option HintText → List ℕ → Type 0
-AreLinesIf P None lines = lines ≡ []
-AreLinesIf P (Some text) lines = AreLinesOf (P text) lines
+-- reports about a text, if there is one
+abbrev pub AreAllIf : (HintText → Report → Type 0) → Option HintText → List Report → Type 0
+AreAllIf P None reports = reports ≡ []
+AreAllIf P (Some text) reports = AreAll (P text) reports
 
--- hints about an entry at its place, if they are asked for
-abbrev pub ArePlacedHints : Content → ℕ → ℕ → List ℕ → Bool → List FileText → PlaceInSource → List ℕ → Type 0
-ArePlacedHints entry height width file false originals stands lines = lines ≡ []
-ArePlacedHints entry height width file true originals stands lines =
-    AreLinesIf (λ text. ReportsHint entry height width file text stands.place)
-    (hint_text originals stands.files stands.raws) lines
+-- hints about the fields of an entry at its place, of those that it uses in its file too, or none
+abbrev pub AreHintsAt : Content → ℕ → ℕ → List ℕ → List FileText → Hinted → PlaceInSource → List Report → Type 0
+AreHintsAt entry height width file originals Unhinted stands reports = reports ≡ []
+AreHintsAt entry height width file originals Own stands reports =
+    AreAllIf (λ text. ReportsHint entry height width file text stands.place)
+    (hint_text originals stands.files stands.raws) reports
+AreHintsAt entry height width file originals WithUsed stands reports =
+    AreAllIf (ReportsAnyHint entry height width file) (hint_text originals stands.files stands.raws) reports
 
--- hints about an entry that was asked for by its name, and about those of its file that it uses; about an entry at a
--- place alone, with all faults
-abbrev pub AreHintLines : Content → ℕ → ℕ → Bool → List ℕ → Whereabouts → List ℕ → Type 0
-AreHintLines entry height width all file Nowhere lines = lines ≡ []
-AreHintLines entry height width all file (ByName originals source) lines =
-    AreLinesIf (ReportsAnyHint entry height width file) (hint_text originals (files_of source) source.raws.items) lines
-AreHintLines entry height width all file (ByPlace originals stands) lines =
-    ArePlacedHints entry height width file all originals stands lines
+-- the entry of a compiled file has no fields
+abbrev pub AreHints : Content → ℕ → ℕ → List ℕ → List FileText → Hinted → Option PlaceInSource → List Report → Type 0
+AreHints entry height width file originals fields None reports = reports ≡ []
+AreHints entry height width file originals fields (Some stands) reports =
+    AreHintsAt entry height width file originals fields stands reports
 
--- the verdict or the faults, then advice, and then hints
-pub record AreFoundLines (entry : Content) (height width : ℕ) (all : Bool) (file : List ℕ) (stands : Whereabouts)
-    (nos : List No) (lines : List ℕ) : Type 0 where
-  pub verdicts : List ℕ
-  pub advice : List ℕ
-  pub hints : List ℕ
-  pub whole : lines ≡ (verdicts ++ advice) ++ hints
-  pub judged : AreVerdictLines entry height width all file stands nos verdicts
-  pub advises : AreLinesOf (ReportsAdvice entry height width file) advice
-  pub hinted : AreHintLines entry height width all file stands hints
+-- The reports on an entry: the verdict or the faults, then advice, and then hints.
+pub record AreFound (entry : Content) (height width : ℕ) (all : Bool) (hinted : Hinted) (file : List ℕ)
+    (originals : List FileText) (stands : Option PlaceInSource) (nos : List No) (reports : List Report) : Type 0 where
+  pub verdicts : List Report
+  pub advice : List Report
+  pub hints : List Report
+  pub whole : reports ≡ (verdicts ++ advice) ++ hints
+  pub judged : AreVerdicts entry height width all file originals stands nos verdicts
+  pub advises : AreAll (ReportsAdvice entry height width file) advice
+  pub hints_are : AreHints entry height width file originals hinted stands hints
 
 -- ---- (Serves the code alone.)
 
@@ -194,4 +197,5 @@ pub record IsReportOn (subject : Subject) (verdict : Verdict) (cause : Option (S
 -- the subject without its memory
 abbrev pub of_subject : Subject → List No → Option Mended → OfFaults
 of_subject subject nos mended =
-    of_faults subject.entry.now subject.size.rows subject.size.cols (whereabouts_of subject.stands) nos mended
+    of_faults subject.entry.now subject.size.rows subject.size.cols (map file_text subject.originals.now)
+    (place_if subject.stands.now) nos mended

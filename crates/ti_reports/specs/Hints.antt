@@ -4,14 +4,14 @@ use Rattle.std.specs.String.{string_bytes}
 use Rattle.ti_commands.specs.Further.{own_raws}
 use Rattle.ti_hints.specs.declared.hints.FieldHint.{FieldHint}
 use Rattle.ti_sources.specs.declared.joined_places.Region.{Region}
-use Rattle.ti_members.specs.Names.{HasName}
+use Rattle.ti_reports.specs.Names.{HasName}
 use Rattle.ti_reports.specs.declared.hints.HintSource.{HintSource}
-use Rattle.ti_members.specs.declared.places.ValuePlace.{ValuePlace}
+use Rattle.ti_reports.specs.declared.places.ValuePlace.{ValuePlace}
 use Rattle.ti_resolve.specs.Uses.{names_at}
 use Rattle.ti_source.specs.declared.types.RawEntry.{RawEntry}
-use Rattle.ti_places.specs.Locations.{first_name}
-use Rattle.ti_places.specs.Originals.{begun_line, region_at}
-use Rattle.ti_places.specs.Spots.{FileText, Line, PutFiles, file_text}
+use Rattle.ti_verdicts.specs.Locations.{first_name}
+use Rattle.ti_sources.specs.Originals.{begun_line, region_at}
+use Rattle.ti_sources.specs.LinedFiles.{FileText, Line, PutFiles, file_text}
 
 -- a source text about which hints are given: its path, its entries, and the texts of files before their lines were
 -- joined

@@ -7,9 +7,11 @@ use Rattle.ti_files.specs.declared.failure.Failure.{Failure}
 use Rattle.ti_files.specs.declared.failure.Failure.TheVariants.{Refused, RefusedUnwritten, Usage, File, Output}
 use Rattle.ti_files.specs.declared.failure.Failure.TheVariants.{NoMemory}
 use Rattle.ti_files.specs.declared.failure.Reply.{Reply}
-use Rattle.ti_members.specs.Sources.{IsNowhere, IsRefusalPlace}
-use Rattle.ti_reports.specs.Surveys.{IsRefusedReport, file_text}
-use Rattle.ti_members.specs.declared.places.ValuePlace.{ValuePlace}
+use Rattle.ti_reports.specs.Sources.{IsNowhere, IsRefusalPlace}
+use Rattle.ti_reports.specs.Surveys.{ReportsRefused, file_text}
+use Rattle.ti_reports.specs.Forms.{Printing, Wanting, is_news}
+use Rattle.ti_reports.specs.declared.reports.Report.{Report}
+use Rattle.ti_reports.specs.declared.places.ValuePlace.{ValuePlace}
 
 -- the reason of a failure in words: what its first line on standard error has behind `refused: `, or that line
 abbrev pub IsReason : Failure → List ℕ → Type 0
@@ -40,23 +42,35 @@ sole_path alone path = if alone then Some path else None
 
 -- the report on the entry of this name in the file at a path, or on the whole file, with the reason and its place
 pub record IsLackOf (height width : ℕ) (alone : Bool) (failure : Failure) (path : List ℕ) (name : Option (List ℕ))
-    (line : List ℕ) : Type 0 where
+    (report : Report) : Type 0 where
   pub why : List ℕ
   pub reason : IsReason failure why
   pub place : ValuePlace
   pub stands : IsReasonPlace (sole_path alone path) failure place
-  pub says : IsRefusedReport height width path name why place line
+  pub says : ReportsRefused height width path name why place report
 
 -- the report on the entry of a source text, or on a compiled file
-abbrev pub IsLackLine : ℕ → ℕ → Bool → List ℕ → Failure → List ℕ → Type 0
-IsLackLine height width alone word failure line =
+abbrev pub IsLack : ℕ → ℕ → Bool → List ℕ → Failure → Report → Type 0
+IsLack height width alone word failure report =
     ((path : List ℕ) × (name : List ℕ) × IsPathAndName word path name
-    × IsLackOf height width alone failure path (Some name) line)
-    ⊎ (IsPath word × IsLackOf height width alone failure word None line)
+    × IsLackOf height width alone failure path (Some name) report)
+    ⊎ (IsPath word × IsLackOf height width alone failure word None report)
+
+-- a refusal of which the form doesn't tell is no failure
+abbrev pub told_failure : Bool → Failure → Option Failure
+told_failure true failure = Some failure
+told_failure false (Refused refusal) = None
+told_failure false (RefusedUnwritten refusal) = Some (RefusedUnwritten refusal)
+told_failure false (Usage told) = Some (Usage told)
+told_failure false (File path) = Some (File path)
+told_failure false Output = Some Output
+told_failure false NoMemory = Some NoMemory
 
 -- the reply reports that the word gives no entry, with the reason for which it fails and its place
-pub record ReportsLackOf (height width : ℕ) (alone : Bool) (word : List ℕ) (failure : Failure) (reply : Reply)
-    : Type 0 where
-  pub line : IsLackLine height width alone word failure reply.text.items
+pub record ReportsLackOf (Wanted : Wanting) (Prints : Printing) (height width : ℕ) (alone : Bool) (word : List ℕ)
+    (failure : Failure) (reply : Reply) : Type 0 where
+  pub report : Report
+  pub lacks : IsLack height width alone word failure report
+  pub printed : Prints report reply.text.items
   pub no_notes : reply.notes.items ≡ []
-  pub ends : reply.failure ≡ Some failure
+  pub ends : reply.failure ≡ told_failure (is_news Wanted report) failure

@@ -1,5 +1,7 @@
 -- The answer of `survey --json`, by the contents of its files.
-use Rattle.std.specs.Prelude.{◌≡◌, ℕ, Bool, List, [], ◌∷◌, ◌++◌, Option, Some, None, codes, string_bytes}
+use Rattle.std.specs.Prelude.{◌≡◌, ℕ, Bool, true, false, List, [], ◌∷◌, ◌++◌, Option, Some, None, codes}
+use Rattle.std.specs.Prelude.{string_bytes}
+use Rattle.std.specs.List.{list_any}
 use Rattle.ti_caps.specs.Entry.{Content}
 use Rattle.ti_checker.specs.declared.causes.No.{No}
 use Rattle.ti_files.specs.Contents.{Held}
@@ -8,24 +10,29 @@ use Rattle.ti_files.specs.Words.{texts_of}
 use Rattle.ti_files.specs.declared.failure.CommandRefusal.{CommandRefusal}
 use Rattle.ti_files.specs.declared.failure.Failure.{Failure}
 use Rattle.ti_files.specs.declared.failure.Reply.{Reply}
-use Rattle.ti_reports.specs.Faults.{AreFoundLines, HasWords, IsReportLine}
+use Rattle.ti_reports.specs.Faults.{AreFound, HasWords}
+use Rattle.ti_reports.specs.Forms.{Printing, Wanting, is_news}
 use Rattle.ti_reports.specs.Findings.{AreFaults}
-use Rattle.ti_members.specs.Names.{IsNameIf}
+use Rattle.ti_reports.specs.Names.{IsNameIf}
 use Rattle.ti_reports.specs.Reports.{IsBare}
 use Rattle.ti_reports.specs.Sizes.{AtSize}
-use Rattle.ti_members.specs.Sources.{IsNowhere, IsRefusalPlace, Whereabouts, by_place, fault_file}
-use Rattle.ti_members.specs.declared.places.ValuePlace.{ValuePlace}
+use Rattle.ti_reports.specs.Sources.{IsNowhere, IsRefusalPlace, fault_file}
+use Rattle.ti_reports.specs.declared.places.ValuePlace.{ValuePlace}
+use Rattle.ti_reports.specs.declared.hints.Hinted.{Hinted}
+use Rattle.ti_reports.specs.declared.hints.Hinted.TheVariants.{Own, Unhinted}
 use Rattle.ti_reports.specs.declared.reports.Report.{Report}
 use Rattle.ti_reports.specs.declared.reports.Verdict.TheVariants as verdicts
 use Rattle.ti_requests.specs.declared.request.SurveyWords.{SurveyWords}
 use Rattle.ti_surveys.specs.Kinds.{kind_answers, kind_of}
+use Rattle.ti_surveys.specs.declared.kinds.EntryKind.{EntryKind}
 use Rattle.ti_surveys.specs.Lines.{AreLines, Leaving, Refusing, Saying}
 use Rattle.ti_surveys.specs.Places.{places_text}
 use Rattle.ti_surveys.specs.Strict.{EndsStrictly}
 use Rattle.ti_surveys.specs.Surveys.{EndsPaths}
 use Rattle.ti_surveys.specs.Told.{Told}
-use Rattle.ti_places.specs.Locations.{PlaceInSource}
-use Rattle.ti_places.specs.Spots.{FileText}
+use Rattle.ti_verdicts.specs.Locations.{PlaceInSource}
+use Rattle.ti_verdicts.specs.Parts.{HasParts}
+use Rattle.ti_sources.specs.LinedFiles.{FileText}
 use Rattle.ti_verdicts.specs.declared.answers.Answer.{Answer}
 use Rattle.ti_verdicts.specs.declared.answers.Answer.TheVariants as answers
 
@@ -49,63 +56,81 @@ pub record ReportsRefused (height width : ℕ) (path : List ℕ) (name : Option 
 abbrev pub file_text : List ℕ → List ℕ
 file_text path = codes "file: " ++ path
 
-abbrev pub IsRefusedReport : ℕ → ℕ → List ℕ → Option (List ℕ) → List ℕ → ValuePlace → List ℕ → Type 0
-IsRefusedReport height width path name why place line =
-    IsReportLine (ReportsRefused height width path name why place) line
+-- a survey of all faults gives hints about the fields of each entry
+abbrev pub hinted_in : Bool → Hinted
+hinted_in true = Own
+hinted_in false = Unhinted
 
--- the reports on an entry that is there, and their answers
-pub record AreOfEntry (height width : ℕ) (all : Bool) (path : List ℕ) (stands : Whereabouts) (entry : Content)
-    (lines : List ℕ) (answered : List Answer) : Type 0 where
+-- the answers about an entry if the form tells of one of its faults, and else yes
+abbrev pub answers_if : Bool → EntryKind → List No → List Answer
+answers_if true kind nos = kind_answers kind nos
+answers_if false kind nos = answers.Yes ∷ []
+
+abbrev pub answer_if : Bool → Answer
+answer_if true = answers.Refused
+answer_if false = answers.Yes
+
+-- The reports on an entry that is there, as the form prints them, and nothing beside them; and their answers.
+pub record AreOfEntry (Wanted : Wanting) (Prints : Printing) (height width : ℕ) (all : Bool) (originals : List FileText)
+    (path : List ℕ) (stands : Option PlaceInSource) (entry : Content) (told : Told) : Type 0 where
   pub nos : List No
   pub found : AreFaults all entry height width nos
-  pub tells : AreFoundLines entry height width all path stands nos lines
-  pub each : answered ≡ kind_answers (kind_of all entry nos) nos
+  pub reports : List Report
+  pub tells : AreFound entry height width all (hinted_in all) path originals stands nos reports
+  pub printed : HasParts Prints reports told.lines
+  pub each : told.answers ≡ answers_if (list_any (is_news Wanted) reports) (kind_of all entry nos) nos
+  pub no_places : told.places ≡ []
 
--- the reports on an entry, and nothing beside them
-abbrev pub Reports : ℕ → ℕ → Bool → List FileText → Saying
-Reports height width all originals path stands name entry told =
-    AreOfEntry height width all path (by_place originals stands) entry told.lines told.answers × (told.places ≡ [])
+abbrev pub Reports : Wanting → Printing → ℕ → ℕ → Bool → List FileText → Saying
+Reports Wanted Prints height width all originals path stands name entry told =
+    AreOfEntry Wanted Prints height width all originals path stands entry told
 
--- the line about an entry that can't be obtained, or about a whole file, with the refusal and its reason's place
+-- one report that something can't be obtained, as the form prints it, and nothing beside it
+pub record TellsOne (Wanted : Wanting) (Prints : Printing) (report : Report) (told : Told) : Type 0 where
+  pub printed : Prints report told.lines
+  pub answered : told.answers ≡ answer_if (is_news Wanted report) ∷ []
+  pub no_places : told.places ≡ []
+
+-- the report on an entry that can't be obtained, or on a whole file, with the refusal and its reason's place
 pub record IsOfRefusal (height width : ℕ) (path : List ℕ) (stands : Option PlaceInSource) (name : Option (List ℕ))
-    (refusal : CommandRefusal) (line : List ℕ) : Type 0 where
+    (refusal : CommandRefusal) (report : Report) : Type 0 where
   pub place : ValuePlace
   pub found : IsRefusalPlace stands (Some (fault_file path stands)) refusal place
-  pub says : IsRefusedReport height width path name (refusal_text_of refusal) place line
+  pub says : ReportsRefused height width path name (refusal_text_of refusal) place report
 
--- that line, and nothing beside it
-abbrev pub ReportsLack : ℕ → ℕ → Refusing
-ReportsLack height width path stands name refusal told =
-    IsOfRefusal height width path stands name refusal told.lines × (told.places ≡ [])
-    × (told.answers ≡ answers.Refused ∷ [])
+abbrev pub ReportsLack : Wanting → Printing → ℕ → ℕ → Refusing
+ReportsLack Wanted Prints height width path stands name refusal told =
+    (report : Report) × IsOfRefusal height width path stands name refusal report × TellsOne Wanted Prints report told
 
--- the line about a file that can't be read
-pub record IsUnreadLine (height width : ℕ) (path line : List ℕ) : Type 0 where
+-- the report on a file that can't be read
+pub record IsUnread (height width : ℕ) (path : List ℕ) (report : Report) : Type 0 where
   pub place : ValuePlace
   pub nowhere : IsNowhere place
-  pub says : IsRefusedReport height width path None (file_text path) place line
+  pub says : ReportsRefused height width path None (file_text path) place report
 
--- that line, and nothing beside it
-abbrev pub ReportsUnread : ℕ → ℕ → Leaving
-ReportsUnread height width path told =
-    IsUnreadLine height width path told.lines × (told.places ≡ []) × (told.answers ≡ answers.Refused ∷ [])
+abbrev pub ReportsUnread : Wanting → Printing → ℕ → ℕ → Leaving
+ReportsUnread Wanted Prints height width path told =
+    (report : Report) × IsUnread height width path report × TellsOne Wanted Prints report told
 
 -- ---- the reply
 
--- The lines of each path are heard, also of one that can't be read, and the reply has no text. It fails if a path can't
--- be read, or, if the words ask for it, if a line has a verdict other than yes.
-pub record AreSurveyedAt (originals : List FileText) (held : Held) (words : SurveyWords) (remarks : List (List ℕ))
-    (AreHeard : List ℕ → Type 0) (reply : Reply) (height width : ℕ) : Type 0 where
+-- The reports on each path are heard as the form prints them, also on one that can't be read, and the reply has no
+-- text. It fails if a path can't be read, or, if the words ask for it, if a verdict of which the form tells isn't yes.
+pub record AreSurveyedAt (Wanted : Wanting) (Prints : Printing) (originals : List FileText) (held : Held)
+    (words : SurveyWords) (remarks : List (List ℕ)) (AreHeard : List ℕ → Type 0) (reply : Reply) (height width : ℕ)
+    : Type 0 where
   pub told : Told
   pub failed : Option Failure
-  pub ends : EndsPaths (AreLines (Reports height width words.lists_all originals) (ReportsLack height width))
-      (ReportsUnread height width) held (texts_of words.paths.items) told failed remarks
+  pub ends : EndsPaths
+      (AreLines (Reports Wanted Prints height width words.lists_all originals) (ReportsLack Wanted Prints height width))
+      (ReportsUnread Wanted Prints height width) held (texts_of words.paths.items) told failed remarks
   pub strictly : EndsStrictly words.is_strict told.answers failed reply.failure
   pub places : reply.notes.items ≡ places_text told.places
   pub heard : AreHeard told.lines
   pub no_text : reply.text.items ≡ []
 
 -- that, at the size that the words give
-abbrev pub AreSurveyed : List FileText → Held → SurveyWords → List (List ℕ) → (List ℕ → Type 0) → Reply → Type 0
-AreSurveyed originals held words remarks AreHeard reply =
-    AtSize words.rows.now words.cols.now (AreSurveyedAt originals held words remarks AreHeard reply)
+abbrev pub AreSurveyed : Wanting → Printing → List FileText → Held → SurveyWords → List (List ℕ) → (List ℕ → Type 0)
+    → Reply → Type 0
+AreSurveyed Wanted Prints originals held words remarks AreHeard reply =
+    AtSize words.rows.now words.cols.now (AreSurveyedAt Wanted Prints originals held words remarks AreHeard reply)

@@ -1,33 +1,31 @@
 //! Reports of advice on an entry.
 
 ghost use Rattle.std.specs.Prelude.{IfOk};
-ghost use Rattle.ti_members.specs.Sources.{IsNowhere};
+ghost use Rattle.ti_reports.specs.Sources.{IsNowhere};
 ghost use Rattle.ti_reports.specs.Faults as spec;
 ghost use Rattle.ti_reports.specs.Reports.{SaysWords};
 
-use crate::faults::{Subject, report_on};
-use crate::reports::{Finding, Report, Verdict, report_line};
+use crate::faults::{AllReported, Subject, report_on};
+use crate::places::ValuePlace;
+use crate::reports::{Finding, Report, Verdict};
+use crate::texts::text_of;
 use std::alloc::{AllocError, Global};
 use ti_checker::No;
 use ti_hints::{advice_on, unchecked_advice};
-use ti_members::{ValuePlace, text_of};
 
-/// A line for each piece of advice on the `subject`, which has the faults `nos`: on what is never seen, if there are
+/// A report for each piece of advice on the `subject`, which has the faults `nos`: on what is never seen, if there are
 /// none; and on strings that aren't checked, if all faults are reported.
-pub fn advice_lines(
-    alloc: Global,
-    subject: &Subject<'_, '_>,
-    nos: &[No],
-) -> Result<Vec<u8>, AllocError>
-    ensures { IfOk result (λ lines. spec.AreLinesOf (spec.ReportsAdvice subject.now.entry.now
-        subject.now.size.rows subject.now.size.cols subject.now.file.now) lines.items) }
+pub fn advice_reports(alloc: Global, subject: &Subject<'_, '_>, nos: &[No]) -> AllReported
+    ensures { IfOk result (λ reports. spec.AreAll (spec.ReportsAdvice subject.now.entry.now
+        subject.now.size.rows subject.now.size.cols subject.now.file.now) reports.items) }
 {
     let texts = advice_texts(alloc, subject, nos)?;
-    let mut lines = Vec::new(alloc);
+    let mut reports = Vec::new(alloc);
     for text in &texts {
-        lines.extend_from_slice(advice_line(alloc, subject, text.as_slice())?.as_slice())?;
+        let report = advice_report(alloc, subject, text.as_slice())?;
+        reports.push(report)?;
     }
-    Ok(lines)
+    Ok(reports)
 }
 
 /// The advice on the `subject`, which has the faults `nos`.
@@ -47,15 +45,6 @@ fn advice_texts(
         }
     }
     Ok(texts)
-}
-
-/// The line of the advice `text` on the `subject`.
-fn advice_line(alloc: Global, subject: &Subject<'_, '_>, text: &[u8]) -> Result<Vec<u8>, AllocError>
-    ensures { IfOk result (λ line. spec.IsReportLine (spec.ReportsAdvice subject.now.entry.now
-        subject.now.size.rows subject.now.size.cols subject.now.file.now) line.items) }
-{
-    let report = advice_report(alloc, subject, text)?;
-    report_line(alloc, &report)
 }
 
 /// The report of the advice `text` on the `subject`.

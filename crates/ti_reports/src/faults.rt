@@ -1,36 +1,43 @@
 //! Reports on an entry that is there.
 
-ghost use Rattle.std.specs.Prelude.{IfOk, string_bytes};
+ghost use Rattle.std.specs.Prelude.{◌≡◌, [], ◌∷◌, IfOk, map, string_bytes};
 ghost use Rattle.ti_caps.specs.Table.{name_at};
-ghost use Rattle.ti_members.specs.Sources.{IsThere, whereabouts_of};
+ghost use Rattle.ti_sources.specs.LinedFiles.{file_text};
+ghost use Rattle.ti_verdicts.specs.Locations.{place_if};
 ghost use Rattle.ti_reports.specs.Faults as spec;
-ghost use Rattle.ti_members.specs.Texts.{IsShownAs};
+ghost use Rattle.ti_reports.specs.Texts.{IsShownAs};
 ghost use Rattle.ti_verdicts.specs.Parts.{HasParts};
-ghost use Rattle.ti_places.specs.Refusals.{cause_name};
+ghost use Rattle.ti_verdicts.specs.Refusals.{cause_name};
 
-use crate::advice::advice_lines;
-use crate::hints::hint_lines;
-use crate::reports::{Finding, Report, Verdict, report_line};
+use crate::advice::advice_reports;
+use crate::explanations::explained;
+use crate::hints::{Hinted, hint_reports};
+use crate::names::{entry_aliases, entry_name};
+use crate::places::{faulty_region, value_place};
+use crate::reports::{Finding, Report, Verdict};
+use crate::sent::sent_text;
+use crate::spellings::own_string;
+use crate::suggestions::{is_judged, mended_if, other_kind, suggested, suggested_with};
+use crate::texts::text_of;
 use std::alloc::{AllocError, Global};
 use ti_caps::{Cap, Entry, name};
 use ti_checker::{Cause, No};
 use ti_faults::Mended;
 use ti_files::Remarks;
-use ti_members::{
-    Standing, entry_aliases, entry_name, explained, faulty_region, is_judged, mended_if,
-    other_kind, own_string, sent_text, suggested, suggested_with, text_of, value_place,
-};
-use ti_places::{Judged, cause_name};
+use ti_sources::LinedFile;
 use ti_surveys::is_part;
-use ti_verdicts::{Lines, explain_no};
+use ti_verdicts::{Judged, SourcePlace, cause_name, explain_no};
 use ti_words::NO_RESYNC;
 use vt_term::Size;
 
 /// The report that a function makes, or that memory ran out.
 pub(crate) type Reported = Result<Report, AllocError>;
 
+/// The reports that a function makes, or that memory ran out.
+pub(crate) type AllReported = Result<Vec<Report>, AllocError>;
+
 /// An entry that is reported on.
-#[derive(Drop)]
+#[derive(Clone, Copy)]
 pub struct Subject<'a, 'b> {
     /// The entry.
     pub entry: &'a Entry,
@@ -38,56 +45,57 @@ pub struct Subject<'a, 'b> {
     pub size: Size,
     /// Whether all of its faults are reported, and not only the first one.
     pub lists_all: bool,
+    /// The fields about which there are hints.
+    pub hinted: Hinted,
     /// The path of the file that has the entry.
     pub file: &'a str,
-    /// The origin of the entry.
-    pub stands: Standing<'a, 'b>,
+    /// The place of the entry; `None` if it is in no source.
+    pub stands: &'a Option<SourcePlace<'a, 'b>>,
+    /// The texts of those files whose lines were joined, as they were before.
+    pub originals: &'a [LinedFile<'a>],
 }
 
-/// The lines of the faults `nos` of the `subject`, or the line that it has a certificate if there are none; and then
-/// those of the advice on it and of the hints about its fields. If all faults are reported, what is suggested is right
-/// with all of them mended.
-pub fn found_lines(alloc: Global, subject: &Subject<'_, '_>, nos: &[No]) -> Lines
-    requires { IsThere subject.now.stands }
-    ensures { IfOk result (λ lines. spec.AreFoundLines subject.now.entry.now
-        subject.now.size.rows subject.now.size.cols subject.now.lists_all subject.now.file.now
-        (whereabouts_of subject.now.stands) nos.now lines.items) }
+/// The reports of the faults `nos` of the `subject`, or that it has a certificate if there are none; and then those of
+/// the advice on it and of the hints about its fields. If all faults are reported, what is suggested is right with all
+/// of them mended.
+pub fn found_reports(alloc: Global, subject: &Subject<'_, '_>, nos: &[No]) -> AllReported
+    ensures { IfOk result (λ reports. spec.AreFound subject.now.entry.now
+        subject.now.size.rows subject.now.size.cols subject.now.lists_all subject.now.hinted subject.now.file.now
+        (map file_text subject.now.originals.now) (place_if subject.now.stands.now) nos.now reports.items) }
 {
-    let mut lines = judged_lines(alloc, subject, nos)?;
-    let advice = advice_lines(alloc, subject, nos)?;
-    lines.extend_from_slice(advice.as_slice())?;
-    let hints = hint_lines(alloc, subject)?;
-    lines.extend_from_slice(hints.as_slice())?;
-    Ok(lines)
+    let mut reports = verdicts(alloc, subject, nos)?;
+    let mut advice = advice_reports(alloc, subject, nos)?;
+    let mut hints = hint_reports(alloc, subject)?;
+    reports.append(&mut advice)?;
+    reports.append(&mut hints)?;
+    Ok(reports)
 }
 
-/// The lines of the faults `nos` of the `subject`, or the line that it has a certificate if there are none.
-fn judged_lines(alloc: Global, subject: &Subject<'_, '_>, nos: &[No]) -> Lines
-    requires { IsThere subject.now.stands }
-    ensures { IfOk result (λ lines. spec.AreVerdictLines subject.now.entry.now
+/// The reports of the faults `nos` of the `subject`, or that it has a certificate if there are none.
+fn verdicts(alloc: Global, subject: &Subject<'_, '_>, nos: &[No]) -> AllReported
+    ensures { IfOk result (λ reports. spec.AreVerdicts subject.now.entry.now
         subject.now.size.rows subject.now.size.cols subject.now.lists_all subject.now.file.now
-        (whereabouts_of subject.now.stands) nos.now lines.items) }
+        (map file_text subject.now.originals.now) (place_if subject.now.stands.now) nos.now reports.items) }
 {
     match nos {
-        [] => yes_line(alloc, subject),
-        [_, ..] => lines_of(alloc, subject, nos),
+        [] => yes_alone(alloc, subject),
+        [_, ..] => reports_of(alloc, subject, nos),
     }
 }
 
-/// A line for each of the faults `nos` of the `subject`.
-fn lines_of(alloc: Global, subject: &Subject<'_, '_>, nos: &[No]) -> Lines
-    requires { IsThere subject.now.stands }
-    ensures { IfOk result (λ lines. spec.AreFaultLines subject.now.entry.now
+/// A report for each of the faults `nos` of the `subject`.
+fn reports_of(alloc: Global, subject: &Subject<'_, '_>, nos: &[No]) -> AllReported
+    ensures { IfOk result (λ reports. spec.AreFaultReports subject.now.entry.now
         subject.now.size.rows subject.now.size.cols subject.now.lists_all subject.now.file.now
-        (whereabouts_of subject.now.stands) nos.now lines.items) }
+        (map file_text subject.now.originals.now) (place_if subject.now.stands.now) nos.now reports.items) }
 {
     let mended = mended_if(alloc, subject.lists_all, subject.entry, subject.size, nos)?;
     let faults = Faults {
         nos,
         mended: &mended,
     };
-    let lines = fault_lines(alloc, subject, &faults)?;
-    Ok(lines)
+    let reports = fault_reports(alloc, subject, &faults)?;
+    Ok(reports)
 }
 
 /// Faults of an entry, and the entry with all of them mended, if they are all that it has.
@@ -97,37 +105,34 @@ struct Faults<'a> {
     mended: &'a Option<Mended>,
 }
 
-/// A line for each of the `faults` of the `subject`, in their order.
-fn fault_lines(alloc: Global, subject: &Subject<'_, '_>, faults: &Faults<'_>) -> Lines
-    requires { IsThere subject.now.stands }
-    ensures { IfOk result (λ lines. HasParts
-        (spec.IsFaultLine (spec.of_subject subject.now faults.now.nos.now faults.now.mended.now) subject.now.file.now)
-        faults.now.nos.now lines.items) }
+/// A report for each of the `faults` of the `subject`, in their order.
+fn fault_reports(alloc: Global, subject: &Subject<'_, '_>, faults: &Faults<'_>) -> AllReported
+    ensures { IfOk result (λ reports. HasParts
+        (spec.IsFaultReport (spec.of_subject subject.now faults.now.nos.now faults.now.mended.now)
+        subject.now.file.now) faults.now.nos.now reports.items) }
 {
-    let mut lines = Vec::new(alloc);
+    let mut reports = Vec::new(alloc);
     for no in faults.nos {
-        lines.extend_from_slice(fault_line(alloc, subject, faults, no)?.as_slice())?;
+        let report = fault_report(alloc, subject, faults, no)?;
+        reports.push(report)?;
     }
-    Ok(lines)
+    Ok(reports)
 }
 
-/// The line of `no`, one of the `faults` of the `subject`.
-fn fault_line(alloc: Global, subject: &Subject<'_, '_>, faults: &Faults<'_>, no: &No) -> Lines
-    requires { IsThere subject.now.stands }
-    ensures { IfOk result (λ line. spec.IsFaultLine
-        (spec.of_subject subject.now faults.now.nos.now faults.now.mended.now) subject.now.file.now no.now line.items) }
-{
-    let report = fault_report(alloc, subject, faults, no)?;
-    report_line(alloc, &report)
-}
-
-/// The line that the `subject` has a certificate.
-fn yes_line(alloc: Global, subject: &Subject<'_, '_>) -> Lines
-    ensures { IfOk result (λ line. spec.IsReportLine (spec.ReportsYes subject.now.entry.now
-        subject.now.size.rows subject.now.size.cols subject.now.file.now) line.items) }
+/// The report alone that the `subject` has a certificate.
+fn yes_alone(alloc: Global, subject: &Subject<'_, '_>) -> AllReported
+    ensures { IfOk result (λ reports. spec.IsOne (spec.ReportsYes subject.now.entry.now
+        subject.now.size.rows subject.now.size.cols subject.now.file.now) reports.items) }
 {
     let report = yes_report(alloc, subject)?;
-    report_line(alloc, &report)
+    only(alloc, report)
+}
+
+/// A list of `report` alone.
+pub(crate) fn only(alloc: Global, report: Report) -> AllReported
+    ensures { IfOk result (λ reports. reports.items ≡ report ∷ []) }
+{
+    Ok(vec![in alloc; report]?)
 }
 
 /// The report that the `subject` has a certificate.
@@ -163,7 +168,6 @@ pub(crate) fn report_on(
 
 /// The report of `no`, one of the `faults` of the `subject`.
 fn fault_report(alloc: Global, subject: &Subject<'_, '_>, faults: &Faults<'_>, no: &No) -> Reported
-    requires { IsThere subject.now.stands }
     ensures { IfOk result (λ report. spec.ReportsFault
         (spec.of_subject subject.now faults.now.nos.now faults.now.mended.now) subject.now.file.now no.now report) }
 {
@@ -179,7 +183,6 @@ fn finding_of(
     faults: &Faults<'_>,
     no: &No,
 ) -> Result<Finding, AllocError>
-    requires { IsThere subject.now.stands }
     ensures { IfOk result (λ finding. spec.Finds
         (spec.of_subject subject.now faults.now.nos.now faults.now.mended.now) no.now finding) }
 {
@@ -192,8 +195,8 @@ fn finding_of(
         capability: Some(cap_text(alloc, no.cap)?),
         parameters: Vec::from_slice(alloc, no.params.as_slice())?,
         bytes: sent_text(alloc, entry, no)?,
-        place: value_place(alloc, &subject.stands, no.cap)?,
-        faulty_region: faulty_region(alloc, &subject.stands, &fault)?,
+        place: value_place(alloc, subject.stands, subject.originals, no.cap)?,
+        faulty_region: faulty_region(alloc, subject.stands, subject.originals, &fault)?,
         string: own_string(alloc, entry, no.cap)?,
         suggestion: suggested(alloc, entry, faults.mended, faults.nos, no.cap)?,
         suggested_with: suggested_with(alloc, entry, faults.mended, faults.nos, no.cap)?,

@@ -42,7 +42,5 @@ fn first_fault(alloc: Global, entry: &Entry, size: Size) -> Result<Vec<No>, Allo
 fn only(alloc: Global, no: No) -> Result<Vec<No>, AllocError>
     ensures { IfOk result (λ nos. nos.items ≡ no ∷ []) }
 {
-    let mut nos = Vec::new(alloc);
-    nos.push(no)?;
-    Ok(nos)
+    Ok(vec![in alloc; no]?)
 }

@@ -5,76 +5,81 @@ ghost use Rattle.ti_hints.specs.Places.{IsHintOf};
 ghost use Rattle.ti_reports.specs.Hints.{IsHintPlace, hint_text, line_hinted, region_hinted, text_in};
 ghost use Rattle.ti_reports.specs.Reports.{SaysWords};
 ghost use Rattle.ti_reports.specs.Faults as spec;
-ghost use Rattle.ti_members.specs.Sources.{whereabouts_of};
 ghost use Rattle.ti_source.specs.Layout.{lines_of};
-ghost use Rattle.ti_places.specs.{Locations.{place_in}, Spots.{file_text, files_of, line_of, put_files}};
+ghost use Rattle.ti_verdicts.specs.Locations.{place_if, place_in};
+ghost use Rattle.ti_sources.specs.LinedFiles.{file_text, line_of, put_files};
 
-use crate::faults::{Subject, cap_text, report_on};
-use crate::reports::{Finding, Verdict, report_line};
+use crate::faults::{AllReported, Reported, Subject, cap_text, report_on};
+use crate::places::{ValuePlace, holder};
+use crate::reports::{Finding, Report, Verdict};
 use std::alloc::{AllocError, Global};
 use ti_caps::Cap;
 use ti_commands::own_raws;
 use ti_hints::{FieldHint, entry_hints, used_places};
-use ti_members::{Standing, ValuePlace, holder};
-use ti_places::{
-    FieldPlace, LinedFile, LinedFiles, NamedSource, SourcePlace, begun_line, region_at,
-};
 use ti_resolve::Origin;
 use ti_source::RawEntry;
-use ti_sources::{LinedText, Region};
+use ti_sources::{FieldPlace, LinedFile, LinedFiles, LinedText, Region, begun_line, region_at};
+use ti_verdicts::SourcePlace;
 
-/// A line for each hint about the `subject`. Of an entry that was asked for by its name, the fields are its own and
-/// those of the entries of its file that it uses; of one at a place they are its own, and there are hints only if all
-/// faults are reported. None if it is in no source.
-pub fn hint_lines(alloc: Global, subject: &Subject<'_, '_>) -> Result<Vec<u8>, AllocError>
-    ensures { IfOk result (λ lines. spec.AreHintLines subject.now.entry.now subject.now.size.rows subject.now.size.cols
-        subject.now.lists_all subject.now.file.now (whereabouts_of subject.now.stands) lines.items) }
+/// The fields of a source text about which there are hints.
+#[derive(Clone, Copy, Debug, PartialEq, Eq)]
+pub enum Hinted {
+    /// None.
+    Unhinted,
+    /// Those of the entry itself.
+    Own,
+    /// Those of the entry, and of the entries of its file that it uses.
+    WithUsed,
+}
+
+/// A report for each hint about those fields of the `subject` that are hinted at; none if it is in no source.
+pub fn hint_reports(alloc: Global, subject: &Subject<'_, '_>) -> AllReported
+    ensures { IfOk result (λ reports. spec.AreHints subject.now.entry.now subject.now.size.rows subject.now.size.cols
+        subject.now.file.now (map file_text subject.now.originals.now) subject.now.hinted
+        (place_if subject.now.stands.now) reports.items) }
 {
     match subject.stands {
-        Standing::Unsourced => Ok(Vec::new(alloc)),
-        Standing::Named(named, originals) => named_lines(alloc, subject, named, originals),
-        Standing::Placed(there, originals) => {
-            placed_lines(alloc, subject, subject.lists_all, there, originals)
-        }
+        None => Ok(Vec::new(alloc)),
+        Some(there) => hints_at(alloc, subject, there),
     }
 }
 
-/// The lines of the hints about the `subject`, which is the entry of the source `named` that has its name, and about
-/// the entries of the file that it uses.
-fn named_lines(
-    alloc: Global,
-    subject: &Subject<'_, '_>,
-    named: &NamedSource<'_, '_>,
-    originals: &[LinedFile<'_>],
-) -> Result<Vec<u8>, AllocError>
-    ensures { IfOk result (λ lines. spec.AreLinesIf (spec.ReportsAnyHint subject.now.entry.now
-        subject.now.size.rows subject.now.size.cols subject.now.file.now)
-        (hint_text (map file_text originals.now)
-        (files_of named.now.source.now) named.now.source.now.raws.items) lines.items) }
+/// A report for each hint about those fields of the `subject`, which is at `there`, that are hinted at.
+fn hints_at(alloc: Global, subject: &Subject<'_, '_>, there: &SourcePlace<'_, '_>) -> AllReported
+    ensures { IfOk result (λ reports. spec.AreHintsAt subject.now.entry.now subject.now.size.rows
+        subject.now.size.cols subject.now.file.now (map file_text subject.now.originals.now) subject.now.hinted
+        (place_in there.now) reports.items) }
 {
-    match hint_source(named.files, named.source.raws.as_slice(), originals) {
-        Some(source) => used_lines(alloc, subject, &source, named.source.name.as_bytes()),
+    match subject.hinted {
+        Hinted::Unhinted => Ok(Vec::new(alloc)),
+        Hinted::Own => own_hints(alloc, subject, there),
+        Hinted::WithUsed => used_hints(alloc, subject, there),
+    }
+}
+
+/// A report for each hint about the fields of the `subject`, which is at `there`.
+fn own_hints(alloc: Global, subject: &Subject<'_, '_>, there: &SourcePlace<'_, '_>) -> AllReported
+    ensures { IfOk result (λ reports. spec.AreAllIf (λ text. spec.ReportsHint subject.now.entry.now
+        subject.now.size.rows subject.now.size.cols subject.now.file.now text there.now.place)
+        (hint_text (map file_text subject.now.originals.now) (put_files there.now.files) there.now.raws.now)
+        reports.items) }
+{
+    match hint_source(there.files, there.raws, subject.originals) {
+        Some(source) => entry_reports(alloc, subject, &source, there.place),
         None => Ok(Vec::new(alloc)),
     }
 }
 
-/// The lines of the hints about the `subject` at the place `there`, if `lists_all`.
-fn placed_lines(
-    alloc: Global,
-    subject: &Subject<'_, '_>,
-    lists_all: bool,
-    there: &SourcePlace<'_, '_>,
-    originals: &[LinedFile<'_>],
-) -> Result<Vec<u8>, AllocError>
-    ensures { IfOk result (λ lines. spec.ArePlacedHints subject.now.entry.now subject.now.size.rows
-        subject.now.size.cols subject.now.file.now lists_all (map file_text originals.now)
-        (place_in there.now) lines.items) }
+/// A report for each hint about the fields of the `subject`, which is at `there`, and about those of the entries of its
+/// file that it uses.
+fn used_hints(alloc: Global, subject: &Subject<'_, '_>, there: &SourcePlace<'_, '_>) -> AllReported
+    ensures { IfOk result (λ reports. spec.AreAllIf (spec.ReportsAnyHint subject.now.entry.now
+        subject.now.size.rows subject.now.size.cols subject.now.file.now)
+        (hint_text (map file_text subject.now.originals.now) (put_files there.now.files) there.now.raws.now)
+        reports.items) }
 {
-    if !lists_all {
-        return Ok(Vec::new(alloc));
-    }
-    match hint_source(there.files, there.raws, originals) {
-        Some(source) => own_lines(alloc, subject, &source, there.place),
+    match hint_source(there.files, there.raws, subject.originals) {
+        Some(source) => used_reports(alloc, subject, &source, there.place),
         None => Ok(Vec::new(alloc)),
     }
 }
@@ -111,57 +116,58 @@ fn hint_source<'a, 'b>(
     }
 }
 
-/// The lines of the hints about the `subject` in `source`: about the entry of this `name`, and those that it uses.
-fn used_lines(
-    alloc: Global,
-    subject: &Subject<'_, '_>,
-    source: &HintSource<'_, '_>,
-    name: &[u8],
-) -> Result<Vec<u8>, AllocError>
-    ensures { IfOk result (λ lines. spec.AreLinesOf (spec.ReportsAnyHint subject.now.entry.now
-        subject.now.size.rows subject.now.size.cols subject.now.file.now (text_in source.now)) lines.items) }
-{
-    let mut lines = Vec::new(alloc);
-    for place in &used_places(alloc, source.raws, name)? {
-        add_own_lines(alloc, subject, source, *place, &mut lines)?;
-    }
-    Ok(lines)
-}
-
-/// Adds to `lines` those of the hints about the `subject` in `source` that are about the entry at `place`.
-fn add_own_lines(
+/// A report for each hint about the `subject` in `source`: about the entry at `place`, and those that it uses.
+fn used_reports(
     alloc: Global,
     subject: &Subject<'_, '_>,
     source: &HintSource<'_, '_>,
     place: usize,
-    lines: &mut Vec<u8>,
-) -> Result<(), AllocError>
-    requires { spec.AreLinesOf (spec.ReportsAnyHint subject.now.entry.now subject.now.size.rows subject.now.size.cols
-        subject.now.file.now (text_in source.now)) lines.old.items }
-    ensures { OnOk result (spec.AreLinesOf (spec.ReportsAnyHint subject.now.entry.now subject.now.size.rows
-        subject.now.size.cols subject.now.file.now (text_in source.now)) lines.new.items) }
+) -> AllReported
+    ensures { IfOk result (λ reports. spec.AreAll (spec.ReportsAnyHint subject.now.entry.now
+        subject.now.size.rows subject.now.size.cols subject.now.file.now (text_in source.now)) reports.items) }
 {
-    let own = own_lines(alloc, subject, source, place)?;
-    lines.extend_from_slice(own.as_slice())?;
+    let mut reports = Vec::new(alloc);
+    for used in &used_places(alloc, source.raws, place)? {
+        add_reports(alloc, subject, source, *used, &mut reports)?;
+    }
+    Ok(reports)
+}
+
+/// Adds to `reports` those of the hints about the `subject` in `source` that are about the entry at `place`.
+fn add_reports(
+    alloc: Global,
+    subject: &Subject<'_, '_>,
+    source: &HintSource<'_, '_>,
+    place: usize,
+    reports: &mut Vec<Report>,
+) -> Result<(), AllocError>
+    requires { spec.AreAll (spec.ReportsAnyHint subject.now.entry.now subject.now.size.rows subject.now.size.cols
+        subject.now.file.now (text_in source.now)) reports.old.items }
+    ensures { OnOk result (spec.AreAll (spec.ReportsAnyHint subject.now.entry.now subject.now.size.rows
+        subject.now.size.cols subject.now.file.now (text_in source.now)) reports.new.items) }
+{
+    let mut own = entry_reports(alloc, subject, source, place)?;
+    reports.append(&mut own)?;
     Ok(())
 }
 
-/// The lines of the hints about the `subject` in `source` that are about the entry at `place`.
-fn own_lines(
+/// A report for each hint about the `subject` in `source` that is about the entry at `place`.
+fn entry_reports(
     alloc: Global,
     subject: &Subject<'_, '_>,
     source: &HintSource<'_, '_>,
     place: usize,
-) -> Result<Vec<u8>, AllocError>
-    ensures { IfOk result (λ lines. spec.AreLinesOf (spec.ReportsHint subject.now.entry.now
-        subject.now.size.rows subject.now.size.cols subject.now.file.now (text_in source.now) place) lines.items) }
+) -> AllReported
+    ensures { IfOk result (λ reports. spec.AreAll (spec.ReportsHint subject.now.entry.now
+        subject.now.size.rows subject.now.size.cols subject.now.file.now (text_in source.now) place) reports.items) }
 {
     let hints = hints_in(alloc, source, place)?;
-    let mut lines = Vec::new(alloc);
+    let mut reports = Vec::new(alloc);
     for hint in &hints {
-        lines.extend_from_slice(hint_line(alloc, subject, source, place, hint)?.as_slice())?;
+        let report = hint_report(alloc, subject, source, place, hint)?;
+        reports.push(report)?;
     }
-    Ok(lines)
+    Ok(reports)
 }
 
 /// The hints about the entry at `place` of `source`.
@@ -176,21 +182,20 @@ fn hints_in(
     entry_hints(alloc, source.lined.lines(), source.raws, place)
 }
 
-/// The line of the `hint` about the `subject` in `source`, a hint about the entry at `place`.
-fn hint_line(
+/// The report of the `hint` about the `subject` in `source`, a hint about the entry at `place`.
+fn hint_report(
     alloc: Global,
     subject: &Subject<'_, '_>,
     source: &HintSource<'_, '_>,
     place: usize,
     hint: &FieldHint,
-) -> Result<Vec<u8>, AllocError>
+) -> Reported
     requires { IsHintOf (lines_of source.now.lined.now) source.now.raws.now place hint.now }
-    ensures { IfOk result (λ line. spec.IsReportLine (spec.ReportsHint subject.now.entry.now
-        subject.now.size.rows subject.now.size.cols subject.now.file.now (text_in source.now) place) line.items) }
+    ensures { IfOk result (spec.ReportsHint subject.now.entry.now
+        subject.now.size.rows subject.now.size.cols subject.now.file.now (text_in source.now) place) }
 {
     let finding = hint_finding(alloc, source, hint)?;
-    let report = report_on(alloc, subject, Verdict::Hint(hint.kind), None, finding)?;
-    report_line(alloc, &report)
+    report_on(alloc, subject, Verdict::Hint(hint.kind), None, finding)
 }
 
 /// The words and the place of the `hint` about a field of `source`.

@@ -5,25 +5,48 @@ ghost use Rattle.ti_files.specs.declared.failure.Failure.TheVariants.{NoMemory};
 ghost use Rattle.ti_commands.specs.Findings.{IsPath, IsPathAndName};
 ghost use Rattle.ti_reports.specs.Lacks as spec;
 
-use crate::refusals::{file_words, refused_line};
+use crate::faults::Reported;
+use crate::forms::{Form, is_news};
+use crate::places::{ValuePlace, refusal_place};
+use crate::refusals::{file_words, refused_report};
 use std::alloc::{AllocError, Global};
 use ti_files::{Failure, Replied, Reply, refusal_words};
-use ti_members::{ValuePlace, refusal_place};
 use vt_term::Size;
 
-/// The reply that reports, for this `size`, that the ENTRY `word` gives no entry, with the reason of `failure`;
-/// the reply fails so too. If the word's file is read `alone`, the place of the reason is one in it.
-pub fn lack_reply(alloc: Global, size: Size, alone: bool, word: &str, failure: Failure) -> Replied
-    ensures reply { IfOk result (λ reply. spec.ReportsLackOf size.rows size.cols alone word.now failure
-        reply) }
+/// The reply that reports in its `form`, for this `size`, that the ENTRY `word` gives no entry, with the reason of
+/// `failure`. The reply fails so too, but not with a refusal of which the form doesn't tell. If the word's file is read
+/// `alone`, the place of the reason is one in it.
+pub fn lack_reply<P: Form>(
+    alloc: Global,
+    form: &P,
+    size: Size,
+    alone: bool,
+    word: &str,
+    failure: Failure,
+) -> Replied
+    ensures reply { IfOk result (λ reply. spec.ReportsLackOf (P.wanted form.now) (P.prints form.now) size.rows size.cols
+        alone word.now failure reply) }
     ensures failure { IfErr result (λ e. e ≡ NoMemory) }
 {
-    let line = lack_line(alloc, size, alone, word, &failure)?;
+    let report = lack_report(alloc, size, alone, word, &failure)?;
+    let text = form.print(alloc, &report)?;
     Ok(Reply {
         notes: Vec::new(alloc),
-        text: line,
-        failure: Some(failure),
+        text,
+        failure: told_failure(is_news(form, &report), failure),
     })
+}
+
+/// The `failure`, if the form tells of its report, or if it isn't a refusal.
+fn told_failure(is_news: bool, failure: Failure) -> Option<Failure>
+    ensures { result ≡ spec.told_failure is_news failure }
+{
+    let is_told = match &failure {
+        Failure::Refused(_) => is_news,
+        Failure::RefusedUnwritten(_) | Failure::Usage(_) | Failure::File(_) => true,
+        Failure::Output | Failure::NoMemory => true,
+    };
+    if is_told { Some(failure) } else { None }
 }
 
 /// The reason of `failure` in words, unless there is too little memory.
@@ -55,16 +78,9 @@ fn reason_place(
     }
 }
 
-/// The line that the ENTRY `word` gives no entry, with the reason of `failure`.
-fn lack_line(
-    alloc: Global,
-    size: Size,
-    alone: bool,
-    word: &str,
-    failure: &Failure,
-) -> Result<Vec<u8>, AllocError>
-    ensures { IfOk result (λ line. spec.IsLackLine size.rows size.cols alone word.now failure.now
-        line.items) }
+/// The report that the ENTRY `word` gives no entry, with the reason of `failure`.
+fn lack_report(alloc: Global, size: Size, alone: bool, word: &str, failure: &Failure) -> Reported
+    ensures { IfOk result (spec.IsLack size.rows size.cols alone word.now failure.now) }
 {
     match path_and_name(word) {
         Some((path, name)) => lack_of(alloc, size, alone, failure, path, Some(name.as_bytes())),
@@ -72,8 +88,8 @@ fn lack_line(
     }
 }
 
-/// The line that the entry `name` of the file at `path` can't be obtained, or no entry of the file if there is no name,
-/// with the reason of `failure`.
+/// The report that the entry `name` of the file at `path` can't be obtained, or no entry of the file if there is no
+/// name, with the reason of `failure`.
 fn lack_of(
     alloc: Global,
     size: Size,
@@ -81,13 +97,13 @@ fn lack_of(
     failure: &Failure,
     path: &str,
     name: Option<&[u8]>,
-) -> Result<Vec<u8>, AllocError>
-    ensures { IfOk result (λ line. spec.IsLackOf size.rows size.cols alone failure.now path.now
-        (option_map (λ n. n.now) name.entry) line.items) }
+) -> Reported
+    ensures { IfOk result (spec.IsLackOf size.rows size.cols alone failure.now path.now
+        (option_map (λ n. n.now) name.entry)) }
 {
     let why = reason(alloc, failure)?;
     let place = reason_place(alloc, sole_path(alone, path), failure)?;
-    refused_line(alloc, size, path, name, why.as_slice(), place)
+    refused_report(alloc, size, path, name, why.as_slice(), place)
 }
 
 /// The `path`, if its file is read `alone`.

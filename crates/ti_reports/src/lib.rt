@@ -1,17 +1,33 @@
-//! The program's reports to other programs: one JSON object on a line for each entry, or for each of its faults.
+//! The program's reports to other programs: one for each entry, or for each of its faults.
 #![tactic(auto)]
 
 mod advice;
 mod asked;
 mod checks;
 mod entries;
+mod explanations;
 mod faults;
 mod findings;
+mod forms;
 mod hints;
 mod lacks;
+mod looks;
+mod names;
+mod places;
+mod ran;
 mod refusals;
 mod reports;
+mod sent;
+mod spellings;
+mod suggestions;
 mod surveys;
+mod texts;
+mod written;
 
 pub use checks::{Check, check_reports};
+pub use explanations::Explanation;
+pub use forms::Form;
+pub use places::ValuePlace;
+pub use reports::{Finding, Report, Verdict};
 pub use surveys::{SurveyReports, survey_reports};
+pub use written::Written;

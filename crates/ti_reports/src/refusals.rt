@@ -1,34 +1,31 @@
 //! Reports on entries and files that can't be obtained.
 
-ghost use Rattle.std.specs.Prelude.{◌≡◌, ◌<◌, IfOk, IfSome, length, option_map};
-ghost use Rattle.ti_members.specs.Sources.{fault_file};
+ghost use Rattle.std.specs.Prelude.{◌≡◌, IfOk, option_map};
+ghost use Rattle.ti_reports.specs.Sources.{fault_file};
 ghost use Rattle.ti_reports.specs.Reports.{IsBare};
 ghost use Rattle.ti_reports.specs.Surveys as spec;
-ghost use Rattle.ti_places.specs.Locations.{place_if};
+ghost use Rattle.ti_verdicts.specs.Locations.{place_if};
 
-use crate::reports::{Finding, Report, Verdict, report_line};
+use crate::faults::Reported;
+use crate::names::name_if;
+use crate::places::{ValuePlace, refusal_place};
+use crate::reports::{Finding, Report, Verdict};
+use crate::texts::text_of;
 use std::alloc::{AllocError, Global};
 use ti_files::refusal_words;
-use ti_members::{ValuePlace, name_if, refusal_place, text_of};
 use ti_resolve::Origin;
 use ti_surveys::Lacking;
 use vt_term::Size;
 
-/// The line about an entry that is `lacking`, or about a file that has no entries.
-pub fn lacking_line(
-    alloc: Global,
-    size: Size,
-    lacking: &Lacking<'_, '_>,
-) -> Result<Vec<u8>, AllocError>
-    requires { IfSome lacking.now.stands.now (λ there. there.place < length there.raws.now) }
-    ensures { IfOk result (λ line. spec.IsOfRefusal size.rows size.cols lacking.now.path.now
-        (place_if lacking.now.stands.now) (option_map (λ n. n.now) lacking.now.name) lacking.now.refusal.now
-        line.items) }
+/// The report on an entry that is `lacking`, or on a file that has no entries.
+pub fn lacking_report(alloc: Global, size: Size, lacking: &Lacking<'_, '_>) -> Reported
+    ensures { IfOk result (spec.IsOfRefusal size.rows size.cols lacking.now.path.now
+        (place_if lacking.now.stands.now) (option_map (λ n. n.now) lacking.now.name) lacking.now.refusal.now) }
 {
     let why = refusal_words(alloc, lacking.refusal)?;
     let file = Some(fault_file(lacking));
     let place = refusal_place(alloc, lacking.stands, file, lacking.refusal)?;
-    refused_line(
+    refused_report(
         alloc,
         size,
         lacking.path,
@@ -54,13 +51,13 @@ fn fault_file<'a>(lacking: &Lacking<'a, '_>) -> &'a str
     }
 }
 
-/// The line that the file at `path` can't be read.
-pub fn unread_line(alloc: Global, size: Size, path: &str) -> Result<Vec<u8>, AllocError>
-    ensures { IfOk result (λ line. spec.IsUnreadLine size.rows size.cols path.now line.items) }
+/// The report that the file at `path` can't be read.
+pub fn unread_report(alloc: Global, size: Size, path: &str) -> Reported
+    ensures { IfOk result (spec.IsUnread size.rows size.cols path.now) }
 {
     let why = file_words(alloc, path.as_bytes())?;
     let place = ValuePlace::nowhere();
-    refused_line(alloc, size, path, None, why.as_slice(), place)
+    refused_report(alloc, size, path, None, why.as_slice(), place)
 }
 
 /// The words that the file at `path` can't be read.
@@ -72,25 +69,9 @@ pub fn file_words(alloc: Global, path: &[u8]) -> Result<Vec<u8>, AllocError>
     Ok(words)
 }
 
-/// The line that the entry `name` of the file at `path` can't be obtained, or no entry of the file if there is
-/// no name, with the reason `why`, which is found at `place`.
-pub fn refused_line(
-    alloc: Global,
-    size: Size,
-    path: &str,
-    name: Option<&[u8]>,
-    why: &[u8],
-    place: ValuePlace,
-) -> Result<Vec<u8>, AllocError>
-    ensures { IfOk result (λ line. spec.IsRefusedReport size.rows size.cols
-        path.now (option_map (λ n. n.now) name.entry) why.now place line.items) }
-{
-    report_line(alloc, &refused_report(alloc, size, path, name, why, place)?)
-}
-
 /// The report that the entry `name` of the file at `path` can't be obtained, with the reason `why`, which is found at
 /// `place`.
-fn refused_report(
+pub fn refused_report(
     alloc: Global,
     size: Size,
     path: &str,

@@ -12,3 +12,4 @@ pub mod Readings
 pub mod Origins
 pub mod Together
 pub mod Packed
+pub mod OriginalFacts

@@ -10,3 +10,5 @@ pub mod Compiled
 pub mod Files
 pub mod Spots
 pub mod FurtherLaws
+pub mod LinedFiles
+pub mod Originals

@@ -3,7 +3,7 @@ use Rattle.std.proofs.Common.{◌≡◌, ◌≢◌, ◌⊎◌, ◌++◌, ℕ, Li
 use Rattle.ti_checker.specs.declared.causes.Cause.TheVariants.{NoMemory}
 use Rattle.ti_checker.specs.declared.causes.No.{No}
 use Rattle.ti_surveys.specs.Answers.{HasNo, HasYes, one_line}
-use Rattle.ti_places.specs.Refusals.{no_text}
+use Rattle.ti_verdicts.specs.Refusals.{no_text}
 use Rattle.ti_surveys.specs.Told.{Told}
 use Rattle.ti_verdicts.specs.declared.answers.Answer.TheVariants as answers
 

@@ -4,8 +4,8 @@ use Rattle.std.proofs.Common.{◌≡◌, ◌∙◌, ◌<◌, ◌+◌, ◌++◌, 
 use Rattle.std.proofs.lemmas.List.{drop_more, map-append, take_more}
 use Rattle.std.specs.List.{list_any}
 use Rattle.ti_surveys.specs.Places.{lines_behind, lines_unless}
-use Rattle.ti_places.specs.Locations.{PlacedText, placed_in}
-use Rattle.ti_places.specs.declared.locations.PlacedFault.{PlacedFault}
+use Rattle.ti_verdicts.specs.Locations.{PlacedText, placed_in}
+use Rattle.ti_verdicts.specs.declared.locations.PlacedFault.{PlacedFault}
 
 -- the lines of the faults that are left begin with those of the next one
 next_lines : {X : Type 0} (P : X → PlacedText) (xs : List X) (n : ℕ) (x : X) → n < length xs → x ≡ get_or xs n x → lines_behind (map P (take n xs)) (map P (drop n xs))

@@ -11,8 +11,8 @@ use Rattle.ti_files.specs.Contents.{Held}
 use Rattle.ti_files.specs.Words.{texts_of}
 use Rattle.ti_files.specs.declared.failure.CommandRefusal.{CommandRefusal}
 use Rattle.ti_surveys.specs.Lines.{IsSourcePart, IsTold, Leaving, Refusing, ResolvesApart, Saying, StandsAt}
-use Rattle.ti_places.specs.Locations.{first_name}
-use Rattle.ti_places.specs.Spots.{PutFiles}
+use Rattle.ti_verdicts.specs.Locations.{first_name}
+use Rattle.ti_sources.specs.LinedFiles.{PutFiles}
 use Rattle.ti_surveys.specs.Surveys.{HasLines, OfFile}
 use Rattle.ti_surveys.specs.Told.{IsEither, IsToldOfEach, IsToldOrLeft, Told, followed_by, left_if, nothing}
 use denote.Ref.{Bor}

@@ -11,9 +11,9 @@ use Rattle.ti_faults.specs.AllFaults.{AreAllFaults}
 use Rattle.ti_surveys.specs.Kinds.{kind_answers, listed_kind}
 use Rattle.ti_surveys.specs.Lines.{Leaving, Refusing, Saying}
 use Rattle.ti_verdicts.specs.Parts.{HasParts}
-use Rattle.ti_places.specs.Locations.{IsPlaced, PlaceInSource, PlacedText}
-use Rattle.ti_places.specs.Refusals.{no_text}
-use Rattle.ti_places.specs.Spots.{FileText, file_text}
+use Rattle.ti_verdicts.specs.Locations.{IsPlaced, PlaceInSource, PlacedText}
+use Rattle.ti_verdicts.specs.Refusals.{no_text}
+use Rattle.ti_sources.specs.LinedFiles.{FileText, file_text}
 use Rattle.ti_surveys.specs.Told.{Told, nothing}
 use Rattle.ti_verdicts.specs.declared.answers.Answer.{Answer}
 use Rattle.ti_verdicts.specs.declared.answers.Answer.TheVariants as answers

@@ -22,8 +22,8 @@ use Rattle.ti_sources.specs.declared.files.FurtherFile.{FurtherFile}
 use Rattle.ti_surveys.specs.Together.{AllApart, ArePutApart, OneApart, all_in}
 use Rattle.ti_surveys.specs.declared.together.ApartTogether.{ApartTogether}
 use Rattle.ti_surveys.specs.Told.{IsToldOfEach, Told}
-use Rattle.ti_places.specs.Locations.{PlaceInSource, first_name}
-use Rattle.ti_places.specs.Spots.{PutFiles, texts_of_files}
+use Rattle.ti_verdicts.specs.Locations.{PlaceInSource, first_name}
+use Rattle.ti_sources.specs.LinedFiles.{PutFiles, texts_of_files}
 
 -- the statements allowed about an entry, by the path of its file, its place in a source, its name and its contents
 abbrev pub Saying : Type 1

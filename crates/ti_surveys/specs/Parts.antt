@@ -5,7 +5,7 @@ use Rattle.ti_caps.specs.Entry.{Content, string_at}
 use Rattle.ti_rows.specs.Names.{cap_of}
 use Rattle.ti_rows.specs.declared.rows.Row.{Row}
 use Rattle.ti_rows.specs.declared.rows.Row.TheVariants.{Clear, Cup, Sgr0}
-use Rattle.ti_places.specs.Locations.{first_name}
+use Rattle.ti_verdicts.specs.Locations.{first_name}
 
 abbrev pub is_absent : Option (List ℕ) → Bool
 is_absent (Some string) = false

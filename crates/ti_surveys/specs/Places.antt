@@ -2,7 +2,7 @@
 use Rattle.std.specs.Prelude.{◌&&◌, ℕ, Bool, List, [], ◌∷◌, ◌++◌, codes, flat_map, if◌then◌else◌}
 use Rattle.std.specs.List.{list_any}
 use Rattle.std.specs.Str.{bytes_eq}
-use Rattle.ti_places.specs.Locations.{PlacedText}
+use Rattle.ti_verdicts.specs.Locations.{PlacedText}
 
 -- the same fault at the same place
 unfoldable pub is_same : PlacedText → PlacedText → Bool

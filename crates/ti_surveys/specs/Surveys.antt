@@ -11,7 +11,7 @@ use Rattle.ti_files.specs.declared.failure.Failure.{Failure}
 use Rattle.ti_files.specs.declared.failure.Failure.TheVariants.{File}
 use Rattle.ti_files.specs.declared.failure.Reply.{Reply}
 use Rattle.ti_sources.specs.declared.files.FurtherFile.{FurtherFile}
-use Rattle.ti_places.specs.Spots.{FileText}
+use Rattle.ti_sources.specs.LinedFiles.{FileText}
 use Rattle.ti_surveys.specs.Answers.{IsRefused, SaysBy, SaysNothing}
 use Rattle.ti_verdicts.specs.Counts.{answers_line}
 use Rattle.ti_surveys.specs.Lines.{AreLines, Leaving}

@@ -1,7 +1,7 @@
 -- The statements of a survey about an entry, a file or several.
 use Rattle.std.specs.Prelude.{◌≡◌, ℕ, Bool, true, false, List, [], ◌∷◌, ◌++◌, map}
 use Rattle.ti_verdicts.specs.declared.answers.Answer.{Answer}
-use Rattle.ti_places.specs.Locations.{PlacedText, placed_in}
+use Rattle.ti_verdicts.specs.Locations.{PlacedText, placed_in}
 use Rattle.ti_surveys.specs.declared.said.Said.{Said}
 
 -- lines, the faults that they name where these have a place in a source, and the answer of each line

@@ -1,6 +1,6 @@
 //! The question that a survey asks about each entry.
 
-use ti_places::LinedFile;
+use ti_sources::LinedFile;
 use vt_term::Size;
 
 /// Whether the `certifier` writes a certificate for the `size`; or all faults for it, if `lists_all`. Then an entry

@@ -7,7 +7,8 @@ ghost use Rattle.ti_source.specs.Fitting.{FieldsFit, NamesFit};
 ghost use Rattle.ti_surveys.specs.{Heard.{Hears}, Together.{FailsApartly, all_in}};
 ghost use Rattle.ti_surveys.specs.Lines as spec;
 ghost use Rattle.ti_surveys.specs.Told.{IsToldOfEach, told_of};
-ghost use Rattle.ti_places.specs.{Locations.{place_if}, Spots.{put_files}};
+ghost use Rattle.ti_verdicts.specs.Locations.{place_if};
+ghost use Rattle.ti_sources.specs.LinedFiles.{put_files};
 
 use crate::said::Said;
 use crate::speakers::{FileEntry, Lacking, Speaker};
@@ -19,10 +20,10 @@ use ti_commands::unpacked_entry;
 use ti_compiled::{Packed, decode};
 use ti_files::{CommandRefusal, Failure, Remarks};
 use ti_hints::hint_entries;
-use ti_places::{LinedFiles, SourcePlace, first_name, lined_files};
 use ti_resolve::{Index, ResolveFault, entered_from};
 use ti_source::{RawEntry, SourceFault, read_apart};
-use ti_sources::{ApartFault, FurtherFile, resolve_apart};
+use ti_sources::{ApartFault, FurtherFile, LinedFiles, lined_files, resolve_apart};
+use ti_verdicts::{SourcePlace, first_name};
 
 /// The statements that a function makes, or that memory ran out.
 type Made = Result<Said, AllocError>;
@@ -397,7 +398,6 @@ fn entry_lines<S: Speaker>(
     name: &[u8],
     entry: &Result<Entry, CommandRefusal>,
 ) -> Made
-    requires { IfSome stands.now (λ there. there.place < length there.raws.now) }
     ensures { IfOk result (λ said. spec.IsTold (S.says speaker.now) (S.refuses speaker.now) entry.now path.now
         (place_if stands.now) name.now (told_of said)) }
 {
@@ -432,7 +432,6 @@ fn lack<S: Speaker>(
     name: Option<&[u8]>,
     refusal: &CommandRefusal,
 ) -> Made
-    requires { IfSome stands.now (λ there. there.place < length there.raws.now) }
     ensures { IfOk result (λ said. S.refuses speaker.now path.now (place_if stands.now)
         (option_map (λ n. n.now) name.entry) refusal.now (told_of said)) }
 {

@@ -5,8 +5,8 @@ ghost use Rattle.std.specs.List.{flat_map};
 ghost use Rattle.ti_surveys.specs.Told.{told_of};
 ghost use Rattle.ti_surveys.specs.Answers as spec;
 ghost use Rattle.ti_verdicts.specs.Parts.{HasParts};
-ghost use Rattle.ti_places.specs.{Locations.{IsPlaced, place_if, placed_if, placed_in}, Refusals.{no_text}};
-ghost use Rattle.ti_places.specs.Spots.{file_text};
+ghost use Rattle.ti_verdicts.specs.{Locations.{IsPlaced, place_if, placed_if, placed_in}, Refusals.{no_text}};
+ghost use Rattle.ti_sources.specs.LinedFiles.{file_text};
 
 use crate::asked::Asked;
 use crate::kinds::{EntryKind, answers_of, kind_of};
@@ -17,8 +17,7 @@ use ti_caps::Entry;
 use ti_checker::{Cause, No};
 use ti_faults::{faults, must_claim};
 use ti_files::{CommandRefusal, push_shown, refusal_words};
-use ti_places::{Judged, PlacedFault, no_words, placed};
-use ti_verdicts::{Answer, Certifier};
+use ti_verdicts::{Answer, Certifier, Judged, PlacedFault, no_words, placed};
 
 impl<'a, C: Certifier> Speaker for Asked<'a, C> {
     ghost says = { λ asked path. spec.SaysTo C.certifies C.refuses asked path };
@@ -104,7 +103,6 @@ fn all_faults<C: Certifier>(
     asked: &Asked<'_, C>,
     found: &FileEntry<'_, '_>,
 ) -> Result<Said, AllocError>
-    requires { IfSome found.now.stands.now (λ there. there.place < length there.raws.now) }
     ensures { IfOk result (λ said. spec.HasAllFaults asked.now.size.rows asked.now.size.cols asked.now.names_parts
         (map file_text asked.now.originals.now)
         (place_if found.now.stands.now) found.now.name.now found.now.entry.now (told_of said)) }
@@ -129,7 +127,6 @@ fn told<C>(
     found: &FileEntry<'_, '_>,
     nos: &[No],
 ) -> Result<(Vec<u8>, Vec<PlacedFault>), AllocError>
-    requires { IfSome found.now.stands.now (λ there. there.place < length there.raws.now) }
     ensures { IfOk result (λ told. spec.TellsFaults kind asked.now.names_parts (map file_text asked.now.originals.now)
         (place_if found.now.stands.now) found.now.name.now nos.now told.0.items (map placed_in told.1.items)) }
 {
@@ -166,7 +163,6 @@ fn places_of<C>(
     found: &FileEntry<'_, '_>,
     nos: &[No],
 ) -> Result<Vec<PlacedFault>, AllocError>
-    requires { IfSome found.now.stands.now (λ there. there.place < length there.raws.now) }
     ensures { IfOk result (λ places. HasParts
         (IsPlaced (map file_text asked.now.originals.now) (place_if found.now.stands.now) found.now.name.now) nos.now
         (map placed_in places.items)) }

@@ -4,8 +4,8 @@ ghost use Rattle.std.specs.Prelude.{◌≡◌};
 ghost use Rattle.ti_surveys.specs.Parts as spec;
 
 use ti_caps::Entry;
-use ti_places::first_name;
 use ti_rows::Row;
+use ti_verdicts::first_name;
 
 /// Whether `entry` has no string for `row`.
 fn lacks(entry: &Entry, row: Row) -> bool

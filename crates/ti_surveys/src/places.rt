@@ -3,11 +3,10 @@
 ghost use Rattle.std.specs.Prelude.{◌≡◌, ◌<◌, ◌++◌, IfOk, OnOk, drop, flat_map, get_or, length, map, take};
 ghost use Rattle.std.specs.List.{list_any};
 ghost use Rattle.ti_surveys.specs.Places as spec;
-ghost use Rattle.ti_places.specs.Locations.{placed_in};
+ghost use Rattle.ti_verdicts.specs.Locations.{placed_in};
 
 use std::alloc::Global;
-use ti_places::PlacedFault;
-use ti_verdicts::{Added, Lines};
+use ti_verdicts::{Added, Lines, PlacedFault};
 
 /// The lines of these `faults`, each at its place and once, with the names of the entries that have it.
 ///

@@ -4,8 +4,7 @@ ghost use Rattle.std.specs.Prelude.{◌≡◌, [], ◌∷◌, IfOk, OnOk};
 ghost use Rattle.ti_surveys.specs.Told as spec;
 
 use std::alloc::{AllocError, Global};
-use ti_places::PlacedFault;
-use ti_verdicts::Answer;
+use ti_verdicts::{Answer, PlacedFault};
 
 /// The statements about an entry, a file or several.
 #[derive(Drop)]

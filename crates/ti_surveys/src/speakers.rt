@@ -2,13 +2,13 @@
 
 ghost use Rattle.std.specs.Prelude.{◌<◌, IfOk, IfSome, length, option_map};
 ghost use Rattle.ti_surveys.specs.{Lines.{Leaving, Refusing, Saying}, Told.{told_of}};
-ghost use Rattle.ti_places.specs.Locations.{place_if};
+ghost use Rattle.ti_verdicts.specs.Locations.{place_if};
 
 use crate::said::Said;
 use std::alloc::{AllocError, Global};
 use ti_caps::Entry;
 use ti_files::CommandRefusal;
-use ti_places::SourcePlace;
+use ti_verdicts::SourcePlace;
 
 /// An entry that a file has.
 #[derive(Drop)]
@@ -51,17 +51,13 @@ pub trait Speaker {
     /// Whether hints about the fields of a source text are wanted beside its statements.
     fn hints(&self) -> bool;
 
-    /// Its statement about the entry that was `found`. If that is the entry of a source, its place must be one of those
-    /// of the source's entries.
+    /// Its statement about the entry that was `found`.
     fn say(&self, alloc: Global, found: &FileEntry<'_, '_>) -> Result<Said, AllocError>
-        requires { IfSome found.now.stands.now (λ there. there.place < length there.raws.now) }
         ensures { IfOk result (λ said. says self.now found.now.path.now (place_if found.now.stands.now)
             found.now.name.now found.now.entry.now (told_of said)) };
 
-    /// Its statement about an entry that is `lacking`, or about a file that has no entries. If that is the entry of a
-    /// source, its place must be one of those of the source's entries.
+    /// Its statement about an entry that is `lacking`, or about a file that has no entries.
     fn refuse(&self, alloc: Global, lacking: &Lacking<'_, '_>) -> Result<Said, AllocError>
-        requires { IfSome lacking.now.stands.now (λ there. there.place < length there.raws.now) }
         ensures { IfOk result (λ said. refuses self.now lacking.now.path.now (place_if lacking.now.stands.now)
             (option_map (λ n. n.now) lacking.now.name) lacking.now.refusal.now (told_of said)) };
 

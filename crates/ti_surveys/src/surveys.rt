@@ -2,7 +2,7 @@
 
 ghost use Rattle.std.specs.Prelude.{◌≡◌, ◌++◌, ◌⊎◌, IfErr, IfOk, OnOk, map};
 ghost use Rattle.ti_files.specs.Words.{texts_of};
-ghost use Rattle.ti_places.specs.Spots.{file_text};
+ghost use Rattle.ti_sources.specs.LinedFiles.{file_text};
 ghost use Rattle.ti_surveys.specs.{Heard.{Hears}, Lines.{AreLines}};
 ghost use Rattle.ti_surveys.specs.Surveys as spec;
 ghost use Rattle.ti_surveys.specs.Together.{FailsApartly, FailsBeside, FailsToSurvey};
@@ -19,8 +19,8 @@ use crate::watchers::{Watcher, pass_on};
 use std::alloc::{AllocError, Global};
 use ti_commands::further_files;
 use ti_files::{Failure, Files, LONGEST_FILE, Remarks, Replied, Reply, read_whole, size_words};
-use ti_places::LinedFile;
 use ti_requests::SurveyWords;
+use ti_sources::LinedFile;
 use ti_verdicts::{Certifier, answers_line};
 
 /// The result of a survey of some paths.

@@ -1,6 +1,6 @@
 -- The words by which answers are counted.
 use Rattle.std.specs.Prelude.{ℕ, List, codes}
-use Rattle.ti_places.specs.Refusals.{cause_name}
+use Rattle.ti_verdicts.specs.Refusals.{cause_name}
 use Rattle.ti_verdicts.specs.declared.answers.Answer.{Answer}
 use Rattle.ti_verdicts.specs.declared.answers.Answer.TheVariants.{Yes, No, OtherKind, Part, Refused}
 

@@ -15,7 +15,7 @@ use Rattle.ti_files.specs.Sizes.{LacksSize, SizeGiven}
 use Rattle.ti_files.specs.declared.failure.Failure.{Failure}
 use Rattle.ti_files.specs.declared.failure.Failure.TheVariants.{File, NoMemory}
 use Rattle.ti_files.specs.declared.failure.Reply.{Reply}
-use Rattle.ti_places.specs.Refusals.{TellsNo}
+use Rattle.ti_verdicts.specs.Refusals.{TellsNo}
 use Rattle.ti_verdicts.specs.Verifications.{FailsAtEntry}
 use Rattle.ti_requests.specs.declared.request.CheckWords.{CheckWords}
 use denote.Ref.{Bor}

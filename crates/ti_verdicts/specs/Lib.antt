@@ -9,3 +9,8 @@ pub mod Counts
 pub mod Parts
 pub mod AnswerNames
 pub mod FaultAnswers
+pub mod Refusals
+pub mod Excerpts
+pub mod Rows
+pub mod Locations
+pub mod SourceFiles

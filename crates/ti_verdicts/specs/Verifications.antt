@@ -14,7 +14,7 @@ use Rattle.ti_commands.specs.Replies.{GivesEntry, IsText}
 use Rattle.ti_files.specs.Sizes.{HasSize, LacksSize, SizeGiven}
 use Rattle.ti_files.specs.declared.failure.Failure.{Failure}
 use Rattle.ti_files.specs.declared.failure.Reply.{Reply}
-use Rattle.ti_places.specs.Refusals.{TellsFault}
+use Rattle.ti_verdicts.specs.Refusals.{TellsFault}
 use Rattle.ti_requests.specs.declared.request.VerifyWords.{VerifyWords}
 
 -- The strings that are handed out are for this size, and exactly those that the entry sends; the bytes of the

@@ -5,9 +5,9 @@ ghost use Rattle.ti_files.specs.Words.{texts_of};
 ghost use Rattle.ti_verdicts.specs.{FaultAnswers.{fault_answer}, AnswerNames.{answer_name}};
 ghost use Rattle.ti_verdicts.specs.Counts as spec;
 
+use crate::refusals::cause_name;
 use std::alloc::{AllocError, Global};
 use ti_checker::{Cause, No};
-use ti_places::cause_name;
 
 /// The answer of a line about an entry.
 #[derive(Clone, Copy, Debug, PartialEq, Eq)]

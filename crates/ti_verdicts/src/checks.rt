@@ -6,13 +6,13 @@ ghost use Rattle.ti_verdicts.specs.Checks.{Delivers, FailsToCheck, IsChecked, St
 use crate::certifiers::Certifier;
 use crate::note_texts::note_lines;
 use crate::reasons::explain_no;
+use crate::refusals::no_failure;
 use std::alloc::{AllocError, Global};
 use ti_caps::Entry;
 use ti_checker::{Cause, No, notes};
 use ti_commands::{Sourced, sourced_entry};
 use ti_files::{Failure, Files, Remarks, Replied, Reply, file_fault, size_words};
 use ti_hints::advise;
-use ti_places::no_failure;
 use ti_requests::CheckWords;
 use vt_term::Size;
 

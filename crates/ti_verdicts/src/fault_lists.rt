@@ -1,28 +1,30 @@
 //! The command `check --all`.
 
-ghost use Rattle.std.specs.Prelude.{◌≡◌, IfErr, IfOk, Some, map};
+ghost use Rattle.std.specs.Prelude.{◌≡◌, IfErr, IfOk, map};
 ghost use Rattle.ti_verdicts.specs.{Checks.{FailsForEntry}, Parts.{HasParts}};
 ghost use Rattle.ti_verdicts.specs.FaultLists as spec;
-ghost use Rattle.ti_places.specs.{Locations.{source_if}, Spots.{file_text}};
+ghost use Rattle.ti_verdicts.specs.Locations.{place_if, source_place};
+ghost use Rattle.ti_sources.specs.LinedFiles.{file_text};
 
 use crate::answers::{answers_line, fault_answers};
 use crate::checks::notes_on;
+use crate::faulty_parts::Judged;
 use crate::indents::indented;
+use crate::locations::location;
 use crate::reasons::explain_no;
+use crate::refusals::{no_failure, no_words};
 use crate::remedies::{Faulty, note_another_kind, note_left_out, suggestion_lines};
+use crate::source_places::{LinedSource, SourcePlace};
 use crate::written::Lines;
 use std::alloc::{AllocError, Global};
 use ti_caps::Entry;
 use ti_checker::No;
-use ti_commands::{SourceText, Sourced, sourced_entry};
+use ti_commands::{Sourced, sourced_entry};
 use ti_faults::{Mended, faults};
 use ti_files::{Files, Remarks, Replied, Reply, size_words};
 use ti_hints::{advise, advise_unchecked};
-use ti_places::{
-    Judged, LinedFile, LinedFiles, NamedSource, location, no_failure, no_words, source_files,
-};
 use ti_requests::FaultsWords;
-use ti_resolve::Index;
+use ti_sources::LinedFile;
 use vt_term::Size;
 
 /// Replies with the notes on the entry that the `words` give, and with all its faults, each with its place, the field
@@ -80,7 +82,7 @@ fn reply_of(
 ) -> Result<Reply, AllocError>
     ensures noted { IfOk result (λ reply. reply.notes ≡ notes) }
     ensures told { IfOk result (λ reply. spec.TellsFaults (map file_text asked.now.originals.now)
-        asked.now.found.now.entry asked.now.found.now.source asked.now.size.rows asked.now.size.cols nos.now reply) }
+        asked.now.found.now.entry (source_place asked.now.found.now.source) asked.now.size.rows asked.now.size.cols nos.now reply) }
 {
     match nos {
         [] => Ok(Reply {
@@ -102,67 +104,49 @@ fn reply_of(
 /// The lines of the faults `nos` of the entry that is `asked` about, which is `mended`, and then their counts.
 fn faults_text(alloc: Global, asked: &Asked<'_>, mended: &Mended, nos: &[No]) -> Lines
     ensures { IfOk result (λ text. spec.IsFaultsText (map file_text asked.now.originals.now) asked.now.found.now.entry
-        asked.now.found.now.source mended.now nos.now text.items) }
+        (source_place asked.now.found.now.source) mended.now nos.now text.items) }
 {
     match &asked.found.source {
-        None => {
-            let located = Located {
-                entry: &asked.found.entry,
-                source: None,
-                size: asked.size,
-                originals: asked.originals,
-            };
-            located_text(alloc, &located, mended, nos)
+        None => located_text(alloc, &asked.located(None), mended, nos),
+        Some(source) => {
+            let lined = LinedSource::new(alloc, source)?;
+            located_text(alloc, &asked.located(lined.stands()), mended, nos)
         }
-        Some(source) => source_text(alloc, asked, source, mended, nos),
     }
 }
 
-/// The lines of the faults `nos` of the entry that is `asked` about, which is that of `source` and is `mended`, and
-/// then their counts.
-fn source_text<'x>(
-    alloc: Global,
-    asked: &Asked<'x>,
-    source: &'x SourceText<'x>,
-    mended: &Mended,
-    nos: &[No],
-) -> Lines
-    ensures { IfOk result (λ text. spec.IsFaultsText
-        (map file_text asked.now.originals.now) asked.now.found.now.entry (Some source.now)
-        mended.now nos.now text.items) }
-{
-    let index = Index::new(alloc, source.raws.as_slice())?;
-    let files = source_files(alloc, source)?;
-    let located = Located {
-        entry: &asked.found.entry,
-        source: Some(NamedSource {
-            source,
-            files: LinedFiles {
-                files: files.as_slice(),
-                counts: source.counts.as_slice(),
-            },
-            index: &index,
-        }),
-        size: asked.size,
-        originals: asked.originals,
-    };
-    located_text(alloc, &located, mended, nos)
+impl<'x> Asked<'x> {
+    ghost use Rattle.std.specs.Prelude.{◌≡◌};
+
+    /// The entry, at the place `stands`.
+    fn located<'a>(&self, stands: Option<SourcePlace<'a, 'x>>) -> Located<'a, 'x>
+        ensures entry { result.entry.now ≡ self.now.found.now.entry }
+        ensures stands { result.stands ≡ stands.entry }
+        ensures originals { result.originals.now ≡ self.now.originals.now }
+    {
+        Located {
+            entry: &self.found.entry,
+            stands,
+            size: self.size,
+            originals: self.originals,
+        }
+    }
 }
 
-/// An entry with its source, if it is in one; the size that it is for, and the texts of those files whose lines were
-/// joined.
+/// An entry with its place, if it is in a source; the size that it is for, and the texts of those files whose lines
+/// were joined.
 #[derive(Drop)]
 struct Located<'a, 'b> {
     entry: &'b Entry,
-    source: Option<NamedSource<'a, 'b>>,
+    stands: Option<SourcePlace<'a, 'b>>,
     size: Size,
-    originals: &'a [LinedFile<'a>],
+    originals: &'b [LinedFile<'b>],
 }
 
 /// The lines of the faults `nos` of the entry `found`, which is `mended`, and then their counts.
 fn located_text(alloc: Global, found: &Located<'_, '_>, mended: &Mended, nos: &[No]) -> Lines
     ensures { IfOk result (λ text. spec.IsFaultsText (map file_text found.now.originals.now) found.now.entry.now
-        (source_if found.now.source) mended.now nos.now text.items) }
+        (place_if found.now.stands) mended.now nos.now text.items) }
 {
     let mut text = fault_lines(alloc, found, mended, nos)?;
     let counts = counts_line(alloc, nos)?;
@@ -181,7 +165,7 @@ fn counts_line(alloc: Global, nos: &[No]) -> Lines
 /// The lines of the faults `nos` of the entry `found`, which is `mended`, one after another.
 fn fault_lines(alloc: Global, found: &Located<'_, '_>, mended: &Mended, nos: &[No]) -> Lines
     ensures { IfOk result (λ lines. HasParts (spec.HasFaultLines (map file_text found.now.originals.now)
-        found.now.entry.now (source_if found.now.source) mended.now nos.now) nos.now lines.items) }
+        found.now.entry.now (place_if found.now.stands) mended.now nos.now) nos.now lines.items) }
 {
     let mut lines = Vec::new(alloc);
     for no in nos {
@@ -194,7 +178,7 @@ fn fault_lines(alloc: Global, found: &Located<'_, '_>, mended: &Mended, nos: &[N
 /// the source, the field there, its explanation, and the strings that would be right.
 fn own_lines(alloc: Global, found: &Located<'_, '_>, mended: &Mended, no: &No, nos: &[No]) -> Lines
     ensures { IfOk result (λ lines. spec.HasFaultLines (map file_text found.now.originals.now) found.now.entry.now
-        (source_if found.now.source) mended.now nos.now no.now lines.items) }
+        (place_if found.now.stands) mended.now nos.now no.now lines.items) }
 {
     let mut lines = no_words(alloc, no)?;
     lines.push(b'\n')?;
@@ -202,7 +186,7 @@ fn own_lines(alloc: Global, found: &Located<'_, '_>, mended: &Mended, no: &No, n
         no,
         size: found.size,
     };
-    let place = location(alloc, &found.source, found.originals, &fault)?;
+    let place = location(alloc, &found.stands, found.originals, &fault)?;
     lines.extend_from_slice(place.as_slice())?;
     let further = explanation(alloc, found.entry, found.size, no)?;
     lines.extend_from_slice(further.as_slice())?;

@@ -1,11 +1,11 @@
 //! The explanation why an entry gets no certificate.
 
+use crate::faulty_parts::row_of;
 use crate::starts::terminal_at;
 use std::alloc::{AllocError, Global};
 use ti_caps::{Entry, name};
 use ti_checker::{Cause, No};
 use ti_files::Remarks;
-use ti_places::row_of;
 use ti_rows::Row;
 use ti_words::{
     NO_RESYNC, NOT_TAME, STATIC_READ, STAYS_GRAPHIC, Sent, TOO_LONG, explain_absent, explain_field,

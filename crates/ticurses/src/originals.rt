@@ -5,8 +5,8 @@ use std::alloc::{AllocError, Global};
 use std::io::{Cursor, Read};
 use ti_arguments::Asked;
 use ti_files::{Failure, FileFault, Files, LONGEST_FILE, NewFile};
-use ti_places::LinedFile;
 use ti_requests::Request;
+use ti_sources::LinedFile;
 
 /// A file that was read: its path, and its bytes, or one more than a source may have.
 #[derive(Drop)]

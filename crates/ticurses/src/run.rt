@@ -3,7 +3,7 @@
 ghost use Rattle.std.specs.Prelude.{◌≤◌};
 
 use crate::counted::Counted;
-use crate::forms::{formed, is_formed};
+use crate::forms::{baseline_of, formed, is_kept};
 use crate::hints::{hint_join, hint_path};
 use crate::originals::{Kept, lined, originals};
 use crate::progress::SurveyLines;
@@ -20,11 +20,12 @@ use ti_files::{
     report, write_reply, write_text,
 };
 use ti_mends::fix_entry;
-use ti_places::LinedFile;
+use ti_printers::{Baseline, Json, News, Sarif};
 use ti_repairs::{FixWords, fix_survey};
-use ti_reports::{Check, SurveyReports, check_reports, survey_reports};
+use ti_reports::{Check, Form, SurveyReports, check_reports, survey_reports};
 use ti_requests::{CheckWords, FaultsWords, Request, ScriptWords, SurveyWords};
 use ti_source::FaultKind;
+use ti_sources::LinedFile;
 use ti_surveys::{Survey, survey_files};
 use ti_verdicts::{Checker, check_all, check_entry, verify_certificate};
 
@@ -150,15 +151,17 @@ fn play<F: Files, O: Output>(
     Ok(Reply::of_text(alloc, Vec::new(alloc)))
 }
 
-/// The check with reports by these `words`, where the `originals` are the texts whose lines are joined.
-fn check_of<'a>(
+/// The check with reports in this `form` by these `words`, where the `originals` are the texts whose lines are joined.
+fn check_of<'a, P>(
     words: &'a FaultsWords<'a>,
     lists_all: bool,
+    form: &'a P,
     originals: &'a [LinedFile<'a>],
-) -> Check<'a> {
+) -> Check<'a, P> {
     Check {
         words,
         lists_all,
+        form,
         originals,
     }
 }
@@ -175,9 +178,17 @@ fn survey_of<'a>(
     }
 }
 
-/// The survey with reports by these `words`, where the `originals` are the texts whose lines are joined.
-fn reports_of<'a>(words: &'a SurveyWords<'a>, originals: &'a [LinedFile<'a>]) -> SurveyReports<'a> {
-    SurveyReports { words, originals }
+/// The survey with reports in this `form` by these `words`, where the `originals` are the texts whose lines are joined.
+fn reports_of<'a, P>(
+    words: &'a SurveyWords<'a>,
+    form: &'a P,
+    originals: &'a [LinedFile<'a>],
+) -> SurveyReports<'a, P> {
+    SurveyReports {
+        words,
+        form,
+        originals,
+    }
 }
 
 /// Runs `survey`, and returns its reply. The lines of the entries go to the output as they come.
@@ -204,10 +215,10 @@ fn fix_words<'a>(words: &SurveyWords<'a>, out: Option<&'a str>) -> FixWords<'a> 
     }
 }
 
-/// Runs `survey --json`, and returns its reply. The objects go to the output as they come.
-fn survey_json<F: Files, O: Output, E: Write + IsTerminal>(
+/// Runs `survey` with reports, and returns its reply. The reports go to the output as they come.
+fn survey_json<P: Form, F: Files, O: Output, E: Write + IsTerminal>(
     alloc: Global,
-    survey: &SurveyReports<'_>,
+    survey: &SurveyReports<'_, P>,
     files: &mut F,
     streams: &mut Streams<'_, '_, O, E>,
     remarks: &mut Remarks,
@@ -217,8 +228,7 @@ fn survey_json<F: Files, O: Output, E: Write + IsTerminal>(
     Ok(lines.end(alloc, reply))
 }
 
-/// The reply of the command that is `asked` for. A report that is written in another form than it is made in is kept
-/// until it is whole.
+/// The reply of the command that is `asked` for, with its reports in the form that is asked for.
 fn reply_in_form<F: Files + Sources, O: Output, E: Write + IsTerminal>(
     alloc: Global,
     asked: &Asked<'_>,
@@ -226,23 +236,62 @@ fn reply_in_form<F: Files + Sources, O: Output, E: Write + IsTerminal>(
     streams: &mut Streams<'_, '_, O, E>,
     remarks: &mut Remarks,
 ) -> Replied {
-    if !is_formed(asked) {
-        return reply_by(alloc, asked, files, streams, remarks);
+    if !is_kept(asked) {
+        return reply_by(alloc, asked, &Json, files, streams, remarks);
     }
-    let mut lines = Vec::new(alloc);
-    let mut out = Written::new(&mut lines);
-    let mut kept = Streams {
+    let baseline = baseline_of(alloc, asked, files, remarks)?;
+    let mut kept = Vec::new(alloc);
+    let mut out = Written::new(&mut kept);
+    let mut streams = Streams {
         out: &mut out,
         err: &mut *streams.err,
     };
-    let reply = reply_by(alloc, asked, files, &mut kept, remarks)?;
-    formed(alloc, asked, files, lines, reply, remarks)
+    let reply = kept_reply(alloc, asked, &baseline, files, &mut streams, remarks)?;
+    formed(alloc, asked, kept, reply)
 }
 
-/// The reply of the command that is `asked` for, to whose files its switches apply.
-fn reply_by<F: Files + Sources, O: Output, E: Write + IsTerminal>(
+/// The reply of the command that is `asked` for, without what the `baseline` says.
+fn kept_reply<F: Files + Sources, O: Output, E: Write + IsTerminal>(
     alloc: Global,
     asked: &Asked<'_>,
+    baseline: &Option<Baseline>,
+    files: &mut F,
+    streams: &mut Streams<'_, '_, O, E>,
+    remarks: &mut Remarks,
+) -> Replied {
+    match baseline {
+        None => reply_by(alloc, asked, &Sarif, files, streams, remarks),
+        Some(baseline) => {
+            if asked.sarif {
+                let form = &Sarif;
+                reply_by(
+                    alloc,
+                    asked,
+                    &News { baseline, form },
+                    files,
+                    streams,
+                    remarks,
+                )
+            } else {
+                let form = &Json;
+                reply_by(
+                    alloc,
+                    asked,
+                    &News { baseline, form },
+                    files,
+                    streams,
+                    remarks,
+                )
+            }
+        }
+    }
+}
+
+/// The reply of the command that is `asked` for, to whose files its switches apply. Reports have this `form`.
+fn reply_by<P: Form, F: Files + Sources, O: Output, E: Write + IsTerminal>(
+    alloc: Global,
+    asked: &Asked<'_>,
+    form: &P,
     files: &mut F,
     streams: &mut Streams<'_, '_, O, E>,
     remarks: &mut Remarks,
@@ -251,18 +300,23 @@ fn reply_by<F: Files + Sources, O: Output, E: Write + IsTerminal>(
         files.allow_source();
     }
     if asked.joins {
-        return joined_reply(alloc, asked, files, streams, remarks);
+        return joined_reply(alloc, asked, form, files, streams, remarks);
     }
     let mut beside = Beside::new(files, asked.further.as_slice());
-    let job = Job { asked, texts: &[] };
+    let job = Job {
+        asked,
+        form,
+        texts: &[],
+    };
     reply_to(alloc, &job, &mut beside, streams, remarks)
 }
 
 /// The reply of the command that is `asked` for, whose sources are read with each field on one line. Their texts are
 /// kept as they are, for the places in them.
-fn joined_reply<F: Files, O: Output, E: Write + IsTerminal>(
+fn joined_reply<P: Form, F: Files, O: Output, E: Write + IsTerminal>(
     alloc: Global,
     asked: &Asked<'_>,
+    form: &P,
     files: &mut F,
     streams: &mut Streams<'_, '_, O, E>,
     remarks: &mut Remarks,
@@ -274,28 +328,32 @@ fn joined_reply<F: Files, O: Output, E: Write + IsTerminal>(
     let mut joined = Wrapped::new(alloc, &mut beside);
     let job = Job {
         asked,
+        form,
         texts: texts.as_slice(),
     };
     reply_to(alloc, &job, &mut joined, streams, remarks)
 }
 
-/// A command that is asked for, and the texts whose lines are joined for it.
-#[derive(Clone, Copy)]
-struct Job<'a> {
+/// A command that is asked for, the form of its reports, and the texts whose lines are joined for it.
+#[derive(Drop)]
+struct Job<'a, P> {
     asked: &'a Asked<'a>,
+    form: &'a P,
     texts: &'a [LinedFile<'a>],
 }
 
 /// The reply of the command of the `job`. The bytes that `play` sends and the lines of a survey go to `out` as they
 /// come, and the reply has what follows them.
-fn reply_to<F: Files, O: Output, E: Write + IsTerminal>(
+fn reply_to<P: Form, F: Files, O: Output, E: Write + IsTerminal>(
     alloc: Global,
-    job: &Job<'_>,
+    job: &Job<'_, P>,
     files: &mut F,
     streams: &mut Streams<'_, '_, O, E>,
     remarks: &mut Remarks,
 ) -> Replied {
-    let Job { asked, texts } = *job;
+    let asked = job.asked;
+    let form = job.form;
+    let texts = job.texts;
     match &asked.request {
         Request::Expand(words) => expand_string(alloc, words, remarks),
         Request::Feed { rows, cols, file } => feed_file(alloc, rows, cols, file, files, remarks),
@@ -305,7 +363,12 @@ fn reply_to<F: Files, O: Output, E: Write + IsTerminal>(
         Request::Check(words) => check_counted(alloc, words, files, streams.err, remarks),
         Request::CheckAll(words) => check_all(alloc, words, texts, files, remarks),
         Request::CheckJson { lists_all, words } => {
-            check_reports(alloc, &check_of(words, *lists_all, texts), files, remarks)
+            check_reports(
+                alloc,
+                &check_of(words, *lists_all, form, texts),
+                files,
+                remarks,
+            )
         }
         Request::Verify(words) => verify_certificate(alloc, words, files, remarks),
         Request::Play(words) => play(alloc, words, files, streams.out, remarks),
@@ -317,7 +380,13 @@ fn reply_to<F: Files, O: Output, E: Write + IsTerminal>(
             survey_plainly(alloc, &survey_of(words, texts), files, streams, remarks)
         }
         Request::SurveyJson(words) => {
-            survey_json(alloc, &reports_of(words, texts), files, streams, remarks)
+            survey_json(
+                alloc,
+                &reports_of(words, form, texts),
+                files,
+                streams,
+                remarks,
+            )
         }
         Request::Print { entry } => print_entry(alloc, entry, files, remarks),
         Request::Common { first, second } => {

@@ -3,7 +3,7 @@ use Rattle.std.proofs.lemmas.Result.{IfOk-weaker}
 use Rattle.std.specs.List.{flat_map}
 use Rattle.ti_checker.specs.declared.causes.No.{No}
 use Rattle.ti_repairs.specs.Notes.{left_line}
-use Rattle.ti_places.specs.Refusals.{no_text}
+use Rattle.ti_verdicts.specs.Refusals.{no_text}
 use Rattle.ti_repairs.proofs.left.entry_lines.Goals as goal
 
 pub returns : goal.returns

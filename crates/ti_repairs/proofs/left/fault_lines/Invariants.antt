@@ -1,7 +1,7 @@
 use Rattle.std.proofs.Common.{◌≡◌, take}
 use Rattle.std.specs.List.{flat_map}
 use Rattle.ti_repairs.specs.Notes.{left_line}
-use Rattle.ti_places.specs.Refusals.{no_text}
+use Rattle.ti_verdicts.specs.Refusals.{no_text}
 use Rattle.ti_repairs.proofs.left.fault_lines.Given as goal
 
 abbrev pub invariant-loop-no : goal.invariant-loop-no

@@ -1,4 +1,4 @@
-use Rattle.ti_reports.proofs.LineFacts.{as_reported, fault_reported}
+use Rattle.ti_reports.proofs.ReportFacts.{as_reported, fault_reported}
 use Rattle.ti_reports.specs.Faults.{ReportsFault, of_subject}
 use Rattle.ti_reports.proofs.faults.fault_report.Goals as goal
 

@@ -1,4 +1,4 @@
-use Rattle.ti_reports.proofs.LineFacts.{as_reported, yes_reported}
+use Rattle.ti_reports.proofs.ReportFacts.{as_reported, yes_reported}
 use Rattle.ti_reports.specs.Faults.{ReportsYes}
 use Rattle.ti_reports.proofs.faults.yes_report.Goals as goal
 

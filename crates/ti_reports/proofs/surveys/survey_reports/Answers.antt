@@ -5,10 +5,10 @@ use Rattle.ti_surveys.specs.Places.{places_text}
 use Rattle.ti_surveys.specs.Strict.{EndsStrictly}
 use Rattle.ti_surveys.specs.Surveys.{EndsPaths}
 use Rattle.ti_surveys.specs.Told.{told_of}
-use Rattle.ti_places.specs.Locations.{placed_in}
-use Rattle.ti_places.specs.Spots.{file_text}
+use Rattle.ti_verdicts.specs.Locations.{placed_in}
+use Rattle.ti_sources.specs.LinedFiles.{file_text}
 use Rattle.ti_verdicts.specs.declared.answers.Answer.{Answer}
-use Rattle.ti_places.specs.declared.locations.PlacedFault.{PlacedFault}
+use Rattle.ti_verdicts.specs.declared.locations.PlacedFault.{PlacedFault}
 use Rattle.ti_reports.specs.Surveys.{Reports, ReportsLack, ReportsUnread}
 use Rattle.ti_reports.proofs.surveys.survey_reports.Goals as goal
 
@@ -25,7 +25,7 @@ returns-clause-reply g c =
         failed = c.in_ok-said.field-0.failure;
         ends = subst
             (λ (paths : List (Bor (List ℕ))).
-            EndsPaths (AreLines (Reports c.in_ok-size.size.rows c.in_ok-size.size.cols c.args.survey.now.words.now.lists_all (map file_text c.args.survey.now.originals.now)) (ReportsLack c.in_ok-size.size.rows c.in_ok-size.size.cols)) (ReportsUnread c.in_ok-size.size.rows c.in_ok-size.size.cols)
+            EndsPaths (AreLines (Reports (g.P.Form.wanted c.args.survey.now.form.now) (g.P.Form.prints c.args.survey.now.form.now) c.in_ok-size.size.rows c.in_ok-size.size.cols c.args.survey.now.words.now.lists_all (map file_text c.args.survey.now.originals.now)) (ReportsLack (g.P.Form.wanted c.args.survey.now.form.now) (g.P.Form.prints c.args.survey.now.form.now) c.in_ok-size.size.rows c.in_ok-size.size.cols)) (ReportsUnread (g.P.Form.wanted c.args.survey.now.form.now) (g.P.Form.prints c.args.survey.now.form.now) c.in_ok-size.size.rows c.in_ok-size.size.cols)
             (g.F.Files.holds c.args.files.now) (texts_of paths) (told_of said) c.in_ok-said.field-0.failure c.survey_paths.new.remarks)
             c.as_slice-paths.ensures.value c.in_ok-said.ensures.told;
         strictly = subst (λ (answered : List Answer). EndsStrictly c.args.survey.now.words.now.is_strict answered c.in_ok-said.field-0.failure c.in_ok-failure.failure) c.as_slice-2.ensures.value c.in_ok-failure.ensures;

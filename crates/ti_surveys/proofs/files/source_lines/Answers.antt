@@ -1,6 +1,6 @@
 use Rattle.std.proofs.Common.{ap}
 use Rattle.ti_surveys.specs.Lines as spec
-use Rattle.ti_places.specs.Spots.{put_files}
+use Rattle.ti_sources.specs.LinedFiles.{put_files}
 use Rattle.ti_surveys.specs.Told.{Told, told_of}
 use Rattle.ti_surveys.proofs.HeardFacts.{hears_next, hears_nothing}
 use Rattle.ti_surveys.proofs.SaidFacts.{said_of_none, said_step}

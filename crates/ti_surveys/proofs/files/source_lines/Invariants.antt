@@ -1,7 +1,7 @@
 use Rattle.std.specs.List.{range_with_len}
 use Rattle.ti_surveys.specs.Heard.{Hears}
 use Rattle.ti_surveys.specs.Lines as spec
-use Rattle.ti_places.specs.Spots.{put_files}
+use Rattle.ti_sources.specs.LinedFiles.{put_files}
 use Rattle.ti_surveys.specs.Told.{IsToldOfEach, told_of}
 use Rattle.ti_surveys.proofs.files.source_lines.Given as goal
 

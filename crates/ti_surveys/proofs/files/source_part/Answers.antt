@@ -1,5 +1,5 @@
 use Rattle.std.proofs.lemmas.Result.{IfOk-weaker}
-use Rattle.ti_places.specs.Spots.{put_files}
+use Rattle.ti_sources.specs.LinedFiles.{put_files}
 use Rattle.ti_surveys.specs.Told.{told_of}
 use Rattle.ti_surveys.proofs.SaidFacts.{source_part_of}
 use Rattle.ti_surveys.proofs.files.source_part.Goals as goal

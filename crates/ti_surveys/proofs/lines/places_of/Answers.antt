@@ -1,7 +1,7 @@
 use Rattle.std.proofs.Common.{◌<◌, ap, length, map, arith}
 use Rattle.ti_verdicts.specs.Parts.{HasParts}
-use Rattle.ti_places.specs.Locations.{IsPlaced, place_if, placed_if, placed_in}
-use Rattle.ti_places.specs.Spots.{file_text}
+use Rattle.ti_verdicts.specs.Locations.{IsPlaced, place_if, placed_if, placed_in}
+use Rattle.ti_sources.specs.LinedFiles.{file_text}
 use Rattle.ti_verdicts.proofs.Parts.{parts_next}
 use Rattle.ti_surveys.proofs.lines.places_of.Goals as goal
 

@@ -1,7 +1,7 @@
 use Rattle.std.proofs.Common.{map, take}
 use Rattle.ti_verdicts.specs.Parts.{HasParts}
-use Rattle.ti_places.specs.Locations.{IsPlaced, place_if, placed_in}
-use Rattle.ti_places.specs.Spots.{file_text}
+use Rattle.ti_verdicts.specs.Locations.{IsPlaced, place_if, placed_in}
+use Rattle.ti_sources.specs.LinedFiles.{file_text}
 use Rattle.ti_surveys.proofs.lines.places_of.Given as goal
 
 -- the faults before this one are at their places

@@ -1,7 +1,7 @@
 use Rattle.std.proofs.Common.{◌∙◌}
 use Rattle.ti_surveys.proofs.PlaceFacts.{any_placed}
 use Rattle.ti_surveys.specs.Places.{is_same}
-use Rattle.ti_places.specs.Locations.{placed_in}
+use Rattle.ti_verdicts.specs.Locations.{placed_in}
 use Rattle.ti_surveys.proofs.places.is_among.Goals as goal
 
 pub returns : goal.returns

@@ -1,6 +1,6 @@
 use Rattle.std.proofs.Common.{◌≡◌, ◌++◌, drop, map, take}
 use Rattle.ti_surveys.specs.Places.{lines_behind, places_text}
-use Rattle.ti_places.specs.Locations.{placed_in}
+use Rattle.ti_verdicts.specs.Locations.{placed_in}
 use Rattle.ti_surveys.proofs.places.places_lines.Given as goal
 
 -- the lines so far, and then those of the faults that are left, are all

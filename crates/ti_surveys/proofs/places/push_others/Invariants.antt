@@ -1,6 +1,6 @@
 use Rattle.std.proofs.Common.{◌≡◌, ◌++◌, map, take, flat_map}
 use Rattle.ti_surveys.specs.Places.{name_if_same}
-use Rattle.ti_places.specs.Locations.{placed_in}
+use Rattle.ti_verdicts.specs.Locations.{placed_in}
 use Rattle.ti_surveys.proofs.places.push_others.Given as goal
 
 -- the names of the others before this one follow

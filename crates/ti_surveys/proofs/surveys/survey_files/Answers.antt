@@ -7,10 +7,10 @@ use Rattle.ti_surveys.specs.Places.{places_text}
 use Rattle.ti_surveys.specs.Surveys.{EndsPaths}
 use Rattle.ti_surveys.specs.Strict.{EndsStrictly}
 use Rattle.ti_surveys.specs.Told.{told_of}
-use Rattle.ti_places.specs.Locations.{placed_in}
-use Rattle.ti_places.specs.Spots.{file_text}
+use Rattle.ti_verdicts.specs.Locations.{placed_in}
+use Rattle.ti_sources.specs.LinedFiles.{file_text}
 use Rattle.ti_verdicts.specs.declared.answers.Answer.{Answer}
-use Rattle.ti_places.specs.declared.locations.PlacedFault.{PlacedFault}
+use Rattle.ti_verdicts.specs.declared.locations.PlacedFault.{PlacedFault}
 use Rattle.ti_surveys.proofs.surveys.survey_files.Goals as goal
 
 -- the certifier's answers, as the words ask, and then the counts

@@ -1,5 +1,5 @@
 use Rattle.std.proofs.Common.{ℕ, List, subst}
-use Rattle.ti_places.specs.Refusals.{IsVerdict, disagreement_text}
+use Rattle.ti_verdicts.specs.Refusals.{IsVerdict, disagreement_text}
 use Rattle.ti_verdicts.proofs.verifications.agree_failure.Goals as goal
 
 pub returns-in-Disagree : goal.returns-in-Disagree

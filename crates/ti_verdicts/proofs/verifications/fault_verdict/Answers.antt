@@ -1,4 +1,4 @@
-use Rattle.ti_places.specs.Refusals.{fault_text}
+use Rattle.ti_verdicts.specs.Refusals.{fault_text}
 use Rattle.ti_verdicts.proofs.verifications.fault_verdict.Goals as goal
 
 pub returns : goal.returns

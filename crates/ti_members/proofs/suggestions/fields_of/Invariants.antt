@@ -1,8 +1,0 @@
-use Rattle.std.proofs.Common.{map, take}
-use Rattle.std.specs.Prelude.{string_bytes}
-use Rattle.ti_members.specs.Suggestions.{AreFields}
-use Rattle.ti_members.proofs.suggestions.fields_of.Given as goal
-
--- the capabilities so far have their fields
-abbrev pub invariant-loop-cap : goal.invariant-loop-cap
-invariant-loop-cap l = AreFields l.entry l.mended l.nos (take l.cap-index l.caps) (map string_bytes l.fields.items)

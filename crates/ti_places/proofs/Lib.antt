@@ -1,3 +1,0 @@
-pub mod SpotFacts
-pub mod OriginalFacts
-pub mod RowFacts

@@ -1,8 +1,0 @@
-use Rattle.std.proofs.Common.{◌≡◌, drop, map}
-use Rattle.ti_places.specs.Originals.{original_at}
-use Rattle.ti_places.specs.Spots.{file_text}
-use Rattle.ti_places.proofs.originals.original_at.Given as goal
-
--- the texts behind those that were passed decide
-abbrev pub invariant-loop-file : goal.invariant-loop-file
-invariant-loop-file l = original_at (map file_text (drop l.file-index l.originals)) l.path ≡ original_at (map file_text l.originals) l.path

@@ -1,5 +1,0 @@
-use Rattle.ti_places.specs.Refusals.{no_text}
-use Rattle.ti_places.proofs.refusals.no_verdict.Goals as goal
-
-pub returns : goal.returns
-returns c = c.verdict.ensures (no_text c.args.no.now) c.no_words.ensures

@@ -1,7 +1,0 @@
-use Rattle.std.proofs.Common.{◌≡◌, map, take}
-use Rattle.ti_places.specs.Spots.{file_text, texts_of_files}
-use Rattle.ti_places.proofs.spots.lined_files.Given as goal
-
--- the first file, and the further ones so far
-abbrev pub invariant-loop-file : goal.invariant-loop-file
-invariant-loop-file l = map file_text l.files.items ≡ texts_of_files l.path l.text (take l.file-index l.further)

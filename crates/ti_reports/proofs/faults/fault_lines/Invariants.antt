@@ -1,8 +1,0 @@
-use Rattle.std.proofs.Common.{take}
-use Rattle.ti_reports.specs.Faults.{IsFaultLine, of_subject}
-use Rattle.ti_verdicts.specs.Parts.{HasParts}
-use Rattle.ti_reports.proofs.faults.fault_lines.Given as goal
-
--- the faults before this one have their lines
-abbrev pub invariant-loop-no : goal.invariant-loop-no
-invariant-loop-no l = HasParts (IsFaultLine (of_subject l.subject l.faults.nos.now l.faults.mended.now) l.subject.file.now) (take l.no-index l.faults.nos.now) l.lines.items

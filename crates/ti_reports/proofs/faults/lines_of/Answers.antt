@@ -1,4 +1,0 @@
-use Rattle.ti_reports.proofs.faults.lines_of.Goals as goal
-
-pub returns : goal.returns
-returns c = record { mended = c.in_ok-mended.mended; mends = c.in_ok-mended.ensures; each = c.in_ok-lines.ensures }

@@ -1,8 +1,0 @@
-use Rattle.std.proofs.Common.{◌≡◌, map, take}
-use Rattle.serde_json.specs.Data.{number, unsigned}
-use Rattle.serde_json.specs.View.{view}
-use Rattle.ti_reports.proofs.reports.numbers_value.Given as goal
-
--- the numbers before this one have their values
-abbrev pub invariant-loop-number : goal.invariant-loop-number
-invariant-loop-number l = map view l.items.items ≡ map (λ n. number (unsigned n)) (take l.number-index l.numbers)
