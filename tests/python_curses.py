@@ -20,7 +20,7 @@ import python_screen
 from linked import Terminal, missing, rooms
 from trying import PATIENCE, TOP, held_in, write
 
-HEADER = f"{TOP}/include/ticurses/curses.h"
+HEADERS = [f"{TOP}/include/ticurses/{it}.h" for it in ("curses", "attributes")]
 STANDARD = os.path.dirname(os.__file__)
 # tests of the interpreter that fail, as the page explains
 EXPLAINED = set()
@@ -92,8 +92,8 @@ class Package:
 
 
 def check_numbers(package):
-    """Each number of the package that the header has too is the header's."""
-    header = held_in(HEADER).decode()
+    """Each number of the package that the headers have too is theirs."""
+    header = "".join(held_in(it).decode() for it in HEADERS)
     found = re.findall(r"^#define ((?:A|COLOR|KEY)_\w+) (0x[0-9a-f]+|0[0-7]+|\d+)u?$", header, re.M)
     # C writes octal numbers with a leading zero
     wanted = {name: int(text, 8 if re.fullmatch("0[0-7]+", text) else 0) for name, text in found}

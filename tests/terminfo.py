@@ -12,7 +12,7 @@ import subprocess
 import sys
 import tempfile
 
-from linked import SANITIZED, STRICT, compiled, installed, missing
+from linked import SANITIZED, STRICT, installed, missing
 from trying import TOP, held_in, write
 
 HEADER = f"{TOP}/include/ticurses_terminfo.h"
@@ -71,7 +71,8 @@ def check_answers(prefix, work):
         subprocess.run([program], check=True)
     write(f"{work}/both.c", (held_in(source).decode().replace("int main(void) {", "#include <ticurses.h>\n\nint main(void) {"
           "\n    ticurses session = {0};\n    HOLD(ticurses_endwin(&session) == TICURSES_CLOSED);", 1)).encode())
-    compiled(prefix, f"{work}/both.c", f"{work}/both", *archives)
+    words = [f"-I{prefix}/include", f"{work}/both.c", *archives, f"{prefix}/lib/libticurses.a", "-o", f"{work}/both"]
+    subprocess.run(["cc", "-std=c99", *STRICT, *words], check=True)
     subprocess.run([f"{work}/both"], check=True)
     print("terminfo: every answer is as the header says, with the sanitizers and beside the library of sessions too")
 
