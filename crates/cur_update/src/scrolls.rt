@@ -29,7 +29,7 @@ struct Run {
     spared: u16,
 }
 
-/// What a scroll does to a line.
+/// The effect of a scroll on a line.
 enum Fate {
     /// It needn't be painted any more.
     Spared,
@@ -83,7 +83,7 @@ impl<'a> Pages<'a> {
         None
     }
 
-    /// What happens to the line `y` if lines move that `way`.
+    /// Returns the effect on the line `y` of moving lines in the direction `way`.
     fn fate(&self, y: u16, way: Way) -> Fate
         requires rows { (self.now.old.now).rows ≡ (self.now.new.now).rows }
         requires cols { (self.now.old.now).cols ≡ (self.now.new.now).cols }
@@ -298,7 +298,7 @@ fn pages_of<'a>(old: &'a Virtual, new: &'a Virtual, found: Findings<'a>) -> Opti
     })
 }
 
-/// What happens to a line that comes to its place by a scroll: a blank one is erased at once without it too.
+/// Returns the effect on `line`, which comes to its place by a scroll: a blank one is erased at once without it too.
 fn spared(line: &[Cell]) -> Fate {
     if written(line) > 0 {
         Fate::Spared

@@ -24,7 +24,7 @@ FillsBy false bytes old new code = (new ≡ bytes ++ drop (length bytes) old) ×
 abbrev pub Fills : List ℕ → List ℕ → List ℕ → ℤ → Type 0
 Fills bytes old new code = FillsBy (nat_lt (length old) (length bytes)) bytes old new code
 
--- bytes are written to the start of the caller's room if it is long enough, and their number is told in any case
+-- bytes are written to the start of the caller's room if it is long enough, and their number is given in either case
 abbrev pub DeliversBy : {V : Type 0} → (V → List ℕ) → Result V Failure → List ℕ → List ℕ → ℕ → ℤ → Type 0
 DeliversBy items (Ok bytes) old new needed code = (needed ≡ length (items bytes)) × Fills (items bytes) old new code
 DeliversBy items (Err e) old new needed code = (needed ≡ 0) × (new ≡ old) × (code ≡ failure_code e)
