@@ -62,7 +62,7 @@ impl Baseline {
     }
 }
 
-/// What a line says, if it is an object of a report.
+/// Reads a report's members from `line`, if it is an object of one.
 fn known_in(alloc: Global, line: &str) -> Result<Option<Known>, AllocError> {
     match serde_json::from_str(alloc, line) {
         Ok(known) => Ok(Some(known)),

@@ -236,7 +236,7 @@ fn end_line(region: Option<Region>) -> Option<usize> {
     region.map(|region| region.end_line)
 }
 
-/// The column behind the last byte of `region`.
+/// The column after the last byte of `region`.
 fn end_column(region: Option<Region>) -> Option<usize> {
     region.map(|region| region.end_column)
 }
