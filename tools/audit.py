@@ -56,7 +56,7 @@ COMMANDS = [
     ("feed --state, --json, --cases", [("ti_commands", "feed_state")]),
     ("infocmp", [("ti_commands", "print_entry"), ("ti_commands", "compare_entries")]),
     ("tic", [("ti_commands", "compile_entry")]),
-    ("verify", [("ti_verdicts", "verify_certificate")]),
+    ("verify", [("cur_commands", "verify_certificate")]),
     ("play", [("cur_commands", "play_script")]),
     ("show", [("cur_commands", "show_script")]),
     ("check", [("ti_verdicts", "check_entry"), ("ti_verdicts", "notes_on")]),

@@ -1,3 +1,4 @@
 pub mod RunFacts
 pub mod Answers
 pub mod Endings
+pub mod Verdicts

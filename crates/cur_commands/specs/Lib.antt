@@ -1,4 +1,6 @@
--- The definitions of the commands about scripts of calls.
+-- The definitions of the commands that read a certificate.
+pub mod Faults
+pub mod Verifications
 pub mod Held
 pub mod Stores
 pub mod Through

@@ -8,7 +8,7 @@ use Rattle.ti_files.specs.Contents.{AreBytesOf, Held}
 use Rattle.ti_commands.specs.Replies.{GivesEntry}
 use Rattle.ti_files.specs.Sizes.{SizeGiven}
 use Rattle.ti_files.specs.declared.failure.Failure.{Failure}
-use Rattle.ti_verdicts.specs.Verifications.{FailsToVerify, GivesConforming, HandsOut}
+use Rattle.cur_commands.specs.Verifications.{FailsToVerify, GivesConforming, HandsOut}
 use Rattle.ti_requests.specs.declared.request.VerifyWords.{VerifyWords}
 use Rattle.ti_requests.specs.declared.request.ScriptWords.{ScriptWords}
 

@@ -2,13 +2,13 @@
 ghost use Rattle.std.specs.Prelude.{◌≡◌, IfErr, IfOk};
 ghost use Rattle.cur_commands.specs.Preparations.{FailsToPrepare, Prepared};
 
+use crate::verifications::checked_at;
 use cur_scripts::LONGEST;
 use std::alloc::Global;
 use ti_cert::Checked;
 use ti_commands::entry_of;
 use ti_files::{Failure, Files, Remarks, read_whole, size_words};
 use ti_requests::ScriptWords;
-use ti_verdicts::checked_at;
 use vt_term::Size;
 
 /// A size, the strings of an entry that was verified for it, and the text of a script.

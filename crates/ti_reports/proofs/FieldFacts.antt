@@ -4,7 +4,6 @@ use Rattle.std.specs.Prelude.{String, map, string_bytes}
 use Rattle.std.specs.declared.alloc.Global.{Global}
 use Rattle.std.proofs.lemmas.List.{append-nil, map-append, take_all, take_more}
 use Rattle.ti_caps.specs.Entry.{Content}
-use Rattle.ti_checker.specs.declared.causes.No.{No}
 use Rattle.ti_faults.specs.declared.mended.Mended.{Mended}
 use Rattle.ti_reports.specs.Suggestions.{AddsField, AreFields, IsField, IsFieldIf, IsRightFor}
 
@@ -23,25 +22,25 @@ field_added cap string before after field is added =
 -- ---- one after another
 
 -- no capability
-pub no_fields : (entry : Content) (mended : Option Mended) (nos : List No) (fields : List (List ℕ)) → fields ≡ [] → AreFields entry mended nos [] fields
+pub no_fields : (entry : Content) (mended : Option Mended) (fields : List (List ℕ)) → fields ≡ [] → AreFields entry mended [] fields
 unfolding AreFields
-no_fields entry mended nos fields none = none
+no_fields entry mended fields none = none
 
 -- one more capability, after those before it
-fields_end : (entry : Content) (mended : Option Mended) (nos : List No) (caps : List ℕ) (cap : ℕ) (fields own : List (List ℕ)) (found : Option (List ℕ)) → AreFields entry mended nos caps fields → IsRightFor entry mended nos cap found → IsFieldIf cap found own
-    → AreFields entry mended nos (caps ++ cap ∷ []) (fields ++ own)
+fields_end : (entry : Content) (mended : Option Mended) (caps : List ℕ) (cap : ℕ) (fields own : List (List ℕ)) (found : Option (List ℕ)) → AreFields entry mended caps fields → IsRightFor entry mended cap found → IsFieldIf cap found own
+    → AreFields entry mended (caps ++ cap ∷ []) (fields ++ own)
 unfolding AreFields
-fields_end entry mended nos [] cap fields own found h right is = (found, own, [], ap (λ (fs : List (List ℕ)). fs ++ own) h ∙ sym (append-nil own), right, is, refl)
-fields_end entry mended nos (first ∷ caps) cap fields own found h right is =
-    (h.0, h.1, h.2 ++ own, ap (λ (fs : List (List ℕ)). fs ++ own) h.3 ∙ append_assoc h.1 h.2 own, h.4, h.5, fields_end entry mended nos caps cap h.2 own found h.6 right is)
+fields_end entry mended [] cap fields own found h right is = (found, own, [], ap (λ (fs : List (List ℕ)). fs ++ own) h ∙ sym (append-nil own), right, is, refl)
+fields_end entry mended (first ∷ caps) cap fields own found h right is =
+    (h.0, h.1, h.2 ++ own, ap (λ (fs : List (List ℕ)). fs ++ own) h.3 ∙ append_assoc h.1 h.2 own, h.4, h.5, fields_end entry mended caps cap h.2 own found h.6 right is)
 
-pub one_more : (entry : Content) (mended : Option Mended) (nos : List No) (caps : List ℕ) (i cap : ℕ) (fields more : List (List ℕ)) (found : Option (List ℕ)) → i < length caps → cap ≡ get_or caps i cap → AreFields entry mended nos (take i caps) fields
-    → IsRightFor entry mended nos cap found → AddsField cap found fields more → AreFields entry mended nos (take (i + 1) caps) more
+pub one_more : (entry : Content) (mended : Option Mended) (caps : List ℕ) (i cap : ℕ) (fields more : List (List ℕ)) (found : Option (List ℕ)) → i < length caps → cap ≡ get_or caps i cap → AreFields entry mended (take i caps) fields
+    → IsRightFor entry mended cap found → AddsField cap found fields more → AreFields entry mended (take (i + 1) caps) more
 unfolding AddsField
-one_more entry mended nos caps i cap fields more found inside is h right adds =
+one_more entry mended caps i cap fields more found inside is h right adds =
     let cut : take (i + 1) caps ≡ take i caps ++ cap ∷ [] = take_more caps i cap inside ∙ ap (λ c. take i caps ++ c ∷ []) (sym is) in
-    subst (λ (own : List ℕ). AreFields entry mended nos own more) (sym cut)
-    (subst (λ (fs : List (List ℕ)). AreFields entry mended nos (take i caps ++ cap ∷ []) fs) (sym adds.2) (fields_end entry mended nos (take i caps) cap fields adds.0 found h right adds.1))
+    subst (λ (own : List ℕ). AreFields entry mended own more) (sym cut)
+    (subst (λ (fs : List (List ℕ)). AreFields entry mended (take i caps ++ cap ∷ []) fs) (sym adds.2) (fields_end entry mended (take i caps) cap fields adds.0 found h right adds.1))
 
-pub all_fields : (entry : Content) (mended : Option Mended) (nos : List No) (caps : List ℕ) (i : ℕ) (fields : List (List ℕ)) → length caps ≤ i → AreFields entry mended nos (take i caps) fields → AreFields entry mended nos caps fields
-all_fields entry mended nos caps i fields past h = subst (λ (own : List ℕ). AreFields entry mended nos own fields) (take_all i caps past) h
+pub all_fields : (entry : Content) (mended : Option Mended) (caps : List ℕ) (i : ℕ) (fields : List (List ℕ)) → length caps ≤ i → AreFields entry mended (take i caps) fields → AreFields entry mended caps fields
+all_fields entry mended caps i fields past h = subst (λ (own : List ℕ). AreFields entry mended own fields) (take_all i caps past) h

@@ -2,6 +2,5 @@ pub mod FieldFacts
 pub mod FirstFacts
 pub mod NameFacts
 pub mod ReportFacts
-pub mod Sends
 pub mod ShownFacts
 pub mod SpelledFacts

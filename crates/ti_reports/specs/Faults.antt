@@ -1,6 +1,6 @@
 -- The reports on an entry: that it has a certificate, or each of its faults.
 use Rattle.std.specs.Prelude.{◌≡◌, ℕ, Bool, true, false, List, [], ◌∷◌, ◌++◌, Option, Some, None, IfSome, String, map}
-use Rattle.std.specs.Prelude.{string_bytes}
+use Rattle.std.specs.Prelude.{option_map, string_bytes}
 use Rattle.std.specs.List.{AllByRecursion}
 use Rattle.std.specs.declared.alloc.Global.{Global}
 use Rattle.ti_caps.specs.Entry.{Content, string_at}
@@ -9,11 +9,10 @@ use Rattle.ti_checker.specs.declared.causes.No.{No}
 use Rattle.ti_faults.specs.declared.mended.Mended.{Mended}
 use Rattle.ti_hints.specs.Places.{IsHintOf}
 use Rattle.ti_hints.specs.declared.hints.FieldHint.{FieldHint}
-use Rattle.ti_reports.specs.Explanations.{IsExplained}
+use Rattle.ti_reports.specs.Explanations.{HasDigits, ShowsRun}
 use Rattle.ti_reports.specs.Names.{AreAliases, HasName}
 use Rattle.ti_reports.specs.Hints.{HintText, IsHintPlace, hint_text}
 use Rattle.ti_reports.specs.Reports.{IsNothing, SaysWords}
-use Rattle.ti_reports.specs.Sent.{IsSentText}
 use Rattle.ti_reports.specs.Sources.{IsFaultyAt, IsNowhere, IsValuePlace}
 use Rattle.ti_reports.specs.Spellings.{IsSpelling}
 use Rattle.ti_reports.specs.Suggestions.{AreFields, IsMendedFor, IsSuggested, is_judged, mended_with, other_kind}
@@ -27,9 +26,11 @@ use Rattle.ti_reports.specs.declared.reports.Verdict.{Verdict}
 use Rattle.ti_reports.specs.declared.reports.Verdict.TheVariants as verdicts
 use Rattle.ti_source.specs.Layout.{lines_of}
 use Rattle.ti_surveys.specs.Parts.{is_part}
+use Rattle.ti_verdicts.specs.FaultRuns.{IsRunOf}
 use Rattle.ti_verdicts.specs.Parts.{HasParts}
 use Rattle.ti_verdicts.specs.Locations.{PlaceInSource, first_name, place_if}
 use Rattle.ti_verdicts.specs.Refusals.{cause_name}
+use Rattle.ti_verdicts.specs.declared.fault_runs.FaultRun.{FaultRun}
 use Rattle.ti_sources.specs.LinedFiles.{FileText, file_text}
 
 -- the text of these bytes is there
@@ -54,24 +55,27 @@ pub record ReportsYes (entry : Content) (height width : ℕ) (file : List ℕ) (
   pub faultless : IsNothing report.finding
 
 -- The subject of the reports on an entry's faults: the entry, the terminal's size, the texts of those files whose lines
--- were joined, the place of the entry, the faults that are reported, and the entry in which they are mended, if they
--- are all of its faults.
+-- were joined, the place of the entry, whether all of its faults are reported, these faults, and the entry in which
+-- they are mended, if there is one.
 pub record OfFaults : Type 0 where
   pub entry : Content
   pub height : ℕ
   pub width : ℕ
   pub originals : List FileText
   pub stands : Option PlaceInSource
+  pub all : Bool
   pub nos : List No
   pub mended : Option Mended
 
-abbrev pub of_faults : Content → ℕ → ℕ → List FileText → Option PlaceInSource → List No → Option Mended → OfFaults
-of_faults entry height width originals stands nos mended = record {
+abbrev pub of_faults : Content → ℕ → ℕ → List FileText → Option PlaceInSource → Bool → List No → Option Mended
+    → OfFaults
+of_faults entry height width originals stands all nos mended = record {
   entry = entry;
   height = height;
   width = width;
   originals = originals;
   stands = stands;
+  all = all;
   nos = nos;
   mended = mended;
 }
@@ -80,16 +84,18 @@ of_faults entry height width originals stands nos mended = record {
 pub record Finds (of : OfFaults) (refusal : No) (finding : Finding) : Type 0 where
   pub capability : HasWords (name_at refusal.cap) finding.capability
   pub parameters : finding.parameters.items ≡ refusal.params.items
-  pub bytes : IsSentText of.entry refusal finding.bytes
+  pub run : FaultRun
+  pub runs : IsRunOf of.entry of.height of.width refusal run
+  pub bytes : HasDigits (option_map (λ bytes. bytes.items) run.sent) finding.bytes
   pub place : IsValuePlace of.originals of.stands refusal.cap finding.place
   pub faulty_region : IfSome finding.faulty_region (IsFaultyAt of.originals of.stands refusal.cap)
   pub string_is : IsSpelling (string_at of.entry refusal.cap) finding.string
-  pub suggestion : IsSuggested of.entry of.mended of.nos refusal.cap finding.suggestion
-  pub suggested_with : AreFields of.entry of.mended of.nos (mended_with refusal.cap)
+  pub suggestion : IsSuggested of.entry of.mended refusal.cap finding.suggestion
+  pub suggested_with : AreFields of.entry of.mended (mended_with refusal.cap)
       (map string_bytes finding.suggested_with.items)
-  pub run : IsExplained of.entry of.height of.width refusal finding.run
+  pub explains : ShowsRun run finding.run
   pub judged : finding.judged ≡ Some (is_judged refusal.cause)
-  pub another_kind : finding.another_kind ≡ other_kind of.mended of.nos
+  pub another_kind : finding.another_kind ≡ other_kind of.all of.nos
 
 -- the entry has this fault
 pub record ReportsFault (of : OfFaults) (file : List ℕ) (refusal : No) (report : Report) : Type 0 where
@@ -110,7 +116,7 @@ pub record AreFaultReports (entry : Content) (height width : ℕ) (all : Bool) (
     (stands : Option PlaceInSource) (nos : List No) (reports : List Report) : Type 0 where
   pub mended : Option Mended
   pub mends : IsMendedFor all entry height width nos mended
-  pub each : HasParts (IsFaultReport (of_faults entry height width originals stands nos mended) file) nos reports
+  pub each : HasParts (IsFaultReport (of_faults entry height width originals stands all nos mended) file) nos reports
 
 -- a report for each fault, or one that there is none
 abbrev pub AreVerdicts : Content → ℕ → ℕ → Bool → List ℕ → List FileText → Option PlaceInSource → List No → List Report
@@ -198,4 +204,4 @@ pub record IsReportOn (subject : Subject) (verdict : Verdict) (cause : Option (S
 abbrev pub of_subject : Subject → List No → Option Mended → OfFaults
 of_subject subject nos mended =
     of_faults subject.entry.now subject.size.rows subject.size.cols (map file_text subject.originals.now)
-    (place_if subject.stands.now) nos mended
+    (place_if subject.stands.now) subject.lists_all nos mended

@@ -7,9 +7,7 @@ pub mod Forms
 pub mod Hints
 pub mod Lacks
 pub mod Names
-pub mod Ran
 pub mod Reports
-pub mod Sent
 pub mod Sizes
 pub mod Sources
 pub mod Spellings

@@ -10,12 +10,11 @@ ghost use Rattle.ti_verdicts.specs.Parts.{HasParts};
 ghost use Rattle.ti_verdicts.specs.Refusals.{cause_name};
 
 use crate::advice::advice_reports;
-use crate::explanations::explained;
+use crate::explanations::{explained, hex_if};
 use crate::hints::{Hinted, hint_reports};
 use crate::names::{entry_aliases, entry_name};
 use crate::places::{faulty_region, value_place};
 use crate::reports::{Finding, Report, Verdict};
-use crate::sent::sent_text;
 use crate::spellings::own_string;
 use crate::suggestions::{is_judged, mended_if, other_kind, suggested, suggested_with};
 use crate::texts::text_of;
@@ -26,7 +25,7 @@ use ti_faults::Mended;
 use ti_files::Remarks;
 use ti_sources::LinedFile;
 use ti_surveys::is_part;
-use ti_verdicts::{Judged, SourcePlace, cause_name, explain_no};
+use ti_verdicts::{Fault, FaultRun, Judged, SourcePlace, cause_name, explain_fault};
 use ti_words::NO_RESYNC;
 use vt_term::Size;
 
@@ -187,37 +186,38 @@ fn finding_of(
         (spec.of_subject subject.now faults.now.nos.now faults.now.mended.now) no.now finding) }
 {
     let entry = subject.entry;
-    let fault = Judged {
+    let judged = Judged {
         no,
         size: subject.size,
+    };
+    let run = FaultRun::new(alloc, entry, subject.size, no)?;
+    let fault = Fault {
+        entry,
+        judged,
+        run: &run,
     };
     Ok(Finding {
         capability: Some(cap_text(alloc, no.cap)?),
         parameters: Vec::from_slice(alloc, no.params.as_slice())?,
-        bytes: sent_text(alloc, entry, no)?,
+        bytes: hex_if(alloc, &run.sent)?,
         place: value_place(alloc, subject.stands, subject.originals, no.cap)?,
-        faulty_region: faulty_region(alloc, subject.stands, subject.originals, &fault)?,
+        faulty_region: faulty_region(alloc, subject.stands, subject.originals, &judged)?,
         string: own_string(alloc, entry, no.cap)?,
-        suggestion: suggested(alloc, entry, faults.mended, faults.nos, no.cap)?,
-        suggested_with: suggested_with(alloc, entry, faults.mended, faults.nos, no.cap)?,
-        run: explained(alloc, entry, subject.size, no)?,
+        suggestion: suggested(alloc, entry, faults.mended, no.cap)?,
+        suggested_with: suggested_with(alloc, entry, faults.mended, no.cap)?,
+        run: explained(alloc, &run)?,
         judged: Some(is_judged(no.cause)),
-        another_kind: other_kind(faults.mended, faults.nos),
-        explanation: explanation_of(alloc, entry, subject.size, no)?,
+        another_kind: other_kind(subject.lists_all, faults.nos),
+        explanation: explanation_of(alloc, &fault)?,
     })
 }
 
-/// The lines with which the plain form explains `no`, a fault of `entry`. Where no string begins what is sent first in
-/// an unknown state, it has none, and the line says what is wanted there.
-fn explanation_of(
-    alloc: Global,
-    entry: &Entry,
-    size: Size,
-    no: &No,
-) -> Result<Vec<String>, AllocError> {
+/// The lines with which the plain form explains the `fault`. Where no string begins what is sent first in an unknown
+/// state, it has none, and the line says what is wanted there.
+fn explanation_of(alloc: Global, fault: &Fault<'_>) -> Result<Vec<String>, AllocError> {
     let mut remarks = Remarks::new(alloc);
-    explain_no(alloc, entry, size, no, &mut remarks);
-    if remarks.lines().is_empty() && no.cause == Cause::NoResync {
+    explain_fault(alloc, fault, &mut remarks);
+    if remarks.lines().is_empty() && fault.judged.no.cause == Cause::NoResync {
         remarks.add_words(NO_RESYNC);
     }
     let mut texts = Vec::new(alloc);

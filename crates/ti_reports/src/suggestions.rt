@@ -3,9 +3,8 @@
 ghost use Rattle.std.specs.Prelude.{◌≡◌, ◌==◌, IfOk, IfSome, IsTrue, OnOk, Some, filter, map, not, string_bytes};
 ghost use Rattle.std.specs.Option.{option_copied};
 ghost use Rattle.ti_caps.specs.Fits.{string_fits};
-ghost use Rattle.ti_faults.specs.Remedies.{is_of_another_kind, is_switching, switching};
+ghost use Rattle.ti_faults.specs.Remedies.{is_switching, switching};
 ghost use Rattle.ti_reports.specs.Suggestions as spec;
-ghost use Rattle.ti_verdicts.specs.Remedies.{IsSuggestedBy};
 
 use crate::spellings::{source_form, written_if};
 use crate::texts::text_of;
@@ -22,6 +21,7 @@ use vt_term::Size;
 pub type Fields = Result<Vec<String>, AllocError>;
 
 /// The `entry` in which the faults `nos` are mended at once, if `lists_all`, that is, if they are all of its faults.
+/// `None` if they aren't, or if they show a terminal of another kind, for which nothing is suggested.
 pub fn mended_if(
     alloc: Global,
     lists_all: bool,
@@ -31,42 +31,34 @@ pub fn mended_if(
 ) -> Result<Option<Mended>, AllocError>
     ensures { IfOk result (λ mended. spec.IsMendedFor lists_all entry.now size.rows size.cols nos.now mended) }
 {
-    if lists_all {
+    if lists_all && !is_of_another_kind(nos) {
         Ok(Some(Mended::new(alloc, entry, size, nos)?))
     } else {
         Ok(None)
     }
 }
 
-/// The string that would be right for `cap` of `entry`, which is `mended`; `nos` are its faults. There is none if the
-/// entry isn't mended, or if the faults show a terminal of another kind.
+/// The string that would be right for `cap` of `entry`, if this is `mended`.
 pub fn suggested(
     alloc: Global,
     entry: &Entry,
     mended: &Option<Mended>,
-    nos: &[No],
     cap: Cap,
 ) -> Result<Option<Written>, AllocError>
-    ensures { IfOk result (λ written. spec.IsSuggested entry.now mended.now nos.now cap written) }
+    ensures { IfOk result (λ written. spec.IsSuggested entry.now mended.now cap written) }
 {
-    let found = right_string(entry, mended, nos, cap);
+    let found = right_string(entry, mended, cap);
     let written = written_if(alloc, found)?;
     Ok(written)
 }
 
 /// The fields of the other strings that are mended as one with that of `cap`, where these would be right for them.
-pub fn suggested_with(
-    alloc: Global,
-    entry: &Entry,
-    mended: &Option<Mended>,
-    nos: &[No],
-    cap: Cap,
-) -> Fields
-    ensures { IfOk result (λ fields. spec.AreFields entry.now mended.now nos.now (spec.mended_with cap)
+pub fn suggested_with(alloc: Global, entry: &Entry, mended: &Option<Mended>, cap: Cap) -> Fields
+    ensures { IfOk result (λ fields. spec.AreFields entry.now mended.now (spec.mended_with cap)
         (map string_bytes fields.items)) }
 {
     let caps = mended_with(alloc, cap)?;
-    let fields = fields_of(alloc, entry, mended, nos, caps.as_slice())?;
+    let fields = fields_of(alloc, entry, mended, caps.as_slice())?;
     Ok(fields)
 }
 
@@ -107,19 +99,13 @@ fn others(alloc: Global, cap: Cap) -> Result<Vec<Cap>, AllocError>
 
 /// The fields of those of `caps` for which there is a string that would be right.
 #[tactic(auto, using(crate::proofs::FieldFacts::no_fields, crate::proofs::FieldFacts::one_more, crate::proofs::FieldFacts::all_fields))]
-fn fields_of(
-    alloc: Global,
-    entry: &Entry,
-    mended: &Option<Mended>,
-    nos: &[No],
-    caps: &[Cap],
-) -> Fields
-    ensures { IfOk result (λ fields. spec.AreFields entry.now mended.now nos.now caps.now
+fn fields_of(alloc: Global, entry: &Entry, mended: &Option<Mended>, caps: &[Cap]) -> Fields
+    ensures { IfOk result (λ fields. spec.AreFields entry.now mended.now caps.now
         (map string_bytes fields.items)) }
 {
     let mut fields = Vec::new(alloc);
     for cap in caps {
-        let found = right_string(entry, mended, nos, *cap);
+        let found = right_string(entry, mended, *cap);
         add_field(alloc, &mut fields, *cap, found)?;
     }
     Ok(fields)
@@ -161,41 +147,25 @@ fn field_of(alloc: Global, cap: Cap, string: &[u8]) -> Result<String, AllocError
 }
 
 /// The string that would be right for `cap`, if the entry is `mended`.
-fn right_string(
-    entry: &Entry,
-    mended: &Option<Mended>,
-    nos: &[No],
-    cap: Cap,
-) -> Option<&'static [u8]>
-    ensures right { spec.IsRightFor entry.now mended.now nos.now cap (option_copied result) }
+fn right_string(entry: &Entry, mended: &Option<Mended>, cap: Cap) -> Option<&'static [u8]>
+    ensures right { spec.IsRightFor entry.now mended.now cap (option_copied result) }
     ensures fits { IfSome result (λ bytes. IsTrue (string_fits bytes.now)) }
 {
     match mended {
-        Some(mended) => right_by(entry, mended, nos, cap),
+        Some(mended) => suggestion(entry, mended, cap),
         None => None,
     }
 }
 
-/// The string that would be right for `cap` in the `mended` entry, unless the faults show a terminal of another kind.
-fn right_by(entry: &Entry, mended: &Mended, nos: &[No], cap: Cap) -> Option<&'static [u8]>
-    ensures right { IsSuggestedBy (is_of_another_kind nos.now) entry.now mended.now cap (option_copied result) }
-    ensures fits { IfSome result (λ bytes. IsTrue (string_fits bytes.now)) }
+/// Whether the faults `nos` of an entry show a terminal of another kind, if `lists_all`; else `None`, since they aren't
+/// all of its faults.
+pub fn other_kind(lists_all: bool, nos: &[No]) -> Option<bool>
+    ensures { result ≡ spec.other_kind lists_all nos.now }
 {
-    if is_of_another_kind(nos) {
-        None
+    if lists_all {
+        Some(is_of_another_kind(nos))
     } else {
-        suggestion(entry, mended, cap)
-    }
-}
-
-/// Whether the faults `nos` of an entry show a terminal of another kind; `None` if it isn't `mended`, since they then
-/// aren't all of its faults.
-pub fn other_kind(mended: &Option<Mended>, nos: &[No]) -> Option<bool>
-    ensures { result ≡ spec.other_kind mended.now nos.now }
-{
-    match mended {
-        Some(_) => Some(is_of_another_kind(nos)),
-        None => None,
+        None
     }
 }
 

@@ -1,4 +1,4 @@
-pub mod Verdicts
 pub mod Parts
 pub mod Listing
 pub mod RowFacts
+pub mod Sends

@@ -10,15 +10,20 @@ use Rattle.ti_checker.specs.declared.causes.No.{No}
 use Rattle.ti_checker.specs.declared.note_list.CheckNote.{CheckNote}
 use Rattle.ti_conforms.specs.Conforms.{Conforms}
 use Rattle.ti_files.specs.Contents.{Held, Stored}
+use Rattle.ti_commands.specs.Findings.{LacksEntry}
 use Rattle.ti_commands.specs.Replies.{GivesEntry}
-use Rattle.ti_files.specs.Sizes.{LacksSize, SizeGiven}
+use Rattle.ti_files.specs.Sizes.{HasSize, LacksSize, SizeGiven}
 use Rattle.ti_files.specs.declared.failure.Failure.{Failure}
 use Rattle.ti_files.specs.declared.failure.Failure.TheVariants.{File, NoMemory}
 use Rattle.ti_files.specs.declared.failure.Reply.{Reply}
 use Rattle.ti_verdicts.specs.Refusals.{TellsNo}
-use Rattle.ti_verdicts.specs.Verifications.{FailsAtEntry}
 use Rattle.ti_requests.specs.declared.request.CheckWords.{CheckWords}
 use denote.Ref.{Bor}
+
+-- the words of the size come first, then the entry
+pub record FailsAtEntry (held : Held) (rows cols word : List ℕ) (failure : Failure) : Type 0 where
+  pub sized : HasSize rows cols
+  pub lacks : LacksEntry held word failure
 
 -- the text of the checker is the certificate of the entry, which conforms
 pub record IsCertified (entry : Content) (rows cols : ℕ) (text : List ℕ) : Type 0 where

@@ -1,8 +1,8 @@
 -- The definitions of the commands about certificates.
-pub mod Verifications
 pub mod Checks
 pub mod NoteTexts
 pub mod Starts
+pub mod FaultRuns
 pub mod Remedies
 pub mod FaultLists
 pub mod Counts

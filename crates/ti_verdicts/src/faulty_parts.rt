@@ -4,12 +4,11 @@ ghost use Rattle.std.specs.Prelude.{IfOk};
 ghost use Rattle.ti_blames.specs.BlamedStretches.{IsWithinIf};
 ghost use Rattle.ti_verdicts.specs.Excerpts.{IsFaulty};
 
+use crate::fault_runs::row_of;
 use std::alloc::{AllocError, Global};
 use ti_blames::{Checked, CodeFault, Stretch, code_stretch, meant_stretch, pair_of, sent_stretch};
-use ti_caps::name;
 use ti_checker::{Cause, No};
 use ti_conforms::misfit;
-use ti_rows::Row;
 use ti_source::{EscapeFault, unescape};
 use vt_term::Size;
 
@@ -84,9 +83,4 @@ fn bad_pair(pairs: &[u8]) -> Option<Stretch>
         Some(letter) => pair_of(pairs, letter),
         None => None,
     }
-}
-
-/// The row of the table with the capability and the parameters of `no`.
-pub fn row_of(no: &No) -> Option<Row> {
-    Row::named(name(no.cap))?.with_params(no.params.as_slice())
 }

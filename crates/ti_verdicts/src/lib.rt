@@ -1,17 +1,17 @@
-//! The verdicts on an entry: the program's replies to `check` and `verify`, the words of a no, and its place in a source.
+//! The verdicts on an entry: the program's replies to `check`, the words of a no, and its place in a source.
 #![tactic(auto)]
 
 mod answers;
-mod certificates;
 mod certifiers;
 mod checks;
 mod excerpts;
 mod fault_lists;
-mod faults;
+mod fault_runs;
 mod faulty_parts;
 mod faulty_regions;
 mod indents;
 mod locations;
+mod looks;
 mod note_texts;
 mod reasons;
 mod refusals;
@@ -19,19 +19,17 @@ mod remedies;
 mod rows;
 mod source_places;
 mod starts;
-mod verifications;
 mod written;
 
 pub use answers::{Answer, answers_line, fault_answers};
 pub use certifiers::{Certifier, Checker};
 pub use checks::{check_entry, notes_on, store_text};
 pub use fault_lists::check_all;
-pub use faulty_parts::{Judged, row_of};
+pub use fault_runs::FaultRun;
+pub use faulty_parts::Judged;
 pub use locations::{PlacedFault, first_name, names_of, placed};
 pub use note_texts::note_lines;
-pub use reasons::explain_no;
-pub use refusals::{cause_name, no_failure, no_words};
+pub use reasons::{Fault, explain_fault, explain_no};
+pub use refusals::{cause_name, no_failure, no_words, verdict};
 pub use source_places::{LinedSource, SourcePlace};
-pub use starts::{probe_run_words, probe_words};
-pub use verifications::{checked_at, verify_certificate};
 pub use written::{Added, Lines};

@@ -1,37 +1,13 @@
-//! The fixed line that says why a certificate is refused, or why an entry has none.
+//! The fixed line that says why an entry has no certificate.
 
-ghost use Rattle.std.specs.Prelude.{◌≡◌, ◌++◌, ℕ, List, IfOk, OnOk};
+ghost use Rattle.std.specs.Prelude.{◌≡◌, ℕ, List, IfOk};
 ghost use Rattle.ti_verdicts.specs.Refusals as spec;
 
 use std::alloc::{AllocError, Global};
-use ti_caps::{Cap, name};
-use ti_cert::{CertFault, CertFaultKind};
+use ti_caps::name;
 use ti_checker::{Cause, No};
-use ti_files::{CommandRefusal, Failure, Pushed, parm_name};
+use ti_files::{CommandRefusal, Failure, parm_name};
 use ti_words::push_numbers;
-
-/// `line N: KIND` of `fault`, and the capability that the kind has.
-pub fn fault_words(alloc: Global, fault: &CertFault) -> Result<Vec<u8>, AllocError>
-    ensures { IfOk result (λ words. words.items ≡ spec.fault_text fault.now) }
-{
-    let line = fault.line;
-    let mut words = Vec::new(alloc);
-    words.extend_from_slice(format!(in alloc; "line {line}: ")?.as_bytes())?;
-    words.extend_from_slice(kind_name(&fault.kind))?;
-    push_cap(alloc, &fault.kind, &mut words)?;
-    Ok(words)
-}
-
-/// `Disagree CAP P..`, with the name of `cap` and the `numbers`.
-pub fn disagreement_words(alloc: Global, cap: Cap, numbers: &[u16]) -> Result<Vec<u8>, AllocError>
-    ensures { IfOk result (λ words. words.items ≡ spec.disagreement_text cap numbers.now) }
-{
-    let mut words = Vec::new(alloc);
-    words.extend_from_slice(b"Disagree ")?;
-    words.extend_from_slice(name(cap))?;
-    push_numbers(alloc, numbers, &mut words)?;
-    Ok(words)
-}
 
 /// `no CAP P..: CAUSE` of `no`.
 pub fn no_words(alloc: Global, no: &No) -> Result<Vec<u8>, AllocError>
@@ -95,37 +71,5 @@ pub fn cause_name(cause: Cause) -> &'static [u8]
         Cause::TooLong => b"TooLong",
         Cause::NoResync => b"NoResync",
         Cause::NoMemory => b"NoMemory",
-    }
-}
-
-fn kind_name(kind: &CertFaultKind) -> &'static [u8]
-    ensures { result.now ≡ spec.kind_name kind.now }
-{
-    match kind {
-        CertFaultKind::BadLine => b"BadLine",
-        CertFaultKind::Missing(_, _) => b"Missing ",
-        CertFaultKind::OutOfOrder => b"OutOfOrder",
-        CertFaultKind::NotWhole => b"NotWhole",
-        CertFaultKind::NotTame => b"NotTame",
-        CertFaultKind::NotShown => b"NotShown",
-        CertFaultKind::NoResync => b"NoResync",
-        CertFaultKind::BadLook => b"BadLook",
-        CertFaultKind::NoMemory => b"NoMemory",
-        CertFaultKind::ReadFailed => b"ReadFailed",
-    }
-}
-
-/// Appends the capability that `kind` has, with its parameters, to `words`.
-fn push_cap(alloc: Global, kind: &CertFaultKind, words: &mut Vec<u8>) -> Pushed
-    ensures { OnOk result (words.new.items ≡ words.old.items ++ spec.kind_cap kind.now) }
-{
-    match kind {
-        CertFaultKind::Missing(cap, params) => {
-            words.extend_from_slice(name(*cap))?;
-            push_numbers(alloc, params.as_slice(), words)
-        }
-        CertFaultKind::BadLine | CertFaultKind::OutOfOrder | CertFaultKind::NotWhole => Ok(()),
-        CertFaultKind::NotTame | CertFaultKind::NotShown | CertFaultKind::NoResync => Ok(()),
-        CertFaultKind::BadLook | CertFaultKind::NoMemory | CertFaultKind::ReadFailed => Ok(()),
     }
 }

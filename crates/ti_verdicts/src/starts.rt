@@ -1,4 +1,4 @@
-//! A terminal in the state that a probe describes.
+//! The state that a probe describes, in words.
 
 ghost use Rattle.std.specs.Prelude.{◌≡◌, IfOk, option_map};
 ghost use Rattle.ti_verdicts.specs.Starts as spec;
@@ -6,20 +6,11 @@ ghost use Rattle.ti_words.specs.{Runs.{IsRunText}, Starts.{start_text}};
 
 use std::alloc::{AllocError, Global};
 use ti_checker::Probe;
-use ti_words::{filled_terminal, run_words, start_words};
-use vt_term::{Rendition, Settings, Size, Terminal};
-
-/// A terminal of `size` in the state of `probe`; `None` if there is none.
-pub fn terminal_at(
-    alloc: Global,
-    size: Size,
-    probe: &Probe,
-) -> Result<Option<Terminal>, AllocError> {
-    filled_terminal(alloc, size, &settings_of(probe), probe.fill)
-}
+use ti_words::{run_words, start_words};
+use vt_term::{Rendition, Settings, Size};
 
 /// The state of `probe` on a terminal of `size`, in words.
-pub fn probe_words(alloc: Global, size: Size, probe: &Probe) -> Result<Vec<u8>, AllocError>
+pub(crate) fn probe_words(alloc: Global, size: Size, probe: &Probe) -> Result<Vec<u8>, AllocError>
     ensures { IfOk result (λ words. words.items
         ≡ start_text size.rows (spec.settings_of probe.now) probe.now.fill) }
 {
@@ -28,7 +19,7 @@ pub fn probe_words(alloc: Global, size: Size, probe: &Probe) -> Result<Vec<u8>, 
 
 /// The words for the changes by a run of `bytes` from the state of `probe` on a terminal of `size`; `None` if there is
 /// no such terminal, or the bytes don't run on it.
-pub fn probe_run_words(
+pub(crate) fn probe_run_words(
     alloc: Global,
     size: Size,
     probe: &Probe,

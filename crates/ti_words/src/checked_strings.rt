@@ -3,18 +3,15 @@
 
 use crate::escapes::push_spelled;
 use crate::numbers::push_numbers;
-use crate::starts::{push_rendition, start_words};
-use crate::states::seen_words;
 use crate::strings::parm_words;
-use crate::wanted::wanted_line;
-use std::alloc::{AllocError, Global};
+use std::alloc::Global;
 use ti_caps::{Cap, Entry, name};
-use ti_conforms::{SendFault, is_checked, misfit, send};
+use ti_conforms::{is_checked, misfit, send};
 use ti_files::{Made, Pushed, Remarks};
 use ti_parm::ParmFault;
 use ti_rows::{NO_LOOKS, Row};
 use vt_effects::effect_of;
-use vt_term::{Size, Terminal, tokens};
+use vt_term::{Size, tokens};
 
 /// The words about a string that reads a static variable.
 pub const STATIC_READ: &[u8] =
@@ -44,13 +41,16 @@ pub const STAYS_GRAPHIC: &[u8] =
     b"each string is right by itself, but they can leave the line drawing set active, and a program switches sets \
       only where acsc, smacs and rmacs are all there: its letters would show as lines";
 
-const NOT_SHOWN: &[u8] =
+/// The words about a string of which nothing wrong was found, and whose effect isn't the wanted one.
+pub const NOT_SHOWN: &[u8] =
     b"the string may be right: its effect is not the one that is wanted, but it goes wrong from none of the states \
       that were tried";
 
-const LED_THERE: &[u8] = b"the entry's other strings lead to these character sets";
+/// The words about a state that the string itself doesn't lead to.
+pub const LED_THERE: &[u8] = b"the entry's other strings lead to these character sets";
 
-const NOT_TOGETHER: &[u8] =
+/// The words about strings that are right by themselves, of which nothing wrong was found together.
+pub const NOT_TOGETHER: &[u8] =
     b"each string is right by itself, and nothing is wrong with all of them together: smacs and rmacs switch the \
       sets in every state that the other strings leave, and what leads out of an unknown state begins with ESC; but \
       no certificate could be made of them";
@@ -97,8 +97,9 @@ pub fn explain_pairs(alloc: Global, pairs: Option<&[u8]>, remarks: &mut Remarks)
     Ok(())
 }
 
-/// The first of the rows that lead a terminal of `size` out of an unknown state for which the entry sends any bytes.
-pub fn first_of_resync(alloc: Global, entry: &Entry, size: Size) -> Option<Row> {
+/// The first of the rows that lead a terminal of `size` out of an unknown state for which the entry sends any bytes,
+/// and these bytes.
+pub fn first_of_resync(alloc: Global, entry: &Entry, size: Size) -> Option<(Row, Vec<u8>)> {
     let csr = Row::Csr(0, (size.rows - 1) as u16);
     for row in [
         Row::Smcup,
@@ -108,54 +109,56 @@ pub fn first_of_resync(alloc: Global, entry: &Entry, size: Size) -> Option<Row> 
         csr,
         Row::Clear,
     ] {
-        if sends_some(alloc, entry, row) {
-            return Some(row);
+        if let Some(bytes) = some_sent(alloc, entry, row) {
+            return Some((row, bytes));
         }
     }
     None
 }
 
-/// Whether the entry sends anything for `row`.
-fn sends_some(alloc: Global, entry: &Entry, row: Row) -> bool {
+/// The bytes that the entry sends for `row`; `None` if there are none.
+fn some_sent(alloc: Global, entry: &Entry, row: Row) -> Option<Vec<u8>> {
     if !is_checked(entry, row) {
-        return false;
+        return None;
     }
     match send(alloc, entry.get_string(row.cap()).unwrap_or(&[]), row) {
-        Ok(bytes) => !bytes.is_empty(),
-        Err(_) => false,
+        Ok(bytes) if !bytes.is_empty() => Some(bytes),
+        Ok(_) | Err(_) => None,
     }
 }
 
-/// Adds a line with the entry's string for `row` and the bytes that it sends, and returns these bytes. If the string
-/// can't be expanded, the line has the words `unsent` instead of the bytes, and the result is `None`. If the entry
-/// doesn't have the string, no line is added.
+/// A string of an entry, for a row.
+#[derive(Clone, Copy)]
+pub struct Field<'a> {
+    /// The entry's names.
+    pub names: &'a [u8],
+    /// The row.
+    pub row: Row,
+    /// The string.
+    pub string: &'a [u8],
+    /// The bytes that the string sends for the row; `None` if it can't be expanded.
+    pub sent: &'a Option<Vec<u8>>,
+}
+
+/// Adds a line with the `field` and the bytes that it sends, or with the words `unsent` if it sends none.
 pub fn explain_field(
     alloc: Global,
-    entry: &Entry,
-    row: Row,
+    field: &Field<'_>,
     unsent: &[u8],
     remarks: &mut Remarks,
-) -> Result<Option<Vec<u8>>, AllocError> {
-    let Some(string) = entry.get_string(row.cap()) else {
-        return Ok(None);
-    };
-    let field = field_words(alloc, row, string)?;
-    let mut words = place_words(alloc, entry.names(), row)?;
-    match send(alloc, string, row) {
-        Ok(bytes) => {
+) -> Pushed {
+    let own = field_words(alloc, field.row, field.string)?;
+    let mut words = place_words(alloc, field.names, field.row)?;
+    match field.sent {
+        Some(bytes) => {
             words.extend_from_slice(b" sends '")?;
             push_spelled(&mut words, bytes.as_slice())?;
             words.extend_from_slice(b"'")?;
-            remarks.add(field.as_slice(), words.as_slice());
-            Ok(Some(bytes))
         }
-        Err(SendFault::NoMemory) => Err(AllocError),
-        Err(_) => {
-            words.extend_from_slice(unsent)?;
-            remarks.add(field.as_slice(), words.as_slice());
-            Ok(None)
-        }
+        None => words.extend_from_slice(unsent)?,
     }
+    remarks.add(own.as_slice(), words.as_slice());
+    Ok(())
 }
 
 /// The field of a source text that has `string` for `row`.
@@ -203,21 +206,9 @@ pub struct Sent<'a> {
     pub bytes: &'a [u8],
 }
 
-/// Explains that the bytes that were `sent` weren't judged right, though nothing wrong was found: because of their
-/// string alone, or, at `clear`, because of all strings of the entry together.
-pub fn explain_unshown(alloc: Global, sent: Sent<'_>, remarks: &mut Remarks) -> Pushed {
-    if sent.row == Row::Clear && does_its_own(alloc, sent) {
-        remarks.add_words(NOT_TOGETHER);
-        return Ok(());
-    }
-    remarks.add_words(wanted_line(alloc, sent.row)?.as_slice());
-    remarks.add_words(NOT_SHOWN);
-    Ok(())
-}
-
 /// Whether the effect of the bytes that were `sent` is the one that is asked for by their row, if no attribute can be
 /// seen. The set that `smacs` and `rmacs` leave active doesn't count.
-fn does_its_own(alloc: Global, sent: Sent<'_>) -> bool {
+pub fn has_own_effect(alloc: Global, sent: Sent<'_>) -> bool {
     let Ok(found) = tokens(alloc, sent.bytes) else {
         return false;
     };
@@ -225,44 +216,4 @@ fn does_its_own(alloc: Global, sent: Sent<'_>) -> bool {
         Some(effect) => effect == sent.row.asked(NO_LOOKS, &effect),
         None => false,
     }
-}
-
-/// Explains which renditions the bytes that were `sent` turn on. Their row must be one that turns on one attribute.
-pub fn explain_look(alloc: Global, sent: Sent<'_>, remarks: &mut Remarks) -> Pushed {
-    let mut terminal = Terminal::new(alloc, sent.size)?;
-    let _ = terminal.feed(sent.bytes);
-    let wanted = wanted_line(alloc, sent.row)?;
-    let mut words = Vec::from_slice(alloc, b"seen: sent after a reset, it makes the rendition")?;
-    push_rendition(terminal.rendition(), &mut words)?;
-    remarks.add_words(wanted.as_slice());
-    remarks.add_words(words.as_slice());
-    remarks.add_words(b"an attribute other than standout is shown by its own rendition or by none");
-    Ok(())
-}
-
-/// Explains what is wrong with the bytes that were `sent` by running them on `terminal`, which must have their size.
-/// All of its cells must show the character `fill`.
-pub fn explain_run(
-    alloc: Global,
-    sent: Sent<'_>,
-    mut terminal: Terminal,
-    fill: u8,
-    remarks: &mut Remarks,
-) -> Pushed {
-    let start = terminal.settings();
-    if terminal.feed(sent.bytes).is_err() {
-        return Ok(());
-    }
-    let wanted = wanted_line(alloc, sent.row)?;
-    let mut seen = Vec::from_slice(alloc, b"seen: ")?;
-    seen.extend_from_slice(seen_words(alloc, &start, &terminal, fill)?.as_slice())?;
-    let mut began = Vec::from_slice(alloc, b"start: ")?;
-    began.extend_from_slice(start_words(alloc, sent.size, &start, fill)?.as_slice())?;
-    remarks.add_words(began.as_slice());
-    if does_its_own(alloc, sent) {
-        remarks.add_words(LED_THERE);
-    }
-    remarks.add_words(wanted.as_slice());
-    remarks.add_words(seen.as_slice());
-    Ok(())
 }

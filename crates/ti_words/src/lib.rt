@@ -16,14 +16,14 @@ mod wanted;
 
 pub use certificates::{explain_disagreement, explain_line, first_line_words, missing_line_words};
 pub use checked_strings::{
-    NO_RESYNC, NOT_TAME, STATIC_READ, STAYS_GRAPHIC, Sent, TOO_LONG, explain_absent, explain_field,
-    explain_flag, explain_look, explain_pairs, explain_run, explain_unshown, first_of_resync,
-    unsent_words,
+    Field, LED_THERE, NO_RESYNC, NOT_SHOWN, NOT_TAME, NOT_TOGETHER, STATIC_READ, STAYS_GRAPHIC,
+    Sent, TOO_LONG, explain_absent, explain_field, explain_flag, explain_pairs, first_of_resync,
+    has_own_effect, unsent_words,
 };
 pub use escapes::push_spelled;
 pub use numbers::push_numbers;
 pub use remedies::{LEFT_OUT, OF_ANOTHER_KIND};
-pub use runs::{filled_terminal, run_words};
+pub use runs::run_words;
 pub use seen::Seen;
 pub use starts::{push_after, start_words};
 pub use strings::{explain_escape, explain_parm, explain_stuck, explain_token, explain_whole};

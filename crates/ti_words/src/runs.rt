@@ -46,7 +46,7 @@ fn words_from(
 
 /// A terminal of `size` with these `settings`, where every cell shows the character `fill`; `None` if the settings
 /// aren't on the screen, or the character can't be printed.
-pub fn filled_terminal(
+fn filled_terminal(
     alloc: Global,
     size: Size,
     settings: &Settings,

@@ -1,6 +1,6 @@
 //! The results that programs want from each checked string, in words.
 
-ghost use Rattle.std.specs.{Prelude.{◌≡◌, ◌++◌, IfOk, OnOk, codes}, Fmt.{decimal}};
+ghost use Rattle.std.specs.{Prelude.{◌≡◌, ◌++◌, IfOk, OnOk}, Fmt.{decimal}};
 ghost use Rattle.ti_words.specs.Starts.{if_so};
 ghost use Rattle.ti_words.specs.Wanted as spec;
 
@@ -18,15 +18,6 @@ pub fn wanted_words(alloc: Global, row: Row) -> Made
     words.extend_from_slice(fixed_words(row))?;
     push_look(alloc, row, &mut words)?;
     Ok(words)
-}
-
-/// The line that states the result that programs want from the string for `row`.
-pub fn wanted_line(alloc: Global, row: Row) -> Made
-    ensures { IfOk result (λ line. line.items ≡ codes "wanted: " ++ spec.wanted_text row) }
-{
-    let mut line = Vec::from_slice(alloc, b"wanted: ")?;
-    line.extend_from_slice(wanted_words(alloc, row)?.as_slice())?;
-    Ok(line)
 }
 
 const NO_MORE: &[u8] = b", and nothing else changes";

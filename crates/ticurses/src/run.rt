@@ -8,7 +8,7 @@ use crate::hints::{hint_join, hint_path};
 use crate::originals::{Kept, lined, originals};
 use crate::progress::SurveyLines;
 use crate::stored::Sources;
-use cur_commands::{play_script, show_script};
+use cur_commands::{play_script, show_script, verify_certificate};
 use std::alloc::Global;
 use std::io::{IsTerminal, Write};
 use ti_arguments::{Asked, ParsedLine, UsageFault, parse_line};
@@ -27,7 +27,7 @@ use ti_requests::{CheckWords, FaultsWords, Request, ScriptWords, SurveyWords};
 use ti_source::FaultKind;
 use ti_sources::LinedFile;
 use ti_surveys::{Survey, survey_files};
-use ti_verdicts::{Checker, check_all, check_entry, verify_certificate};
+use ti_verdicts::{Checker, check_all, check_entry};
 
 /// The output of a command, and the standard error.
 #[derive(Drop)]

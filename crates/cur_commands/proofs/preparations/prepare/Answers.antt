@@ -1,7 +1,7 @@
 use Rattle.std.proofs.Common.{inl, inr, subst}
 use Rattle.std.proofs.lemmas.Result.{err_from_is_err_and}
 use Rattle.ti_files.specs.Contents.{Held}
-use Rattle.ti_verdicts.specs.Verifications.{LacksCertificate}
+use Rattle.cur_commands.specs.Verifications.{LacksCertificate}
 use Rattle.cur_commands.proofs.preparations.prepare.Goals as goal
 
 pub returns-in_err-entry-clause-failure : goal.returns-in_err-entry-clause-failure

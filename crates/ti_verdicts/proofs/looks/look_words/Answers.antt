@@ -2,7 +2,7 @@ use Rattle.std.proofs.Common.{subst}
 use Rattle.vt_term.proofs.Runs.{runs_or_sticks}
 use Rattle.vt_term.specs.Run.{Sticks}
 use Rattle.vt_term.specs.Screen.{State, reset}
-use Rattle.ti_reports.proofs.looks.look_words.Goals as goal
+use Rattle.ti_verdicts.proofs.looks.look_words.Goals as goal
 
 -- the bytes got stuck
 pub returns : goal.returns

@@ -2,12 +2,13 @@
 
 ghost use Rattle.std.specs.Prelude.{◌≡◌, IfErr, IfOk};
 ghost use Rattle.ti_conforms.specs.Conforms.{Conforms};
-ghost use Rattle.ti_verdicts.specs.Refusals.{IsVerdict, TellsFault, fault_text};
-ghost use Rattle.ti_verdicts.specs.Verifications as spec;
+ghost use Rattle.cur_commands.specs.Faults.{TellsFault, fault_text};
+ghost use Rattle.ti_verdicts.specs.Refusals.{IsVerdict};
+ghost use Rattle.cur_commands.specs.Verifications as spec;
 
 use crate::certificates::CertificateFile;
+use crate::fault_words::{disagreement_words, fault_words};
 use crate::faults::explain_fault;
-use crate::refusals::{disagreement_words, fault_words, verdict};
 use std::alloc::Global;
 use std::io::Read;
 use ti_caps::Entry;
@@ -15,6 +16,7 @@ use ti_cert::{AgreeFault, CertFault, CertFaultKind, Checked, VerifyFault, verify
 use ti_commands::entry_of;
 use ti_files::{Failure, Files, Remarks, Replied, Reply, file_fault, size_words};
 use ti_requests::VerifyWords;
+use ti_verdicts::verdict;
 use ti_words::explain_disagreement;
 use vt_term::Size;
 

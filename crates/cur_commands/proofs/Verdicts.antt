@@ -11,8 +11,8 @@ use Rattle.ti_cert.specs.declared.faults.VerifyFault.TheVariants.{Cert, Agree}
 use Rattle.ti_files.specs.Contents.{IsLeft}
 use Rattle.ti_cert.specs.declared.faults.CertFaultKind.TheVariants.{BadLine, Missing, OutOfOrder, NotWhole, NotTame, NotShown, NoResync, BadLook, NoMemory, ReadFailed}
 use Rattle.ti_files.specs.declared.failure.Failure.{Failure}
-use Rattle.ti_verdicts.specs.Refusals.{IsOfKind, TellsFault, fault_text}
-use Rattle.ti_verdicts.specs.Verifications.{IsFaultOf, LacksCertificate}
+use Rattle.cur_commands.specs.Faults.{IsOfKind, TellsFault, fault_text}
+use Rattle.cur_commands.specs.Verifications.{IsFaultOf, LacksCertificate}
 
 -- ---- a certificate at a path
 

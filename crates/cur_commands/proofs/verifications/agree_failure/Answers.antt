@@ -1,6 +1,7 @@
 use Rattle.std.proofs.Common.{ℕ, List, subst}
-use Rattle.ti_verdicts.specs.Refusals.{IsVerdict, disagreement_text}
-use Rattle.ti_verdicts.proofs.verifications.agree_failure.Goals as goal
+use Rattle.cur_commands.specs.Faults.{disagreement_text}
+use Rattle.ti_verdicts.specs.Refusals.{IsVerdict}
+use Rattle.cur_commands.proofs.verifications.agree_failure.Goals as goal
 
 pub returns-in-Disagree : goal.returns-in-Disagree
 returns-in-Disagree c =

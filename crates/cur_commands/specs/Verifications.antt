@@ -8,13 +8,13 @@ use Rattle.ti_cert.specs.Texts.{IsCertRefused, IsTableOf}
 use Rattle.ti_cert.specs.declared.faults.VerifyFault.{VerifyFault}
 use Rattle.ti_conforms.specs.Conforms.{Conforms}
 use Rattle.ti_files.specs.Failures.{IsFileFailure}
-use Rattle.ti_commands.specs.Findings.{LacksEntry}
 use Rattle.ti_files.specs.Contents.{Held}
 use Rattle.ti_commands.specs.Replies.{GivesEntry, IsText}
-use Rattle.ti_files.specs.Sizes.{HasSize, LacksSize, SizeGiven}
+use Rattle.ti_files.specs.Sizes.{LacksSize, SizeGiven}
 use Rattle.ti_files.specs.declared.failure.Failure.{Failure}
 use Rattle.ti_files.specs.declared.failure.Reply.{Reply}
-use Rattle.ti_verdicts.specs.Refusals.{TellsFault}
+use Rattle.cur_commands.specs.Faults.{TellsFault}
+use Rattle.ti_verdicts.specs.Checks.{FailsAtEntry}
 use Rattle.ti_requests.specs.declared.request.VerifyWords.{VerifyWords}
 
 -- The strings that are handed out are for this size, and exactly those that the entry sends; the bytes of the
@@ -55,10 +55,6 @@ LacksCertificate known height width entry path failure =
     × TellsFault path fault failure)
 
 -- the words of the size come first, then the entry, then the certificate
-pub record FailsAtEntry (held : Held) (rows cols word : List ℕ) (failure : Failure) : Type 0 where
-  pub sized : HasSize rows cols
-  pub lacks : LacksEntry held word failure
-
 pub record FailsAtCertificate (held : Held) (words : VerifyWords) (failure : Failure) : Type 0 where
   pub height : ℕ
   pub width : ℕ

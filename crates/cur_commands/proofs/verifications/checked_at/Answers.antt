@@ -1,7 +1,7 @@
 use Rattle.std.proofs.Common.{◌∙◌, ap}
 use Rattle.ti_cert.specs.Texts.{IsTableOf}
-use Rattle.ti_verdicts.proofs.Verdicts.{cert_lacks, known_left}
-use Rattle.ti_verdicts.proofs.verifications.checked_at.Goals as goal
+use Rattle.cur_commands.proofs.Verdicts.{cert_lacks, known_left}
+use Rattle.cur_commands.proofs.verifications.checked_at.Goals as goal
 
 pub returns-in-Ok-verify_from-clause-hands_out : goal.returns-in-Ok-verify_from-clause-hands_out
 returns-in-Ok-verify_from-clause-hands_out g c =

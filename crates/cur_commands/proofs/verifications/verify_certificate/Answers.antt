@@ -1,8 +1,8 @@
 use Rattle.std.proofs.Common.{inl, inr, subst}
 use Rattle.std.proofs.lemmas.Result.{err_from_is_err_and}
 use Rattle.ti_files.specs.Contents.{Held}
-use Rattle.ti_verdicts.specs.Verifications.{LacksCertificate}
-use Rattle.ti_verdicts.proofs.verifications.verify_certificate.Goals as goal
+use Rattle.cur_commands.specs.Verifications.{LacksCertificate}
+use Rattle.cur_commands.proofs.verifications.verify_certificate.Goals as goal
 
 pub returns-in_err-entry-clause-failure : goal.returns-in_err-entry-clause-failure
 returns-in_err-entry-clause-failure g c =

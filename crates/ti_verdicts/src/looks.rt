@@ -1,14 +1,18 @@
 //! The rendition that bytes make after a reset, in words.
 
 ghost use Rattle.std.specs.Prelude.{◌≡◌, IfOk, option_map};
-ghost use Rattle.ti_reports.specs.Ran as spec;
+ghost use Rattle.ti_verdicts.specs.FaultRuns as spec;
 
 use std::alloc::{AllocError, Global};
 use ti_words::push_after;
 use vt_term::{Rendition, Size, Terminal};
 
 /// The words for the rendition that `bytes` make on a terminal of `size` after a reset; `None` if they don't run.
-pub fn look_words(alloc: Global, size: Size, bytes: &[u8]) -> Result<Option<Vec<u8>>, AllocError>
+pub(crate) fn look_words(
+    alloc: Global,
+    size: Size,
+    bytes: &[u8],
+) -> Result<Option<Vec<u8>>, AllocError>
     ensures { IfOk result (λ found. spec.IsLookText size.rows size.cols bytes.now
         (option_map (λ words. words.items) found)) }
 {
