@@ -92,9 +92,26 @@ typedef struct ticurses_raw_terminfo_param {
     bool is_text;
 } ticurses_raw_terminfo_param;
 
+/* A string or the names in a compiled file: the bytes, before a zero byte of the file; none if it is absent. */
+typedef struct ticurses_terminfo_part { const uint8_t *bytes; size_t len; bool is_there; } ticurses_terminfo_part;
+
+/* A number of a compiled file, 0 if it is absent. */
+typedef struct ticurses_terminfo_value { uint32_t number; bool is_there; } ticurses_terminfo_value;
+
+/* All values of a compiled file, at their positions. */
+typedef struct ticurses_terminfo_values {
+    ticurses_terminfo_part names;
+    bool flags[TICURSES_TERMINFO_FLAGS];
+    ticurses_terminfo_value numbers[TICURSES_TERMINFO_NUMBERS];
+    ticurses_terminfo_part strings[TICURSES_TERMINFO_STRINGS];
+} ticurses_terminfo_values;
+
 /* The functions that the library exports. Their pointers must not be null: programs call the functions below, which
  * test them. */
 int32_t ticurses_raw_terminfo_open(ticurses_terminfo *entry, const uint8_t *file, size_t file_len);
+int32_t ticurses_raw_terminfo_read(const uint8_t *file, size_t file_len, ticurses_terminfo_part *names, bool *flags,
+                                   size_t flag_count, ticurses_terminfo_value *numbers, size_t number_count,
+                                   ticurses_terminfo_part *strings, size_t string_count);
 int32_t ticurses_raw_terminfo_bare(ticurses_terminfo *entry);
 void ticurses_raw_terminfo_close(ticurses_terminfo *entry);
 int32_t ticurses_raw_terminfo_names(ticurses_terminfo *entry, uint8_t *room, size_t room_len, size_t *needed);
@@ -126,6 +143,26 @@ static inline int ticurses_terminfo_is_bad(const void *at, size_t len) { return 
 static inline int ticurses_terminfo_open(ticurses_terminfo *entry, const void *file, size_t file_len) {
     if (!entry || ticurses_terminfo_is_bad(file, file_len)) return TICURSES_TERMINFO_NULL;
     return ticurses_raw_terminfo_open(entry, ticurses_terminfo_bytes(file), file_len);
+}
+
+/* Reads all values of a compiled file, in either form of term(5), for a program that keeps the file: names and strings
+ * are parts of its bytes, and nothing is copied. A flag that the file lacks is off, and a number or a string that it
+ * lacks, or that is cancelled, isn't there. An extended section is skipped. TICURSES_TERMINFO_SHORT to
+ * TICURSES_TERMINFO_NO_NUL if the file has that fault; *values has no meaning then. Names that no source text can have
+ * and strings of any length are no faults, as they are in ticurses_terminfo_open. */
+static inline int ticurses_terminfo_read(ticurses_terminfo_values *values, const void *file, size_t file_len) {
+    ticurses_terminfo_part none = {ticurses_terminfo_bytes(file), 0, false};
+    ticurses_terminfo_value no_number = {0, false};
+    size_t i;
+    if (!values || ticurses_terminfo_is_bad(file, file_len)) return TICURSES_TERMINFO_NULL;
+    /* the library wants values that it can read */
+    values->names = none;
+    memset(values->flags, 0, sizeof values->flags);
+    for (i = 0; i < TICURSES_TERMINFO_NUMBERS; i++) values->numbers[i] = no_number;
+    for (i = 0; i < TICURSES_TERMINFO_STRINGS; i++) values->strings[i] = none;
+    return ticurses_raw_terminfo_read(none.bytes, file_len, &values->names, values->flags, TICURSES_TERMINFO_FLAGS,
+                                      values->numbers, TICURSES_TERMINFO_NUMBERS, values->strings,
+                                      TICURSES_TERMINFO_STRINGS);
 }
 
 /* Opens an entry that is named "unknown" and has no capabilities, for expansions alone. An open entry is closed if

@@ -9,14 +9,15 @@
 static char *bytes;
 static size_t room;
 
-/* The entry whose static variables count: the current terminal's, or one without capabilities. Null if memory ran
- * out. */
-static ticurses_terminfo *entry(void) {
-    static ticurses_terminfo bare;
-    static bool is_open;
-    if (cur_term) return &cur_term->entry;
-    if (!is_open) is_open = ticurses_terminfo_open_bare(&bare) == TICURSES_TERMINFO_OK;
-    return is_open ? &bare : NULL;
+/* The static variables that count: the current terminal's, or those for no terminal. They belong to an entry without
+ * capabilities. Null if memory ran out. */
+static ticurses_terminfo *variables(void) {
+    static ticurses_terminfo own;
+    static bool has_own;
+    ticurses_terminfo *entry = cur_term ? &cur_term->variables : &own;
+    bool *is_open = cur_term ? &cur_term->has_variables : &has_own;
+    if (!*is_open) *is_open = ticurses_terminfo_open_bare(entry) == TICURSES_TERMINFO_OK;
+    return *is_open ? entry : NULL;
 }
 
 /* Makes room for bytes and a zero byte. */
@@ -47,53 +48,87 @@ static char *fetched(ticurses_terminfo *from, int code, size_t len) {
     return code == TICURSES_TERMINFO_OK ? ended(len) : NULL;
 }
 
-char *tinfo_expand(const char *string, const int32_t *numbers, size_t count) {
-    ticurses_terminfo *from = entry();
+/* Expands a string of this length. */
+static char *expanded(const char *string, size_t string_len, const int32_t *numbers, size_t count) {
+    ticurses_terminfo *from = variables();
     size_t len;
     int code;
-    if (!string || !from || !make_room(0)) return NULL;
-    code = ticurses_terminfo_expand_numbers(from, string, strlen(string), numbers, count, bytes, room - 1, &len);
+    if (!from || !make_room(0)) return NULL;
+    code = ticurses_terminfo_expand_numbers(from, string, string_len, numbers, count, bytes, room - 1, &len);
     return fetched(from, code, len);
 }
 
-/* How many parameters a string names: the highest number after %p. */
+char *tinfo_expand(const char *string, const int32_t *numbers, size_t count) {
+    return string ? expanded(string, strlen(string), numbers, count) : NULL;
+}
+
+/* What is known of a string: its length, and how many parameters it names, which is the highest number after %p. */
+struct known {
+    const char *at;
+    size_t len;
+    int named;
+    char text[108];
+};
+
 static int named(const char *string) {
     int most = 0;
-    while (string && (string = strchr(string, '%')) != NULL && string[1]) {
-        if (string[1] == 'p' && string[2] >= '1' && string[2] <= '9' && string[2] - '0' > most) most = string[2] - '0';
+    while (*string && most < TICURSES_TERMINFO_PARAMS) {
+        if (*string++ != '%') continue;
+        if (string[0] == 'p' && string[1] > '0' + most && string[1] <= '9') most = string[1] - '0';
         /* the character of %'c' is no code */
-        string += string[1] == '\'' && string[2] ? 3 : 2;
+        if (string[0] == '\'' && string[1]) string++;
+        if (*string) string++;
     }
     return most;
 }
 
+/* A program expands the same few strings again and again, so what is known of them stays, in a place that the string's
+ * address picks. Another string may be there by now: so its text is compared. */
+static const struct known *known(const char *string) {
+    static struct known table[32], large;
+    struct known *it = &table[(uintptr_t)string / 4 % 32];
+    size_t len;
+    if (it->at == string && strcmp(it->text, string) == 0) return it;
+    len = strlen(string);
+    if (len >= sizeof it->text) it = &large;
+    else memcpy(it->text, string, len + 1);
+    it->at = string;
+    it->len = len;
+    it->named = named(string);
+    return it;
+}
+
 char *tparm(const char *string, ...) {
     int32_t numbers[TICURSES_TERMINFO_PARAMS];
-    int count = named(string);
+    const struct known *it;
     va_list rest;
+    if (!string) return NULL;
+    it = known(string);
     va_start(rest, string);
-    for (int at = 0; at < count; at++) numbers[at] = (int32_t)va_arg(rest, long);
+    for (int at = 0; at < it->named; at++) numbers[at] = (int32_t)va_arg(rest, long);
     va_end(rest);
-    return tinfo_expand(string, numbers, (size_t)count);
+    return expanded(string, it->len, numbers, (size_t)it->named);
 }
 
 char *tiparm(const char *string, ...) {
     int32_t numbers[TICURSES_TERMINFO_PARAMS];
-    int count = named(string);
+    const struct known *it;
     va_list rest;
+    if (!string) return NULL;
+    it = known(string);
     va_start(rest, string);
-    for (int at = 0; at < count; at++) numbers[at] = va_arg(rest, int);
+    for (int at = 0; at < it->named; at++) numbers[at] = va_arg(rest, int);
     va_end(rest);
-    return tinfo_expand(string, numbers, (size_t)count);
+    return expanded(string, it->len, numbers, (size_t)it->named);
 }
 
 char *tiparm_s(int count, int texts, const char *string, ...) {
     ticurses_terminfo_param given[TICURSES_TERMINFO_PARAMS] = {{NULL, 0, 0}};
-    ticurses_terminfo *from = entry();
+    ticurses_terminfo *from = variables();
     size_t len;
     int code;
     va_list rest;
-    if (count < 0 || count > TICURSES_TERMINFO_PARAMS || named(string) > count) return NULL;
+    if (!string || count < 0 || count > TICURSES_TERMINFO_PARAMS || named(string) > count) return NULL;
     va_start(rest, string);
     for (int at = 0; at < count; at++) {
         if (texts & 1 << at) {
@@ -105,7 +140,7 @@ char *tiparm_s(int count, int texts, const char *string, ...) {
         }
     }
     va_end(rest);
-    if (!string || !from || !make_room(0)) return NULL;
+    if (!from || !make_room(0)) return NULL;
     code = ticurses_terminfo_expand(from, string, strlen(string), given, (size_t)count, bytes, room - 1, &len);
     return fetched(from, code, len);
 }

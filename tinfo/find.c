@@ -21,39 +21,62 @@ struct search {
     bool has_database;
 };
 
-/* Reads a file of at most `room_len` bytes. Returns its length; 0 if it is longer, no file, or can't be read. */
-static size_t read_file(const char *path, unsigned char *room, size_t room_len) {
-    struct stat found;
+/* Reads up to `len` bytes of a file. Returns their number; 0 if they can't be read. */
+static size_t read_up_to(int file, char *room, size_t len) {
     size_t got = 0;
-    ssize_t now = -1;
-    int file = open(path, O_RDONLY | O_NONBLOCK | O_NOCTTY | O_CLOEXEC);
-    if (file < 0) return 0;
-    if (fstat(file, &found) == 0 && S_ISREG(found.st_mode) && (size_t)found.st_size <= room_len) {
-        do {
-            now = read(file, room + got, room_len - got);
-            if (now > 0) got += (size_t)now;
-        } while ((now > 0 && got < room_len) || (now < 0 && errno == EINTR));
-    }
-    close(file);
+    ssize_t now;
+    do {
+        now = read(file, room + got, len - got);
+        if (now > 0) got += (size_t)now;
+    } while ((now > 0 && got < len) || (now < 0 && errno == EINTR));
     return now < 0 ? 0 : got;
 }
 
-/* Reads the entry from FOLDER/x/NAME or FOLDER/78/NAME, x being the first letter of the name and 78 its code. A faulty
- * file counts as absent. */
-static bool read_in(struct search *search, const char *folder, size_t folder_len) {
-    char path[4096], sub[3] = {search->name[0], 0, 0};
-    unsigned char file[TINFO_ENTRY_MAX];
+/* The bytes of a file of at most TINFO_ENTRY_MAX, and a zero byte; null if it is longer, no file, or can't be read. */
+static char *bytes_of(const char *path, size_t *len) {
     struct stat found;
-    snprintf(path, sizeof path, "%.*s", (int)folder_len, folder);
-    if (folder_len >= sizeof path || stat(path, &found) != 0) return false;
-    search->has_database = true;
-    for (int kind = 0; kind < 2; kind++) {
-        int len = snprintf(path, sizeof path, "%.*s/%s/%s", (int)folder_len, folder, sub, search->name);
-        size_t got = len > 0 && (size_t)len < sizeof path ? read_file(path, file, sizeof file) : 0;
-        if (got > 0 && tinfo_read(search->terminal, file, got)) return true;
-        snprintf(sub, sizeof sub, "%02x", (unsigned)(unsigned char)search->name[0]);
+    char *bytes = NULL;
+    int file = open(path, O_RDONLY | O_NONBLOCK | O_NOCTTY | O_CLOEXEC);
+    if (file < 0) return NULL;
+    if (fstat(file, &found) == 0 && S_ISREG(found.st_mode) && found.st_size <= TINFO_ENTRY_MAX)
+        bytes = malloc((size_t)found.st_size + 1);
+    if (bytes) {
+        *len = read_up_to(file, bytes, (size_t)found.st_size);
+        bytes[*len] = 0;
     }
+    close(file);
+    return bytes;
+}
+
+/* Reads the entry from the file at this path. A faulty file counts as absent. */
+static bool read_file(struct search *search, const char *path) {
+    size_t len;
+    char *bytes = bytes_of(path, &len);
+    if (bytes && tinfo_read(search->terminal, bytes, len)) return true;
+    free(bytes);
     return false;
+}
+
+/* Reads the entry from FOLDER/x/NAME or FOLDER/78/NAME, x being the first letter of the name and 78 its code. */
+static bool read_in(struct search *search, const char *folder, size_t folder_len) {
+    const char *name = search->name;
+    size_t name_len = strlen(name);
+    char path[4096], *at = path + folder_len;
+    struct stat found;
+    if (folder_len + name_len + sizeof "/78/" > sizeof path) return false;
+    memcpy(path, folder, folder_len);
+    *at = 0;
+    if (stat(path, &found) != 0) return false;
+    search->has_database = true;
+    at[0] = at[2] = '/';
+    at[1] = name[0];
+    memcpy(at + 3, name, name_len + 1);
+    if (read_file(search, path)) return true;
+    at[1] = "0123456789abcdef"[(unsigned char)name[0] >> 4];
+    at[2] = "0123456789abcdef"[name[0] & 15];
+    at[3] = '/';
+    memcpy(at + 4, name, name_len + 1);
+    return read_file(search, path);
 }
 
 /* Reads the entry from the first of these folders that has it; their names have colons between them. */

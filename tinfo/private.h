@@ -15,17 +15,18 @@
 enum { TINFO_ENTRY_MAX = 32768, TINFO_NAME_MAX = 512 };
 
 struct term {
-    TERMTYPE type;           /* which macros of programs read, and which must come first; it points into the rest */
-    ticurses_terminfo entry; /* the proved entry, with the static variables of its strings */
+    TERMTYPE type; /* which macros of programs read, and which must come first; it points into the rest */
+    ticurses_terminfo variables; /* the static variables of its strings, once one was expanded */
+    bool has_variables;
     char flags[TICURSES_TERMINFO_FLAGS];
     short narrow[TICURSES_TERMINFO_NUMBERS];
     int numbers[TICURSES_TERMINFO_NUMBERS];
     char *strings[TICURSES_TERMINFO_STRINGS];
-    char *texts;             /* the names and all strings, each with a zero byte */
-    char *plain;             /* termcap's me, if that isn't sgr0 */
-    char *name;              /* as the program gave it */
+    char *file;  /* the compiled file, in which the names and the strings are */
+    char *plain; /* termcap's me, if that isn't sgr0 */
+    char *name;  /* as the program gave it */
     int fd;
-    short speed;             /* of the terminal's line; 0 if it has none */
+    short speed; /* of the terminal's line; 0 if it has none */
 };
 
 /* The place of a capability in its list, by its long name. */
@@ -46,9 +47,9 @@ enum {
 };
 
 /* entry.c */
-/* Gives a terminal, all of which is zeros, what a compiled file has. False if the file is faulty or memory ran out:
- * then the terminal holds nothing. */
-bool tinfo_read(TERMINAL *terminal, const unsigned char *file, size_t len);
+/* Gives a terminal what a compiled file of this length has; a zero byte must come after it. The terminal keeps the
+ * file, which malloc made. False if the file is faulty, which then is still the caller's. */
+bool tinfo_read(TERMINAL *terminal, char *file, size_t len);
 void tinfo_free(TERMINAL *terminal);
 void tinfo_set_number(TERMINAL *terminal, int at, int number);
 

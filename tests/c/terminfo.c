@@ -78,6 +78,27 @@ static void capabilities(void) {
     HOLD(needed == 5 && !memcmp(room, "t|tty", 5));
 }
 
+/* All values of the file at once, with names and strings where they are in it. */
+static void values(void) {
+    static ticurses_terminfo_values all;
+    unsigned char copy[sizeof file];
+    memcpy(copy, file, sizeof file);
+    copy[13] = '\n';
+    HOLD(ticurses_terminfo_read(&all, copy, sizeof copy) == TICURSES_TERMINFO_OK && all.names.bytes == copy + 12);
+    HOLD(ticurses_terminfo_read(&all, file, sizeof file) == TICURSES_TERMINFO_OK);
+    HOLD(all.names.is_there && all.names.bytes == file + 12 && all.names.len == 5);
+    HOLD(!all.flags[0] && all.flags[1] && !all.flags[2] && !all.flags[43]);
+    HOLD(all.numbers[0].is_there && all.numbers[0].number == 80);
+    HOLD(!all.numbers[1].is_there && !all.numbers[2].is_there && !all.numbers[38].is_there);
+    HOLD(!all.strings[0].is_there && !all.strings[2].is_there && !all.strings[4].is_there && !all.strings[413].is_there);
+    HOLD(all.strings[1].is_there && all.strings[1].len == 0 && all.strings[1].bytes == file + TABLE_AT);
+    HOLD(all.strings[3].is_there && all.strings[3].len == 16 && all.strings[3].bytes == file + TABLE_AT + 1);
+    HOLD(ticurses_terminfo_read(&all, file, sizeof file - 1) == TICURSES_TERMINFO_SHORT);
+    HOLD(ticurses_terminfo_read(&all, NULL, 0) == TICURSES_TERMINFO_SHORT);
+    HOLD(ticurses_terminfo_read(&all, NULL, 1) == TICURSES_TERMINFO_NULL);
+    HOLD(ticurses_terminfo_read(NULL, file, sizeof file) == TICURSES_TERMINFO_NULL);
+}
+
 /* The code for a string and one number. */
 static int expand(ticurses_terminfo *in, const char *text, int32_t number) {
     memset(room, 'r', sizeof room);
@@ -143,6 +164,7 @@ int main(void) {
     HOLD(ticurses_terminfo_open_bare(&other) == TICURSES_TERMINFO_OK);
     HOLD(ticurses_terminfo_names(&other, room, 7, &needed) == 0 && !memcmp(room, "unknown", 7));
     capabilities();
+    values();
     expansions();
     rooms();
     texts();

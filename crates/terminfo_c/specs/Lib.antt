@@ -5,3 +5,4 @@ pub mod Entries
 pub mod Expansions
 pub mod Handles
 pub mod Parameters
+pub mod Tables

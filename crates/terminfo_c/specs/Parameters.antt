@@ -1,5 +1,5 @@
 -- The parameters that a program passes.
-use Rattle.std.specs.Prelude.{ℕ, ℤ, Bool, List, Option, Some, None, nat_le, length, map, if◌then◌else◌, ◌&&◌}
+use Rattle.std.specs.Prelude.{ℤ, Bool, List, Option, Some, None, nat_le, length, map, if◌then◌else◌, ◌&&◌}
 use Rattle.std.specs.List.{list_all}
 use Rattle.ti_parm.specs.Value.{Value, Number, Text}
 use Rattle.terminfo_c.specs.declared.parameters.Parameter.{Parameter}

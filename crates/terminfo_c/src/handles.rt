@@ -62,8 +62,9 @@ pub struct Handle {
 const MARK: usize = 1_953_066_598;
 
 impl Handle {
-    /// Opens the handle with `held`. A entry that it held before is not freed.
+    /// Opens the handle, which must be closed, with `held`.
     pub fn put(&mut self, held: Box<Held, Global>)
+        requires { self.old.slot.held ≡ None }
         ensures { self.new.slot.held ≡ Some held.value }
     {
         *self = Handle {

@@ -10,5 +10,6 @@ mod handles;
 mod held;
 mod loose;
 mod parameters;
+mod tables;
 
 pub use handles::Handle;
