@@ -14,7 +14,7 @@ bool tcu_has_pair(int pair) {
 }
 
 bool has_colors(void) {
-    return tcu.is_open && entry_number("colors") >= SHADES && entry_string("setaf") && entry_string("setab") &&
+    return tcu.is_open && entry_colors() >= SHADES && entry_string("setaf") && entry_string("setab") &&
            entry_string("op");
 }
 

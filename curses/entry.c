@@ -1,18 +1,23 @@
-/* The terminal's terminfo entry, which is sought where ncurses seeks it, and its capabilities by name. The session's
- * library reads them. */
+/* The terminal's terminfo entry, which is sought where ncurses seeks it: its bytes, for the session, and its
+ * capabilities, as the library of <term.h> answers them of the terminal that it has made current. */
 #define _POSIX_C_SOURCE 200809L
 #include "private.h"
 
-#include <limits.h>
 #include <string.h>
 
 #include "../include/ticurses.h"
 #include "../include/ticurses_terminal.h"
+#define TICURSES_TERM_NO_NAMES /* since these macros are names of variables here */
+#include "../include/ticurses/term.h"
 
-static char held[TICURSES_ENTRY_MAX], long_name[256];
+static char held[TICURSES_ENTRY_MAX];
 static size_t held_len;
 
-/* The strings that were asked for, one after the other, each with a zero byte. */
+static TERMINAL *own;
+static int color_count;
+
+/* The strings that were asked for, one after the other, each with a zero byte: copies, since a program may free the
+ * terminal. */
 static char texts[TICURSES_ENTRY_MAX];
 static size_t texts_len;
 
@@ -27,22 +32,27 @@ static struct {
     {"sgr0", NULL},  {"smacs", NULL}, {"smir", NULL}, {"smkx", NULL},  {"smso", NULL},  {"smul", NULL},
 };
 
-/* Keeps the last name of the entry, which is for people. */
-static void find_long_name(void) {
-    const char *names = held + 12, *from = names;
-    size_t len = strnlen(names, ticurses_short_at((const unsigned char *)held, 2));
-    for (const char *at = names; at < names + len; at++)
-        if (*at == '|') from = at + 1;
-    snprintf(long_name, sizeof long_name, "%.*s", (int)(names + len - from), from);
-}
-
-bool entry_find(const char *type) {
+bool entry_find(const char *type, int fd) {
+    TERMINAL *former = cur_term;
+    int status;
     held_len = ticurses_entry(type, held, sizeof held);
-    texts_len = 0;
     if (held_len == 0) return false;
-    find_long_name();
+    /* a printing terminal is made current too, although the answer is ERR */
+    setupterm(type, fd, &status);
+    if (status != 1) {
+        set_curterm(former);
+        return false;
+    }
+    own = cur_term;
+    color_count = tigetnum("colors");
+    texts_len = 0;
     for (size_t at = 0; at < sizeof strings / sizeof *strings; at++) strings[at].text = entry_learn(strings[at].name);
     return true;
+}
+
+void entry_leave(void) {
+    if (own && own == cur_term) del_curterm(own);
+    own = NULL;
 }
 
 const void *entry_bytes(size_t *len) {
@@ -50,17 +60,13 @@ const void *entry_bytes(size_t *len) {
     return held;
 }
 
-const char *entry_long_name(void) {
-    return long_name;
-}
-
 const char *entry_learn(const char *name) {
+    const char *found = tigetstr(name);
     char *text = texts + texts_len;
-    size_t len, room = sizeof texts - texts_len;
-    /* the zero byte needs room too */
-    if (room == 0 || ticurses_string(held, held_len, NULL, 0, name, text, room - 1, &len) != TICURSES_OK) return NULL;
-    text[len] = 0;
-    texts_len += len + 1;
+    size_t len = found && found != (char *)-1 ? strlen(found) + 1 : 0;
+    if (len == 0 || len > sizeof texts - texts_len) return NULL;
+    memcpy(text, found, len);
+    texts_len += len;
     return text;
 }
 
@@ -70,8 +76,6 @@ const char *entry_string(const char *name) {
     return NULL;
 }
 
-int entry_number(const char *name) {
-    uint32_t number;
-    if (ticurses_number(held, held_len, NULL, 0, name, &number) != TICURSES_OK) return -1;
-    return number < INT_MAX ? (int)number : INT_MAX;
+int entry_colors(void) {
+    return color_count;
 }

@@ -9,6 +9,8 @@
 
 #include "../include/ticurses.h"
 #include "../include/ticurses_terminal.h"
+#define TICURSES_TERM_NO_NAMES /* since these macros are names of variables here */
+#include "../include/ticurses/term.h"
 #include "calls.h"
 
 struct ticurses_screen tcu;
@@ -25,9 +27,8 @@ static bool found(const char *type) {
         snprintf(fault, sizeof fault, "TERM is not set");
         return false;
     }
-    snprintf(tcu.type, sizeof tcu.type, "%s", type);
-    if (entry_find(type)) return true;
-    snprintf(fault, sizeof fault, "there is no terminfo entry for %s", tcu.type);
+    if (entry_find(type, tcu.output)) return true;
+    snprintf(fault, sizeof fault, "there is no terminfo entry for %s", type);
     return false;
 }
 
@@ -83,13 +84,17 @@ static bool is_begun(const char *type) {
 }
 
 SCREEN *newterm(const char *type, FILE *output, FILE *input) {
+    TERMINAL *former = cur_term;
     if (tcu.is_open || !output || !input) return NULL;
     tcu.stream = output;
     tcu.output = fileno(output);
     tcu.input = fileno(input);
     /* getch waits by pselect */
     if (tcu.output < 0 || tcu.input < 0 || tcu.input >= FD_SETSIZE) return NULL;
-    return is_begun(type) ? &tcu : NULL;
+    if (is_begun(type)) return &tcu;
+    entry_leave();
+    set_curterm(former);
+    return NULL;
 }
 
 WINDOW *initscr(void) {
@@ -110,6 +115,7 @@ void delscreen(SCREEN *screen) {
     for (int number = TCU_WINDOWS - 1; number >= 0; number--) tcu_freed(tcu.windows[number]);
     session_close();
     tcu_forget_keys();
+    entry_leave();
     stdscr = curscr = newscr = NULL;
     tcu.is_open = tcu.is_ended = false;
 }

@@ -57,7 +57,6 @@ struct ticurses_screen {
     bool is_unfit;         /* the terminal has a size that no session can have */
     int input, output;     /* descriptors */
     FILE *stream;          /* the output as the program has it */
-    char type[128];        /* the terminal's name */
     WINDOW *windows[TCU_WINDOWS];
     WINDOW newscr, curscr;
     bool is_cursor_left;   /* leaveok of the window that was copied last */
@@ -108,15 +107,18 @@ int tcu_put_cells(WINDOW *window, int line, int column, const chtype *cells, int
 bool tcu_has_pair(int pair);
 
 /* entry.c */
-bool entry_find(const char *type);
+/* Finds the entry of a terminal and makes that one current, for the program's own calls of <term.h> too; `fd` is for
+ * its output. If there is none, false, and the terminal that was current stays. */
+bool entry_find(const char *type, int fd);
+/* Frees the terminal, unless another one is current. */
+void entry_leave(void);
 const void *entry_bytes(size_t *len);
 /* A string of the entry, or null if it has none of this name. entry_learn is for keys: it reads the string, which stays
  * until entry_find is called again. entry_string is for all other names that this library asks for. */
 const char *entry_learn(const char *name);
 const char *entry_string(const char *name);
-/* A number of the entry, -1 if it has none of this name. */
-int entry_number(const char *name);
-const char *entry_long_name(void);
+/* How many colors the terminal has; negative if the entry doesn't say. */
+int entry_colors(void);
 
 /* beside.c */
 int beside_send(const char *text, bool is_waiting);

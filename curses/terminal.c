@@ -1,4 +1,4 @@
-/* The terminal itself: its bell, its cursor, its name and its abilities. */
+/* The terminal itself: its bell, its cursor and its abilities. */
 #include "private.h"
 
 #include "calls.h"
@@ -38,17 +38,6 @@ int napms(int milliseconds) {
 
 int delay_output(int milliseconds) {
     return tcu.is_open ? napms(milliseconds) : ERR;
-}
-
-char *termname(void) {
-    return tcu.is_open ? tcu.type : NULL;
-}
-
-char *longname(void) {
-    static char room[256];
-    if (!tcu.is_open) return NULL;
-    snprintf(room, sizeof room, "%s", entry_long_name());
-    return room;
 }
 
 /* The attributes for which the entry has a string of their own, and A_COLOR if the terminal has colors. */

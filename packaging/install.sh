@@ -102,7 +102,7 @@ made=$(mktemp)
 trap 'rm -f -- "$made"' EXIT
 found=" -Wl,-rpath,\${libdir}"
 case $PREFIX in /usr | /) found= ;; esac
-# a .pc file: its name, what it describes, the folder of its headers and its libraries
+# a .pc file: its name, what it describes, the folder of its headers, its libraries and what it requires
 configure() {
     cat >"$made" <<END
 prefix=$PREFIX
@@ -111,7 +111,8 @@ libdir=\${prefix}/lib
 
 Name: $1
 Description: $2
-Version: @VERSION@
+Version: @VERSION@${5:+
+Requires: $5}
 Cflags: -I\${includedir}$3
 Libs: -L\${libdir}$found $4
 END
@@ -121,7 +122,8 @@ configure ticurses "Curses sessions with a proved refresh" "" -lticurses
 configure ticurses-terminfo "Terminfo entries and a proved expansion of their strings" "" -lticurses_terminfo
 configure ticurses-tinfo "terminfo and termcap over a proved expansion of parameter strings" /ticurses \
     "-lticurses_tinfo -lticurses_terminfo"
-configure ticurses-curses "X/Open Curses over sessions with a proved refresh" /ticurses "-lticurses_curses -lticurses"
+configure ticurses-curses "X/Open Curses over sessions with a proved refresh" /ticurses "-lticurses_curses -lticurses" \
+    ticurses-tinfo
 printf '"""Where the libraries are installed, as install.sh wrote it."""\n\nLIBRARY: str = "%s"\nTERMINFO: str = "%s"\n' \
     "$library" "$terminfo" >"$made"
 put python/ticurses/_installed.py "$made"

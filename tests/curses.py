@@ -115,8 +115,8 @@ def judge_page():
     header = functions | variables | MACROS
     absent = held_in(f"{curses_library.INCLUDE}/not_there.h").decode()
     absent = set(re.findall(r"^#define (\w+)\(\.\.\.\)", absent, re.M))
-    # another library has these
-    absent |= set(tinfo_library.exported()) - header
+    # the library below has these
+    header |= set(tinfo_library.exported())
     past = held_in(PAGE).decode().partition("\n## Past the standard\n")[2].partition("\n## ")[0]
     past = set(re.findall(r"`(\w+)`", past))
     wrong = {it for it, kind in page.items() if (it in absent) != (kind == "not there")}
@@ -184,7 +184,7 @@ class Compiled:
     def __init__(self, work, prefix):
         self.work = work
         words = [f"-I{prefix}/include/ticurses", f"-L{prefix}/lib", f"-Wl,-rpath,{prefix}/lib"]
-        words += ["-lticurses_curses", "-lticurses"]
+        words += ["-lticurses_curses", "-lticurses", "-lticurses_tinfo", "-lticurses_terminfo"]
         if shutil.which("pkg-config"):
             given = {**os.environ, "PKG_CONFIG_PATH": f"{prefix}/lib/pkgconfig"}
             line = ["pkg-config", "--cflags", "--libs", "ticurses-curses"]
@@ -446,6 +446,11 @@ def judge_signals(made):
     print("curses: an interrupt ends the game, and ^Z stops it, with the terminal as it was before; it goes on and draws anew")
 
 
+def below(prefix):
+    """The archives that the library stands on."""
+    return [f"{prefix}/lib/lib{it}.a" for it in ("ticurses_tinfo", "ticurses_terminfo", "ticurses")]
+
+
 def judge_random(work, prefix):
     """Random calls on a terminal that doesn't exist, with the sanitizers and under valgrind. Calls that write text
     answer alike, and leave the same windows, whether the text waits or is sent at once."""
@@ -453,7 +458,7 @@ def judge_random(work, prefix):
     sources = [f"{curses_library.SOURCES}/{it}" for it in curses_library.sources()]
     words = ["cc", "-std=c99", "-O1", "-w", f"-I{curses_library.INCLUDE}", f"{HERE}/random.c"]
     for name, own in ((f"{made}_sanitized", SANITIZED), (made, ["-g"])):
-        if subprocess.run([*words, *own, *sources, f"{prefix}/lib/libticurses.a", "-o", name]).returncode:
+        if subprocess.run([*words, *own, *sources, *below(prefix), "-o", name]).returncode:
             fail("random.c doesn't compile")
     tries = [[f"{made}_sanitized", str(seed), "30000"] for seed in seeds]
     tries += [[made, str(seed), "30000", "once"] for seed in seeds]
@@ -496,7 +501,7 @@ class Watched:
         line = ["cc", "-w", "-g", "-O1", f"-I{curses_library.INCLUDE}", *words, "-c", *sources]
         objects = [f"{room}/objects/{it[:-2]}.o" for it in curses_library.sources()]
         objects += [f"{room}/{name}.objects/{os.path.basename(it)[:-2]}.o" for it in sources]
-        link = ["cc", *own, *objects, f"{self.prefix}/lib/libticurses.a", "-lm", "-o", f"{room}/{name}"]
+        link = ["cc", *own, *objects, *below(self.prefix), "-lm", "-o", f"{room}/{name}"]
         for words in (line, link):
             if subprocess.run(words, cwd=f"{room}/{name}.objects").returncode:
                 fail(f"{name} doesn't compile for {tool}")

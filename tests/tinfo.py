@@ -295,6 +295,13 @@ def judge_valgrind(work, folder):
     print("tinfo: less and bash over the drop-in make no error that valgrind sees")
 
 
+def flags_of(prefix, name):
+    """What pkg-config says of a library."""
+    given = {**os.environ, "PKG_CONFIG_PATH": f"{prefix}/lib/pkgconfig"}
+    line = ["pkg-config", "--cflags", "--libs", name]
+    return subprocess.run(line, env=given, stdout=subprocess.PIPE, text=True, check=True).stdout.split()
+
+
 def judge_page(work, prefix):
     """The program of docs/TERMINFO.md compiles by its line, without a warning, and draws."""
     page = held_in(f"{TOP}/docs/TERMINFO.md").decode()
@@ -304,9 +311,7 @@ def judge_page(work, prefix):
     words = [f"-I{prefix}/include/ticurses", f"-L{prefix}/lib", f"-Wl,-rpath,{prefix}/lib"]
     words += ["-lticurses_tinfo", "-lticurses_terminfo"]
     if shutil.which("pkg-config") and os.path.exists(f"{prefix}/lib/pkgconfig/ticurses-tinfo.pc"):
-        given = {**os.environ, "PKG_CONFIG_PATH": f"{prefix}/lib/pkgconfig"}
-        line = ["pkg-config", "--cflags", "--libs", "ticurses-tinfo"]
-        words = subprocess.run(line, env=given, stdout=subprocess.PIPE, text=True, check=True).stdout.split()
+        words = flags_of(prefix, "ticurses-tinfo")
     if subprocess.run(["cc", *STRICT, f"{work}/show.c", *words, "-o", f"{work}/show"]).returncode:
         fail("the program of docs/TERMINFO.md doesn't compile")
     ran = subprocess.run([f"{work}/show"], env={**os.environ, "TERM": "vt100"}, stdout=subprocess.PIPE)
@@ -336,6 +341,33 @@ def judge_headers(work, prefix):
             if subprocess.run(words).returncode:
                 fail(f"{' '.join(words)} is refused, with {order}")
     print(f"tinfo: the headers compile without a warning in {len(tries)} ways and {len(orders)} orders")
+
+
+def judge_curses(work, prefix):
+    """A program of <curses.h> and <term.h>: what initscr has made current answers as in ncurses."""
+    if not os.path.exists(f"{prefix}/lib/libticurses_curses.so") or missing("tinfo", "script"):
+        print("tinfo: the library of <curses.h> or the program script is missing, and they aren't tried together")
+        return
+    here = [f"-I{prefix}/include/ticurses", f"-L{prefix}/lib", f"-Wl,-rpath,{prefix}/lib", "-lticurses_curses"]
+    here += ["-lticurses", "-lticurses_tinfo", "-lticurses_terminfo"]
+    if shutil.which("pkg-config"):
+        here = flags_of(prefix, "ticurses-curses")
+    archives = [f"{prefix}/lib/lib{it}.a" for it in ("ticurses_curses", "ticurses", "ticurses_tinfo", "ticurses_terminfo")]
+    ways = {"ncurses": ["-w", "-lncurses", "-ltinfo"], "shared": [*STRICT, *here]}
+    ways["archives"] = [*STRICT, f"-I{prefix}/include/ticurses", *archives]
+    told = []
+    for way, words in ways.items():
+        program = f"{work}/with_curses_{way}"
+        if subprocess.run(["cc", "-std=gnu99", "-O1", f"{HERE}/with_curses.c", *words, "-o", program]).returncode:
+            fail(f"with_curses.c doesn't compile for {way}")
+        line = ["script", "-qec", f"stty rows 24 cols 80; {program} {program}.told", "/dev/null"]
+        ran = subprocess.run(line, env={**os.environ, "TERM": "xterm-256color"}, capture_output=True)
+        if ran.returncode:
+            fail(f"with_curses over {way} ends with status {ran.returncode}: {ran.stdout[-300:]}")
+        told.append(held_in(f"{program}.told").decode())
+    if len(set(told)) != 1 or len(told[0].splitlines()) < 40:
+        fail(f"with a screen of <curses.h> ncurses tells {told[0]}, and here {told[1]}, and {told[2]}")
+    print(f"tinfo: initscr makes a terminal current that answers as in ncurses, {len(told[0].splitlines())} lines")
 
 
 # what both modules print: expansions, errors, and what putp sends
@@ -450,6 +482,7 @@ def judge_all(work, prefix, folder, strings):
     judge_rights(work, prefix)
     judge_random(work, prefix, strings)
     judge_valgrind(work, folder)
+    judge_curses(work, prefix)
     judge_python(prefix)
     judge_sources(work, prefix)
     same, tried = tinfo_programs.judge_programs(work, folder, [])

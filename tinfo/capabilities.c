@@ -1,4 +1,4 @@
-/* Capabilities by terminfo's names. */
+/* The current terminal's names, and its capabilities by terminfo's names. */
 #include "private.h"
 
 #include <string.h>
@@ -23,4 +23,14 @@ int tigetnum(const char *name) {
 char *tigetstr(const char *name) {
     int at = cur_term ? place_of(name, strnames) : -1;
     return at < 0 ? (char *)-1 : cur_term->strings[at];
+}
+
+char *longname(void) {
+    char *last = cur_term ? strrchr(cur_term->type.term_names, '|') : NULL;
+    if (last) return last + 1;
+    return cur_term ? cur_term->type.term_names : NULL;
+}
+
+char *termname(void) {
+    return cur_term ? cur_term->name : NULL;
 }

@@ -1,6 +1,7 @@
 """Compiles the library of <ticurses/curses.h>, in both forms, from the C sources in curses/.
 
-    python3 -B tools/curses_library.py FOLDER LIBTICURSES.so     leaves them in FOLDER; for a try by hand
+    python3 -B tools/curses_library.py FOLDER LIBTICURSES.so LIBTICURSES_TINFO.so     leaves them in FOLDER, over these
+                                                              libraries; for a try by hand
 
 The library isn't proved. It is compiled anew whenever it is installed or packed, which takes seconds."""
 
@@ -16,7 +17,9 @@ from version import VERSION
 SOURCES = f"{TOP}/curses"
 INCLUDE = f"{TOP}/include/ticurses"
 # curses.h and what it includes, and the two names by which programs include it too
-HEADERS = ("curses.h", "ncurses.h", "unctrl.h", "not_there.h", "attributes.h", "panel.h", "menu.h", "form.h")
+HEADERS = (
+    "curses.h", "ncurses.h", "unctrl.h", "not_there.h", "term_calls.h", "attributes.h", "panel.h", "menu.h", "form.h",
+)
 ARCHIVE = "libticurses_curses.a"
 SONAME = f"libticurses_curses.so.{VERSION.split('.')[0]}"
 FLAGS = ["-std=c99", "-O2", "-fPIC", "-Wall", "-Wextra", "-Wconversion", "-Wshadow"]
@@ -28,6 +31,7 @@ libdir={libdir}
 Name: ticurses-curses
 Description: X/Open Curses over sessions with a proved refresh
 Version: {version}
+Requires: ticurses-tinfo
 Cflags: -I${{includedir}}/ticurses
 Libs: -L${{libdir}}{found} -lticurses_curses -lticurses
 """
@@ -47,9 +51,9 @@ def sources():
     return sorted(it for it in os.listdir(SOURCES) if it.endswith(".c"))
 
 
-def built(room, shared, searched=""):
-    """Leaves both forms in the folder. `shared` is the library of sessions that the shared form needs, and `searched`
-    where that is looked for by the form itself, as $ORIGIN; by default where the system looks."""
+def built(room, below, searched=""):
+    """Leaves both forms in the folder. `below` are the libraries that the shared form needs, of sessions and of term.h,
+    and `searched` where they are looked for by the form itself, as $ORIGIN; by default where the system looks."""
     compiler, archiver, copier = (os.environ.get(it) or other for it, other in TOOLS)
     with tempfile.TemporaryDirectory() as work:
         # paths of this machine are in no file
@@ -70,10 +74,10 @@ def built(room, shared, searched=""):
         # hold those itself, such as stdscr, and the library must use the program's.
         words = ["-shared", "-Wl,-Bsymbolic-functions", f"-Wl,-soname,{SONAME}", "-Wl,--version-script,exported"]
         words += [f"-Wl,-rpath,{searched}"] if searched else []
-        words += ["-o", f"{os.path.abspath(room)}/{SONAME}", "ticurses_curses.o", os.path.abspath(shared)]
+        words += ["-o", f"{os.path.abspath(room)}/{SONAME}", "ticurses_curses.o", *map(os.path.abspath, below)]
         run([*compiler.split(), *words], cwd=work)
 
 
 if __name__ == "__main__":
     os.makedirs(sys.argv[1], exist_ok=True)
-    built(sys.argv[1], sys.argv[2], "$ORIGIN")
+    built(sys.argv[1], sys.argv[2:4], "$ORIGIN")

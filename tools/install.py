@@ -191,8 +191,8 @@ def compiled(where, room):
     """The files of the libraries of curses.h and of term.h, compiled into the room; none where there is no compiler."""
     searched = "" if where.is_known() else "$ORIGIN"
     try:
-        curses.built(room, LIBRARY.files[1], searched)
         tinfo.built(room, *TERMINFO.files, searched)
+        curses.built(room, [LIBRARY.files[1], f"{room}/{tinfo.SONAME}"], searched)
     except Failed as failed:
         if failed.status != 127:
             raise

@@ -122,8 +122,8 @@ class Compiled:
 
     def __init__(self, searched):
         with tempfile.TemporaryDirectory() as room:
-            curses.built(room, LIBRARY.files[1], searched)
             tinfo.built(room, *TERMINFO.files, searched)
+            curses.built(room, [LIBRARY.files[1], f"{room}/{tinfo.SONAME}"], searched)
             self.archives = {it.ARCHIVE: read(f"{room}/{it.ARCHIVE}") for it in (curses, tinfo)}
             self.shared = {it.SONAME: stripped(f"{room}/{it.SONAME}") for it in (curses, tinfo)}
             self.drop_in = stripped(f"{room}/{tinfo.DROP_IN}")

@@ -18,7 +18,9 @@ from linking import TOOLS, run
 from version import VERSION
 
 SOURCES = f"{TOP}/tinfo"
-HEADERS = ("term.h", "termcap.h", "term_names.h", "attributes.h")
+HEADERS = ("term.h", "termcap.h", "term_calls.h", "term_names.h", "attributes.h")
+# those that declare functions and variables
+DECLARING = HEADERS[:3]
 ARCHIVE = "libticurses_tinfo.a"
 SONAME = f"libticurses_tinfo.so.{VERSION.split('.')[0]}"
 # an object of its own in the archive: its names are those of another library too
@@ -70,7 +72,7 @@ def names_header():
 
 def exported():
     """The names that the library's headers declare."""
-    found = set().union(*declared(f"{INCLUDE}/term.h"), *declared(f"{INCLUDE}/termcap.h"))
+    found = set().union(*(names for it in DECLARING for names in declared(f"{INCLUDE}/{it}")))
     # a variable comes with words of its type
     return sorted({it.split()[-1] for it in found})
 

@@ -15,7 +15,7 @@
 #endif
 #include <stdio.h>
 
-#include "attributes.h"
+#include "term_calls.h"
 
 #if defined(__GNUC__)
 #define TICURSES_CURSES_PRINTF(at, rest) __attribute__((__format__(__printf__, at, rest)))
@@ -102,7 +102,8 @@ extern chtype acs_map[128];
 #define ACS_SBSB ACS_VLINE
 #define ACS_SSSS ACS_PLUS
 
-/* The terminal. If there is none, initscr says why and ends the program, and newterm returns a null pointer. */
+/* The terminal, which becomes the current one of <term.h> too. If there is none, initscr says why and ends the program,
+ * and newterm returns a null pointer. */
 WINDOW *initscr(void);
 SCREEN *newterm(const char *type, FILE *output, FILE *input);
 SCREEN *set_term(SCREEN *screen);
@@ -112,8 +113,6 @@ bool isendwin(void);
 int ripoffline(int line, int (*start)(WINDOW *, int));
 void filter(void);
 void use_env(bool is_used);
-char *longname(void);
-char *termname(void);
 chtype termattrs(void);
 attr_t term_attrs(void);
 int baudrate(void);
