@@ -34,8 +34,8 @@ if [ "$count" ] && ! command -v valgrind >/dev/null; then
     echo "curses: valgrind is missing, which counts instructions" >&2
     exit 1
 fi
-cc -O2 -DCURSES -I"$include/ticurses" -o "$work/curses" curses_scenes.c "$lib/libticurses_curses.a" "$lib/libticurses_tinfo.a" \
-    "$lib/libticurses_terminfo.a" "$lib/libticurses.a"
+cc -O2 -DCURSES -I"$include/ticurses" -o "$work/curses" curses_scenes.c "$lib/libticurses_curses.a" \
+    "$lib/libticurses_tinfo.a" "$lib/libticurses_terminfo.a" "$lib/libticurses.a"
 cc -O2 -I"$include" -o "$work/session" curses_scenes.c "$lib/libticurses.a"
 # other screen libraries: slang_peer.h, termbox_peer.h, tickit_peer.h
 peers=

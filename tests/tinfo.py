@@ -352,7 +352,8 @@ def judge_curses(work, prefix):
     here += ["-lticurses", "-lticurses_tinfo", "-lticurses_terminfo"]
     if shutil.which("pkg-config"):
         here = flags_of(prefix, "ticurses-curses")
-    archives = [f"{prefix}/lib/lib{it}.a" for it in ("ticurses_curses", "ticurses", "ticurses_tinfo", "ticurses_terminfo")]
+    names = ("ticurses_curses", "ticurses", "ticurses_tinfo", "ticurses_terminfo")
+    archives = [f"{prefix}/lib/lib{it}.a" for it in names]
     ways = {"ncurses": ["-w", "-lncurses", "-ltinfo"], "shared": [*STRICT, *here]}
     ways["archives"] = [*STRICT, f"-I{prefix}/include/ticurses", *archives]
     told = []

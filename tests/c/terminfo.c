@@ -90,7 +90,8 @@ static void values(void) {
     HOLD(!all.flags[0] && all.flags[1] && !all.flags[2] && !all.flags[43]);
     HOLD(all.numbers[0].is_there && all.numbers[0].number == 80);
     HOLD(!all.numbers[1].is_there && !all.numbers[2].is_there && !all.numbers[38].is_there);
-    HOLD(!all.strings[0].is_there && !all.strings[2].is_there && !all.strings[4].is_there && !all.strings[413].is_there);
+    HOLD(!all.strings[0].is_there && !all.strings[2].is_there);
+    HOLD(!all.strings[4].is_there && !all.strings[413].is_there);
     HOLD(all.strings[1].is_there && all.strings[1].len == 0 && all.strings[1].bytes == file + TABLE_AT);
     HOLD(all.strings[3].is_there && all.strings[3].len == 16 && all.strings[3].bytes == file + TABLE_AT + 1);
     HOLD(ticurses_terminfo_read(&all, file, sizeof file - 1) == TICURSES_TERMINFO_SHORT);

@@ -1,5 +1,5 @@
-/* A program with a screen of <curses.h>, which asks the calls of <term.h> about its terminal, before, while and after it
- * has the screen. It writes the answers to a file.
+/* A program with a screen of <curses.h>, which asks the calls of <term.h> about its terminal before it has the screen,
+ * meanwhile and afterwards. It writes the answers to a file.
  *
  *     with_curses FILE */
 #include <curses.h>
