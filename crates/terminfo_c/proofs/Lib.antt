@@ -1,4 +1,4 @@
 mod Filled
 mod Looses
-mod Slots
 mod Positions
+mod Slots

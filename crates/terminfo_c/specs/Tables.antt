@@ -44,4 +44,5 @@ string_value entry position = option_and_then (string_at entry) (place_from kind
 -- each element, seen through the view, is the value at its position
 pub record IsTable {A B : Type 0} (view : A → B) (value : ℕ → B) (old new : List A) : Type 0 where
   pub size : length new ≡ length old
-  pub each : (position : ℕ) (other : A) → position < length old → view (slice_index_or new position other) ≡ value position
+  pub each : (position : ℕ) (other : A) → position < length old
+      → view (slice_index_or new position other) ≡ value position
