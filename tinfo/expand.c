@@ -5,9 +5,12 @@
 #include <stdlib.h>
 #include <string.h>
 
-/* The bytes of the last expansion. */
-static char *bytes;
-static size_t room;
+/* The bytes of the last two expansions. The next one goes to the place of the older, so that a program may expand the
+ * bytes of the last one, or pass them as a text. */
+static struct {
+    char *bytes;
+    size_t room;
+} places[2], *place = places;
 
 /* The static variables that count: the current terminal's, or those for no terminal. They belong to an entry without
  * capabilities. Null if memory ran out. */
@@ -23,28 +26,29 @@ static ticurses_terminfo *variables(void) {
 /* Makes room for bytes and a zero byte. */
 static bool make_room(size_t len) {
     size_t wanted = len < 1023 ? 1024 : len + 1;
-    char *at = bytes;
-    if (room > len) return true;
-    at = realloc(bytes, wanted);
+    char *at;
+    if (place->room > len) return true;
+    at = realloc(place->bytes, wanted);
     if (!at) return false;
-    bytes = at;
-    room = wanted;
+    place->bytes = at;
+    place->room = wanted;
     return true;
 }
 
 /* Ends the bytes with a zero byte. One that a string writes itself would end them too; it becomes 128, for which most
  * terminals do what they would do for a zero byte, nothing. */
 static char *ended(size_t len) {
-    char *at = bytes;
+    char *bytes = place->bytes, *at = bytes;
     bytes[len] = 0;
     while ((at = memchr(at, 0, len - (size_t)(at - bytes))) != NULL) *at = (char)128;
+    place = place == places ? places + 1 : places;
     return bytes;
 }
 
 /* The bytes that an expansion of `code` has left in the room, or whose number is `len`. */
 static char *fetched(ticurses_terminfo *from, int code, size_t len) {
     if (code == TICURSES_TERMINFO_NO_ROOM && make_room(len))
-        code = ticurses_terminfo_expanded(from, bytes, room - 1, &len);
+        code = ticurses_terminfo_expanded(from, place->bytes, place->room - 1, &len);
     return code == TICURSES_TERMINFO_OK ? ended(len) : NULL;
 }
 
@@ -54,7 +58,8 @@ static char *expanded(const char *string, size_t string_len, const int32_t *numb
     size_t len;
     int code;
     if (!from || !make_room(0)) return NULL;
-    code = ticurses_terminfo_expand_numbers(from, string, string_len, numbers, count, bytes, room - 1, &len);
+    code = ticurses_terminfo_expand_numbers(from, string, string_len, numbers, count, place->bytes, place->room - 1,
+                                            &len);
     return fetched(from, code, len);
 }
 
@@ -141,6 +146,7 @@ char *tiparm_s(int count, int texts, const char *string, ...) {
     }
     va_end(rest);
     if (!from || !make_room(0)) return NULL;
-    code = ticurses_terminfo_expand(from, string, strlen(string), given, (size_t)count, bytes, room - 1, &len);
+    code = ticurses_terminfo_expand(from, string, strlen(string), given, (size_t)count, place->bytes, place->room - 1,
+                                    &len);
     return fetched(from, code, len);
 }

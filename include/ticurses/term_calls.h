@@ -17,9 +17,9 @@ int tigetnum(const char *name);
 char *tigetstr(const char *name);
 
 /* Expands a string for its parameters, which must be longs, of which the low 32 bits count; as many are read as the
- * string names (%p1 to %p9). The bytes stay until the next expansion. A zero byte is written as 128, as ncurses does.
- * Null if the string is null, takes a text, or has a fault that docs/TERMINFO.md lists; no static variable has changed
- * then. */
+ * string names (%p1 to %p9). The bytes stay until the next expansion, and may be the string or a text of that one. A
+ * zero byte is written as 128, as ncurses does. Null if the string is null, takes a text, or has a fault that
+ * docs/TERMINFO.md lists; no static variable has changed then. */
 char *tparm(const char *string, ...);
 /* Like tparm, for parameters that are ints. */
 char *tiparm(const char *string, ...);

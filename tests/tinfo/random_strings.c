@@ -63,6 +63,9 @@ int main(int count, char **words) {
         note(tiparm(string, (int)p, 2, 3, 4, 5, 6, 7, 8, 9));
         note(tiparm_s(9, 3, string, text, text, 1, 2, 3, 4, 5, 6, 7));
         note(tgoto(string, (int)p, 5));
+        /* what the last one has written */
+        note(tparm(tgoto("%p1%d %%p1%%d", (int)p, 5), p));
+        note(tiparm_s(1, 1, "%p1%s", tgoto("%p1%d", 1, (int)p)));
         tputs(string, 1, count_byte);
         tigetstr(string);
         tigetflag(string);
