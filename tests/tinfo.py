@@ -296,7 +296,7 @@ def judge_valgrind(work, folder):
 
 
 def flags_of(prefix, name):
-    """What pkg-config says of a library."""
+    """The words of pkg-config for a library."""
     given = {**os.environ, "PKG_CONFIG_PATH": f"{prefix}/lib/pkgconfig"}
     line = ["pkg-config", "--cflags", "--libs", name]
     return subprocess.run(line, env=given, stdout=subprocess.PIPE, text=True, check=True).stdout.split()

@@ -1,4 +1,4 @@
--- What a report says of an entry, and what it leaves out.
+-- The statements of a report about an entry.
 use Rattle.std.specs.Prelude.{◌≡◌, Bool, true, false, [], None}
 use Rattle.ti_reports.specs.declared.reports.Finding.{Finding}
 use Rattle.ti_reports.specs.declared.reports.Verdict.{Verdict}

@@ -26,9 +26,9 @@ use ti_verdicts::SourcePlace;
 pub enum Hinted {
     /// None.
     Unhinted,
-    /// Those of the entry itself.
+    /// The fields of the entry itself.
     Own,
-    /// Those of the entry, and of the entries of its file that it uses.
+    /// The fields of the entry, and of the entries of its file that it uses.
     WithUsed,
 }
 
