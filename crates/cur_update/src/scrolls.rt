@@ -9,6 +9,9 @@ use cur_screens::{Hint, Virtual, first_diff};
 /// The least number of lines that a scroll must spare if no call has named it.
 const LEAST: u16 = 3;
 
+/// The most lines of the old screen that are compared with one line as a whole, for each way.
+const TRIES: u8 = 16;
+
 /// The number of cells that may be painted once more to save the margins of a scroll.
 const MARGINS: usize = 28;
 
@@ -153,56 +156,79 @@ impl<'a> Pages<'a> {
         None
     }
 
-    /// Whether the line of `key` has come that `way` to its place.
-    fn has_come(&self, key: Key, way: Way) -> bool
-        requires rows { (self.now.old.now).rows ≡ (self.now.new.now).rows }
-        requires cols { (self.now.old.now).cols ≡ (self.now.new.now).cols }
-        requires within { self.now.end ≤ (self.now.new.now).rows }
-        requires row { key.row < self.now.end }
+    /// Whether line `from` of the old screen has the cell of `key`.
+    fn has_cell(&self, from: u16, key: Key) -> bool
+        requires { from < (self.now.old.now).rows }
     {
-        let Some(from) = self.source(key.row, way) else {
-            return false;
-        };
         let line = self.old.row(from);
-        if key.col >= line.len() || line[key.col].number() != key.number {
-            return false;
-        }
-        self.is_moved(from, key.row)
+        key.col < line.len() && line[key.col].number() == key.number
     }
 
-    /// The better one of `best` and the run of the line of `key` that `way`, if that line has come there so.
-    fn tried(&self, best: Option<Run>, key: Key, way: Way) -> Option<Run>
+    /// The better one of `best` and the run in which line `from` of the old screen comes to the line of `key`, if it
+    /// has come there.
+    #[inline(never)]
+    fn tried(&self, best: Option<Run>, key: Key, from: u16) -> Option<Run>
+        requires rows { (self.now.old.now).rows ≡ (self.now.new.now).rows }
+        requires cols { (self.now.old.now).cols ≡ (self.now.new.now).cols }
+        requires within { self.now.end ≤ (self.now.new.now).rows }
+        requires row { key.row < self.now.end }
+        requires from { from < self.now.end }
+    {
+        if !self.is_moved(from, key.row) {
+            return best;
+        }
+        let way = Way {
+            count: from.abs_diff(key.row),
+            up: from > key.row,
+        };
+        better(best, self.run(way))
+    }
+
+    /// The better one of `best` and the runs in which the line of `key` has come up (`up`) or down to its place, by at
+    /// most three quarters of the lines. The nearest lines of the old screen come first.
+    fn seek_along(&self, key: Key, up: bool, best: Option<Run>) -> Option<Run>
         requires rows { (self.now.old.now).rows ≡ (self.now.new.now).rows }
         requires cols { (self.now.old.now).cols ≡ (self.now.new.now).cols }
         requires within { self.now.end ≤ (self.now.new.now).rows }
         requires row { key.row < self.now.end }
     {
-        if self.has_come(key, way) {
-            better(best, self.run(way))
-        } else {
-            best
-        }
-    }
-
-    /// The run that spares the most lines among those that a line near `y` belongs to, by at most three quarters of
-    /// the lines.
-    fn seek(&self, y: u16) -> Option<Run>
-        requires rows { (self.now.old.now).rows ≡ (self.now.new.now).rows }
-        requires cols { (self.now.old.now).cols ≡ (self.now.new.now).cols }
-        requires within { self.now.end ≤ (self.now.new.now).rows }
-    {
-        let key = self.key_near(y)?;
         let lines = self.end.saturating_sub(self.top);
-        let mut best = None;
-        for less in 0..lines - lines / 4 {
-            let count = less + 1;
-            best = self.tried(best, key, Way { count, up: true });
-            best = self.tried(best, key, Way { count, up: false });
-            if self.is_long(best) {
-                return best;
+        let room = if up {
+            self.end - 1 - key.row
+        } else {
+            key.row.saturating_sub(self.top)
+        };
+        let mut best = best;
+        let mut tries = 0u8;
+        for less in 0..room.min(lines - lines / 4) {
+            let from = if up {
+                key.row + 1 + less
+            } else {
+                key.row - 1 - less
+            };
+            if self.has_cell(from, key) {
+                best = self.tried(best, key, from);
+                tries = tries.saturating_add(1);
+                if tries == TRIES || self.is_long(best) {
+                    return best;
+                }
             }
         }
         best
+    }
+
+    /// The better one of `best` and the runs that the line of `key` belongs to.
+    fn seek(&self, key: Key, best: Option<Run>) -> Option<Run>
+        requires rows { (self.now.old.now).rows ≡ (self.now.new.now).rows }
+        requires cols { (self.now.old.now).cols ≡ (self.now.new.now).cols }
+        requires within { self.now.end ≤ (self.now.new.now).rows }
+        requires row { key.row < self.now.end }
+    {
+        let up = self.seek_along(key, true, best);
+        if self.is_long(up) {
+            return up;
+        }
+        self.seek_along(key, false, up)
     }
 
     /// Whether `run` spares at least half of the lines.
@@ -221,15 +247,24 @@ impl<'a> Pages<'a> {
         requires order { self.now.top < self.now.end }
     {
         let lines = self.end - self.top;
-        let upper = self.seek(self.top + lines / 8);
-        if self.is_long(upper) {
-            return upper;
+        let places = [
+            self.top + lines / 8,
+            self.top + lines / 2,
+            self.end - 1 - lines / 6,
+        ];
+        let mut best = None;
+        let mut next = 0;
+        for k in 0..places.len() {
+            let Some(key) = self.key_near(places[k].max(next)) else {
+                return best;
+            };
+            best = self.seek(key, best);
+            if self.is_long(best) {
+                return best;
+            }
+            next = key.row + 1;
         }
-        let middle = better(upper, self.seek(self.top + lines / 2));
-        if self.is_long(middle) {
-            return middle;
-        }
-        better(middle, self.seek(self.end - 1 - lines / 6))
+        best
     }
 
     /// The number of cells to paint in the lines from `from` up to, but not including, `end` if a scroll takes them,
@@ -300,11 +335,13 @@ fn pages_of<'a>(old: &'a Virtual, new: &'a Virtual, found: Findings<'a>) -> Opti
 
 /// Returns the effect on `line`, which comes to its place by a scroll: a blank one is erased at once without it too.
 fn spared(line: &[Cell]) -> Fate {
-    if written(line) > 0 {
-        Fate::Spared
-    } else {
-        Fate::Even
+    let space = Cell::space().number();
+    for k in 0..line.len() {
+        if line[k].number() != space {
+            return Fate::Spared;
+        }
     }
+    Fate::Even
 }
 
 /// The number of cells of a line up to the last one that isn't a space without attributes.
