@@ -1,12 +1,12 @@
 -- Screens that differ only within some of their lines.
-use Rattle.std.proofs.Common.{◌≡◌, ℕ, ◌<◌, ◌≤◌, inl, inr, zero, suc, refl, sym, ap, ◌∙◌, arith}
+use Rattle.std.proofs.Common.{◌≡◌, ◌+◌, ℕ, ◌<◌, ◌≤◌, inl, inr, zero, suc, if◌then◌else◌, refl, sym, ap, subst, ◌∙◌, arith}
 use Rattle.std.proofs.lemmas.Bool.Decides.{nat_tests}
 use Rattle.std.proofs.lemmas.Bool.{cases_lt}
-use Rattle.cur_steps.specs.Inks.{mixed}
+use Rattle.cur_steps.specs.Inks.{mixed, same}
 use Rattle.cur_steps.specs.declared.inks.Ink.{Ink}
 use Rattle.cur_moves.specs.declared.scrolls.Scroll.{Scroll}
 use Rattle.cur_moves.specs.Scrolls.{shifted}
-use Rattle.cur_paint.specs.Differ.{AreSameOutside, IsMoved, all_differ}
+use Rattle.cur_paint.specs.Differ.{AreSameOutside, IsMoved, all_differ, differs, span}
 use Rattle.cur_paint.specs.declared.changes.LineRange.{LineRange}
 use Rattle.cur_paint.proofs.Ranges.{span_none}
 
@@ -65,3 +65,36 @@ moved_outside between x g new from end first last rows cols m h a b d past = rec
   above = λ i j lt lj. ap (λ (f : ℕ → ℕ → Ink). f i j) m.is ∙ shifted_above x m.old i j (omega (arith, lt, b)) ∙ h.above i j (omega (arith, lt, a)) lj;
   below = λ i j le li lj. ap (λ (f : ℕ → ℕ → Ink). f i j) m.is ∙ shifted_below x m.old i j (past i le li) ∙ h.below i j (omega (arith, d, le)) li lj;
 }
+
+-- the count of a line is one of its cells
+span_same : (a b new : ℕ → ℕ → Ink) (i from n : ℕ) → ((j : ℕ) → from ≤ j → j < from + n → a i j ≡ b i j) → span a new i from n ≡ span b new i from n
+span_same a b new i from zero h = refl
+span_same a b new i from (suc n) h =
+    let one : differs a new i (from + n) ≡ differs b new i (from + n) = ap (λ (x : Ink). if same x (new i (from + n)) then 0 else 1) (h (from + n) (omega arith) (omega arith)) in
+    omega (arith, span_same a b new i from n (λ j x y. h j x (omega (arith, y))), one)
+
+-- equal lines above have equal counts
+counts_above : (a b new : ℕ → ℕ → Ink) (cols n : ℕ) → ((i j : ℕ) → i < n → j < cols → a i j ≡ b i j) → all_differ a new cols n ≡ all_differ b new cols n
+counts_above a b new cols zero h = refl
+counts_above a b new cols (suc n) h =
+    omega (arith, counts_above a b new cols n (λ i j x y. h i j (omega (arith, x)) y), span_same a b new n 0 cols (λ j x y. h n j (omega arith) (omega (arith, y))))
+
+-- equal lines below add as much to one count as to the other
+counts_below : (a b new : ℕ → ℕ → Ink) (cols end n : ℕ) → end ≤ n → ((i j : ℕ) → end ≤ i → i < n → j < cols → a i j ≡ b i j)
+    → all_differ a new cols n + all_differ b new cols end ≡ all_differ b new cols n + all_differ a new cols end
+counts_below a b new cols end zero le h =
+    let same : 0 ≡ end = omega (arith, le) in
+    subst (λ (k : ℕ). all_differ a new cols 0 + all_differ b new cols k ≡ all_differ b new cols 0 + all_differ a new cols k) same refl
+counts_below a b new cols end (suc n) le h = elim (cases_lt n end) [
+  | inl lt ↦ (let same : suc n ≡ end = omega (arith, le, lt) in subst (λ (k : ℕ). all_differ a new cols (suc n) + all_differ b new cols k ≡ all_differ b new cols (suc n) + all_differ a new cols k) same (omega arith))
+  | inr ge ↦ omega (arith, counts_below a b new cols end n ge (λ i j x y z. h i j x (omega (arith, y)) z), span_same a b new n 0 cols (λ j x y. h n j ge (omega arith) (omega (arith, y))))
+]
+
+-- a scroll saves as many cells on the whole screen as in its region
+pub region_saves : (x : Scroll) (old new : ℕ → ℕ → Ink) (cols from end rows left count by : ℕ) → x.top < x.bottom → x.bottom < rows → from ≡ x.top → end ≡ x.bottom + 1
+    → all_differ (shifted x old) new cols from + left ≡ all_differ (shifted x old) new cols end → all_differ old new cols from + count ≤ all_differ old new cols end → left + by ≤ count
+    → by + all_differ (shifted x old) new cols rows ≤ all_differ old new cols rows
+region_saves x old new cols from end rows left count by region bottom f e after before saves =
+    let above = counts_above (shifted x old) old new cols from (λ i j lt k. shifted_above x old i j (omega (arith, lt, f))) in
+    let below = counts_below (shifted x old) old new cols end rows (omega (arith, e, bottom)) (λ i j ge lt k. shifted_below x old i j (omega (arith, ge, e))) in
+    omega (arith, above, below, after, before, saves)

@@ -1,12 +1,12 @@
 -- A line that differs only within some of its columns.
-use Rattle.std.proofs.Common.{◌≡◌, ℕ, ◌+◌, ◌-◌, ◌<◌, ◌≤◌, inl, inr, ◌==◌, ◌&&◌, Bool, true, false, zero, suc, if◌then◌else◌, refl, ap, subst, ◌∙◌, arith}
+use Rattle.std.proofs.Common.{◌≡◌, Option, Some, ℕ, ◌+◌, ◌-◌, ◌<◌, ◌≤◌, inl, inr, ◌==◌, ◌&&◌, Bool, true, false, zero, suc, if◌then◌else◌, refl, ap, subst, ◌∙◌, arith}
 use Rattle.std.proofs.lemmas.Bool.Decides.{nat_tests}
 use Rattle.std.proofs.lemmas.Bool.{cases_lt}
 use Rattle.cur_steps.specs.Inks.{alike, same}
 use Rattle.cur_steps.specs.declared.inks.Ink.{Ink}
 use Rattle.cur_steps.proofs.Sameness.{brush_known}
 use Rattle.cur_moves.specs.declared.scrolls.Scroll.{Scroll}
-use Rattle.cur_moves.specs.Scrolls.{shifted}
+use Rattle.cur_moves.specs.Scrolls.{cell_of, shifted}
 use Rattle.cur_paint.specs.Differ.{IsMoved, IsSameOutside, differs, span}
 use Rattle.cur_paint.proofs.Mixtures.{span_more, span_parts, span_split}
 
@@ -55,6 +55,16 @@ moved_same between x g new i from end cols m h = record {
   before = λ j lt. ap (λ (f : ℕ → ℕ → Ink). f i j) m.is ∙ h.before j lt;
   after = λ j le lt. ap (λ (f : ℕ → ℕ → Ink). f i j) m.is ∙ h.after j le lt;
 }
+
+-- a line that a scroll leaves where it is
+pub stayed_same : (x : Scroll) (g new : ℕ → ℕ → Ink) (i from end cols : ℕ) (o : Option ℕ) (line : ℕ) → o ≡ Some line → line ≡ i → ((j : ℕ) → shifted x g i j ≡ cell_of g o j)
+    → IsSameOutside g new i from end cols → IsSameOutside (shifted x g) new i from end cols
+stayed_same x g new i from end cols o line is at before h =
+    let e : (j : ℕ) → shifted x g i j ≡ g i j = λ j. before j ∙ ap (λ (p : Option ℕ). cell_of g p j) is ∙ ap (λ (k : ℕ). g k j) at in
+    record {
+      before = λ j lt. e j ∙ h.before j lt;
+      after = λ j le lt. e j ∙ h.after j le lt;
+    }
 
 -- no column of a line may differ
 pub all_same : (old new : ℕ → ℕ → Ink) (i from end cols : ℕ) → IsSameOutside old new i from end cols → from ≡ end → (k : ℕ) → k < cols → old i k ≡ new i k

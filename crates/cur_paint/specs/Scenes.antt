@@ -84,6 +84,10 @@ line_changed s row = span s.old s.new row 0 s.table.cols
 abbrev pub all_changed : Scene → ℕ
 all_changed s = all_differ s.old s.new s.table.cols s.table.rows
 
+-- the number of cells above a line that differ
+abbrev pub changed_above : Scene → ℕ → ℕ
+changed_above s row = all_differ s.old s.new s.table.cols row
+
 -- the new cells before a column of a line, and the old ones from there on
 abbrev pub mended : Scene → ℕ → ℕ → ℕ → ℕ → Ink
 mended s row col = mixed s.old s.new row col

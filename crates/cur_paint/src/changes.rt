@@ -1,7 +1,9 @@
 //! The lines and columns that may differ.
-ghost use Rattle.std.specs.Prelude.{◌≡◌, ◌<◌, ◌≤◌, ℕ};
+ghost use Rattle.std.specs.Prelude.{◌≡◌, ◌+◌, ◌<◌, ◌≤◌, ℕ, true};
+ghost use Rattle.cur_moves.specs.Scrolls.{shifted};
+ghost use Rattle.cur_steps.specs.declared.inks.Ink.{Ink};
 
-use cur_moves::Scroll;
+use cur_moves::{Scroll, line_before};
 
 /// The columns of a line from the column `from` up to, but not including, the column `end`.
 #[derive(Clone, Copy)]
@@ -15,6 +17,13 @@ pub struct Columns {
 pub struct LineRange {
     pub from: usize,
     pub end: usize,
+}
+
+/// The scrolls by which lines may have moved, if any are known: the second one comes after the first.
+#[derive(Clone, Copy)]
+pub struct Scrolls {
+    pub first: Option<Scroll>,
+    pub second: Option<Scroll>,
 }
 
 /// The places where one screen may differ from another.
@@ -43,10 +52,13 @@ pub trait Changes {
         ensures same { (old new : ℕ → ℕ → Ink) → between self.now old new
             → IsSameOutside old new row result.from result.end cols };
 
-    /// The scroll by which lines may have moved from one screen to the other, if that is known. No clause says that it
-    /// is right.
-    fn scroll(&self) -> Option<Scroll> {
-        None
+    /// The scrolls by which lines may have moved from one screen to the other, if any are known. No clause says that
+    /// they are right.
+    fn scrolls(&self) -> Scrolls {
+        Scrolls {
+            first: None,
+            second: None,
+        }
     }
 
     /// The columns of the line `row` that may differ after the lines of the old screen have moved as `scroll` says.
@@ -75,9 +87,10 @@ fn joined(a: LineRange, b: LineRange) -> LineRange
 }
 
 /// The lines of the region of `scroll` on a screen of `rows` lines.
-fn region(scroll: Scroll, rows: usize) -> LineRange
+pub(crate) fn region(scroll: Scroll, rows: usize) -> LineRange
     ensures from { result.from ≡ scroll.top }
     ensures within { result.end ≤ rows }
+    ensures last { scroll.bottom < rows → result.end ≡ scroll.bottom + 1 }
     ensures below { (i : ℕ) → result.end ≤ i → i < rows → scroll.bottom < i }
 {
     LineRange {
@@ -96,6 +109,7 @@ pub(crate) struct Moved<'a, D> {
 impl<'a, D: Changes> Changes for Moved<'a, D> {
     ghost use Rattle.std.specs.Prelude.{◌≤◌, ℕ};
     ghost use Rattle.cur_steps.specs.declared.inks.Ink.{Ink};
+    ghost use Rattle.cur_moves.specs.Scrolls.{shifted};
     ghost use Rattle.cur_paint.specs.Differ.{AreSameOutside, IsMoved, IsSameOutside};
 
     ghost between = { λ m g new. IsMoved (D.between m.changes.now) m.scroll g new };
@@ -117,6 +131,35 @@ impl<'a, D: Changes> Changes for Moved<'a, D> {
             → IsSameOutside g new row result.from result.end cols }
     {
         self.changes.columns_after(self.scroll, row, cols)
+    }
+
+    fn columns_after(&self, scroll: Scroll, row: usize, cols: usize) -> Columns
+        ensures order { result.from ≤ result.end }
+        ensures within { result.end ≤ cols }
+        ensures same { (g new : ℕ → ℕ → Ink) → IsMoved (D.between self.now.changes.now) self.now.scroll g new
+            → IsSameOutside (shifted scroll g) new row result.from result.end cols }
+    {
+        let whole = Columns { from: 0, end: cols };
+        let Some(line) = line_before(scroll, row) else {
+            return whole;
+        };
+        if line == row {
+            return self.columns(row, cols);
+        }
+        if stays(self.scroll, line) {
+            return self.changes.columns_after(scroll, row, cols);
+        }
+        whole
+    }
+}
+
+/// Whether the `scroll` leaves the line `row` where it is.
+fn stays(scroll: Scroll, row: usize) -> bool
+    ensures { result ≡ true → (g : ℕ → ℕ → Ink) (j : ℕ) → shifted scroll g row j ≡ g row j }
+{
+    match line_before(scroll, row) {
+        Some(line) => line == row,
+        None => false,
     }
 }
 

@@ -4,8 +4,9 @@ ghost use Rattle.std.specs.Prelude.{◌≡◌, IfSome, Some, false, true};
 ghost use Rattle.cur_paint.specs.Limits.{IsPlaced, last_move};
 ghost use Rattle.cur_paint.specs.Scenes.{CanCompare, ClearSaves, IsDue, IsUseful, all_changed, scene};
 
-use crate::changes::{Changes, Moved, Whole};
+use crate::changes::{Changes, Moved, Whole, region};
 use crate::clears::{may_become_blanks, saves};
+use crate::counts::MOST_CELLS;
 use crate::screens::Screens;
 use crate::updates::Wanted;
 use cur_moves::{Scroll, Shifted, can_scroll};
@@ -39,17 +40,21 @@ impl<C: Certificate, O: Picture, N: Picture> Screens<'_, C, O, N> {
         !self.differ_in_more(changes, 0)
     }
 
-    /// The scroll that `changes` names, if the terminal can do it, and it leaves fewer cells to mend: fewer by the
-    /// number of lines that it moves by, and 4 more.
-    pub(crate) fn useful_scroll<D: Changes>(&self, changes: &D) -> Option<Scroll>
+    /// The `scroll`, if there is one, the terminal can do it, and it leaves fewer cells to mend: fewer by the number of
+    /// lines that it moves by, and 4 more.
+    pub(crate) fn useful_scroll<D: Changes>(
+        &self,
+        changes: &D,
+        scroll: Option<Scroll>,
+    ) -> Option<Scroll>
         requires compared { CanCompare D.between changes.now (scene C.table O.cells N.cells self.now) }
         ensures useful { IfSome result (λ x. IsUseful (scene C.table O.cells N.cells self.now) x) }
     {
-        self.useful(changes, changes.scroll()?)
+        self.useful(changes, scroll?)
     }
 
-    /// The `scroll`, if the terminal can do it and enough fewer cells differ after it. Counts the cells that differ
-    /// without it and after it.
+    /// The `scroll`, if the terminal can do it and enough fewer cells differ after it. Counts the cells of its region
+    /// that differ without it and after it; elsewhere it changes nothing.
     #[inline(never)]
     fn useful<D: Changes>(&self, changes: &D, scroll: Scroll) -> Option<Scroll>
         requires compared { CanCompare D.between changes.now (scene C.table O.cells N.cells self.now) }
@@ -67,9 +72,10 @@ impl<C: Certificate, O: Picture, N: Picture> Screens<'_, C, O, N> {
             old: &moved,
             new: self.new,
         };
-        let left = then.count_cells(&Moved { changes, scroll });
-        let by = usize::from(scroll.count) + (BESIDE - 1);
-        if self.differ_in_more(changes, left + by) {
+        let lines = region(scroll, self.checked.rows());
+        let left = then.count_lines(&Moved { changes, scroll }, lines, MOST_CELLS);
+        let most = left + usize::from(scroll.count) + (BESIDE - 1);
+        if self.count_lines(changes, lines, most) > most {
             Some(scroll)
         } else {
             None

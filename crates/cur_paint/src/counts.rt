@@ -1,12 +1,15 @@
 //! The number of cells in which two screens differ.
 ghost use Rattle.std.specs.Prelude.{◌≡◌, ◌+◌, ◌-◌, ◌<◌, ◌≤◌, true, false};
-ghost use Rattle.cur_paint.specs.{Differ.{differs, span}, Scenes.{CanCompare, all_changed, scene}};
+ghost use Rattle.cur_paint.specs.{Differ.{differs, span}, Scenes.{CanCompare, all_changed, changed_above, scene}};
 
-use crate::changes::{Changes, Columns};
+use crate::changes::{Changes, Columns, LineRange};
 use crate::pieces::differs_in;
 use crate::screens::Screens;
 use cur_steps::{Cells, Picture};
 use ti_conforms::Certificate;
+
+/// The most cells that a screen has.
+pub(crate) const MOST_CELLS: usize = 1_000_000;
 
 /// 1 if the place in line `row` and column `col` differs, else 0.
 fn differing<O: Picture, N: Picture>(old: &O, new: &N, row: usize, col: usize) -> usize
@@ -59,7 +62,7 @@ impl<C: Certificate, O: Picture, N: Picture> Screens<'_, C, O, N> {
         ensures value { result ≡ all_changed (scene C.table O.cells N.cells self.now) }
         ensures few { result ≤ 1000000 }
     {
-        self.count_until(changes, 1_000_000)
+        self.count_until(changes, MOST_CELLS)
     }
 
     /// Counts the cells in which the screens differ, line by line, until there are more than `most`.
@@ -69,9 +72,28 @@ impl<C: Certificate, O: Picture, N: Picture> Screens<'_, C, O, N> {
         ensures within { result ≤ all_changed (scene C.table O.cells N.cells self.now) }
         ensures few { result ≤ 1000000 }
     {
+        let lines = changes.lines(self.checked.rows(), self.checked.cols());
+        self.count_lines(changes, lines, most)
+    }
+
+    /// Counts the cells in which these lines differ, line by line, until there are more than `most`.
+    pub(crate) fn count_lines<D: Changes>(
+        &self,
+        changes: &D,
+        lines: LineRange,
+        most: usize,
+    ) -> usize
+        requires compared { CanCompare D.between changes.now (scene C.table O.cells N.cells self.now) }
+        requires order { lines.from ≤ lines.end }
+        requires within { lines.end ≤ (C.table self.now.checked.now).rows }
+        ensures value { result ≤ most → changed_above (scene C.table O.cells N.cells self.now) lines.from + result
+            ≡ changed_above (scene C.table O.cells N.cells self.now) lines.end }
+        ensures within { changed_above (scene C.table O.cells N.cells self.now) lines.from + result
+            ≤ changed_above (scene C.table O.cells N.cells self.now) lines.end }
+        ensures few { result ≤ 1000000 }
+    {
         let cols = self.checked.cols();
-        let rows = self.checked.rows();
-        let lines = changes.lines(rows, cols);
+        let _ = self.checked.rows();
         let mut count = 0;
         for row in lines.from..lines.end {
             count += count_line(self.old, self.new, changes, row, cols);

@@ -79,14 +79,60 @@ impl<C: Certificate, O: Picture, N: Picture, W: Wire> Painter<'_, C, O, N, W> {
         painter.paint(changes, wanted)
     }
 
-    /// Scrolls from a known state as `scroll` says, and mends the cells that then differ.
+    /// Scrolls from a known state as `scroll` says, and as `second` if that saves more, and mends the cells that then
+    /// differ.
     #[inline(never)]
     pub(crate) fn scroll_first<D: Changes>(
         &mut self,
         changes: &D,
         scroll: Scroll,
+        second: Option<Scroll>,
         wanted: Wanted,
     ) -> Sent
+        requires can { CanRefresh D.between changes.now (scene C.table O.cells N.cells self.old.screens.now) wanted }
+        requires useful { IsUseful (scene C.table O.cells N.cells self.old.screens.now) scroll }
+        ensures ends { Ends C.table O.cells N.cells W.went W.failures self.old self.new result
+            (λ s. paint_limit s.table s.old s.new self.old.pen.now.belief wanted.cursor wanted.mode) (λ s. s.old)
+            wanted }
+    {
+        scroll_lines(self.screens.checked, self.pen, scroll)?;
+        let moved = Shifted {
+            old: self.screens.old,
+            scroll,
+        };
+        self.paint_moved(&moved, &Moved { changes, scroll }, second, wanted)
+    }
+
+    /// Paints onto a terminal that shows `old`, as `paint_over` does, after the scroll `second`, if that saves cells.
+    fn paint_moved<P: Picture, D: Changes>(
+        &mut self,
+        old: &P,
+        changes: &D,
+        second: Option<Scroll>,
+        wanted: Wanted,
+    ) -> Sent
+        requires can { CanPaint (scene C.table O.cells N.cells self.old.screens.now) wanted }
+        requires changes { D.between changes.now (P.cells old.now) (N.cells self.old.screens.now.new.now) }
+        ensures ends { Ends C.table O.cells N.cells W.went W.failures self.old self.new result
+            (λ s. renewal_limit s.table (P.cells old.now) s.new) (λ s. P.cells old.now) wanted }
+    {
+        let screens = Screens {
+            checked: self.screens.checked,
+            old,
+            new: self.screens.new,
+        };
+        let mut painter = Painter {
+            screens: &screens,
+            pen: self.pen,
+        };
+        match screens.useful_scroll(changes, second) {
+            Some(scroll) => painter.scroll_last(changes, scroll, wanted),
+            None => painter.paint(changes, wanted),
+        }
+    }
+
+    /// Scrolls as `scroll_first` does, but once only.
+    fn scroll_last<D: Changes>(&mut self, changes: &D, scroll: Scroll, wanted: Wanted) -> Sent
         requires can { CanRefresh D.between changes.now (scene C.table O.cells N.cells self.old.screens.now) wanted }
         requires useful { IsUseful (scene C.table O.cells N.cells self.old.screens.now) scroll }
         ensures ends { Ends C.table O.cells N.cells W.went W.failures self.old self.new result

@@ -18,7 +18,7 @@ mod screens;
 mod tails;
 mod updates;
 
-pub use changes::{Changes, Columns, LineRange};
+pub use changes::{Changes, Columns, LineRange, Scrolls};
 pub use endings::finish;
 pub use laws::{bounded, reset_is_fresh};
 pub use screens::Screens;

@@ -122,7 +122,7 @@ impl<C: Certificate, O: Picture, N: Picture, W: Wire> Painter<'_, C, O, N, W> {
     }
 
     /// Mends the differences from a known state; sends nothing if everything is as wanted. First the terminal scrolls,
-    /// if `changes` names a scroll that leaves fewer cells to mend; or else everything is cleared and painted, if that
+    /// if `changes` names scrolls that leave fewer cells to mend; or else everything is cleared and painted, if that
     /// is likely to take fewer bytes.
     fn mend<D: Changes>(&mut self, changes: &D, wanted: Wanted) -> Sent
         requires can { CanRefresh D.between changes.now (scene C.table O.cells N.cells self.old.screens.now) wanted }
@@ -136,8 +136,9 @@ impl<C: Certificate, O: Picture, N: Picture, W: Wire> Painter<'_, C, O, N, W> {
         if self.screens.is_still(self.pen.belief, changes, wanted) {
             return Ok(());
         }
-        if let Some(scroll) = self.screens.useful_scroll(changes) {
-            return self.scroll_first(changes, scroll, wanted);
+        let scrolls = changes.scrolls();
+        if let Some(scroll) = self.screens.useful_scroll(changes, scrolls.first) {
+            return self.scroll_first(changes, scroll, scrolls.second, wanted);
         }
         if self.screens.is_better_cleared(changes) {
             return self.clear_first(wanted);

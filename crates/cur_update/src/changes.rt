@@ -6,10 +6,10 @@ ghost use Rattle.cur_drawing.specs.Cells.{IsCell};
 ghost use Rattle.cur_paint.specs.Differ.{AreSameOutside};
 ghost use Rattle.cur_update.specs.{Inks.{content_at}, Shift.{AreAlikeOutside, AreFound, Shifts, found_at}};
 
-use crate::scrolls::found_scroll;
+use crate::scrolls::found_scrolls;
 use cur_drawing::{Cell, Span};
 use cur_moves::{Scroll, line_before};
-use cur_paint::{Changes, Columns, LineRange};
+use cur_paint::{Changes, Columns, LineRange, Scrolls};
 use cur_screens::{Marks, Virtual, first_diff, last_diff};
 use ti_conforms::Certificate;
 
@@ -166,12 +166,12 @@ impl<'a, C: Certificate> Changes for Found<'a, C> {
         }
     }
 
-    fn scroll(&self) -> Option<Scroll> {
+    fn scrolls(&self) -> Scrolls {
         let found = Findings {
             lines: self.lines,
             columns: self.columns,
         };
-        found_scroll(self.shift.shown, self.shift.screen, found)
+        found_scrolls(self.shift.shown, self.shift.screen, found)
     }
 
     fn columns_after(&self, scroll: Scroll, row: usize, cols: usize) -> Columns {

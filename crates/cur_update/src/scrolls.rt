@@ -4,6 +4,7 @@ ghost use Rattle.std.specs.Prelude.{◌≡◌, ◌<◌, ◌≤◌, IfSome};
 use crate::changes::{Findings, columns_at, may_differ};
 use cur_drawing::Cell;
 use cur_moves::Scroll;
+use cur_paint::Scrolls;
 use cur_screens::{Hint, Virtual, first_diff};
 
 /// The least number of lines that a scroll must spare if no call has named it.
@@ -281,28 +282,68 @@ impl<'a> Pages<'a> {
         count
     }
 
-    /// The scroll that makes `run`; of the whole screen if the lines outside of it are cheaper to paint than margins
-    /// are to set.
+    /// The scroll of the lines of `run` and of those where they come from.
     fn scroll_of_run(&self, run: Run) -> Scroll {
         let Way { count, up } = run.way;
+        Scroll {
+            top: run.from.saturating_sub(if up { 0 } else { count }),
+            bottom: run.last.saturating_add(if up { count } else { 0 }),
+            count,
+            up,
+        }
+    }
+
+    /// The `scroll`; of the whole screen if the lines outside of its region are cheaper to paint than margins are to
+    /// set.
+    fn widened(&self, scroll: Scroll) -> Scroll {
         let rows = self.new.size().0;
-        let top = run.from.saturating_sub(if up { 0 } else { count });
-        let bottom = run.last.saturating_add(if up { count } else { 0 });
-        let above = self.repainted(0, top.min(rows));
-        let below = self.repainted(bottom.saturating_add(1), rows);
+        let above = self.repainted(0, scroll.top.min(rows));
+        let below = self.repainted(scroll.bottom.saturating_add(1), rows);
         if above.saturating_add(below) > MARGINS {
-            return Scroll {
-                top,
-                bottom,
-                count,
-                up,
-            };
+            return scroll;
         }
         Scroll {
             top: 0,
             bottom: rows.saturating_sub(1),
-            count,
-            up,
+            ..scroll
+        }
+    }
+
+    /// The scroll of lines above or below the region of `first`, where there are more of them that may differ.
+    fn beside(&self, first: Scroll) -> Option<Scroll>
+        requires rows { (self.now.old.now).rows ≡ (self.now.new.now).rows }
+        requires cols { (self.now.old.now).cols ≡ (self.now.new.now).cols }
+        requires within { self.now.end ≤ (self.now.new.now).rows }
+    {
+        let end = first.top.min(self.end);
+        let top = first.bottom.saturating_add(1).max(self.top);
+        let part = if end.saturating_sub(self.top) > self.end.saturating_sub(top) {
+            Pages { end, ..*self }
+        } else {
+            Pages { top, ..*self }
+        };
+        if part.end.saturating_sub(part.top) <= LEAST {
+            return None;
+        }
+        let run = part.longest()?;
+        Some(part.scroll_of_run(run))
+    }
+
+    /// The scroll that makes `run`, and one of other lines beside it.
+    fn scrolls_of_run(&self, run: Run) -> Scrolls
+        requires rows { (self.now.old.now).rows ≡ (self.now.new.now).rows }
+        requires cols { (self.now.old.now).cols ≡ (self.now.new.now).cols }
+        requires within { self.now.end ≤ (self.now.new.now).rows }
+    {
+        let first = self.scroll_of_run(run);
+        let second = self.beside(first);
+        Scrolls {
+            first: Some(if second.is_some() {
+                first
+            } else {
+                self.widened(first)
+            }),
+            second,
         }
     }
 }
@@ -411,52 +452,69 @@ fn differ_much(pages: &Pages<'_>) -> bool
     }
 }
 
-/// A scroll that may turn much of the screen `old` into the screen `new`, of which `found` has the lines that may
-/// differ: the one that a call has named, perhaps of more lines, or else one that is found. None is sought if at most a
-/// quarter of the screen's lines may differ beside those of the named scroll.
-pub(crate) fn found_scroll(old: &Virtual, new: &Virtual, found: Findings<'_>) -> Option<Scroll> {
+/// The `scroll` alone, if there is one.
+fn only(scroll: Option<Scroll>) -> Scrolls {
+    Scrolls {
+        first: scroll,
+        second: None,
+    }
+}
+
+/// The scrolls that may turn much of the screen `old` into the screen `new`, of which `found` has the lines that may
+/// differ: the one that a call has named, perhaps of more lines, or else one that is found, and one of other lines.
+/// None is sought if at most a quarter of the screen's lines may differ beside those of the named scroll.
+pub(crate) fn found_scrolls(old: &Virtual, new: &Virtual, found: Findings<'_>) -> Scrolls {
     let lines = found.lines.end.saturating_sub(found.lines.from);
     let few = usize::from(new.size().0 / 4);
     match new.hint() {
         Some(hint) => {
-            let named = scroll_of(hint)?;
+            let Some(named) = scroll_of(hint) else {
+                return only(None);
+            };
             let region = usize::from(named.bottom.saturating_sub(named.top));
             if lines <= region + 1 + few {
-                return Some(named);
+                return only(Some(named));
             }
-            Some(wider(old, new, found, named))
+            scrolls_beside(old, new, found, named)
         }
-        None if lines <= few => None,
-        None => scroll_between(old, new, found),
+        None if lines <= few => only(None),
+        None => scrolls_between(old, new, found),
     }
 }
 
-/// Slow path of `found_scroll`: seeks a scroll, however many lines differ.
+/// Slow path of `found_scrolls`: seeks scrolls, however many lines differ.
 #[inline(never)]
-fn scroll_between(old: &Virtual, new: &Virtual, found: Findings<'_>) -> Option<Scroll> {
-    let pages = pages_of(old, new, found)?;
-    if !differ_much(&pages) {
-        return None;
-    }
-    let run = pages.longest()?;
-    Some(pages.scroll_of_run(run))
-}
-
-/// Slow path of `found_scroll` beside a scroll that a call has `named`: a scroll of more lines the same way, if that
-/// spares more.
-#[inline(never)]
-fn wider(old: &Virtual, new: &Virtual, found: Findings<'_>, named: Scroll) -> Scroll {
+fn scrolls_between(old: &Virtual, new: &Virtual, found: Findings<'_>) -> Scrolls {
     let Some(pages) = pages_of(old, new, found) else {
-        return named;
+        return only(None);
+    };
+    if !differ_much(&pages) {
+        return only(None);
+    }
+    match pages.longest() {
+        Some(run) => pages.scrolls_of_run(run),
+        None => only(None),
+    }
+}
+
+/// Slow path of `found_scrolls` beside a scroll that a call has `named`: a scroll of more lines the same way, if that
+/// spares more, and one of other lines.
+#[inline(never)]
+fn scrolls_beside(old: &Virtual, new: &Virtual, found: Findings<'_>, named: Scroll) -> Scrolls {
+    let Some(pages) = pages_of(old, new, found) else {
+        return only(Some(named));
     };
     let way = Way {
         count: named.count,
         up: named.up,
     };
     match pages.run(way) {
-        Some(run) if run.spared > named.bottom.saturating_sub(named.top) => pages.scroll_of_run(
+        Some(run) if run.spared > named.bottom.saturating_sub(named.top) => pages.scrolls_of_run(
             run,
         ),
-        Some(_) | None => named,
+        Some(_) | None => Scrolls {
+            first: Some(named),
+            second: pages.beside(named),
+        },
     }
 }

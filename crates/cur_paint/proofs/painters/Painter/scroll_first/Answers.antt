@@ -35,17 +35,17 @@ returns g c =
     let w = c.args.wanted in
     let moved : ℕ → ℕ → Ink = shifted c.args.scroll old in
     let a : Belief = c.scroll_lines.new.pen.belief in
-    let z = c.paint_over.new.self in
-    let x = c.paint_over.ensures.ends.same in
+    let z = c.paint_moved.new.self in
+    let x = c.paint_moved.ensures.ends.same in
     let k : ℕ = c.args.scroll.count + 4 in
-    let P : Option Mode → Type 0 = λ o. Sets g.W.Wire.went g.W.Wire.failures c.scroll_lines.new.pen.wire z.pen.now.wire c.paint_over.result t (renewal_limit t moved new) o w.cursor w.mode (Agrees t moved a) (Agrees t new z.pen.now.belief) in
+    let P : Option Mode → Type 0 = λ o. Sets g.W.Wire.went g.W.Wire.failures c.scroll_lines.new.pen.wire z.pen.now.wire c.paint_moved.result t (renewal_limit t moved new) o w.cursor w.mode (Agrees t moved a) (Agrees t new z.pen.now.belief) in
     record {
       ends = record {
-        step = sets_after g.W.Wire.went g.W.Wire.failures g.met.W.Wire.lawful c.args.self.now.pen.now.wire c.scroll_lines.new.pen.wire z.pen.now.wire _ c.paint_over.result t
+        step = sets_after g.W.Wire.went g.W.Wire.failures g.met.W.Wire.lawful c.args.self.now.pen.now.wire c.scroll_lines.new.pen.wire z.pen.now.wire _ c.paint_moved.result t
             (k * cell_limit t) (renewal_limit t moved new) (paint_limit t old new b w.cursor w.mode) b.mode w.cursor w.mode
             (Agrees t old b) (Agrees t moved a) (Agrees t new z.pen.now.belief)
-            (scrolled_enough t k moved old new b w.cursor w.mode (omega arith) c.requires.useful.saves) (c.in_ok-scroll_lines.ensures.step old) (subst P c.in_ok-scroll_lines.ensures.mode c.paint_over.ensures.ends.step);
-        set = c.paint_over.ensures.ends.set;
+            (scrolled_enough t k moved old new b w.cursor w.mode (omega arith) c.requires.useful.saves) (c.in_ok-scroll_lines.ensures.step old) (subst P c.in_ok-scroll_lines.ensures.mode c.paint_moved.ensures.ends.step);
+        set = c.paint_moved.ensures.ends.set;
         same = record { screens = x.screens; pen = x.pen };
       };
     }
