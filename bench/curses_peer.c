@@ -1,7 +1,7 @@
 /* Plays a script of curses calls with the system's ncurses, as `ticurses play` does: curses_peer TERM ROWS COLS SCRIPT.
-   The bytes go to standard output, without padding. The program knows only the calls that scripts.awk writes. It starts
-   colors at the first call about them; as in ticurses, the default pair has the terminal's own colors, and `attrset`
-   keeps the pair. */
+   The bytes go to standard output, without padding. The program knows only the calls that scripts.awk and script_peer.h
+   write. It starts colors at the first call about them; as in ticurses, the default pair has the terminal's own colors,
+   and `attrset` keeps the pair. */
 /* as a macro, `box` would read its last cell twice */
 #define NCURSES_NOMACROS
 #include <curses.h>
@@ -72,6 +72,20 @@ static void play_addstr(char *rest)
 {
     WINDOW *w = window(&rest);
     waddstr(w, rest + 1);
+}
+
+static void play_attroff(char *rest)
+{
+    WINDOW *w = window(&rest);
+
+    wattr_off(w, letters(rest + 1), NULL);
+}
+
+static void play_attron(char *rest)
+{
+    WINDOW *w = window(&rest);
+
+    wattr_on(w, letters(rest + 1), NULL);
 }
 
 static void play_attrset(char *rest)
@@ -221,7 +235,7 @@ struct call {
 
 /* in the order of their names */
 static const struct call calls[] = {
-    {"addch", play_addch}, {"addstr", play_addstr}, {"attrset", play_attrset}, {"box", play_box}, {"clrtoeol", play_clrtoeol},
+    {"addch", play_addch}, {"addstr", play_addstr}, {"attroff", play_attroff}, {"attron", play_attron}, {"attrset", play_attrset}, {"box", play_box}, {"clrtoeol", play_clrtoeol},
     {"color_set", play_color_set}, {"delch", play_delch}, {"deleteln", play_deleteln}, {"doupdate", play_doupdate},
     {"erase", play_erase}, {"idlok", play_idlok}, {"init_pair", play_init_pair}, {"insertln", play_insertln}, {"move", play_move}, {"mvwin", play_mvwin}, {"newpad", play_newpad}, {"newwin", play_newwin},
     {"noutrefresh", play_noutrefresh}, {"prefresh", play_prefresh}, {"refresh", play_refresh}, {"scroll", play_scroll},

@@ -178,6 +178,17 @@ function panes(w) {
     }
     print "doupdate"
 }
+# two panes that are drawn anew: the upper one goes on by a line, the lower one goes back
+function split_page(row) {
+    for (row = 0; row < 3 * rows; row++)
+        text_line[row] = words(cols - 1)
+    page(0, middle_row, rows)
+    page(middle_row, rows, 2 * rows)
+    print "refresh 0\n# from here"
+    page(0, middle_row, rows + 1)
+    page(middle_row, rows, 2 * rows - 1)
+    print "refresh 0"
+}
 # a line comes into the middle, and another one below it changes
 function inserted() {
     shown_text(2, 3)
@@ -260,6 +271,7 @@ BEGIN {
     else if (kind == "both") paged(1, 1, -2)
     else if (kind == "half") paged(0, 1, middle_row)
     else if (kind == "panes") panes()
+    else if (kind == "split") split_page()
     else if (kind == "insert") inserted()
     else if (kind == "calls") many_calls()
     else if (kind == "texts") many_texts()
