@@ -47,6 +47,8 @@ def scrolled():
 
 # how many random scripts of windows that scroll are played for each entry
 RANDOM = 500
+# the fewest of them, with as many of pages, that scroll twice in one refresh
+FEWEST_TWICE = 50
 
 # the entry, rows and columns, the script's lines, and what `show` prints; without a line for the cursor it may be anywhere
 SHOWN = [
@@ -278,12 +280,16 @@ def judge_full(name, whole, files):
 
 def judge_scrolled(files):
     """Scripts of windows that scroll, and of pages that move: the screen that the model has, and margins that are the whole
-    screen. Of the pages `show` prints that screen too. Returns how many scroll once."""
+    screen. Of the pages `show` prints that screen too. On a terminal with margins some scroll twice in one refresh. Returns
+    how many scroll once."""
     single, pages = scrolling.each_way(), scrolling.turned(RANDOM)
     scripts = single + scrolling.randomly(RANDOM) + pages
     for entry in ("vt", "xt"):
         judge_pages(files, entry, pages)
-        for seed, (script, seen) in enumerate(zip(scripts, fed_screens(files, entry, scripts))):
+        sent = sent_by(files, entry, scripts)
+        if entry == "vt" and sum(map(scrolling.scrolls_twice, sent)) < FEWEST_TWICE:
+            sys.exit("scripts: few random scripts scroll twice in one refresh")
+        for seed, (script, seen) in enumerate(zip(scripts, fed_screens(sent))):
             wanted = (script.shown, scrolling.next_screen(script.shown))
             if seen != wanted:
                 sys.exit(f"scripts: the script {seed} of scrolls on {entry}, {script.lines}, leaves\n{seen}\nand was to leave\n{wanted}")
@@ -300,15 +306,21 @@ def judge_pages(files, entry, pages):
             sys.exit(f"scripts: show of the pages {seed} on {entry}, {script.lines}: {answer}, and was to be\n{script.shown}")
 
 
-def fed_screens(files, entry, scripts):
-    """For each script what a terminal shows that is fed with what `play` sends, and what after a scroll by one line."""
+def sent_by(files, entry, scripts):
+    """What `play` sends for each script."""
     size = [str(scrolling.ROWS), str(scrolling.COLS)]
     held = files | {f"random{seed:04}": scrolling.stored(script.lines) for seed, script in enumerate(scripts)}
     sent = run_cases(PROGRAM, [Case(words("play", entry, *size, f"random{seed:04}")) for seed in range(len(scripts))], held)
     wrong = [(seed, answer.err) for seed, answer in enumerate(sent) if answer.status or answer.err]
     if wrong:
         sys.exit(f"scripts: random scripts on {entry}: {wrong}")
-    streams = [it for answer in sent for it in (answer.out, scrolling.scrolled_once(answer.out))]
+    return [answer.out for answer in sent]
+
+
+def fed_screens(sent):
+    """For the bytes of each script what a terminal shows that is fed with them, and what after a scroll by one line."""
+    size = [str(scrolling.ROWS), str(scrolling.COLS)]
+    streams = [it for out in sent for it in (out, scrolling.scrolled_once(out))]
     fed = run_cases(PROGRAM, [Case(["feed", *size, "{}"], given=stream) for stream in streams])
     screens = [answer.out.decode().splitlines()[: scrolling.ROWS] for answer in fed]
     return list(zip(screens[::2], screens[1::2]))

@@ -3,6 +3,7 @@ windows that is made here: after all refreshes the terminal shows the model's sc
 screen."""
 
 import random
+import re
 
 ROWS, COLS = 12, 24
 LETTERS = "abcdefghijklmnopqrstuvwxyzABCDEFGHIJKLMNOPQRSTUVWXYZ0123456789"
@@ -229,6 +230,15 @@ def each_way():
 
 def stored(lines):
     return "".join(f"{line}\n" for line in lines).encode()
+
+
+# a scroll within margins, and then another: the margins become the whole screen between them, and the cursor may move
+TWICE = re.compile(rb"\x1b\[1;%dr(\x1b\[\d+;\d+H)?\x1b\[\d+;\d+r" % ROWS)
+
+
+def scrolls_twice(sent):
+    """Whether a terminal scrolls in two regions, one after the other, by the bytes that it gets."""
+    return bool(TWICE.search(sent))
 
 
 # what scrolls the whole screen by a line, if its margins are the whole screen, and what shows then
