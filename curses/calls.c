@@ -74,11 +74,9 @@ int session_erase(int window) {
     return CALL(ticurses_erase(&tcu_session, (size_t)window));
 }
 
-/* A cell of a line or a border. A cell of 0 is the session's default too; attributes without a byte apply to the letter
- * `usual`. */
+/* A cell of a line or a border; one without a byte is the character of ACS_* for the letter `usual`. */
 static ticurses_cell drawn(chtype cell, char usual) {
-    chtype letter = (chtype)(unsigned char)usual | A_ALTCHARSET;
-    return session_cell_of(cell == 0 || TCU_BYTE(cell) ? cell : cell | letter);
+    return session_cell_of(TCU_BYTE(cell) ? cell : cell | acs_map[(unsigned char)usual]);
 }
 
 int session_hline(int window, chtype cell, int count) {

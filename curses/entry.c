@@ -25,11 +25,12 @@ static size_t texts_len;
 static struct {
     const char *name, *text;
 } strings[] = {
-    {"bel", NULL},   {"blink", NULL}, {"bold", NULL}, {"cnorm", NULL}, {"csr", NULL},   {"dch", NULL},
-    {"dch1", NULL},  {"dim", NULL},   {"dl", NULL},   {"dl1", NULL},   {"flash", NULL}, {"ich", NULL},
-    {"ich1", NULL},  {"il", NULL},    {"il1", NULL},  {"invis", NULL}, {"op", NULL},    {"rev", NULL},
-    {"rmacs", NULL}, {"rmcup", NULL}, {"rmir", NULL}, {"rmkx", NULL},  {"setab", NULL}, {"setaf", NULL},
-    {"sgr0", NULL},  {"smacs", NULL}, {"smir", NULL}, {"smkx", NULL},  {"smso", NULL},  {"smul", NULL},
+    {"acsc", NULL},  {"bel", NULL},   {"blink", NULL}, {"bold", NULL}, {"cnorm", NULL}, {"csr", NULL},
+    {"dch", NULL},   {"dch1", NULL},  {"dim", NULL},   {"dl", NULL},   {"dl1", NULL},   {"flash", NULL},
+    {"ich", NULL},   {"ich1", NULL},  {"il", NULL},    {"il1", NULL},  {"invis", NULL}, {"op", NULL},
+    {"rev", NULL},   {"rmacs", NULL}, {"rmcup", NULL}, {"rmir", NULL}, {"rmkx", NULL},  {"setab", NULL},
+    {"setaf", NULL}, {"sgr0", NULL},  {"smacs", NULL}, {"smir", NULL}, {"smkx", NULL},  {"smso", NULL},
+    {"smul", NULL},
 };
 
 bool entry_find(const char *type, int fd) {

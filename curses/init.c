@@ -16,7 +16,6 @@
 struct ticurses_screen tcu;
 WINDOW *stdscr, *curscr, *newscr;
 int LINES, COLS, COLORS, COLOR_PAIRS, TABSIZE = 8, ESCDELAY = 1000;
-chtype acs_map[128];
 
 /* Why there is no terminal. */
 static char fault[512];
@@ -50,14 +49,6 @@ static bool has_windows(void) {
     return true;
 }
 
-/* The characters of ACS_*. The other character set of a session begins at 95, so signs below are drawn in ASCII. */
-static void map_signs(void) {
-    static const char signs[][2] = {{',', '<'}, {'+', '>'}, {'-', '^'}, {'.', 'v'}, {'0', '#'}};
-    for (unsigned letter = 0; letter < 128; letter++) acs_map[letter] = letter | A_ALTCHARSET;
-    for (size_t at = 0; at < sizeof signs / sizeof *signs; at++)
-        acs_map[(unsigned char)signs[at][0]] = (unsigned char)signs[at][1];
-}
-
 static bool is_begun(const char *type) {
     uint16_t lines, columns;
     int code;
@@ -75,7 +66,7 @@ static bool is_begun(const char *type) {
         session_close();
         return false;
     }
-    map_signs();
+    tcu_map_signs();
     tcu_learn_keys();
     signals_begin();
     tcu.is_open = true;

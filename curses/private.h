@@ -137,6 +137,10 @@ int tcu_keypad(bool is_on);
 void tcu_learn_keys(void);
 void tcu_forget_keys(void);
 
+/* signs.c */
+/* Fills acs_map for the entry. */
+void tcu_map_signs(void);
+
 /* modes.c */
 struct tcu_modes {
     bool is_raw, is_cbreak, echoes, reads_newlines;

@@ -5,7 +5,8 @@ the attributes, the colors and the cursor of both.
     python3 -B tests/curses.py [PREFIX] [NAME..]
 
 takes the library from where ./install put it. With names it runs only these programs, and prints the differences.
-NCURSES_TESTS names a folder with the sources of ncurses' test programs, which are no part of this repository."""
+NCURSES_TESTS names a folder with the sources of ncurses' test programs, and CURSES_PROGRAMS one with those of other
+people's programs; neither are part of this repository."""
 
 import fcntl
 import os
@@ -17,26 +18,22 @@ import struct
 import subprocess
 import sys
 import termios
-import time
 from concurrent.futures import ThreadPoolExecutor
 
+from curses_panes import HERE, Compiled, Pane, cells_of, differing, fail, show
 from linked import SANITIZED, STRICT, installed, missing, rooms
-from trying import TOP, held_in
+from trying import PROGRAM, TOP, Case, held_in, run_cases
 
 sys.path.append(f"{TOP}/tools")
 
 import curses_library
+import curses_programs
 import curses_terminals
 import tinfo_library
 
 PAGE = f"{TOP}/docs/CURSES.md"
-HERE = f"{TOP}/tests/curses"
-ROWS, COLS = 24, 80
 # how many scripts of scrolling regions are compared
 SCRIPTS = 2000
-# seconds after which an unchanged screen is compared, the longest time that a program draws by itself, and the longest
-# that it may take to begin or to end
-QUIET, LONGEST, STARTING = 0.3, 5, 60
 MACROS = {"getyx", "getbegyx", "getmaxyx", "getparyx", "COLOR_PAIR", "PAIR_NUMBER"}
 
 # The programs, their arguments and their keys: names of tmux, or texts after =. @N waits for N milliseconds; after a
@@ -87,10 +84,6 @@ OWN = {
 CHECKED = ("chgat", "movewindow", "padview", "testcurs", "view")
 # files that a program is linked with if its source includes their headers
 PARTS = ("popup_msg", "dump_window")
-
-
-def fail(text):
-    sys.exit(f"curses: {text}")
 
 
 # -- the page and the header --
@@ -177,138 +170,6 @@ def judge_own_names(work, prefix):
 # -- programs --
 
 
-class Compiled:
-    """Programs that are compiled for ncurses, and for this library with the flags of its .pc file, or with the same
-    ones without pkg-config."""
-
-    def __init__(self, work, prefix):
-        self.work = work
-        words = [f"-I{prefix}/include/ticurses", f"-L{prefix}/lib", f"-Wl,-rpath,{prefix}/lib"]
-        words += ["-lticurses_curses", "-lticurses", "-lticurses_tinfo", "-lticurses_terminfo"]
-        if shutil.which("pkg-config"):
-            given = {**os.environ, "PKG_CONFIG_PATH": f"{prefix}/lib/pkgconfig"}
-            line = ["pkg-config", "--cflags", "--libs", "ticurses-curses"]
-            words = subprocess.run(line, env=given, stdout=subprocess.PIPE, text=True).stdout.split()
-        self.words = {"ncurses": ["-lncurses", "-ltinfo"], "ticurses": words}
-        for name in self.words:
-            os.makedirs(f"{work}/{name}", exist_ok=True)
-        subprocess.run(["cc", "-shared", "-fPIC", "-o", f"{work}/still.so", f"{HERE}/still.c"], check=True)
-
-    def make(self, name, sources, *words):
-        """Compiles a program for both. Returns the compiler's message if one refuses it."""
-        for library, own in self.words.items():
-            line = ["cc", "-w", "-O1", *words, *sources, "-o", f"{self.work}/{library}/{name}", *own, "-lm"]
-            ran = subprocess.run(line, stdin=subprocess.DEVNULL, capture_output=True, text=True)
-            if ran.returncode:
-                return f"{library}: {ran.stderr}"
-        return None
-
-
-def cells_of(text):
-    """The cells of a text that tmux writes with sequences for looks: each a character, its attributes and two colors.
-    White on black counts as the terminal's own colors: once colors are on, pair 0 is white on black in ncurses, and the
-    terminal's own colors here (docs/CURSES.md)."""
-    rows, marks, ink = [], frozenset(), ["39", "49"]
-    for line in text.split("\n")[:ROWS]:
-        row = []
-        # shifts in and out as if they were attributes
-        line = re.sub(r"[\x0e\x0f]", lambda it: f"\x1b[{ord(it[0])}00m", line)
-        for sent, char in re.findall(r"\x1b\[([\d;]*)m|(.)", line):
-            if char:
-                own = tuple(ink)
-                row.append((char, marks, ("39", "49") if own == ("37", "40") else own))
-                continue
-            for word in (sent or "0").split(";"):
-                if word in ("0", ""):
-                    marks, ink = marks & {"set"}, ["39", "49"]
-                elif word in ("1400", "1500"):
-                    marks = marks | {"set"} if word == "1400" else marks - {"set"}
-                elif word[0] in "34" and len(word) == 2:
-                    ink[word[0] == "4"] = word
-                else:
-                    marks = marks | {word}
-        while row and row[-1] == (" ", frozenset(), ("39", "49")):
-            row.pop()
-        rows.append(row)
-    return rows
-
-
-class Pane:
-    """A program in a pane of tmux."""
-
-    def __init__(self, work, name, words, term="screen"):
-        self.socket = f"{work}/{name}"
-        line = ["env", f"LD_PRELOAD={work}/still.so", "LC_ALL=C", f"TERM={term}", *words]
-        quoted = " ".join("'" + it.replace("'", "'\\''") + "'" for it in line)
-        self.run("new-session", "-d", "-x", str(COLS), "-y", str(ROWS), f"trap : INT; {quoted}; echo ended $?; sleep 600")
-        self.run("set", "-g", "status", "off")
-        self.run("resize-window", "-x", str(COLS), "-y", str(ROWS))
-
-    def run(self, *words):
-        given = {**os.environ, "LC_ALL": "C.UTF-8", "TERM": "screen"}
-        line = ["tmux", "-f", "/dev/null", "-u", "-S", self.socket, *words]
-        return subprocess.run(line, env=given, capture_output=True).stdout.decode("utf-8", "replace")
-
-    def seen(self):
-        cursor = self.run("display", "-p", "#{cursor_y} #{cursor_x} #{cursor_flag}").strip()
-        # the place of a hidden cursor doesn't count
-        cursor = "hidden" if cursor.endswith(" 0") else cursor
-        text = self.run("capture-pane", "-p", "-e", "-N")
-        # the name and version of the library
-        return re.sub(r"\b(ticurses-curses|ncurses)( \d[\d.]*\d)?", "curses", text), cursor
-
-    def quiet(self):
-        """The screen once it no longer changes."""
-        end, last, since = time.monotonic() + LONGEST, self.seen(), time.monotonic()
-        while time.monotonic() < min(end, since + QUIET):
-            time.sleep(0.05)
-            now = self.seen()
-            if now != last:
-                last, since = now, time.monotonic()
-        return last
-
-    def press(self, key):
-        if key.startswith("@"):
-            time.sleep(int(key[1:]) / 1000)
-        elif key.startswith("="):
-            self.run("send-keys", "-l", key[1:])
-        elif key.startswith("%"):
-            self.run("resize-window", *key[1:].split(","))
-        else:
-            self.run("send-keys", key)
-
-    def until(self, holds, seconds=STARTING):
-        """The text of the screen once it meets the condition, or after so long."""
-        end, text = time.monotonic() + seconds, self.seen()[0]
-        while not holds(text) and time.monotonic() < end:
-            time.sleep(0.1)
-            text = self.seen()[0]
-        return text
-
-    def last(self, keys):
-        """The screen after all keys, where the shell says that the program has ended. It may be a slow one."""
-        self.until(str.strip)
-        for key in keys:
-            self.press(key)
-            self.quiet()
-        text = self.until(lambda it: "ended " in it)
-        self.run("kill-server")
-        return text
-
-    def shots(self, keys, seconds=LONGEST):
-        """The screens at the beginning, for which it waits at most so long, and after each key."""
-        time.sleep(0.5)
-        # on a busy machine a program takes longer to begin; some begin with a blank screen
-        self.until(str.strip, seconds)
-        found = [("", "") if keys[0].startswith("~") else self.quiet()]
-        for key in keys:
-            self.press(key.removeprefix("~"))
-            # an animation is compared when it has ended
-            found.append(("", "") if key.startswith("~") else self.quiet())
-        self.run("kill-server")
-        return found
-
-
 def compared(made, tests, name):
     """Runs a program over both libraries. Returns the number of shots, and those that differ."""
     words, keys = PROGRAMS[name]
@@ -318,12 +179,6 @@ def compared(made, tests, name):
         panes = [Pane(made.work, f"{library}-{name}", line) for library, line in lines.items()]
         one, other = pool.map(lambda it: it.shots(keys), panes)
     return len(one), differing(one, other)
-
-
-def differing(one, other):
-    """The shots that differ: in a cell, or in the cursor."""
-    pairs = enumerate(zip(one, other))
-    return [(at, a, b) for at, (a, b) in pairs if a[1] != b[1] or cells_of(a[0]) != cells_of(b[0])]
 
 
 def sources_of(tests, name):
@@ -356,13 +211,6 @@ def judge_programs(made, tests, names):
         f"curses: {len(counts) - len(others)} of {len(counts)} programs of ncurses show the same on all of their screens, "
         f"which are {sum(counts)} with those that differ"
     )
-
-
-def show(bad):
-    at, one, other = bad
-    for library, (text, cursor) in (("ncurses", one), ("ticurses", other)):
-        print(f"--- screen {at}, {library}, cursor {cursor}")
-        print(text.replace("\033", "^"))
 
 
 def judge_answers(made):
@@ -444,6 +292,44 @@ def judge_signals(made):
     if f"stopped 148\n{modes}" not in seen[2] or "0 points, q" not in seen[3] or f"again 0\n{modes}" not in seen[5]:
         fail("stopped, going on and over, the game leaves\n" + "\n".join(seen[2:]))
     print("curses: an interrupt ends the game, and ^Z stops it, with the terminal as it was before; it goes on and draws anew")
+
+
+# entries without signs, and with some, of which arrows have partners from 95 on
+SIGNS = b"""none|no signs,
+\tam, cols#80, lines#24, clear=\\E[H\\E[2J, cup=\\E[%i%p1%d;%p2%dH, sgr0=\\E[m,
+some|some signs,
+\tacsc=qqxxllkk{{\\,h+i0ahh, smacs=\\E(0, rmacs=\\E(B, use=none,
+"""
+# the arrows and the block, the first signs of signs.c, which the entry of screen has below 95: what is seen in their place
+BELOW = "<>^v#"
+
+
+def judge_signs(made):
+    """Each character of ACS_* is seen as in ncurses, on terminals that have all signs, some or none."""
+    if made.make("signs", [f"{HERE}/signs.c"], "-std=c99"):
+        fail("signs.c doesn't compile")
+    os.makedirs(f"{made.work}/signs")
+    for name in ("none", "some"):
+        os.makedirs(f"{made.work}/signs/{name[0]}")
+        words = ["tic", f"signs.ti:{name}", "--out", f"{made.work}/signs/{name[0]}/{name}"]
+        if run_cases(PROGRAM, [Case(words)], {"signs.ti": SIGNS})[0].status:
+            fail(f"the entry {name} isn't compiled")
+    terms = ("screen", "xterm", "vt100", "none", "some")
+    for term in terms:
+        own = [f"TERMINFO={made.work}/signs"] if term in ("none", "some") else []
+        lines = [["env", *own, f"{made.work}/{library}/signs"] for library in made.words]
+        panes = [Pane(made.work, f"signs-{term}-{at}", line, term) for at, line in enumerate(lines)]
+        with ThreadPoolExecutor(2) as pool:
+            one, other = pool.map(lambda it: cells_of(it.shots(["q"])[0][0]), panes)
+        if term == "screen":
+            for row, sign in enumerate(BELOW):
+                if other[row][11] != (sign, frozenset(), ("39", "49")):
+                    fail(f"in place of sign {row} is seen {other[row][11]}")
+                one[row][11] = other[row][11]
+        bad = [row for row, pair in enumerate(zip(one, other)) if pair[0] != pair[1]]
+        if bad or len(one[0]) < 30:
+            fail(f"signs of {term} differ in the lines {bad} from ncurses':\n{one}\n{other}")
+    print(f"curses: the signs of ACS_* are seen as in ncurses on {len(terms)} terminals, but those that CURSES.md names")
 
 
 def below(prefix):
@@ -556,6 +442,8 @@ def main():
         judge_regions(made)
         curses_terminals.judge(made)
         judge_signals(made)
+        judge_signs(made)
+        curses_programs.judge(made)
         tests = os.path.abspath(os.environ.get("NCURSES_TESTS") or f"{work}/none")
         has_tests = os.path.isfile(f"{tests}/test.priv.h")
         if not given[1:]:

@@ -185,6 +185,65 @@ static void looks(void) {
     SAY(delwin(w));
 }
 
+/* A message loop: a scrolling region, and a status line of the full width below it. */
+static void status_line(void) {
+    int done = 0;
+    scrollok(stdscr, TRUE);
+    SAY(setscrreg(0, LINES - 2));
+    for (int line = 0; line < 30; line++) {
+        done += mvprintw(LINES - 2, 0, "message %d\n", line) == OK;
+        done += mvprintw(LINES - 1, 0, "%-*s", COLS, "status line") == OK;
+    }
+    SAY(done);
+    place("status line", stdscr);
+    cells("status line", stdscr);
+    SAY(setscrreg(0, LINES - 1));
+    scrollok(stdscr, FALSE);
+    erase();
+}
+
+/* Writes that leave a region or the window, and newlines that are inserted. */
+static void edges(void) {
+    WINDOW *w = newwin(6, 12, 2, 2);
+    SAY(wsetscrreg(w, 0, 2));
+    SAY(mvwaddstr(w, 2, 8, "abcdefgh"));
+    place("past the region", w);
+    SAY(mvwaddch(w, 2, 0, '\n'));
+    place("a newline there", w);
+    SAY(scrollok(w, TRUE));
+    SAY(mvwaddstr(w, 5, 10, "xyzw"));
+    place("past the window", w);
+    SAY(mvwaddch(w, 5, 3, '\n'));
+    place("a newline below the region", w);
+    SAY(wsetscrreg(w, 3, 3));
+    cells("edges", w);
+    werase(w);
+    SAY(mvwinsch(w, 0, 0, '\n'));
+    place("newline inserted", w);
+    SAY(mvwinsch(w, 5, 0, '\n'));
+    SAY(mvwaddstr(w, 0, 0, "0123456"));
+    SAY(mvwinsstr(w, 0, 2, "ab\ncd"));
+    cells("newline in a text", w);
+    SAY(waddch(NULL, 'x'));
+    SAY(wrefresh(NULL));
+    SAY(mvwaddnstr(w, 0, 0, "all of it", -5));
+    SAY(delwin(w));
+}
+
+/* A pair that few terminals have: everything is drawn. */
+static void high_pairs(void) {
+    WINDOW *w = newwin(4, 10, 0, 0);
+    SAY(waddch(w, 'y' | COLOR_PAIR(70)));
+    SAY(box(w, ACS_VLINE | COLOR_PAIR(70), ACS_HLINE | COLOR_PAIR(70)));
+    SAY(wattrset(w, A_BOLD | COLOR_PAIR(70)));
+    SAY((getattrs(w) & A_BOLD) != 0);
+    SAY(mvwaddstr(w, 1, 1, "drawn"));
+    SAY(wbkgd(w, '.' | COLOR_PAIR(70)));
+    SAY(getbkgd(w) & A_CHARTEXT);
+    cells("high pairs", w);
+    SAY(delwin(w));
+}
+
 static void copying(void) {
     WINDOW *one = newwin(4, 10, 1, 1), *other = newwin(4, 10, 3, 4);
     mvwaddstr(one, 2, 3, "ab cdef");
@@ -381,6 +440,9 @@ int main(int count, char **words) {
     windows();
     writing();
     looks();
+    status_line();
+    edges();
+    high_pairs();
     copying();
     touching();
     pads();
