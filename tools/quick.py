@@ -27,8 +27,8 @@ from sources import UNPROVED
 
 FOLDER, SOURCES = f"{TOP}/crates/{UNPROVED.crate}", below([UNPROVED.crate], listed())
 LOG = f"{FOLDER}/out/unproved.log"
-# how often it is looked whether the program has started, and how often progress is reported, in seconds
-LOOKS, REPORTS = 0.1, 10
+# how often it is looked whether the program has started, and what runs, in seconds
+LOOKS, REPORTS = 0.1, 1
 
 
 def say(text):
@@ -45,37 +45,89 @@ def is_read(fifo):
         return None
 
 
-def at(pid):
-    """The phase that the toolchain is in. One run of it reads and compiles all crates, so that it names no single one."""
-    parents = {}
-    for folder in glob.glob("/proc/[0-9]*"):
-        # one that has ended meanwhile isn't there
-        with contextlib.suppress(OSError, IndexError, ValueError):
-            with open(f"{folder}/stat", encoding="ascii", errors="replace") as file:
-                name, rest = file.read().split("(", 1)[1].rsplit(")", 1)
-            parents[int(os.path.basename(folder))] = int(rest.split()[1]), name
-    names, next_ones = set(), {pid}
-    while next_ones:
-        next_ones = {child for child, (parent, _) in parents.items() if parent in next_ones}
-        names |= {parents[child][1] for child in next_ones}
-    if "clang" in names:
-        return "making machine code of all crates"
-    return f"reading and compiling {len(SOURCES)} crates at once"
+def text_of(path):
+    """A small file of the system's; "" where the process that it is about has ended."""
+    with contextlib.suppress(OSError):
+        with open(path, encoding="ascii", errors="replace") as file:
+            return file.read()
+    return ""
+
+
+def below_run(pid):
+    """The processes that this one has started, and those that they have, with their programs' names; none where the
+    system doesn't list them."""
+    found, waiting = {}, [pid]
+    while waiting:
+        for file in glob.glob(f"/proc/{waiting.pop()}/task/*/children"):
+            for child in map(int, text_of(file).split()):
+                found[child] = text_of(f"/proc/{child}/comm").strip()
+                waiting.append(child)
+    return found
+
+
+def end_search(processes):
+    """Ends the search for reserved names that `rt try` runs beside the build. It takes as long as the build, and only
+    warns whoever writes the sources."""
+    for number, name in processes.items():
+        if name == "rattle":
+            with contextlib.suppress(ProcessLookupError):
+                os.kill(number, signal.SIGTERM)
+
+
+def end(run):
+    """Ends a run of the toolchain with all that it started, of which it leaves some if it is ended early."""
+    processes = below_run(run.pid)
+    stop([run])
+    for number in processes:
+        with contextlib.suppress(ProcessLookupError):
+            os.kill(number, signal.SIGKILL)
+
+
+class Progress:
+    """Says how far the build is: on a terminal in one line, elsewhere by a line for each step. The toolchain compiles
+    all crates in one run, which doesn't say what it is at, so that no single crate can be named."""
+
+    STEPS = (
+        f"step 1 of 2, reading and compiling {len(SOURCES)} crates together",
+        f"step 2 of 2, making machine code of {len(SOURCES)} crates",
+    )
+
+    def __init__(self):
+        self.began, self.step = time.monotonic(), -1
+        self.is_terminal = sys.stderr.isatty()
+
+    def show(self, processes):
+        # a compiler that has ended doesn't lead back
+        step = max(self.step, int("clang" in processes.values()))
+        is_new, self.step = step != self.step, step
+        if self.is_terminal:
+            text = f"ticurses: {self.STEPS[step]}: {time.monotonic() - self.began:.0f} seconds"
+            ending.say(f"\r\033[K{text[: shutil.get_terminal_size().columns - 1]}", "")
+        elif is_new:
+            say(self.STEPS[step])
+
+    def end(self):
+        """Takes the line away."""
+        if self.is_terminal:
+            ending.say("\r\033[K", "")
 
 
 def wait_for_reader(run, fifo):
     """Waits until the program reads from the FIFO. Returns the descriptor, or None if the run has ended before."""
-    began, reported = time.monotonic(), 0
-    while run.poll() is None:
-        descriptor = is_read(fifo)
-        if descriptor is not None:
-            return descriptor
-        seconds = time.monotonic() - began
-        if seconds >= reported + REPORTS:
-            reported = seconds
-            say(f"building without proof, {seconds:.0f} seconds so far: {at(run.pid)}")
-        time.sleep(LOOKS)
-    return None
+    progress, looked = Progress(), 0
+    try:
+        while run.poll() is None:
+            descriptor = is_read(fifo)
+            if descriptor is not None:
+                return descriptor
+            if time.monotonic() >= looked + REPORTS:
+                looked, processes = time.monotonic(), below_run(run.pid)
+                end_search(processes)
+                progress.show(processes)
+            time.sleep(LOOKS)
+        return None
+    finally:
+        progress.end()
 
 
 def keep(room, sources):
@@ -109,7 +161,8 @@ def build(room):
         return is_kept
     finally:
         # nothing more is wanted of it
-        stop(runs)
+        for run in runs:
+            end(run)
 
 
 def bring():
