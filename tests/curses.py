@@ -295,40 +295,46 @@ def judge_signals(made):
 
 
 # entries without signs, and with some, of which arrows have partners from 95 on
-SIGNS = b"""none|no signs,
+SIGNS = b"""bare|an entry without signs,
 \tam, cols#80, lines#24, clear=\\E[H\\E[2J, cup=\\E[%i%p1%d;%p2%dH, sgr0=\\E[m,
-some|some signs,
-\tacsc=qqxxllkk{{\\,h+i0ahh, smacs=\\E(0, rmacs=\\E(B, use=none,
+part|an entry with some,
+\tacsc=qqxxllkk{{\\,h+i0ahh, smacs=\\E(0, rmacs=\\E(B, use=bare,
 """
 # the arrows and the block, the first signs of signs.c, which the entry of screen has below 95: what is seen in their place
 BELOW = "<>^v#"
+
+
+def signs_of(made, term):
+    """What signs.c shows on a terminal of this type over each library, and what it says of colors."""
+    own = [f"TERMINFO={made.work}/own"] if term in ("bare", "part") else []
+    lines = [["env", *own, f"{made.work}/{library}/signs"] for library in made.words]
+    panes = [Pane(made.work, f"signs-{term}-{at}", line, term) for at, line in enumerate(lines)]
+    with ThreadPoolExecutor(2) as pool:
+        shots = pool.map(lambda it: it.shots(["q"]), panes)
+        return [(cells_of(one[0]), re.findall(r"start_color -?\d, has_colors \d", last[0])) for one, last in shots]
 
 
 def judge_signs(made):
     """Each character of ACS_* is seen as in ncurses, on terminals that have all signs, some or none."""
     if made.make("signs", [f"{HERE}/signs.c"], "-std=c99"):
         fail("signs.c doesn't compile")
-    os.makedirs(f"{made.work}/signs")
-    for name in ("none", "some"):
-        os.makedirs(f"{made.work}/signs/{name[0]}")
-        words = ["tic", f"signs.ti:{name}", "--out", f"{made.work}/signs/{name[0]}/{name}"]
+    for name in ("bare", "part"):
+        os.makedirs(f"{made.work}/own/{name[0]}", exist_ok=True)
+        words = ["tic", f"signs.ti:{name}", "--out", f"{made.work}/own/{name[0]}/{name}"]
         if run_cases(PROGRAM, [Case(words)], {"signs.ti": SIGNS})[0].status:
             fail(f"the entry {name} isn't compiled")
-    terms = ("screen", "xterm", "vt100", "none", "some")
+    terms = ("screen", "xterm", "vt100", "bare", "part")
     for term in terms:
-        own = [f"TERMINFO={made.work}/signs"] if term in ("none", "some") else []
-        lines = [["env", *own, f"{made.work}/{library}/signs"] for library in made.words]
-        panes = [Pane(made.work, f"signs-{term}-{at}", line, term) for at, line in enumerate(lines)]
-        with ThreadPoolExecutor(2) as pool:
-            one, other = pool.map(lambda it: cells_of(it.shots(["q"])[0][0]), panes)
-        if term == "screen":
-            for row, sign in enumerate(BELOW):
-                if other[row][11] != (sign, frozenset(), ("39", "49")):
-                    fail(f"in place of sign {row} is seen {other[row][11]}")
-                one[row][11] = other[row][11]
+        (one, colors), (other, here) = signs_of(made, term)
+        for row, sign in enumerate(BELOW if term == "screen" else ""):
+            if other[row][11] != (sign, frozenset(), ("39", "49")):
+                fail(f"in place of sign {row} of {term} is seen {other[row][11]}")
+            one[row][11] = other[row][11]
         bad = [row for row, pair in enumerate(zip(one, other)) if pair[0] != pair[1]]
         if bad or len(one[0]) < 30:
             fail(f"signs of {term} differ in the lines {bad} from ncurses':\n{one}\n{other}")
+        if colors != here or not colors:
+            fail(f"the colors of {term} are answered with {here}, and by ncurses with {colors}")
     print(f"curses: the signs of ACS_* are seen as in ncurses on {len(terms)} terminals, but those that CURSES.md names")
 
 

@@ -238,9 +238,9 @@ static void high_pairs(void) {
     SAY(wattrset(w, A_BOLD | COLOR_PAIR(70)));
     SAY((getattrs(w) & A_BOLD) != 0);
     SAY(mvwaddstr(w, 1, 1, "drawn"));
+    cells("high pairs", w);
     SAY(wbkgd(w, '.' | COLOR_PAIR(70)));
     SAY(getbkgd(w) & A_CHARTEXT);
-    cells("high pairs", w);
     SAY(delwin(w));
 }
 

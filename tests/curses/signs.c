@@ -1,6 +1,8 @@
-/* signs: draws each character of ACS_* after its name, lines and a box of the default characters, and says how the
- * terminal's colors are answered; it ends after a key. */
+/* signs: draws each character of ACS_* after its name, lines and a box of the default characters; after a key it ends
+ * and says how the terminal's colors are answered. */
 #include <curses.h>
+
+#include <stdio.h>
 
 int main(void) {
     initscr();
@@ -27,9 +29,11 @@ int main(void) {
     mvvline(17, 15, 0, 3);
     WINDOW *framed = newwin(4, 12, 18, 20);
     box(framed, 0, 0);
-    mvprintw(22, 0, "start_color %d, has_colors %d", start_color(), has_colors());
     refresh();
     wrefresh(framed);
     getch();
-    return endwin();
+    int answer = start_color(), colors = has_colors();
+    endwin();
+    printf("start_color %d, has_colors %d\n", answer, colors);
+    return 0;
 }
