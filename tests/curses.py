@@ -305,7 +305,7 @@ BELOW = "<>^v#"
 
 
 def signs_of(made, term):
-    """What signs.c shows on a terminal of this type over each library, and what it says of colors."""
+    """The cells that signs.c draws on a terminal of this type over each library, and its line about colors."""
     own = [f"TERMINFO={made.work}/own"] if term in ("bare", "part") else []
     lines = [["env", *own, f"{made.work}/{library}/signs"] for library in made.words]
     panes = [Pane(made.work, f"signs-{term}-{at}", line, term) for at, line in enumerate(lines)]
