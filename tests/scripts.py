@@ -307,7 +307,7 @@ def judge_pages(files, entry, pages):
 
 
 def sent_by(files, entry, scripts):
-    """What `play` sends for each script."""
+    """The bytes that `play` sends for each script."""
     size = [str(scrolling.ROWS), str(scrolling.COLS)]
     held = files | {f"random{seed:04}": scrolling.stored(script.lines) for seed, script in enumerate(scripts)}
     sent = run_cases(PROGRAM, [Case(words("play", entry, *size, f"random{seed:04}")) for seed in range(len(scripts))], held)
