@@ -462,7 +462,7 @@ fn only(scroll: Option<Scroll>) -> Scrolls {
 
 /// The scrolls that may turn much of the screen `old` into the screen `new`, of which `found` has the lines that may
 /// differ: the one that a call has named, perhaps of more lines, or else one that is found, and one of other lines.
-/// None is sought if at most a quarter of the screen's lines may differ beside those of the named scroll.
+/// None is sought if at most a quarter of the screen's lines may differ, or three beside those of the named scroll.
 pub(crate) fn found_scrolls(old: &Virtual, new: &Virtual, found: Findings<'_>) -> Scrolls {
     let lines = found.lines.end.saturating_sub(found.lines.from);
     let few = usize::from(new.size().0 / 4);
@@ -471,11 +471,12 @@ pub(crate) fn found_scrolls(old: &Virtual, new: &Virtual, found: Findings<'_>) -
             let Some(named) = scroll_of(hint) else {
                 return only(None);
             };
-            let region = usize::from(named.bottom.saturating_sub(named.top));
-            if lines <= region + 1 + few {
+            let region = usize::from(named.bottom.saturating_sub(named.top)) + 1;
+            let beside = lines.saturating_sub(region);
+            if beside <= usize::from(LEAST) {
                 return only(Some(named));
             }
-            scrolls_beside(old, new, found, named)
+            scrolls_beside(old, new, found, named, beside > few)
         }
         None if lines <= few => only(None),
         None => scrolls_between(old, new, found),
@@ -497,10 +498,16 @@ fn scrolls_between(old: &Virtual, new: &Virtual, found: Findings<'_>) -> Scrolls
     }
 }
 
-/// Slow path of `found_scrolls` beside a scroll that a call has `named`: a scroll of more lines the same way, if that
-/// spares more, and one of other lines.
+/// Slow path of `found_scrolls` beside a scroll that a call has `named`: one of other lines, and if `many` lines may
+/// differ beside that scroll, perhaps one of more lines the same way in its place.
 #[inline(never)]
-fn scrolls_beside(old: &Virtual, new: &Virtual, found: Findings<'_>, named: Scroll) -> Scrolls {
+fn scrolls_beside(
+    old: &Virtual,
+    new: &Virtual,
+    found: Findings<'_>,
+    named: Scroll,
+    many: bool,
+) -> Scrolls {
     let Some(pages) = pages_of(old, new, found) else {
         return only(Some(named));
     };
@@ -508,7 +515,8 @@ fn scrolls_beside(old: &Virtual, new: &Virtual, found: Findings<'_>, named: Scro
         count: named.count,
         up: named.up,
     };
-    match pages.run(way) {
+    let wider = if many { pages.run(way) } else { None };
+    match wider {
         Some(run) if run.spared > named.bottom.saturating_sub(named.top) => pages.scrolls_of_run(
             run,
         ),
