@@ -42,7 +42,7 @@ int waddchstr(WINDOW *window, const chtype *cells) {
 /* Gives `count` cells from the cursor on other attributes and another pair; all cells up to the line's end if `count`
  * is negative. */
 int wchgat(WINDOW *window, int count, attr_t attrs, short pair, const void *options) {
-    chtype cells[TCU_PAD_MAX], color = pair < TCU_PAIRS ? COLOR_PAIR(pair) : 0;
+    chtype cells[TCU_PAD_MAX], color = pair < TCU_ALL_PAIRS ? tcu_colored(COLOR_PAIR(pair)) : 0;
     int y, x;
     if (!tcu_is_own(window) || options || pair < 0) return ERR;
     if (session_cursor(window->number, &y, &x) != OK) return ERR;

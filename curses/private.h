@@ -13,15 +13,24 @@ enum {
     TCU_SCRATCH = 62, /* a pad of one line, from which cells are copied as they are */
     TCU_WINDOWS = 62  /* the number of windows that a program can have, with stdscr */
 };
-/* the most lines or columns of a pad, and the number of color pairs */
-enum { TCU_PAD_MAX = 1000, TCU_PAIRS = 64 };
+/* the most lines or columns of a pad, the number of color pairs of a session, and of those that a program may set, as
+ * many as in ncurses with eight colors */
+enum { TCU_PAD_MAX = 1000, TCU_PAIRS = 64, TCU_ALL_PAIRS = TCU_PAIRS + 17 };
 /* the attributes that cells have */
 #define TCU_SHOWN (A_STANDOUT | A_UNDERLINE | A_REVERSE | A_BLINK | A_DIM | A_BOLD | A_INVIS | A_ALTCHARSET)
 #define TCU_BYTE(ch) ((unsigned)((ch) & A_CHARTEXT))
 
+/* colors.c */
+/* The session's pair for a pair of the program's; 0 if there is none. */
+int tcu_slot(int pair);
+/* The same for something that is drawn: no other pair takes this one afterwards. */
+int tcu_use(int pair);
+/* The program's pair that the session has as `slot`. */
+int tcu_pair_of(int slot);
+
 /* A character or attributes in the colors that the session has: a pair that it lacks counts as pair 0. */
 static inline chtype tcu_colored(chtype ch) {
-    return PAIR_NUMBER(ch) < TCU_PAIRS ? ch : ch & ~A_COLOR;
+    return tcu_use((int)PAIR_NUMBER(ch)) > 0 ? ch : ch & ~A_COLOR;
 }
 
 /* The touched columns of a line; none if `first` is above `last`. */

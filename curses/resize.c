@@ -122,10 +122,10 @@ static int begin_anew(struct size now) {
     tcu.newscr.columns = tcu.curscr.columns = now.columns;
     if (tcu.is_cursor_left) session_leaveok(TCU_NEWSCR, true);
     session_curs_set(tcu.visibility);
-    for (short pair = 1; tcu.has_colors && pair < COLOR_PAIRS; pair++) {
+    for (short pair = 1; tcu.has_colors && pair < TCU_ALL_PAIRS; pair++) {
         short foreground, background;
-        if (tcu_has_pair(pair) && pair_content(pair, &foreground, &background) == OK)
-            session_init_pair(pair, foreground, background);
+        if (tcu_has_pair(pair) && tcu_slot(pair) > 0 && pair_content(pair, &foreground, &background) == OK)
+            session_init_pair(tcu_slot(pair), foreground, background);
     }
     return code;
 }

@@ -42,7 +42,7 @@ void run_copied(int window, int source) {
 /* Gives the session's window these attributes and this pair. */
 static void set_marks(chtype marks) {
     chtype *now = &known[run.window].marks;
-    if ((marks ^ *now) & A_COLOR) ticurses_color_set(&tcu_session, (size_t)run.window, PAIR_NUMBER(marks));
+    if ((marks ^ *now) & A_COLOR) ticurses_color_set(&tcu_session, (size_t)run.window, tcu_slot((int)PAIR_NUMBER(marks)));
     if ((marks ^ *now) & ~A_COLOR) ticurses_attrset(&tcu_session, (size_t)run.window, (int)(marks >> 16));
     *now = marks;
 }

@@ -176,7 +176,7 @@ static int cell_of(ticurses *at, int window, int y, int x, chtype *cell) {
     ticurses_cell found;
     if (y < 0 || x < 0 || y >= TCU_PAD_MAX || x >= TCU_PAD_MAX) return ERR;
     if (ticurses_cell_at(at, (size_t)window, (uint16_t)y, (uint16_t)x, &found) != TICURSES_OK) return ERR;
-    *cell = (chtype)found.byte | (chtype)found.attrs << 16 | COLOR_PAIR(found.pair);
+    *cell = (chtype)found.byte | (chtype)found.attrs << 16 | COLOR_PAIR(tcu_pair_of(found.pair));
     return OK;
 }
 

@@ -20,7 +20,7 @@ int session_done(int code);
 
 /* A cell in the form of the session. */
 static inline ticurses_cell session_cell_of(chtype cell) {
-    uint8_t pair = (uint8_t)PAIR_NUMBER(tcu_colored(cell));
+    uint8_t pair = (uint8_t)tcu_use((int)PAIR_NUMBER(cell));
     return ticurses_cell_of((uint8_t)TCU_BYTE(cell), (uint8_t)(cell >> 16), pair);
 }
 

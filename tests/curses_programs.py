@@ -7,7 +7,6 @@ repository."""
 import dataclasses
 import glob
 import os
-import re
 import subprocess
 from concurrent.futures import ThreadPoolExecutor
 
@@ -40,10 +39,6 @@ PROGRAMS = {
     "mines": Program("nbsdgames", "mines.c", OF_NBSDGAMES, "Down Right Enter Down Space Right Enter q", "INES Mines"),
     "memoblocks": Program("nbsdgames", "memoblocks.c", OF_NBSDGAMES, "Down Right Enter Right Enter Down Enter q", "LOCKS"),
 }
-
-
-# programs whose pairs above 63 have no colors here (docs/CURSES.md): all else is compared
-COLORLESS = {"nsnake"}
 
 
 def folder_of(top, program):
@@ -82,8 +77,6 @@ def compared(made, top, name):
         one, other = pool.map(lambda it: it.shots(program.keys.split()), panes)
     if not any(program.shows in text for text, _ in one):
         fail(f"{name} doesn't show what it shows:\n{one[0][0]}")
-    if name in COLORLESS:
-        one, other = ([(re.sub(r"\x1b\[[34]\dm", "", text), cursor) for text, cursor in it] for it in (one, other))
     return len(one), differing(one, other)
 
 
@@ -106,7 +99,4 @@ def judge(made):
             show(bad[0])
             fail(f"{name} of {PROGRAMS[name].source}: {len(bad)} of {shots} screens differ")
         count += shots
-    print(
-        f"curses: {len(PROGRAMS)} programs of Debian's sources show the same as with ncurses on their {count} screens, "
-        f"but for colors of {', '.join(sorted(COLORLESS))}"
-    )
+    print(f"curses: {len(PROGRAMS)} programs of Debian's sources show the same as with ncurses on their {count} screens")

@@ -239,6 +239,10 @@ static void high_pairs(void) {
     SAY((getattrs(w) & A_BOLD) != 0);
     SAY(mvwaddstr(w, 1, 1, "drawn"));
     cells("high pairs", w);
+    SAY(init_pair(70, COLOR_RED, -1));
+    SAY(init_pair(66, COLOR_RED, -1));
+    SAY(mvwaddch(w, 2, 2, 'c' | COLOR_PAIR(66)));
+    look("pair 66", mvwinch(w, 2, 2));
     SAY(wbkgd(w, '.' | COLOR_PAIR(70)));
     SAY(getbkgd(w) & A_CHARTEXT);
     SAY(delwin(w));
