@@ -14,7 +14,7 @@ trap 'exit 130' HUP INT TERM
 
 # the number of the refused request: more than the calls make together, so that requests before and after them are
 # refused too
-REFUSED=960
+REFUSED=840
 
 mkdir "$work/cases"
 word=
