@@ -168,7 +168,7 @@ def judge_together():
 def judge_survey():
     """All entries of a text at once."""
     data = {"text": TEXT, "both": BOTH, "rivals": RIVALS}
-    refused = (["--all", "text"], ["--json", "text"], ["--sarif", "text"], ["text", "both"], ["--with", "both", "text"])
+    refused = (["--all", "text"], ["--json", "text"], ["--sarif", "text"], ["text", "both"])
     refused += (["text", "--out", "-"], ["--json", "--baseline", "both", "text"])
     ways = (["text"], ["--fail", "text"], ["both"], ["--fail", "rivals"], *refused)
     told = run_cases(PROGRAM, [Case(["survey", "--fix", *SIZE, *way]) for way in ways], data)

@@ -46,10 +46,8 @@ UNRULY = {
     ],
     "survey --fix writes the text of one source FILE: --all, --json, --sarif and --baseline are not for --fix": [
         "survey --fix 2 2 f g", "survey --fix --all 2 2 f", "survey --fix --json 2 2 f", "survey --fix --sarif 2 2 f",
-        "survey --fix --baseline g 2 2 f", "survey --fix --with g 2 2 f h",
+        "survey --fix --baseline g 2 2 f", "survey --fix --with g 2 2 f h", "survey --fix --json --with g 2 2 f",
     ],
-    "survey --fix mends one source FILE that stands alone: --with is not for it; check --fix mends an entry with the files that it "
-    "uses": ["survey --fix --with g 2 2 f", "survey --fix --json --with g 2 2 f"],
 }  # fmt: skip
 
 # a line that each command takes, and lines that are to do the same

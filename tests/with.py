@@ -180,6 +180,11 @@ def judge_fixes():
         twice = told("check", "--fix", "--with", "deep/own.ti", *ENTRY, "--out", "blocked")
         if twice.returncode != 3 or holds("blocked"):
             fail(f"two files of one name: {twice}, and {holds('blocked')}")
+        Path(folder, "surveyed").mkdir()
+        survey = ["survey", "--fix", "--fail", *WITH, "--with", "spare.ti", *SIZE, "own.ti", "--out"]
+        every = told(*survey, "surveyed")
+        if (every.returncode, every.stdout, every.stderr) != (0, b"", b"") or holds("surveyed") != right:
+            fail(f"survey --fix --with: {every}, and {holds('surveyed')}")
         over = told(*fix, ".")
         if over.returncode or {name: holds(".")[name] for name in FILES} != right or holds(".")["spare.ti"] != spare:
             fail(f"the sources themselves: {over}")
@@ -232,6 +237,8 @@ def judge_refusals():
         (["check", "--with", "nobody.ti", "own.ti:own", "1", "1"], 1, b"refused: BadSize\n", False, None),
         (["check", "--with", "nobody.ti", "gone.ti:own", *SIZE], 3, b"file: gone.ti\n", False, None),
         (["check", "--fix", *WITH, *ENTRY], 1, b"refused: SeveralFiles\n", False, None),
+        (["survey", "--fix", *WITH, *SIZE, "own.ti"], 1, b"refused: SeveralFiles\n", False, None),
+        (["survey", "--fix", "--with", "bad.ti", *SIZE, "own.ti"], 1, b"refused: line 2: BadNumber\n", False, b"bad.ti"),
         (["survey", "--with", "front.ti", *SIZE, "own.ti"], 1, b"refused: line 1: NoName\n", False, b"front.ti"),
         (["survey", "--with", "nobody.ti", *SIZE, "own.ti"], 3, b"file: nobody.ti\n", False, None),
         (["check", "--with", "-", "--", "-:own", *SIZE], 2, b"error: '-' is standard input", False, None),

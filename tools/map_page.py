@@ -21,7 +21,6 @@ PARTS = [
             "ti_reports",
             "ti_surveys",
             "ti_repairs",
-            "ti_mends",
             "ti_verdicts",
             "ti_commands",
             "ti_hints",
@@ -33,7 +32,7 @@ PARTS = [
     (
         "Descriptions",
         [
-            "ti_remedies", "ti_fixes", "ti_sources", "ti_resolve", "ti_source", "ti_compiled", "ti_caps", "ti_parm",
+            "ti_fixes", "ti_sources", "ti_resolve", "ti_source", "ti_compiled", "ti_caps", "ti_parm",
             "ti_blames",
         ],
     ),

@@ -469,15 +469,16 @@ its entries is taken, as `ticurses check --help` describes it for one entry; not
 that isn't taken standard error has a line `kept CAP of NAME: REASON`: no place for its field was found, another entry
 wants another string in the field, or an entry that has a yes would lose it. The text is judged again: standard error
 has a line `left: NAME no CAP P..: CAUSE` for each fault that is left, and `left: NAME refused: KIND` for an entry that
-can't be resolved. An entry that can't be read refuses the text. With --fail the status is 1 if something is left. FILE
-stands alone: --with is a usage error beside --fix, and `ticurses check --fix` mends an entry with the files that it
-uses.
+can't be resolved. An entry that can't be read refuses the text. With --fail the status is 1 if something is left. With
+--with the strings for the entries of FILE are taken in those files too, no entry of which loses a yes, and --out names
+a folder, as for `ticurses check --fix`; a line without it is refused.
 
 A FILE has at most 16777216 bytes. One that can't be read has no line, and the others are checked all the same.
 
 Exit status: 0 done, whatever the answers are without --fail; 1 refused, with a line `refused: BadSize` on standard
-error, or `refused: Faulty` with --fail, or `refused: line N: KIND` with --fix; 2 usage error; 3 a file could not be
-read or is too long (`file: PATH` names the first), or a text or standard output could not be written; 4 out of memory.
+error, or `refused: Faulty` with --fail, or with --fix `refused: line N: KIND`, or `refused: SeveralFiles` if there are
+files of --with and no --out; 2 usage error; 3 a file could not be read or is too long (`file: PATH` names the first),
+or a text or standard output could not be written; 4 out of memory.
 
 Example:
   ticurses survey 24 80 my.ti /usr/share/terminfo/*/*

@@ -78,16 +78,10 @@ fn survey_fault(words: &ArgMatches<'_>) -> Option<&'static str> {
     None
 }
 
-/// `survey --fix` writes the text of one file that stands alone.
+/// `survey --fix` mends one file, with those of `--with`.
 fn fix_fault(words: &ArgMatches<'_>) -> Option<&'static str> {
     let files = words.get_strs("FILE").unwrap_or(&[]);
     let is_of_one = files.len() == 1 && !lists_all(words);
-    if is_of_one && words.get_str("with").is_some() {
-        return Some(
-            "survey --fix mends one source FILE that stands alone: --with is not for it; check --fix \
-             mends an entry with the files that it uses",
-        );
-    }
     if !is_of_one || reports(words) || words.get_str("baseline").is_some() {
         return Some(
             "survey --fix writes the text of one source FILE: --all, --json, --sarif and --baseline \

@@ -1,2 +1,9 @@
 pub mod Written
 pub mod Changed
+pub mod Lists
+pub mod PartFacts
+pub mod Gathered
+pub mod StandingFacts
+pub mod FileFacts
+pub mod HeldFacts
+pub mod RoundFacts

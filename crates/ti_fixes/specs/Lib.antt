@@ -1,5 +1,10 @@
 pub mod Given
 pub mod Texts
 pub mod Cuts
-pub mod Fixes
 pub mod Changes
+pub mod Files
+pub mod Among
+pub mod Parts
+pub mod Standings
+pub mod Remedies
+pub mod Treated

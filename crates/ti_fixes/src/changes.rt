@@ -11,7 +11,7 @@ use crate::differences::first_difference;
 use crate::fixes::{Fixed, entries_of};
 use crate::places::find_own_piece;
 use crate::texts::written;
-use std::alloc::{AllocError, Global};
+use std::alloc::{AllocError, AllocFailed, Global};
 use ti_caps::{Bytes, Cap};
 use ti_source::RawEntry;
 
@@ -63,6 +63,12 @@ pub enum ChangeFault {
 
 impl From<AllocError> for ChangeFault {
     fn from(_error: AllocError) -> ChangeFault {
+        ChangeFault::NoMemory
+    }
+}
+
+impl<T: Drop> From<AllocFailed<T>> for ChangeFault {
+    fn from(_error: AllocFailed<T>) -> ChangeFault {
         ChangeFault::NoMemory
     }
 }

@@ -1,6 +1,6 @@
 //! Comparing the entries of a text with those that the changes of another text were to give.
 
-ghost use Rattle.std.specs.Prelude.{◌≡◌, ◌++◌, None, OnOk, IfOk, true};
+ghost use Rattle.std.specs.Prelude.{◌≡◌, None, IfOk, true};
 ghost use Rattle.ti_caps.specs.declared.value.Value.TheVariants as values;
 ghost use Rattle.ti_fixes.specs.Given.{with_given};
 ghost use Rattle.ti_fixes.specs.Changes as spec;
@@ -9,31 +9,10 @@ ghost use Rattle.ti_source.specs.declared.types.Field.TheVariants as fields;
 
 use crate::changes::Change;
 use crate::comparisons::{is_about, same_bytes, same_fields};
+use crate::copies::{copied_field, push_copied};
 use std::alloc::{AllocError, Global};
 use ti_caps::{Bytes, Cap, Value};
 use ti_source::{Field, RawEntry};
-
-/// A copy of the field.
-fn copied(field: &Field) -> Result<Field, AllocError>
-    ensures { IfOk result (λ copy. copy ≡ field.now) }
-{
-    match field {
-        Field::Set(cap, value) => Ok(Field::Set(*cap, value.try_copy()?)),
-        Field::Cancel(cap) => Ok(Field::Cancel(*cap)),
-        Field::Include(name) => Ok(Field::Include(name.try_copy()?)),
-    }
-}
-
-/// Appends copies of the fields.
-fn push_copied(copy: &mut Vec<Field>, fields: &[Field]) -> Result<(), AllocError>
-    ensures { OnOk result (copy.new.items ≡ copy.old.items ++ fields.now) }
-{
-    for field in fields {
-        let own = copied(field)?;
-        copy.push(own)?;
-    }
-    Ok(())
-}
 
 /// The field that sets the capability to the string.
 fn string_field(alloc: Global, cap: Cap, string: &[u8]) -> Result<Field, AllocError>
@@ -61,7 +40,7 @@ fn with_string(
             push_copied(&mut given, behind)?;
             return Ok(given);
         }
-        let copy = copied(first)?;
+        let copy = copied_field(first)?;
         given.push(copy)?;
         rest = behind;
     }

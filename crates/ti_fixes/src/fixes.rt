@@ -1,18 +1,12 @@
-//! Giving a capability of an entry another string, in the text.
+//! A text in which fields were given other strings.
 
-ghost use Rattle.std.specs.{Prelude.{◌≡◌, Err, IfNone, IfOk, IfSome, IsTrue, Ok}, List.{AllByRecursion}};
-ghost use Rattle.ti_caps.specs.Fits.{string_fits};
-ghost use Rattle.ti_fixes.specs.Fixes.{Gives};
+ghost use Rattle.std.specs.{Prelude.{◌≡◌, Err, IfNone, IfOk, IfSome, Ok}, List.{AllByRecursion}};
 ghost use Rattle.ti_source.specs.{Raw.{IsRaw}, Source.{source_of}, declared.types.SourceFault.{SourceFault}};
 
-use crate::comparisons::are_given;
-use crate::places::find_piece;
-use crate::texts::written;
 use std::alloc::{AllocError, Global};
-use ti_caps::Cap;
 use ti_source::{RawEntry, read};
 
-/// A source text in which a field was given another string.
+/// A source text in which fields were given other strings.
 #[derive(Debug, Drop)]
 pub struct Fixed {
     /// The text.
@@ -34,42 +28,4 @@ pub fn entries_of(alloc: Global, text: &[u8]) -> Result<Option<Vec<RawEntry>>, A
             Ok(None)
         }
     }
-}
-
-/// The `text` with the string given to `cap` in the entry at `place`: its first field about `cap` is written anew, or
-/// one is put behind its last field if there is none. `raws` are the entries of the text.
-///
-/// `None` if that can't be done, as for a place without an entry: nothing is returned that isn't read as just these
-/// entries with that string.
-///
-/// # Errors
-/// Out of memory.
-pub fn give(
-    alloc: Global,
-    text: &[u8],
-    raws: &[RawEntry],
-    place: usize,
-    cap: Cap,
-    string: &[u8],
-) -> Result<Option<Fixed>, AllocError>
-    requires { IsTrue (string_fits string.now) }
-    ensures { IfOk result (λ found. IfSome found (λ fixed.
-        Gives text.now raws.now place cap string.now fixed.text.items fixed.raws.items)) }
-{
-    let Some(piece) = find_piece(alloc, text, raws, place, cap)? else {
-        return Ok(None);
-    };
-    let Some(after) = written(alloc, text, piece, cap, string)? else {
-        return Ok(None);
-    };
-    let Some(afters) = entries_of(alloc, after.as_slice())? else {
-        return Ok(None);
-    };
-    if !are_given(raws, afters.as_slice(), place, cap, string) {
-        return Ok(None);
-    }
-    Ok(Some(Fixed {
-        text: after,
-        raws: afters,
-    }))
 }

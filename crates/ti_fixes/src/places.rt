@@ -3,7 +3,6 @@
 
 use std::alloc::{AllocError, Global};
 use ti_caps::{Cap, Opener, name};
-use ti_source::RawEntry;
 
 /// A piece of a text: the place of its first byte, and its length.
 #[derive(Clone, Copy, Debug, PartialEq, Eq)]
@@ -12,15 +11,11 @@ pub struct Piece {
     pub length: usize,
 }
 
-/// A walk over the bytes of a text, for the pieces of one entry before commas.
+/// A walk over the bytes of a text of one entry, for the pieces before commas.
 #[derive(Drop)]
 struct Walk {
     /// The place of the next byte.
     at: usize,
-    /// The line of the next byte, from 1.
-    line: u32,
-    /// The entry's first line.
-    first: u32,
     /// Whether the next byte is the first of its line.
     is_start: bool,
     /// Whether the line is a comment.
@@ -32,12 +27,10 @@ struct Walk {
 }
 
 impl Walk {
-    /// A walk for the entry that begins on the line `first`.
-    fn new(alloc: Global, first: u32) -> Walk {
+    /// A walk from the start of the text.
+    fn new(alloc: Global) -> Walk {
         Walk {
             at: 0,
-            line: 1,
-            first,
             is_start: true,
             is_comment: false,
             opener: Opener::Nothing,
@@ -58,14 +51,13 @@ impl Walk {
             self.is_start = false;
             self.is_comment = byte == b'#';
         }
-        if self.is_comment || self.line < self.first {
+        if self.is_comment {
             return Ok(());
         }
         self.take_in_field(at, byte)
     }
 
     fn end_line(&mut self) {
-        self.line = self.line.saturating_add(1);
         self.is_start = true;
         self.is_comment = false;
         self.opener = Opener::Nothing;
@@ -89,13 +81,11 @@ impl Walk {
     }
 }
 
-/// The pieces before commas of the entry whose names are on the line `first`; the line `next` is behind it.
-fn pieces_of(alloc: Global, text: &[u8], first: u32, next: u32) -> Result<Vec<Piece>, AllocError> {
-    let mut walk = Walk::new(alloc, first);
+/// The pieces of a text of one entry before commas.
+fn pieces_of(alloc: Global, text: &[u8]) -> Result<Vec<Piece>, AllocError> {
+    let mut walk = Walk::new(alloc);
     for byte in text {
-        if walk.line < next {
-            walk.take(*byte)?;
-        }
+        walk.take(*byte)?;
     }
     let Walk { pieces, .. } = walk;
     Ok(pieces)
@@ -167,14 +157,6 @@ fn behind(pieces: &[Piece]) -> Option<Piece> {
     }
 }
 
-/// The line on which the entry behind the one at `place` begins.
-fn next_line(raws: &[RawEntry], place: usize) -> u32 {
-    match raws.get(place.saturating_add(1)) {
-        Some(raw) => raw.line,
-        None => u32::MAX,
-    }
-}
-
 /// The piece of the text that is the first of the entry's fields about `cap`, or the empty piece behind the last one if
 /// there is none. `pieces` are those of the entry before commas.
 fn piece_about(text: &[u8], pieces: &[Piece], cap: Cap) -> Option<Piece> {
@@ -188,25 +170,8 @@ fn piece_about(text: &[u8], pieces: &[Piece], cap: Cap) -> Option<Piece> {
     }
 }
 
-/// The piece of the text that is the field of the entry at `place` about `cap`, or the empty piece behind the entry's
-/// last field if it has none.
-pub fn find_piece(
-    alloc: Global,
-    text: &[u8],
-    raws: &[RawEntry],
-    place: usize,
-    cap: Cap,
-) -> Result<Option<Piece>, AllocError> {
-    let first = match raws.get(place) {
-        Some(raw) => raw.line,
-        None => return Ok(None),
-    };
-    let pieces = pieces_of(alloc, text, first, next_line(raws, place))?;
-    Ok(piece_about(text, pieces.as_slice(), cap))
-}
-
 /// The piece of a text of one entry that is its field about `cap`, or the empty piece behind its last field.
 pub fn find_own_piece(alloc: Global, text: &[u8], cap: Cap) -> Result<Option<Piece>, AllocError> {
-    let pieces = pieces_of(alloc, text, 1, u32::MAX)?;
+    let pieces = pieces_of(alloc, text)?;
     Ok(piece_about(text, pieces.as_slice(), cap))
 }

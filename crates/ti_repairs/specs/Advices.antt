@@ -1,24 +1,34 @@
 -- The strings that are advised for an entry: those that `check --all` suggests for its faults.
 use Rattle.std.specs.Prelude.{ℕ, ◌≡◌, true, false, Bool, List, [], ◌∷◌, Option, Some, None, IsTrue, get_or, length}
+use Rattle.std.specs.List.{flat_map}
 use Rattle.ti_caps.specs.Entry.{Content}
 use Rattle.ti_caps.specs.Fits.{string_fits}
 use Rattle.ti_checker.specs.declared.causes.No.{No}
 use Rattle.ti_faults.specs.AllFaults.{AreAllFaults}
 use Rattle.ti_faults.specs.Mended.{IsBestMended}
-use Rattle.ti_faults.specs.Remedies.{IsSuggestion, is_of_another_kind}
+use Rattle.ti_faults.specs.Remedies.{IsSuggestion, is_of_another_kind, listed_with}
 use Rattle.ti_faults.specs.declared.mended.Mended.{Mended}
-use Rattle.ti_mends.specs.Right.{IsFaultless}
-use Rattle.ti_mends.specs.Taken.{all_listed}
-use Rattle.ti_remedies.specs.Parts.{AreParts}
-use Rattle.ti_remedies.specs.declared.advice.Advice.{Advice}
+use Rattle.ti_fixes.specs.Parts.{AreParts}
+use Rattle.ti_fixes.specs.declared.advice.Advice.{Advice}
 
 -- (Serves the code alone.) the string can be an entry's
 abbrev pub Fits : Advice → Type 0
 Fits advice = IsTrue (string_fits advice.string)
 
+-- the entry has a fault
+pub record HasFault (entry : Content) (rows cols : ℕ) : Type 0 where
+  pub first : No
+  pub others : List No
+  pub all : AreAllFaults entry rows cols (first ∷ others)
+
 -- an entry is right if it has no fault
 abbrev pub Judges : ℕ → ℕ → Content → Bool → Type 0
-Judges rows cols entry is_right = IsFaultless entry rows cols is_right
+Judges rows cols entry true = AreAllFaults entry rows cols []
+Judges rows cols entry false = HasFault entry rows cols
+
+-- the capabilities whose suggestions are listed with these faults, in their order
+abbrev pub all_listed : List No → List ℕ
+all_listed nos = flat_map (λ no. listed_with nos no.cap) nos
 
 -- the suggestion for a capability, if there is one
 abbrev pub IsAdvice : Content → Mended → ℕ → Option Advice → Type 0

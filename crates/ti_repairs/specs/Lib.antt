@@ -1,3 +1,6 @@
 pub mod Advices
+pub mod Texts
 pub mod Notes
+pub mod Delivery
 pub mod Repairs
+pub mod Entries

@@ -1,70 +1,93 @@
--- The notes on standard error about a text with suggestions taken.
-use Rattle.std.specs.Prelude.{ℕ, ◌≡◌, List, [], ◌∷◌, ◌++◌, Option, Some, None, Result, Ok, Err, codes, length}
+-- The notes on standard error about files with suggestions taken.
+use Rattle.std.specs.Prelude.{ℕ, ◌≡◌, Bool, true, false, List, [], ◌∷◌, ◌++◌, Option, Some, None, Result, Ok, Err}
+use Rattle.std.specs.Prelude.{Vec, codes}
+use Rattle.std.specs.Global.{Global}
 use Rattle.std.specs.List.{flat_map}
 use Rattle.ti_caps.specs.Entry.{Content}
 use Rattle.ti_caps.specs.Table.{name_at}
 use Rattle.ti_checker.specs.declared.causes.No.{No}
 use Rattle.ti_commands.specs.Findings.{ResolvesAt}
-use Rattle.ti_files.specs.Refusals.{refusal_text_of}
-use Rattle.ti_files.specs.declared.failure.CommandRefusal.{CommandRefusal}
 use Rattle.ti_faults.specs.AllFaults.{AreAllFaults}
-use Rattle.ti_remedies.specs.Parts.{AreParts}
-use Rattle.ti_remedies.specs.declared.advice.Remedy.{Remedy}
-use Rattle.ti_remedies.specs.declared.treated.Reason.{Reason}
-use Rattle.ti_remedies.specs.declared.treated.Reason.TheVariants.{Unplaced, Rival, Lost}
-use Rattle.ti_remedies.specs.declared.treated.Treated.{Treated}
+use Rattle.ti_files.specs.Refusals.{refusal_text_of}
+use Rattle.ti_files.specs.Shown.{shown}
+use Rattle.ti_files.specs.declared.failure.CommandRefusal.{CommandRefusal}
+use Rattle.ti_fixes.specs.Parts.{AreParts}
+use Rattle.ti_fixes.specs.declared.advice.Remedy.{Remedy}
+use Rattle.ti_fixes.specs.declared.treated.Reason.{Reason}
+use Rattle.ti_fixes.specs.declared.treated.Reason.TheVariants.{Unplaced, Rival, Lost}
+use Rattle.ti_fixes.specs.declared.treated.Treated.{Treated}
 use Rattle.ti_resolve.specs.Uses.{names_at}
 use Rattle.ti_source.specs.declared.types.RawEntry.{RawEntry}
 use Rattle.ti_verdicts.specs.Locations.{first_name}
 use Rattle.ti_verdicts.specs.Refusals.{no_text}
-use Rattle.ti_files.specs.Shown.{shown}
 
 -- the first name of the entry at a place
 abbrev pub own_name : List RawEntry → ℕ → List ℕ
 own_name raws place = first_name (names_at raws place)
 
--- why a suggestion is left, with the first name of another entry
+-- ---- suggestions that are left out
+
+-- why a suggestion is left out, with the first name of another entry
 abbrev pub reason_text : List RawEntry → Reason → List ℕ
 reason_text raws Unplaced = codes "no place for its field was found"
 reason_text raws (Rival root) = shown (own_name raws root) ++ codes " wants another string"
 reason_text raws (Lost place) = shown (own_name raws place) ++ codes " would lose its yes"
 
--- `kept CAP of NAME: REASON`
-abbrev pub reason_line : List RawEntry → Remedy → Reason → List ℕ
-reason_line raws remedy reason =
-    codes "kept " ++ (name_at remedy.change.cap ++ (codes " of " ++ (shown (own_name raws remedy.root)
-    ++ (codes ": " ++ (reason_text raws reason ++ 10 ∷ [])))))
+-- ` of NAME`, if entries are named
+abbrev pub of_text : Bool → List ℕ → List ℕ
+of_text true name = codes " of " ++ shown name
+of_text false name = []
+
+-- `kept CAP: REASON`, or `kept CAP of NAME: REASON`
+abbrev pub reason_line : Bool → List RawEntry → Remedy → Reason → List ℕ
+reason_line named raws remedy reason =
+    codes "kept " ++ (name_at remedy.change.cap ++ (of_text named (own_name raws remedy.root)
+    ++ (codes ": " ++ (reason_text raws reason ++ 10 ∷ []))))
 
 -- nothing for a suggestion that is taken
-abbrev pub kept_line : List RawEntry → Remedy → Option Reason → List ℕ
-kept_line raws remedy None = []
-kept_line raws remedy (Some reason) = reason_line raws remedy reason
+abbrev pub left_out_line : Bool → List RawEntry → Remedy → Option Reason → List ℕ
+left_out_line named raws remedy None = []
+left_out_line named raws remedy (Some reason) = reason_line named raws remedy reason
 
--- a line for each suggestion that is left
-abbrev pub kept_lines : List RawEntry → List Treated → List ℕ
-kept_lines raws treated = flat_map (λ one. kept_line raws one.remedy one.kept) treated
+-- a line for each suggestion that is left out
+abbrev pub left_out_lines : Bool → List RawEntry → List Treated → List ℕ
+left_out_lines named raws treated = flat_map (λ one. left_out_line named raws one.remedy one.left_out) treated
 
--- `left: NAME WORDS`
-abbrev pub left_line : List ℕ → List ℕ → List ℕ
-left_line name words = codes "left: " ++ (shown (name ++ 32 ∷ words) ++ 10 ∷ [])
+-- ---- entries that are still wrong
 
--- a line for each fault of an entry, `left: NAME no CAP P..: CAUSE`
-pub record HasFaultLines (name : List ℕ) (rows cols : ℕ) (entry : Content) (text : List ℕ) : Type 0 where
-  pub nos : List No
-  pub all : AreAllFaults entry rows cols nos
-  pub says : text ≡ flat_map (λ no. left_line name (no_text no)) nos
+-- what is wrong with an entry: its faults, or why it can't be resolved
+abbrev pub IsWrongOf : ℕ → ℕ → Result Content CommandRefusal → Result (Vec No Global) CommandRefusal → Type 0
+IsWrongOf rows cols (Ok entry) (Ok nos) = AreAllFaults entry rows cols nos.items
+IsWrongOf rows cols (Err refusal) (Err told) = told ≡ refusal
+IsWrongOf rows cols _ _ = ⊥
 
--- the lines about an entry; `left: NAME refused: KIND` if it can't be resolved
-abbrev pub IsLeftOf : List ℕ → ℕ → ℕ → Result Content CommandRefusal → List ℕ → Type 0
-IsLeftOf name rows cols (Ok entry) text = HasFaultLines name rows cols entry text
-IsLeftOf name rows cols (Err refusal) text = text ≡ left_line name (codes "refused: " ++ refusal_text_of refusal)
-
--- the lines about the entry at a place
-pub record IsLeftAt (raws : List RawEntry) (rows cols place : ℕ) (text : List ℕ) : Type 0 where
+-- what is wrong with the entry at a place
+pub record IsStillWrong (raws : List RawEntry) (rows cols place : ℕ) (wrong : Result (Vec No Global) CommandRefusal)
+    : Type 0 where
   pub found : Result Content CommandRefusal
   pub resolves : ResolvesAt raws place found
-  pub lines : IsLeftOf (own_name raws place) rows cols found text
+  pub is : IsWrongOf rows cols found wrong
 
--- the lines about what is left of all entries
-abbrev pub AreLeft : List RawEntry → ℕ → ℕ → List ℕ → Type 0
-AreLeft raws rows cols text = AreParts (IsLeftAt raws rows cols) (length raws) text
+-- `NAME `, if entries are named
+abbrev pub label_of : Bool → List ℕ → List ℕ
+label_of true name = name ++ 32 ∷ []
+label_of false name = []
+
+-- `left: WORDS`, or `left: NAME WORDS`
+abbrev pub wrong_line : List ℕ → List ℕ → List ℕ
+wrong_line label words = codes "left: " ++ (shown (label ++ words) ++ 10 ∷ [])
+
+-- a line for each fault, `no CAP P..: CAUSE`; or `refused: KIND` for an entry that can't be resolved
+abbrev pub wrong_lines : List ℕ → Result (Vec No Global) CommandRefusal → List ℕ
+wrong_lines label (Ok nos) = flat_map (λ no. wrong_line label (no_text no)) nos.items
+wrong_lines label (Err refusal) = wrong_line label (codes "refused: " ++ refusal_text_of refusal)
+
+-- the lines about the entry at a place, with its name
+pub record AreWrongLines (raws : List RawEntry) (rows cols place : ℕ) (text : List ℕ) : Type 0 where
+  pub wrong : Result (Vec No Global) CommandRefusal
+  pub is : IsStillWrong raws rows cols place wrong
+  pub says : text ≡ wrong_lines (label_of true (own_name raws place)) wrong
+
+-- the lines about what is still wrong with each of the first `count` entries
+abbrev pub AreStillWrong : List RawEntry → ℕ → ℕ → ℕ → List ℕ → Type 0
+AreStillWrong raws rows cols count text = AreParts (AreWrongLines raws rows cols) count text

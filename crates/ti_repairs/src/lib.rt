@@ -1,12 +1,17 @@
-//! The reply of `survey --fix`: a source text in which the strings that are suggested for all its entries are taken.
+//! The replies of `--fix`: source texts in which the strings that are suggested for their entries are taken.
 #![tactic(auto)]
 
-mod command;
-mod left;
+mod delivery;
+mod entries;
 mod notes;
+mod remedies;
+mod still_wrong;
 mod suggestions;
+mod surveys;
+mod texts;
 mod words;
 
-pub use command::fix_survey;
+pub use entries::fix_entry;
 pub use suggestions::Suggestions;
+pub use surveys::fix_survey;
 pub use words::FixWords;

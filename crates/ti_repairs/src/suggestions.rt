@@ -7,9 +7,8 @@ ghost use Rattle.ti_repairs.specs.Advices as spec;
 use std::alloc::{AllocError, Global};
 use ti_caps::{Bytes, Cap, Entry};
 use ti_checker::No;
-use ti_faults::{Mended, faults, is_of_another_kind, suggestion};
-use ti_mends::{all_listed, is_faultless};
-use ti_remedies::{Advice, Adviser};
+use ti_faults::{Mended, faults, is_of_another_kind, listed_with, suggestion};
+use ti_fixes::{Advice, Adviser};
 use vt_term::Size;
 
 /// Advises the strings that `check --all` suggests for the faults of an entry. One without a fault is right.
@@ -17,6 +16,18 @@ use vt_term::Size;
 pub struct Suggestions {
     /// The terminal's size.
     pub size: Size,
+}
+
+/// The capabilities whose suggestions are listed with the faults `nos`, in their order.
+fn all_listed(alloc: Global, nos: &[No]) -> Result<Vec<Cap>, AllocError>
+    ensures { IfOk result (λ caps. caps.items ≡ spec.all_listed nos.now) }
+{
+    let mut caps = Vec::new(alloc);
+    for no in nos {
+        let own = listed_with(alloc, nos, no.cap)?;
+        caps.extend_from_slice(own.as_slice())?;
+    }
+    Ok(caps)
 }
 
 /// The suggestion for a capability.
@@ -83,6 +94,17 @@ fn advices_for(
     let mended = Mended::new(alloc, entry, size, nos)?;
     let caps = all_listed(alloc, nos)?;
     all_advices(alloc, entry, &mended, caps.as_slice())
+}
+
+/// Whether `entry` has no fault on a screen of `size`.
+fn is_faultless(alloc: Global, entry: &Entry, size: Size) -> Result<bool, AllocError>
+    ensures { IfOk result (spec.Judges size.rows size.cols entry.now) }
+{
+    let nos = faults(alloc, entry, size)?;
+    match nos.as_slice() {
+        [] => Ok(true),
+        [_first, ..] => Ok(false),
+    }
 }
 
 impl Adviser for Suggestions {

@@ -19,9 +19,8 @@ use ti_files::{
     Beside, CommandRefusal, Failure, Files, Output, Remarks, Replied, Reply, Wrapped, Written,
     report, write_reply, write_text,
 };
-use ti_mends::fix_entry;
 use ti_printers::{Baseline, Json, News, Sarif};
-use ti_repairs::{FixWords, fix_survey};
+use ti_repairs::{FixWords, fix_entry, fix_survey};
 use ti_reports::{Check, Form, SurveyReports, check_reports, survey_reports};
 use ti_requests::{CheckWords, FaultsWords, Request, ScriptWords, SurveyWords};
 use ti_source::FaultKind;

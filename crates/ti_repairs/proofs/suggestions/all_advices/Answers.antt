@@ -1,6 +1,6 @@
 use Rattle.std.proofs.Common.{ℕ, [], get_or, refl, subst, arith}
-use Rattle.ti_remedies.proofs.Lists.{all_append}
-use Rattle.ti_remedies.proofs.PartFacts.{no_parts, parts_next}
+use Rattle.ti_fixes.proofs.Lists.{all_append}
+use Rattle.ti_fixes.proofs.PartFacts.{no_parts, parts_next}
 use Rattle.ti_repairs.specs.Advices.{Fits, IsAdvice, IsAdvised, optional}
 use Rattle.ti_repairs.proofs.Facts.{fits_next, same_item}
 use Rattle.ti_repairs.proofs.suggestions.all_advices.Goals as goal

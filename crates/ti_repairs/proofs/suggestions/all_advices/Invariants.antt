@@ -1,6 +1,6 @@
 use Rattle.std.proofs.Common.{get_or}
 use Rattle.std.specs.List.{AllByRecursion}
-use Rattle.ti_remedies.specs.Parts.{AreParts}
+use Rattle.ti_fixes.specs.Parts.{AreParts}
 use Rattle.ti_repairs.specs.Advices.{Fits, IsAdvised}
 use Rattle.ti_repairs.proofs.suggestions.all_advices.Given as goal
 
