@@ -23,7 +23,7 @@ enum { TCU_PAD_MAX = 1000, TCU_PAIRS = 64, TCU_ALL_PAIRS = TCU_PAIRS + 17 };
 /* colors.c */
 /* The session's pair for a pair of the program's; 0 if there is none. */
 int tcu_slot(int pair);
-/* The same for something that is drawn: no other pair takes this one afterwards. */
+/* The session's pair for something that is drawn with `pair`; no other pair takes its place afterwards. */
 int tcu_use(int pair);
 /* The program's pair that the session has as `slot`. */
 int tcu_pair_of(int slot);
