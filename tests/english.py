@@ -18,6 +18,7 @@ import ast
 import io
 import os
 import re
+import signal
 import sys
 import tokenize
 from collections import Counter
@@ -324,6 +325,8 @@ def over(count, read):
 
 
 def main():
+    # a list that is read in part, as by head, ends this script without a word
+    signal.signal(signal.SIGPIPE, signal.SIG_DFL)
     wrong = list(examples_fail())
     if wrong:
         sys.exit("english: " + "\nenglish: ".join(wrong))
