@@ -1,6 +1,6 @@
 //! All values of a compiled file at once, for a program that keeps the file's bytes.
-ghost use Rattle.std.specs.Prelude.{◌≡◌, Some};
-ghost use Rattle.ti_compiled.specs.Contents.{read_of};
+ghost use Rattle.std.specs.Prelude.{◌≡◌, List, Some, IfOk, ℕ};
+ghost use Rattle.ti_compiled.specs.{Contents.{read_of}, Packed.{IsPacked}};
 ghost use Rattle.terminfo_c.specs.Tables as spec;
 
 use crate::codes::{OK, file_code};
@@ -41,6 +41,8 @@ pub extern "C" fn ticurses_raw_terminfo_read<'a>(
     strings: &mut [Text<'a>],
 ) -> i32
     ensures code { result ≡ spec.read_code (read_of file.now) }
+    // A file that is read has its entry in the layout of term(5): a zero byte comes after the names and each string.
+    ensures packed { IfOk (read_of file.now) (λ entry. (rest : List ℕ) × IsPacked file.now entry rest) }
     ensures names { spec.Writes (read_of file.now) (λ entry. spec.text_of names.new ≡ Some entry.names)
         (names.new ≡ names.old) }
     ensures flags { spec.Writes (read_of file.now)
