@@ -38,10 +38,12 @@ int session_move(int window, int y, int x);
 int session_addch(int window, chtype cell);
 /* sets attributes and pair together */
 int session_attrset(int window, chtype attrs);
-/* These write characters and store the place of the first in `y` and `x`. They return false and write nothing unless
- * all characters are printable and end before the last column of the cursor's line. */
-bool session_put(int window, chtype cell, int *y, int *x);
-bool session_write(int window, const char *text, size_t len, int *y, int *x);
+/* These write printable characters in the cursor's line, and store the place of the first in `y` and `x`. They may fill
+ * the line, unless it is the window's last one or `bottom`, the last one of its scrolling region. session_put writes one
+ * character, and returns false if it can't; session_write writes as many as the text begins with, and returns their
+ * number. */
+bool session_put(int window, chtype cell, int bottom, int *y, int *x);
+size_t session_write(int window, const char *text, size_t len, int bottom, int *y, int *x);
 
 int session_newwin(int number, int lines, int columns, int y, int x);
 int session_newpad(int number, int lines, int columns);

@@ -38,11 +38,13 @@ int tcu_clear_rest(WINDOW *window) {
     return session_clrtoeol(window->number);
 }
 
-/* Writes a character from 32 to 126. One in a line's last column is inserted, which leaves the cursor there. */
+/* Writes a character from 32 to 126. One in a last column from which the cursor doesn't go to the next line is inserted,
+ * which leaves the cursor there. */
 static int put(WINDOW *window, chtype ch) {
     int y, x;
-    if (session_put(window->number, ch, &y, &x)) {
+    if (session_put(window->number, ch, window->region_bottom, &y, &x)) {
         tcu_touch_place(window, y, x);
+        if (x == window->columns - 1) window->has_wrapped = true;
         return OK;
     }
     if (session_cursor(window->number, &y, &x) != OK || session_insch(window->number, ch) != OK) return ERR;
@@ -110,13 +112,24 @@ int wechochar(WINDOW *window, chtype ch) {
     return waddch(window, ch) == OK ? wrefresh(window) : ERR;
 }
 
+/* Writes what a text begins with: the characters that fit in the cursor's line at once, or else one character. Adds to
+ * `at` how many were written. */
+static int put_first(WINDOW *window, const char *text, size_t len, size_t *at) {
+    int y, x;
+    size_t count = session_write(window->number, text, len, window->region_bottom, &y, &x);
+    *at += count > 0 ? count : 1;
+    if (count == 0) return add(window, (unsigned char)*text);
+    tcu_touch(window, y, x, x + (int)count - 1);
+    if (x + (int)count == window->columns) window->has_wrapped = true;
+    return OK;
+}
+
 int waddnstr(WINDOW *window, const char *text, int count) {
-    size_t len;
-    int code = OK, y, x;
+    size_t len, at = 0;
+    int code = OK;
     if (!tcu_is_own(window) || !text) return ERR;
     len = count < 0 ? strlen(text) : strnlen(text, (size_t)count);
-    if (session_write(window->number, text, len, &y, &x)) tcu_touch(window, y, x, x + (int)len - 1);
-    else for (size_t at = 0; at < len && code == OK; at++) code = add(window, (unsigned char)text[at]);
+    while (at < len && code == OK) code = put_first(window, text + at, len - at, &at);
     return tcu_changed(window, code);
 }
 

@@ -30,7 +30,7 @@ int tcu_pair_of(int slot);
 
 /* A character or attributes in the colors that the session has: a pair that it lacks counts as pair 0. */
 static inline chtype tcu_colored(chtype ch) {
-    return tcu_use((int)PAIR_NUMBER(ch)) > 0 ? ch : ch & ~A_COLOR;
+    return !(ch & A_COLOR) || tcu_use((int)PAIR_NUMBER(ch)) > 0 ? ch : ch & ~A_COLOR;
 }
 
 /* The touched columns of a line; none if `first` is above `last`. */

@@ -1,6 +1,7 @@
 /* Text that waits. Printable characters that are written one after the other in a line go to the session together, with
  * their place and attributes, when another call is made. The session can't refuse any of this: the place is in the
- * window, the text ends before the line's last column, and the pair exists. */
+ * window, the pair exists, and the text ends before the line's last column. Text that fills its line goes to the session
+ * at once, and only where the session's cursor then goes to the next line. */
 #include <string.h>
 
 #include "session.h"
@@ -113,50 +114,98 @@ static void turn_to(chtype marks) {
     run.marks = marks;
 }
 
-/* A text that ends before the line's last column leaves the cursor in that line. */
-bool session_put(int window, chtype cell, int *y, int *x) {
+/* Has the session write the text that fills its line, which leaves the cursor in the next one. */
+static void wrap(void) {
+    run_flush();
+    run.y++;
+    run.x = 0;
+}
+
+/* Whether text that fills the cursor's line goes on in the next one: it does so in the session as in curses, but not in
+ * a scrolling region's last line, which is `bottom`, and not in the window's. */
+static bool goes_on(int bottom) {
+    return run.y != bottom && run.y < known[run.window].lines - 1;
+}
+
+/* Adds a character to the text that waits, and stores its place. */
+static inline void append(chtype cell, int *y, int *x) {
+    *y = run.y;
+    *x = run.x++;
+    run.text[run.count++] = (char)TCU_BYTE(cell);
+}
+
+/* Writes a character whose window, place or marks may be others than those of the text that waits. It is a function of
+ * its own, so that session_put takes few steps for all other characters. */
+__attribute__((__noinline__)) static bool put_anew(int window, chtype cell, int bottom, int *y, int *x) {
     chtype marks = tcu_colored(cell) & ~A_CHARTEXT;
-    bool is_put = false;
-    if (tcu_is_busy || TCU_BYTE(cell) < 32 || TCU_BYTE(cell) > 126) return false;
-    tcu_is_busy = 1;
-    if (is_current(window) && run.x < run.last_x) {
+    bool is_put = is_current(window) && (run.x < run.last_x || goes_on(bottom));
+    if (is_put) {
         marks = marks ? joined(marks) : run.wanted;
         if (marks != run.marks) turn_to(marks);
-        *y = run.y;
-        *x = run.x++;
-        run.text[run.count++] = (char)TCU_BYTE(cell);
-        is_put = true;
+        append(cell, y, x);
+        if (run.x > run.last_x) wrap();
     }
     tcu_is_busy = 0;
     return is_put;
 }
 
-static bool is_printable(const char *text, size_t len) {
-    for (size_t at = 0; at < len; at++)
-        if (text[at] < 32 || text[at] > 126) return false;
+bool session_put(int window, chtype cell, int bottom, int *y, int *x) {
+    unsigned byte = TCU_BYTE(cell);
+    if (tcu_is_busy || byte < 32 || byte > 126) return false;
+    tcu_is_busy = 1;
+    if (run.window != window || run.x >= run.last_x || byte != cell || run.wanted != run.marks)
+        return put_anew(window, cell, bottom, y, x);
+    append(cell, y, x);
+    tcu_is_busy = 0;
     return true;
 }
 
-bool session_write(int window, const char *text, size_t len, int *y, int *x) {
-    bool is_written = false;
-    if (tcu_is_busy) return false;
+/* Whether all of eight characters are printable, tested side by side. A byte below 32 borrows from its own high bit, and
+ * 127 carries into it; what a byte that isn't printable does to the next one changes no answer. */
+static bool are_printable(const char *text) {
+    const uint64_t ones = UINT64_C(0x0101010101010101);
+    uint64_t bytes;
+    memcpy(&bytes, text, sizeof bytes);
+    return !((bytes | (bytes - ones * 32) | (bytes + ones)) & ones * 128);
+}
+
+/* How many printable characters the text begins with. */
+static size_t printable(const char *text, size_t len) {
+    size_t count = 0;
+    while (len - count >= 8 && are_printable(text + count)) count += 8;
+    while (count < len && text[count] >= 32 && text[count] <= 126) count++;
+    return count;
+}
+
+/* How many of the printable characters that the text begins with can be written at once. */
+static size_t fitting(const char *text, size_t len, int bottom) {
+    size_t room = (size_t)(run.last_x - run.x);
+    if (goes_on(bottom)) room++;
+    return printable(text, len < room ? len : room);
+}
+
+size_t session_write(int window, const char *text, size_t len, int bottom, int *y, int *x) {
+    size_t count = 0;
+    if (tcu_is_busy) return 0;
     tcu_is_busy = 1;
-    if (is_current(window) && len <= (size_t)(run.last_x - run.x) && is_printable(text, len)) {
+    if (is_current(window)) count = fitting(text, len, bottom);
+    if (count > 0) {
         if (run.wanted != run.marks) turn_to(run.wanted);
         *y = run.y;
         *x = run.x;
-        memcpy(run.text + run.count, text, len);
-        run.count += (int)len;
-        run.x += (int)len;
-        is_written = true;
+        memcpy(run.text + run.count, text, count);
+        run.count += (int)count;
+        run.x += (int)count;
+        if (run.x > run.last_x) wrap();
     }
     tcu_is_busy = 0;
-    return is_written;
+    return count;
 }
 
+/* Writes a cell to a window of one line. */
 int session_addch(int window, chtype cell) {
     int y, x;
-    if (session_put(window, cell, &y, &x)) return OK;
+    if (session_put(window, cell, 0, &y, &x)) return OK;
     if (!session_begins()) return ERR;
     return session_done(ticurses_addch(&tcu_session, (size_t)window, session_cell_of(cell)));
 }
