@@ -90,6 +90,24 @@ def judge_arrays(drop_in):
     print(f"tinfo: the nine arrays of names are those of ncurses, {sum(map(len, one.values()))} names")
 
 
+def symbols(library):
+    """The names that a library exports, each with its version and type, and the size of its data."""
+    told = subprocess.run(["readelf", "-W", "--dyn-syms", library], stdout=subprocess.PIPE, text=True, check=True).stdout
+    rows = re.findall(r"^ *\d+: \w+ +(\d+) (\w+) +\w+ +\w+ +\d+ (\w+)@@(\S+)$", told, re.M)
+    return {name: (version, kind, int(size) if kind == "OBJECT" else 0) for size, kind, name, version in rows}
+
+
+def judge_symbols(drop_in):
+    """A program's binary finds each name of the drop-in under the version of ncurses, and copies data of its size."""
+    if missing("tinfo", "readelf"):
+        return
+    system, here = symbols(glob.glob(f"/lib/*/{SYSTEM}")[0]), symbols(drop_in)
+    bad = [f"{it}: {here[it]}, and in ncurses {system.get(it)}" for it in here if here[it] != system.get(it)]
+    if bad or len(here) < 30:
+        fail(f"of the {len(here)} names of the drop-in these are others: {bad}")
+    print(f"tinfo: the {len(here)} names of the drop-in have ncurses' versions, and its data ncurses' sizes")
+
+
 # -- answers --
 
 
@@ -471,6 +489,7 @@ def main():
 def judge_all(work, prefix, folder, strings):
     if os.path.exists("/usr/include/term.h") and glob.glob("/lib/*/libtinfo.so.6"):
         judge_arrays(f"{folder}/{tinfo_library.DROP_IN}")
+        judge_symbols(f"{folder}/{tinfo_library.DROP_IN}")
         made = Compiled(work, prefix)
         found = judge_entries(made)
         judge_calls(made)

@@ -31,7 +31,7 @@ DROP_IN_FOLDER = "ticurses/tinfo6"
 # ncurses' nodes of versions, each with the names of this library that ncurses has in it; it has the others nowhere
 NODE, LATER_NODE = "NCURSES6_TINFO_5.0.19991023", "NCURSES6_TINFO_5.8.20110226"
 LATER = {"tiparm"}
-ABSENT = {"tiparm_s", "vidattr", "vidputs", "vid_attr", "vid_puts", "mvcur"}
+ABSENT = {"tiparm_s", "vidattr", "vidputs", "vid_attr", "vid_puts", "mvcur", "restartterm"}
 
 PKGCONFIG = """prefix={prefix}
 includedir=${{prefix}}/include
