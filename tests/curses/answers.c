@@ -313,6 +313,35 @@ static void pads(void) {
     delwin(pad);
 }
 
+static void next_cursor(const char *when) {
+    int y, x;
+    getsyx(y, x);
+    fprintf(told, "%s the cursor is to be at %d %d\n", when, y, x);
+}
+
+/* The cursor that the next doupdate shows. */
+static void screen_cursor(void) {
+    WINDOW *window = newwin(4, 10, 3, 5);
+    wmove(window, 1, 2);
+    wnoutrefresh(window);
+    next_cursor("after a copy");
+    setsyx(7, 9);
+    next_cursor("moved");
+    doupdate();
+    next_cursor("after an update");
+    leaveok(window, TRUE);
+    wnoutrefresh(window);
+    next_cursor("after a copy that leaves it");
+    setsyx(2, 3);
+    next_cursor("moved again");
+    setsyx(-1, -1);
+    next_cursor("left");
+    leaveok(window, FALSE);
+    wnoutrefresh(window);
+    next_cursor("after another copy");
+    delwin(window);
+}
+
 static void bound(int key, int count) {
     char *text = keybound(key, count);
     for (const char *at = text; at && *at; at++) fprintf(told, "%02x", (unsigned)(unsigned char)*at);
@@ -450,6 +479,7 @@ int main(int count, char **words) {
     copying();
     touching();
     pads();
+    screen_cursor();
     keys();
     resizing();
     SAY(endwin());
