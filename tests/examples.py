@@ -176,6 +176,10 @@ d|not used,
 	bar, setf=%p1%p2%^%d,
 	ka1=^\, quux, ka3=^\q,
 """,
+    "extended": BASE + rb"""a|names of user_caps(5) and others that look like them,
+	AX, E3=\E[3J, NQ, RGB#8, U8#1, XM=\E[?1000h, xm=\E[M, kUP=\EA, kUP5=\Ea, kDC10=\Eb, kEND16=\Ec, kLFT2=\Ed,
+	Ax, E4=\E[4J, RGBA, kUP1=\EA, kUP17=\Ea, kDC02=\Eb, kENDX=\Ec, kHOM=\Ed, use=base,
+""",
     "hostile": b"a|a, use=\x1b[31m,\n",
     "latin": b"h\xe9",
     "wrap": b"abcde",
@@ -489,7 +493,7 @@ RUNS += [
 # a word that is not UTF-8
 RUNS.append((["feed", "2", "2", "no\udcff"], 2, "", None))
 
-CARET = "hint line 2: in setaf `%^` is read as `%` and a control character; exclusive or is written `%\\^`"
+CARET = "hint line 2: in setaf `%^` is read as `%` and a control character, by ncurses as exclusive or, which is written `%\\^`"
 
 # of the entry `hints:a` and of those that it uses
 HINTS = [
@@ -498,11 +502,11 @@ HINTS = [
     "hint line 5: clear stands in the entry before, where the first one counts",
     "hint line 7: el has `\\K`, which is no escape and stands for the byte behind the backslash",
     "hint line 7: foo is no capability",
-    "hint line 9: in setb `%^` is read as `%` and a control character; exclusive or is written `%\\^`",
+    "hint line 9: in setb `%^` is read as `%` and a control character, by ncurses as exclusive or, which is written `%\\^`",
 ]
 OTHERS = [
     "hint line 11: bar is no capability",
-    "hint line 11: in setf `%^` is read as `%` and a control character; exclusive or is written `%\\^`",
+    "hint line 11: in setf `%^` is read as `%` and a control character, by ncurses as exclusive or, which is written `%\\^`",
     # a caret takes the backslash after it
     "hint line 12: quux is no capability",
 ]
@@ -563,6 +567,7 @@ ADVISED = [
     (["check", "--all", "hints:a", "2", "4"], 0, [*HINTS, counted(4, 0, 0, 0, "setb")]),
     (["check", "hints:d", "2", "4"], 1, OTHERS),
     (["check", "hints:base", "2", "4"], 0, []),
+    (["check", "extended:a", "2", "4"], 0, [f"hint line 5: {name} is no capability" for name in ("Ax", "E4", "RGBA", "kUP1", "kUP17", "kDC02", "kENDX")]),
     (["survey", "2", "4", "hints"], 0, []),
     (["survey", "--all", "2", "4", "hints"], 0, [f"{line}, in hints" for line in HINTS + OTHERS]),
 ]  # fmt: skip

@@ -588,7 +588,7 @@ HINTS = [
     ("a", "Duplicate", "clear", 6, 3, 14, "clear stands in the entry before, where the first one counts"),
     ("b", "OddEscape", "el", 7, 9, 17, "el has `\\K`, which is no escape and stands for the byte behind the backslash"),
     *(
-        ("b", "PercentCaret", cap, 8, *columns, f"in {cap} `%^` is read as `%` and a control character; exclusive or is written `%\\^`")
+        ("b", "PercentCaret", cap, 8, *columns, f"in {cap} `%^` is read as `%` and a control character, by ncurses as exclusive or, which is written `%\\^`")
         for cap, columns in (("setf", (2, 16)), ("setb", (18, 27)), ("initc", (28, 38)))
     ),
 ]  # fmt: skip

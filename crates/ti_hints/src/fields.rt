@@ -3,6 +3,7 @@
 ghost use Rattle.std.specs.Prelude.{◌≡◌, ◌++◌, ◌∷◌, IfNone, IfSome, None, Some, length};
 ghost use Rattle.ti_source.specs.{Marks.{comma}, Scan.{comma_in}};
 
+use crate::extended_names::is_extended;
 use ti_caps::{Kind, Opener, by_name, kind};
 use ti_source::{FaultKind, field_end};
 
@@ -25,12 +26,12 @@ impl FieldText<'_> {
         self.mark == Some(b'#')
     }
 
-    /// Whether the field belongs to no capability and includes no entry.
+    /// Whether the field belongs to no capability, of terminfo(5) or of ncurses, and includes no entry.
     pub fn is_unknown(&self) -> bool {
         let is_use = self.name == b"use".as_slice()
             && self.mark == Some(b'=')
             && !self.value.is_empty();
-        !is_use && !self.is_left_out() && by_name(self.name).is_none()
+        !is_use && !self.is_left_out() && by_name(self.name).is_none() && !is_extended(self.name)
     }
 
     /// Whether the field is empty, or left out by a period.

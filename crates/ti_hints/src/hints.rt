@@ -292,13 +292,13 @@ fn caret_place(fields: &[PlacedField<'_>], cap: Cap) -> Option<usize>
         .position(|it| it.field.name == name(cap) && it.field.has_caret())
 }
 
-/// The words that the string `cap` has `%^`: by the rules of escapes it is `%` and a control character, but some
-/// authors mean exclusive or.
+/// The words that the string `cap` has `%^`: by the rules of escapes it is `%` and a control character, but ncurses
+/// takes no caret behind a `%` for an escape.
 pub(crate) fn caret_words(alloc: Global, cap: Cap) -> Result<Vec<u8>, AllocError> {
     let mut words = Vec::from_slice(alloc, b"in ")?;
     words.extend_from_slice(name(cap))?;
     words.extend_from_slice(
-        b" `%^` is read as `%` and a control character; exclusive or is written `%\\^`",
+        b" `%^` is read as `%` and a control character, by ncurses as exclusive or, which is written `%\\^`",
     )?;
     Ok(words)
 }

@@ -5,6 +5,7 @@
 mod advice;
 mod carets;
 mod counts;
+mod extended_names;
 mod fields;
 mod functions;
 mod hints;
