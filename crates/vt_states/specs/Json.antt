@@ -75,6 +75,10 @@ looks_behind items row (line ∷ lines) = looks_behind (runs_behind items row li
 abbrev pub member : List ℕ → List ℕ → List ℕ
 member name value = plainly_quoted name ++ 58 ∷ (value ++ 44 ∷ [])
 
+-- a member that is a list of items
+abbrev pub list_member : List ℕ → List ℕ → List ℕ
+list_member name items = member name (bracketed items)
+
 abbrev pub set_value : Bool → List ℕ
 set_value graphic = either graphic (codes "\"graphic\"") (codes "\"plain\"")
 

@@ -5,3 +5,6 @@ pub mod Lines
 pub mod Json
 pub mod Cases
 pub mod Recordings
+pub mod Ignored
+pub mod Kinds
+pub mod Sequences

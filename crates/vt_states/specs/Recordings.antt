@@ -1,8 +1,9 @@
 -- Recordings of today's programs, reduced to the characters and sequences that T has (ECMA-48 5.6, command strings
 -- and character strings; xterm's control sequences, OSC; Unicode, table 3-7).
-use Rattle.std.specs.Prelude.{ℕ, ◌+◌, ◌==◌, ◌&&◌, ◌||◌, nat_le, Bool, List, [], ◌∷◌, length, take, drop, slice_index_or}
+use Rattle.std.specs.Prelude.{ℕ, ◌+◌, ◌==◌, ◌&&◌, ◌||◌, nat_le, Bool, List, [], ◌∷◌, codes, length, take, drop}
+use Rattle.std.specs.Prelude.{slice_index_or}
 use Rattle.std.specs.Prelude.{if◌then◌else◌, zero, suc}
-use Rattle.std.specs.List.{flat_map}
+use Rattle.std.specs.List.{flat_map, starts_with}
 
 -- ---- characters above 127, in UTF-8
 
@@ -92,3 +93,33 @@ total f (part ∷ rest) = f part + total f rest
 -- the whole recording as T gets it
 abbrev pub plain_text : List ℕ → List ℕ
 plain_text bytes = flat_map shown (all_parts bytes)
+
+-- ---- the lines of script(1) (util-linux)
+
+-- the number of bytes up to the first LF, it too
+abbrev pub line_length : List ℕ → ℕ
+line_length [] = 0
+line_length (b ∷ bytes) = if b == 10 then 1 else 1 + line_length bytes
+
+abbrev pub begins : List ℕ → List ℕ → Bool
+begins bytes word = starts_with (λ a b. a == b) bytes word
+
+-- the length of the line that script(1) begins a recording with, 0 if there is none
+abbrev pub header_length : List ℕ → ℕ
+header_length bytes = if begins bytes (codes "Script started on ") then line_length bytes else 0
+
+-- the line that script(1) ends a recording with, and nothing behind it
+abbrev pub is_footer : List ℕ → Bool
+is_footer bytes = begins bytes (codes "Script done on ") && (line_length bytes == length bytes)
+
+-- the number of bytes before the LF that script(1) puts before its last line
+abbrev pub unended_length : List ℕ → ℕ
+unended_length [] = 0
+unended_length (b ∷ bytes) = if (b == 10) && is_footer bytes then 0 else 1 + unended_length bytes
+
+abbrev pub unended : List ℕ → List ℕ
+unended bytes = take (unended_length bytes) bytes
+
+-- a recording without these two lines
+abbrev pub unscripted : List ℕ → List ℕ
+unscripted bytes = unended (drop (header_length bytes) bytes)

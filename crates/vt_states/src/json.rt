@@ -124,6 +124,17 @@ pub fn case_members(alloc: Global, name: &[u8], stuck: Option<usize>) -> Result<
     Ok(front)
 }
 
+/// A member for `push_object` that is a list of these `items`, which are separated by commas. Fails only when out of
+/// memory.
+pub fn list_member(alloc: Global, name: &[u8], items: &[u8]) -> Result<Vec<u8>, AllocError>
+    ensures { IfOk result (λ text. text.items ≡ spec.list_member name.now items.now) }
+{
+    let mut text = Vec::new(alloc);
+    let value = bracketed(alloc, items)?;
+    push_member(&mut text, name, value.as_slice())?;
+    Ok(text)
+}
+
 /// Adds a member and the comma after it.
 fn push_member(text: &mut Vec<u8>, name: &[u8], value: &[u8]) -> Result<(), AllocError>
     ensures { OnOk result (text.new.items ≡ text.old.items ++ spec.member name.now value.now) }

@@ -192,14 +192,14 @@ fn continues(byte: u8) -> bool
     is_between(128, 191, byte)
 }
 
-fn is_between(low: u8, high: u8, byte: u8) -> bool
+pub(crate) fn is_between(low: u8, high: u8, byte: u8) -> bool
     ensures { result ≡ spec.is_between low high byte }
 {
     low <= byte && byte <= high
 }
 
 /// The byte at a place, 0 after the end.
-fn byte_at(bytes: &[u8], at: usize) -> u8
+pub(crate) fn byte_at(bytes: &[u8], at: usize) -> u8
     ensures { result ≡ spec.at bytes.now at }
 {
     bytes.get(at).copied().unwrap_or(0)
