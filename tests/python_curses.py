@@ -14,8 +14,7 @@ import subprocess
 import sys
 import time
 
-# tests/curses.py, and not the standard module
-import curses as panes
+import curses_panes as panes
 import python_screen
 from linked import Terminal, missing, rooms
 from trying import PATIENCE, TOP, held_in, write
