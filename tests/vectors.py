@@ -9,6 +9,7 @@ import sys
 import tempfile
 from pathlib import Path
 
+import ignored
 from trying import PROGRAM, TOP, Case, run_cases
 
 VECTORS = Path(TOP) / "vectors"
@@ -115,6 +116,77 @@ def state_lines(state):
     yield f"rendition {state['rendition'] or '-'}"
     yield from (f"{name} {state[name]}" for name in ("g0", "g1", "active"))
     yield f"open {state['open'] or '-'}"
+    for it in state["no_effect"]:
+        yield f"no-effect {it['times']} {spelled(it['sequence'], it['name'])}"
+
+
+# the functions of T, by how a sequence of theirs with other numbers is spelled
+OWN = {
+    "CSI A": "CUU", "CSI B": "CUD", "CSI C": "CUF", "CSI D": "CUB", "CSI G": "CHA", "CSI H": "CUP", "CSI f": "HVP", "CSI d": "VPA",
+    "CSI @": "ICH", "CSI J": "ED", "CSI K": "EL", "CSI L": "IL", "CSI M": "DL", "CSI P": "DCH", "CSI S": "SU", "CSI T": "SD",
+    "CSI X": "ECH", "CSI r": "DECSTBM",
+}  # fmt: skip
+# some of the functions that T lacks (ECMA-48 8.3; VT100 User Guide, chapter 3; xterm's control sequences)
+LACKING = {
+    "CSI b": "REP", "CSI `": "HPA", "CSI Z": "CBT", "CSI t": "XTWINOPS", "ESC 7": "DECSC", "ESC 8": "DECRC", "ESC =": "DECKPAM", "ESC >": "DECKPNM",
+    "ESC c": "RIS", "ESC # 8": "DECALN", "CSI ? 1 h": "DECCKM", "CSI ? 6 h": "DECOM", "CSI SP q": "DECSCUSR", "CSI > c": "secondary DA",
+    "CSI 38 m": "SGR 38, a foreground of 256 or direct color", "CSI ? 1049 h": "the alternate screen and the saved cursor",
+}  # fmt: skip
+
+
+def spelled(sequence, name):
+    """A sequence and its name, if it has one."""
+    text = f"{name} ({sequence})" if name else sequence
+    return f"{text} with numbers that T does not take" if sequence in OWN else text
+
+
+def named_kinds(data):
+    """The kinds of sequences without effect, each with its name as the program has it, and how often it comes."""
+    told = run_cases(PROGRAM, [Case(["feed", "--json", "24", "80", "{}"], data)])[0]
+    items = json.loads(told.out)["no_effect"]
+    kinds, others = ignored.told(data)
+    if [(it.get("sequence"), it["times"]) for it in items] != kinds + ([(None, others)] if others else []):
+        fail(f"{data!r}: {items}, and not {kinds}, {others}")
+    for it in items:
+        wanted = OWN.get(it.get("sequence"), LACKING.get(it.get("sequence")))
+        if wanted is not None and it["name"] != wanted:
+            fail(f"{it['sequence']} is called {it['name']}, and not {wanted}")
+    return [(it["sequence"], it["name"], it["times"]) for it in items if "name" in it]
+
+
+def times(count):
+    return "once" if count == 1 else f"{count} times"
+
+
+# streams, each beside what is said of it on standard error: at most 50 kinds, a token that is dropped and one that is open
+# are none, and nothing of what has its effect
+SILENT = [
+    (b"a\033[5bX\033[b\033[2;3b", "no effect: REP (CSI b) 3 times\n"),
+    (b"\0337\033[r\0338\0337\033[r\0338", "no effect: DECSC (ESC 7) 2 times\nno effect: DECRC (ESC 8) 2 times\n"),
+    (b"\033[38;5;130mx\033[0;1;4m\033[?25;7h\033[4l\033(0q\033)B\016\017\033D\033E\033M", "no effect: SGR 38, a foreground of 256 or direct color (CSI 38 m) once\n"),
+    (b"\033[;K\033[K\033[2J\033[3J", "no effect: EL (CSI K) with numbers that T does not take once\nno effect: ED (CSI J) with numbers that T does not take once\n"),
+    (b"\033[5\030\033[b\033\033[b\033[5", "no effect: REP (CSI b) 2 times\n"),
+    (b"".join(b"\033[?%dh" % number for number in range(300, 350)), None),
+    (b"".join(b"\033[?%dh" % number for number in range(300, 351)) * 2 + b"\033[?300h", None),
+]  # fmt: skip
+
+
+def silent():
+    """The lines of `feed` on sequences without effect, beside a screen."""
+    for (stream, text), told in zip(SILENT, run_cases(PROGRAM, [Case(["feed", "4", "20", "{}"], stream) for stream, _ in SILENT])):
+        kinds, others = ignored.told(stream)
+        if text is None:
+            text = "".join(f"no effect: a private mode ({kind}) {times(count)}\n" for kind, count in kinds)
+            text += f"no effect: sequences of further kinds {times(others)}\n" if others else ""
+        if (told.status, told.err.decode()) != (0, text) or told.out.count(b"\n") < 5:
+            fail(f"{stream!r}: {told.status} {told.err!r}, and not {text!r}")
+        named_kinds(stream)
+    paths = sorted((Path(TOP) / "tests" / "recordings").glob("*.bytes"))
+    for path, told in zip(paths, run_cases(PROGRAM, [Case(["feed", "24", "80", "{}"], path.read_bytes()) for path in paths])):
+        rep = ignored.kinds(path.read_bytes())["CSI b"]
+        if told.status or f"no effect: REP (CSI b) {times(rep)}\n" not in told.err.decode():
+            fail(f"{path.name}: {told.err!r} doesn't tell REP {rep} times")
+    return len(SILENT) + len(paths)
 
 
 def one_by_one():
@@ -126,6 +198,8 @@ def one_by_one():
             data, state = bytes.fromhex(case.split()[1].strip("-")), json.loads(told)
             del state["name"]
             stuck = state.pop("stuck", None)
+            names = named_kinds(data) if stuck is None else []
+            state = {"no_effect": [{"name": name, "sequence": sequence, "times": times} for sequence, name, times in names], **state}
             texts = {"--json": json.dumps(state, separators=(",", ":")) + "\n", "--state": "".join(f"{line}\n" for line in state_lines(state))}
             for option, text in texts.items():
                 runs.append(Case(["feed", option, rows, cols, "{}"], data))
@@ -173,6 +247,12 @@ RECORDINGS = [
     (b"ab\033]0;never ends", b"ab", 14, 0),
     (b"\033]a\033]b\007c\033\033]d\007e", b"c\033e", 11, 0),
     (b"\033(]\033[31m]\033", b"\033(]\033[31m]\033", 0, 0),
+    (b"Script started on 2026-12-01 06:00:00+00:00 [TERM=\"vt100\"]\nab\r\n\nScript done on 2026-12-01 06:00:01+00:00 [COMMAND_EXIT_CODE=\"0\"]\n", b"ab\r\n", 0, 0),
+    (b"Script started on 2026\n\033]0;x\007ab", b"ab", 6, 0),
+    (b"ab\nScript done on 2026", b"ab", 0, 0),
+    (b"ab\nScript done on 1\ncd\nScript done on 2\n", b"ab\nScript done on 1\ncd", 0, 0),
+    (b"a\nScript started on 1\n", b"a\nScript started on 1\n", 0, 0),
+    (b"Script started on", b"Script started on", 0, 0),
 ]  # fmt: skip
 
 
@@ -183,8 +263,22 @@ def recordings():
         terminal = model.Terminal(3, 20)
         terminal.feed(shown)
         said = f"plain-text: {dropped} bytes of strings dropped, {replaced} characters shown as ?\n" if dropped or replaced else ""
-        if (told.status, told.err.decode()) != (0, said) or json.loads(told.out) != terminal.state():
+        state = json.loads(told.out)
+        del state["no_effect"]
+        if (told.status, told.err.decode()) != (0, said) or state != terminal.state():
             fail(f"{given!r}: {told.status} {told.out!r} {told.err!r}")
+
+
+# streams that get stuck, and whether `--plain-text` would lead past that byte
+STUCK = [(b"ab\303\244", True), (b"\033]0;title\007ab", True), (b"\033[1\007m", False), (b"\033[" + b"1" * 300 + b"m", False), (b"\033[\303\244m", True)]
+
+
+def stuck():
+    """Where a recording gets stuck, `--plain-text` is named if it leads past the byte."""
+    runs = [Case(["feed", *words, "3", "20", "{}"], stream) for stream, _ in STUCK for words in ([], ["--plain-text"])]
+    for (stream, leads), told, plain in zip(STUCK, *[iter(run_cases(PROGRAM, runs))] * 2):
+        if told.status != 1 or (b"--plain-text" in told.err) != leads or (plain.status == 0) != leads or (plain.status and b"--plain-text" in plain.err):
+            fail(f"{stream!r}: {told.err!r}, {plain.err!r}")
 
 
 def refused_together():
@@ -212,6 +306,8 @@ def main():
     print(f"vectors: {one_by_one()} runs with --json and --state print those states")
     print(f"vectors: {named()} tests of vttest are named as it names them")
     print(f"vectors: {alone()} cases in which T stands alone are there")
+    print(f"vectors: of {silent()} streams what had no effect is said, and how often")
+    stuck()
     damaged()
     recordings()
     refused_together()

@@ -78,12 +78,18 @@ With --state there follow lines for the rest of the state: `pending` (yes, no), 
 come of a sequence that is not whole, in hexadecimal, or -. With --json the state is one JSON object with members of
 these names.
 
+Standard error has a line for each kind of sequence that T ignores, wholly or for one of its numbers, and how often it
+came: `no effect: REP (CSI b) 15 times`; the screen may then differ from a real terminal's. After the first 50 kinds
+one line counts all others. With --state these are lines `no-effect TIMES NAME (SEQUENCE)` behind the state, and with
+--json they are the items of the member `no_effect`.
+
 With --cases each line of the file is a case: a name, a space, and bytes in hexadecimal, or - for none. The output has
 for each case the JSON object of the state that its bytes leave of a blank terminal, with the case's `name`; if its
 bytes are stuck, also with `stuck`, the place, and the state is that of the bytes before it.
 
 With --plain-text the file is a recording: strings (titles and other OSC, DCS, SOS, PM, APC) are dropped up to their
-end, and a character above 127 counts as `?`. Standard error has the count of dropped bytes.
+end, a character above 127 counts as `?`, and the lines `Script started on ..` and `Script done on ..` that script(1)
+puts around it are left out. Standard error has the count of dropped bytes of strings.
 
 Exit status: 0 done; 1 refused, with a line `refused: KIND` on standard error; 2 usage error; 3 the file
 could not be read or has more than 16777216 bytes, or standard output could not be written; 4 out of memory.
@@ -94,7 +100,9 @@ KIND is one of:
   line N: BadLine  with --cases: this line of the file is no case
 
 Example:
-  ticurses feed 24 80 typescript";
+  ticurses feed 24 80 sent.bytes
+  TERM=vt100 script -q -c 'stty rows 24 cols 80; less text.txt' typescript
+  ticurses feed --plain-text 24 80 typescript";
 
 /// `tic` in one line.
 pub const TIC: &str = "Reads an entry, reports what is odd in its source, and compiles it";

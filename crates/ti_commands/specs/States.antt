@@ -9,9 +9,9 @@ use Rattle.vt_term.specs.Printed.{screen_text}
 use Rattle.vt_term.specs.Run.{Runs}
 use Rattle.vt_term.specs.Screen as terminal
 use Rattle.vt_states.specs.Cases.{AreAnswers, IsBadLine}
-use Rattle.vt_states.specs.Json.{object}
+use Rattle.vt_states.specs.Json.{list_member, object}
 use Rattle.vt_states.specs.Lines.{state_text}
-use Rattle.vt_states.specs.Recordings.{all_parts, dropped, plain_text, replaced, total}
+use Rattle.vt_states.specs.Recordings.{all_parts, dropped, plain_text, replaced, total, unscripted}
 use Rattle.ti_files.specs.Contents.{HasBytes, Held, longest_file}
 use Rattle.ti_commands.specs.Feeds.{IsStuckFailure, ShowsAfter}
 use Rattle.ti_commands.specs.declared.fed.Fed.{Fed}
@@ -21,16 +21,16 @@ use Rattle.ti_files.specs.declared.failure.Failure.TheVariants.{Refused, File, N
 use Rattle.ti_files.specs.declared.failure.CommandRefusal.TheVariants.{Stuck, Verdict}
 use Rattle.ti_files.specs.declared.failure.Reply.{Reply}
 
--- a state in the form that was asked for
-abbrev pub form_text : FeedForm → terminal.State → List ℕ
-form_text Screen s = screen_text s.screen
-form_text State s = state_text s
-form_text Json s = object [] s ++ 10 ∷ []
-form_text Cases s = []
+-- a state in the form that was asked for; what is said of the kinds of sequences without effect is `more`
+abbrev pub form_text : FeedForm → terminal.State → List ℕ → List ℕ
+form_text Screen s more = screen_text s.screen
+form_text State s more = state_text s ++ more
+form_text Json s more = object (list_member (codes "no_effect") more) s ++ 10 ∷ []
+form_text Cases s more = []
 
 -- the bytes that the terminal gets from a file
 abbrev pub fed_of : Bool → List ℕ → List ℕ
-fed_of plain bytes = if plain then plain_text bytes else bytes
+fed_of plain bytes = if plain then plain_text (unscripted bytes) else bytes
 
 -- the note about a recording: empty if nothing was dropped or replaced
 abbrev pub note_of : ℕ → ℕ → List ℕ
@@ -41,13 +41,15 @@ note_of gone marks =
 
 abbrev pub notes_of : Bool → List ℕ → List ℕ
 notes_of plain bytes =
-    if plain then note_of (total dropped (all_parts bytes)) (total replaced (all_parts bytes)) else []
+    if plain then note_of (total dropped (all_parts (unscripted bytes))) (total replaced (all_parts (unscripted bytes)))
+    else []
 
--- `text` is the state, in this form, that the bytes leave
+-- `text` is the state, in this form, that the bytes leave; no clause says what it says of sequences without effect
 pub record ShowsForm (form : FeedForm) (rows cols : ℕ) (bytes text : List ℕ) : Type 0 where
   pub after : terminal.State
   pub runs : Runs (terminal.reset rows cols) bytes after
-  pub spelled : text ≡ form_text form after
+  pub more : List ℕ
+  pub spelled : text ≡ form_text form after more
 
 abbrev pub Shows : FeedForm → ℕ → ℕ → List ℕ → List ℕ → Type 0
 Shows Cases rows cols bytes text = AreAnswers rows cols bytes text

@@ -7,7 +7,9 @@ mod entries;
 mod expansion;
 mod fed;
 mod feeds;
+mod function_names;
 mod further;
+mod ignored;
 mod sources;
 mod states;
 

@@ -8,16 +8,20 @@ ghost use Rattle.ti_commands.specs.States.{fed_of, line_text, note_of, notes_of}
 
 use crate::fed::{Fed, stuck_failure};
 use crate::feeds::screen_after;
+use crate::ignored::{ignored_items, ignored_lines};
 use std::alloc::{AllocError, Global};
 use ti_files::{
     CommandRefusal, Failure, Files, LONGEST_FILE, Remarks, Replied, Reply, read_whole, size_words,
 };
 use ti_requests::{FeedForm, FeedWords};
-use vt_states::{CaseFault, Snapshot, case_answers, plain_recording};
+use vt_states::{
+    CaseFault, Snapshot, case_answers, list_member, plain_recording, without_script_lines,
+};
 
 /// Feeds the file of the `words` to a terminal in its reset state, and shows the state that it
-/// leaves in the form that they ask for; or the states of all cases of the file. In a recording
-/// strings are dropped and characters above 127 are replaced first, and the notes say how many.
+/// leaves in the form that they ask for; or the states of all cases of the file. From a recording
+/// the lines of script(1) and strings are dropped and characters above 127 are replaced first, and
+/// the notes say how many.
 pub fn feed_state<F: Files>(
     alloc: Global,
     words: &FeedWords<'_>,
@@ -35,6 +39,7 @@ pub fn feed_state<F: Files>(
         size,
         path: words.file,
         bytes: plain.as_slice(),
+        is_plain: words.plain_text,
     };
     let text = shown(alloc, words.form, fed, remarks)?;
     Ok(Reply {
@@ -54,7 +59,7 @@ fn fed_bytes(
         × (fed.1.items ≡ notes_of plain_text bytes.items)) }
 {
     if plain_text {
-        let recording = plain_recording(alloc, bytes.as_slice())?;
+        let recording = plain_recording(alloc, without_script_lines(bytes.as_slice()))?;
         let note = note(alloc, recording.dropped, recording.replaced)?;
         Ok((recording.text, note))
     } else {
@@ -93,23 +98,29 @@ fn shown(
     }
 }
 
-/// The whole state after the bytes, as lines.
+/// The whole state after the bytes, as lines, and a line for each kind of sequence that had no effect.
 fn lines_after(alloc: Global, fed: Fed<'_>, remarks: &mut Remarks) -> Result<Vec<u8>, Failure>
     ensures text { IfOk result (λ text. ShowsFed forms.State fed.entry text.items) }
     ensures failure { IfErr result (λ e. FailsFed forms.State fed.entry e) }
 {
     let snapshot = state_after(alloc, fed, remarks)?;
-    Ok(snapshot.print(alloc)?)
+    let mut text = snapshot.print(alloc)?;
+    let lines = ignored_lines(alloc, fed.bytes)?;
+    text.extend_from_slice(lines.as_slice())?;
+    Ok(text)
 }
 
-/// The whole state after the bytes, as an object, and an LF.
+/// The whole state after the bytes, as an object whose first member lists the kinds of sequences that had no effect,
+/// and an LF.
 fn object_after(alloc: Global, fed: Fed<'_>, remarks: &mut Remarks) -> Result<Vec<u8>, Failure>
     ensures text { IfOk result (λ text. ShowsFed forms.Json fed.entry text.items) }
     ensures failure { IfErr result (λ e. FailsFed forms.Json fed.entry e) }
 {
     let snapshot = state_after(alloc, fed, remarks)?;
+    let items = ignored_items(alloc, fed.bytes)?;
+    let front = list_member(alloc, b"no_effect", items.as_slice())?;
     let mut text = Vec::new(alloc);
-    snapshot.push_object(alloc, b"", &mut text)?;
+    snapshot.push_object(alloc, front.as_slice(), &mut text)?;
     text.push(b'\n')?;
     Ok(text)
 }
