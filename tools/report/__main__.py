@@ -4,7 +4,7 @@
     python3 tools/report found.json >report.html
 
 Python alone is needed. Without FILE, or with -, standard input is read; without --out the page goes to standard output.
-The page has no script or font from elsewhere, and each fault once. The status is 0, 1 if the input isn't what the survey
+The page has no script or font from elsewhere, and each fault once: by grade, and then by how many entries have it. The status is 0, 1 if the input isn't what the survey
 prints, 2 for words that can't be understood, 3 if a file can't be read or written, and 128 and the number of a signal
 that ended it."""
 

@@ -1,49 +1,86 @@
 "use strict";
-// Searches, filters and sorts what the page has; without it all is shown, in its order.
+// Filters, searches and sorts what the page has; without it all is shown, in its order.
 const one = (name) => document.getElementById(name);
-const all = (what) => Array.from(document.querySelectorAll(what));
-const items = (what) => all(what).map((node) => ({ node, text: node.textContent.toLowerCase() }));
-const rows = items("#entries tbody tr").map((row, order) => ({
-  ...row, order, name: row.node.cells[0].textContent, verdict: row.node.className,
-  faults: Number(row.node.cells[2].textContent),
-}));
-const groups = all(".cause").map((node) => {
-  const name = node.id.slice(2);
-  const articles = Array.from(node.querySelectorAll("article"), (it) => (
-    { node: it, text: `${name} ${it.textContent}`.toLowerCase() }));
-  return { node, name, articles };
-});
+const all = (what, from = document) => Array.from(from.querySelectorAll(what));
+const texts = new Map();
 
-function show(item, is_shown) {
-  item.node.hidden = !is_shown;
-  return is_shown;
+// the text of a node in lower case, read when it is first asked for
+function textOf(node) {
+  if (!texts.has(node)) {
+    texts.set(node, node.textContent.toLowerCase());
+  }
+  return texts.get(node);
+}
+
+const sections = all(".places").map((node) => ({ node, places: all("details", node).map((place) => ({
+  node: place,
+  grade: node.id,
+  kind: ["other", "part"].find((it) => place.classList.contains(it)) || "whole",
+  fix: place.classList.contains("suggested") ? "suggested" : "",
+  cause: place.firstChild.children[3].textContent,
+})) }));
+const places = sections.flatMap((it) => it.places);
+const sayings = all(".sayings").map((node) => ({ node, lines: all("details", node) }));
+const rows = all("#entries tbody tr").map((node, order) => ({
+  node, order, name: node.cells[0].textContent, verdict: node.className, faults: Number(node.cells[2].textContent),
+}));
+let entry = null;
+
+function show(node, isShown) {
+  if (node.hidden === isShown) {
+    node.hidden = !isShown;
+  }
+  return isShown;
+}
+
+// how many of a heading's lines are shown, if not all
+function mark(heading, count, whole) {
+  if (count === whole) {
+    delete heading.dataset.shown;
+  } else {
+    heading.dataset.shown = count.toLocaleString("en");
+  }
+}
+
+// whether a line names the entry among those that it concerns
+function concerns(node) {
+  return entry === null || all("footer", node).some((it) => `, ${it.textContent}, `.includes(`, ${entry}, `));
 }
 
 function filter() {
   const words = one("search").value.toLowerCase().split(" ").filter(Boolean);
-  const cause = one("cause").value, verdict = one("verdict").value;
-  const has = (item) => words.every((word) => item.text.includes(word));
-  let faults = 0, entries = 0;
-  for (const group of groups) {
-    const is_wanted = (!cause || group.name === cause) && (!verdict || verdict === "no");
-    const found = group.articles.filter((it) => show(it, is_wanted && has(it))).length;
-    show(group, found > 0);
-    faults += found;
+  const cause = one("cause").value;
+  const has = (node) => words.every((word) => textOf(node).includes(word)) && concerns(node);
+  const asked = ["grade", "kind", "fix"].map((group) => [group, all(`[name=${group}]:checked`).map((it) => it.value)])
+    .filter(([, values]) => values.length);
+  const isWanted = (it) => (!cause || it.cause === cause) && asked.every(([group, values]) => values.includes(it[group]));
+  let count = 0;
+  for (const section of sections) {
+    const found = section.places.filter((it) => show(it.node, isWanted(it) && has(it.node))).length;
+    show(section.node, found > 0);
+    mark(section.node.firstChild, found, section.places.length);
+    count += found;
   }
-  const links = new Set(groups.filter((it) => !cause || it.name === cause)
-    .flatMap((group) => group.articles.map((it) => `#${it.node.id}`)));
-  const has_cause = (row) => !cause || Array.from(row.node.querySelectorAll("a"), (it) => it.hash).some((it) => links.has(it));
-  for (const row of rows) {
-    entries += show(row, (!verdict || row.verdict === verdict) && has(row) && has_cause(row)) ? 1 : 0;
+  for (const said of sayings) {
+    const found = said.lines.filter((it) => show(it, has(it))).length;
+    show(said.node, found > 0);
+    mark(said.node.firstChild, found, said.lines.length);
   }
-  one("shown").value = `${faults} of ${groups.reduce((sum, it) => sum + it.articles.length, 0)} faults, `
-    + `${entries} of ${rows.length} entries`;
+  one("shown").value = `${count.toLocaleString("en")} of ${places.length.toLocaleString("en")} places`;
+  show(one("entry"), entry !== null);
+  one("entry").textContent = entry === null ? "" : `of ${entry} \u2715`;
+}
+
+function list() {
+  const verdict = one("verdict").value;
+  const found = rows.filter((row) => show(row.node, !verdict || row.verdict === verdict)).length;
+  one("listed").value = `${found.toLocaleString("en")} of ${rows.length.toLocaleString("en")} entries`;
 }
 
 const orders = {
   order: (a, b) => a.order - b.order,
-  name: (a, b) => a.name.localeCompare(b.name),
-  verdict: (a, b) => a.verdict.localeCompare(b.verdict) || a.order - b.order,
+  name: (a, b) => (a.name < b.name ? -1 : a.name > b.name ? 1 : a.order - b.order),
+  verdict: (a, b) => (a.verdict < b.verdict ? -1 : a.verdict > b.verdict ? 1 : a.order - b.order),
   faults: (a, b) => b.faults - a.faults || a.order - b.order,
 };
 
@@ -52,22 +89,70 @@ function sort() {
   document.querySelector("#entries tbody").append(...rows.map((row) => row.node));
 }
 
-for (const group of groups) {
-  one("cause").append(new Option(group.name));
+// what places share is put where it is looked at
+function fill(place) {
+  const link = place.querySelector('a[href^="#t"]');
+  if (link) {
+    link.replaceWith(...Array.from(one(link.hash.slice(1)).children, (it) => it.cloneNode(true)));
+  }
 }
-one("search").addEventListener("input", filter);
-one("cause").addEventListener("change", filter);
-one("verdict").addEventListener("change", filter);
-one("sort").addEventListener("change", sort);
-one("tools").addEventListener("submit", (event) => event.preventDefault());
-// a link to what is filtered away shows all again
-addEventListener("hashchange", () => {
+
+// the names of entries lead to their places
+function linkEntries() {
+  if (!document.querySelector("#entries tbody a")) {
+    for (const { node, name } of rows.filter((row) => row.faults)) {
+      const link = document.createElement("a");
+      link.href = "#tools";
+      link.textContent = name;
+      link.addEventListener("click", () => { entry = name; filter(); });
+      node.cells[0].replaceChildren(link);
+    }
+  }
+}
+
+// a link to a place that is filtered away shows all again
+function follow() {
   const target = one(location.hash.slice(1));
-  if (target && target.closest("[hidden]")) {
-    one("tools").reset();
-    filter();
+  if (target && target.localName === "details") {
+    if (target.closest("[hidden]")) {
+      one("tools").reset();
+      filter();
+    }
+    target.open = true;
     target.scrollIntoView();
   }
-});
-one("tools").hidden = false;
+}
+
+function choices() {
+  const counts = new Map();
+  for (const { cause } of places) {
+    counts.set(cause, (counts.get(cause) || 0) + 1);
+  }
+  for (const [cause, count] of Array.from(counts).sort(([, a], [, b]) => b - a)) {
+    one("cause").append(new Option(`${cause} (${count.toLocaleString("en")})`, cause));
+  }
+}
+
+choices();
+one("search").addEventListener("input", filter);
+one("cause").addEventListener("change", filter);
+for (const box of all(".tile input")) {
+  box.addEventListener("change", filter);
+}
+one("entry").addEventListener("click", () => { entry = null; filter(); one("search").focus(); });
+one("tools").addEventListener("submit", (event) => event.preventDefault());
+// the fields have their first values only after the event
+one("tools").addEventListener("reset", () => { one("search").value = ""; entry = null; setTimeout(filter); });
+one("verdict").addEventListener("change", list);
+one("sort").addEventListener("change", sort);
+one("entries").addEventListener("toggle", linkEntries);
+document.addEventListener("toggle", (event) => { if (event.target.open && event.target.closest(".places")) { fill(event.target); } }, true);
+addEventListener("hashchange", follow);
+document.body.classList.add("js");
+one("tools").hidden = one("sorting").hidden = false;
+if (one("shared")) {
+  one("shared").hidden = true;
+}
 filter();
+list();
+follow();
