@@ -24,6 +24,7 @@ const sayings = all(".sayings").map((node) => ({ node, lines: all("details", nod
 const rows = all("#entries tbody tr").map((node, order) => ({
   node, order, name: node.cells[0].textContent, verdict: node.className, faults: Number(node.cells[2].textContent),
 }));
+const unfolded = [];
 let entry = null;
 
 function show(node, isShown) {
@@ -123,6 +124,14 @@ function follow() {
   }
 }
 
+// what is printed is unfolded meanwhile, in browsers whose styles can't do it
+function unfold() {
+  for (const place of all(".broken details:not([open]), .contradicts details:not([open])")) {
+    place.open = true;
+    unfolded.push(place);
+  }
+}
+
 function choices() {
   const counts = new Map();
   for (const { cause } of places) {
@@ -146,7 +155,13 @@ one("tools").addEventListener("reset", () => { one("search").value = ""; entry =
 one("verdict").addEventListener("change", list);
 one("sort").addEventListener("change", sort);
 one("entries").addEventListener("toggle", linkEntries);
-document.addEventListener("toggle", (event) => { if (event.target.open && event.target.closest(".places")) { fill(event.target); } }, true);
+document.addEventListener("toggle", ({ target }) => {
+  if (target.open && target.closest(".places")) {
+    fill(target);
+  }
+}, true);
+addEventListener("beforeprint", unfold);
+addEventListener("afterprint", () => unfolded.splice(0).forEach((place) => { place.open = false; }));
 addEventListener("hashchange", follow);
 document.body.classList.add("js");
 one("tools").hidden = one("sorting").hidden = false;
