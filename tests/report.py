@@ -280,19 +280,23 @@ def graded(data):
     judge("one grade", regraded(data, {"WrongEffect": "contradicts"}))
     ones = [json.loads(line) for line in data.splitlines()]
     users = collections.Counter(is_once(it) for it in ones if it["verdict"] == "no")
-    first = next(it for it in ones if it["verdict"] == "no" and users[is_once(it)] > 1)
-    is_first = lambda it: (it["entry"], is_once(it)) == (first["entry"], is_once(first))
-    mixed = lambda it: "broken" if is_first(it) else CAUSES.get(it["cause"], "unknown")
-    page, _ = judge("grades that differ", regraded(data, {}, grade=lambda it: mixed(it) if it["verdict"] == "no" else None))
-    if page.places[0].group != "broken" or not any(len(it.users) == 2 for it in page.places):
-        fail("a place with two grades isn't shown by the first, with its entries by both")
-    accepted = lambda it: it["capability"] == first["capability"] if it["verdict"] == "no" else None
+    last = [it for it in ones if it["verdict"] == "no" and it["string"] and users[is_once(it)] > 1][-1]
+    is_last = lambda it: it["verdict"] == "no" and (it["entry"], is_once(it)) == (last["entry"], is_once(last))
+    mixed = lambda it: "broken" if is_last(it) else CAUSES.get(it["cause"], "unknown") if it["verdict"] == "no" else None
+    own = lambda it: "of the first grade" if is_last(it) else it["string"]
+    page, _ = judge("grades that differ", regraded(data, {}, grade=mixed, string=own))
+    if not any((it.group, it.what, len(it.users)) == ("broken", "of the first grade", 2) for it in page.places):
+        fail("a place with two grades isn't shown by the words of the first, with its entries by both")
+    accepted = lambda it: it["capability"] == last["capability"] and not is_last(it) if it["verdict"] == "no" else None
     page, _ = judge("accepted faults", regraded(data, CAUSES, accepted=accepted))
-    if not page.tiles["accepted"] or {it.title.split()[0] for it in page.places if it.group == "accepted"} != {first["capability"]}:
+    if not page.tiles["accepted"] or {it.title.split()[0] for it in page.places if it.group == "accepted"} != {last["capability"]}:
         fail(f"accepted is {page.tiles}")
+    accepted = lambda it: it["capability"] == last["capability"] and is_last(it)
+    if judge("accepted by one entry", regraded(data, CAUSES, accepted=accepted))[0].tiles["accepted"] != 0:
+        fail("a place is accepted of which one entry's fault is")
     if judge("nothing is accepted", regraded(data, CAUSES, accepted=lambda it: False))[0].tiles["accepted"] != 0:
         fail("the tile of accepted faults is to be there where the data has the member")
-    kinds = {"part": lambda it: hash_of(it) % 3 == 0, "another_kind": lambda it: hash_of(it) % 3 == 1 if it["verdict"] == "no" else None}
+    kinds = {"part": lambda it: hash_of(it) % 3 == 0, "another_kind": lambda it: hash_of(it) % 2 == 0 if it["verdict"] == "no" else None}
     return judge("kinds", regraded(data, CAUSES, **kinds))
 
 
