@@ -1,0 +1,5 @@
+pub mod Codes
+pub mod Sequences
+pub mod FaultRuns
+pub mod Functions
+pub mod Grades
