@@ -45,6 +45,15 @@ WRONG = [
     (r"cuu=\E[%p1%sA", " 1", "WrongKind"), (r"cud=\E[%p1%PA%gB%dB", " 1", "StaticRead"),
 ]  # fmt: skip
 
+# the grades of these faults: a string that is wrong for any terminal, and one that another string of the entry speaks
+# against, as `cup` against `hpa` and `vpa`
+BROKEN = ("Underflow", "BadNest", "BadCode", "Overflow", "BadChar", "WrongKind")
+BROKEN_FIELDS = (r"bel=^G\E[", r"civis=\E[?25", r"setaf=\E[3%p2%dm")
+AGAINST_CUP = (r"hpa=\E[%p1%dG", r"vpa=\E[%p1%dd")
+CONTRADICTING = (r"op=\E[m", r"clear=\E[2J")
+UNKNOWN = ("FlagOut", "AcsByte", "NotTame", "NotShown", "Stuck", "Unfinished", "StaticRead", "TooLong")
+GRADES = ("broken", "contradicts", "wrong", "unknown")
+
 # of those fields whose value is at fault in one part alone, this part, between `~`: the parameter of a control function
 # that makes the first difference, the function that does, or the code
 MARKED = [
@@ -170,24 +179,37 @@ def underlined(marked):
     return [f"    {shown}", f"    {' ' * len(before)}^{'~' * (len(part) - 1)}"]
 
 
+def graded(fault, faults):
+    """The grade of a fault of an entry that has these."""
+    field, _, cause = fault
+    if cause in BROKEN or field in BROKEN_FIELDS:
+        return "broken"
+    has_cup = not any(other[0] == "cup@" for other, _ in faults)
+    if field in CONTRADICTING or field in AGAINST_CUP and has_cup:
+        return "contradicts"
+    return "unknown" if cause in UNKNOWN else "wrong"
+
+
 def places(source, wanted):
-    """The output of `survey --all` on standard error: each fault once at its place, the field there, and the names of the
-    entries that have it, if it is more than one."""
-    found = {}
+    """The output of `survey --all` on standard error: each fault once at its place, the field there, its grade, and the
+    names of the entries that have it, if it is more than one; and how many faults have which grade."""
+    found, grades = {}, []
     for name, faults in wanted.items():
         if set(surveyed(name, faults)[1]) & {"OtherKind", "part"}:
             continue
         for fault, owner in faults:
+            grade = graded(fault, faults)
+            grades.append(grade)
             if fault[2] != "Absent":
-                found.setdefault((owner, fault), []).append(name)
+                found.setdefault((owner, fault, grade), []).append(name)
     lines = []
-    for (owner, fault), names in found.items():
+    for (owner, fault, grade), names in found.items():
         cap = named(fault[0])
         lines.append(f"planted:{source.places[owner, cap]}:2: {cap} of {owner}: {names[0]} {words(fault)}")
-        lines += excerpt(fault[0])
+        lines += [*excerpt(fault[0]), f"    grade: {grade}"]
         if len(names) > 1:
             lines.append(f"    in {', '.join(names)}")
-    return lines
+    return [*lines, f"grades: {', '.join(f'{it} {grades.count(it)}' for it in GRADES if it in grades)}"]
 
 
 def is_explained(lines):
@@ -535,9 +557,12 @@ tw@n|the other one,
 TWIN_PLACES = rb"""twins.ti:2:53: el of tw\355n: tw\355n no el: WrongEffect
     el=\E[1K
        ^~~~~
+    grade: wrong
 twins.ti:5:2: ed of tw\355n: tw\355n no ed: WrongEffect
     ed=\E[K
        ^~~~
+    grade: wrong
+grades: wrong 2
 """
 TWIN_LINES = rb"""tw\355n no el: WrongEffect
 tw\355n no ed: WrongEffect
@@ -569,6 +594,8 @@ wrong|with one fault,
 KIND_PLACE = rb"""kinds.ti:10:2: el of wrong: wrong no el: WrongEffect
     el=\E[1K
        ^~~~~
+    grade: wrong
+grades: wrong 1
 """
 KIND_LINES = [
     (["--all"], "good yes\nother no: OtherKind\nwrong no el: WrongEffect\n"),

@@ -206,10 +206,14 @@ def judge_regions():
 
 def judge_fix(results, one):
     """The fix of an object's fault puts the string that is suggested in place of the field, and of nothing else."""
-    [result] = [it for it in results if it["level"] != "note" and it["message"]["text"].startswith(f"faulty: no {one['capability']}")]
+    [result] = [it for it in results if it["message"]["text"].startswith(f"faulty: no {one['capability']}")]
     region = {"startLine": one["line"], "startColumn": one["column"], "endLine": one["end_line"], "endColumn": one["end_column"]}
     if result["locations"][0]["physicalLocation"]["region"] != region:
         fail(f"--sarif --join: the region of {result} is not {region}")
+    if one["grade"] == "unknown":
+        if "fixes" in result:
+            fail(f"--sarif --join: a fix of {one}, of which nothing is known")
+        return
     [change] = result["fixes"][0]["artifactChanges"]
     [replacement] = change["replacements"]
     lines = FAULTY.split(b"\n")

@@ -18,12 +18,12 @@ from trying import PROGRAM, TOP, Case, run_cases
 TEXT, NUMBER, TRUTH = (str, type(None)), (int, type(None)), (bool, type(None))
 MEMBERS = {
     "aliases": (list,), "aliases_hex": (list,), "another_kind": TRUTH, "bytes": TEXT, "capability": TEXT, "cause": TEXT,
-    "column": NUMBER, "end_column": NUMBER, "end_line": NUMBER, "entry": TEXT, "entry_hex": TEXT, "explanation": (list,), "fault_column": NUMBER, "fault_end_column": NUMBER, "fault_end_line": NUMBER, "fault_line": NUMBER, "file": (str,), "judged": TRUTH, "line": NUMBER, "parameters": (list,), "part": TRUTH, "rule": TEXT, "seen": TEXT, "size": (dict,),
+    "column": NUMBER, "end_column": NUMBER, "end_line": NUMBER, "entry": TEXT, "entry_hex": TEXT, "explanation": (list,), "fault_column": NUMBER, "fault_end_column": NUMBER, "fault_end_line": NUMBER, "fault_line": NUMBER, "file": (str,), "grade": TEXT, "judged": TRUTH, "line": NUMBER, "parameters": (list,), "part": TRUTH, "rule": TEXT, "seen": TEXT, "size": (dict,),
     "source_entry": TEXT, "source_entry_hex": TEXT, "source_file": TEXT, "start": TEXT, "string": TEXT, "string_hex": TEXT, "suggested_with": (list,), "suggestion": TEXT, "suggestion_hex": TEXT, "verdict": (str,),
     "version": (int,), "wanted": TEXT,
 }  # fmt: skip
 OF_FAULTS = [
-    "another_kind", "bytes", "capability", "column", "end_column", "end_line", "fault_column", "fault_end_column", "fault_end_line", "fault_line", "judged", "line", "seen", "source_entry", "source_entry_hex", "source_file", "start", "string", "string_hex",
+    "another_kind", "bytes", "capability", "column", "end_column", "end_line", "fault_column", "fault_end_column", "fault_end_line", "fault_line", "grade", "judged", "line", "seen", "source_entry", "source_entry_hex", "source_file", "start", "string", "string_hex",
     "suggestion", "suggestion_hex", "wanted",
 ]  # fmt: skip
 # an entry is refused for a use, which has a line where a survey finds it
@@ -46,6 +46,7 @@ ALIASES = [['a "right" one'], ["written in UTF-8"], [], ["a", "written in Latin-
 
 # a no that the schema accepts, by what differs from a yes
 ABSENT = {"verdict": "no", "capability": "cup", "cause": "Absent", "rule": "Absent", "judged": True, "another_kind": False}
+ABSENT["grade"] = "wrong"
 ABSENT["explanation"] = ["cup is missing"]
 # and advice
 ADVICE = {"verdict": "advice", "rule": "Advice", "capability": "sgr", "explanation": ["bold is never shown"]}
@@ -93,6 +94,9 @@ REFUSED_BY_SCHEMA = [
     {**ABSENT, "suggestion": "\\E[m"},
     {**ABSENT, "suggestion": "\\E[m", "suggestion_hex": "1b5b6d", "another_kind": True},
     {**ABSENT, "judged": False},
+    {**ABSENT, "grade": None},
+    {**ABSENT, "grade": "unknown"},
+    {**ADVICE, "grade": "wrong"},
     {**ABSENT, "line": 5},
     {**ABSENT, "line": 5, "source_entry": "a", "source_entry_hex": "61", "column": 5},
     {**ABSENT, "column": 5, "end_line": 5, "end_column": 9},
@@ -306,7 +310,7 @@ def judge_columns(one, lines):
 
 def judge_lines(one, lines, path):
     """An object says what the lines below its fault say."""
-    for key in ("start", "wanted", "seen"):
+    for key in ("grade", "start", "wanted", "seen"):
         plain = [line.removeprefix(f"{key}: ") for line in lines if line.startswith(f"{key}: ")]
         if [one[key]] != (plain or [None]):
             fail(f"{key} of {one} is not that of {lines}")
@@ -337,7 +341,7 @@ def judge_lines(one, lines, path):
             fail(f"the bytes of {one} are not those of {line}")
     if one["bytes"] is not None and not any(" sends '" in line for line in lines):
         fail(f"the bytes of {one} stand in none of {lines}")
-    own = [line for line in lines if line not in places + suggested]
+    own = [line for line in lines if line not in places + suggested and not line.startswith("grade: ")]
     if path and one["explanation"] != (own or [NO_RESYNC]):
         fail(f"{one} doesn't explain all that {lines} do")
 
@@ -393,7 +397,7 @@ def judge_entries(path, held, names, planted=None):
         judge_kind(ones, one[0], every.err)
         judge_planted(ones, planted[name] if planted else [])
         if one[0]["verdict"] == "no":
-            judge_lines({**one[0], "line": None}, first.err.decode().splitlines(), "")
+            judge_lines({**one[0], "line": None, "grade": None}, first.err.decode().splitlines(), "")
         for it in ones:
             if said(it) == said(one[0]) and any(it[key] != one[0][key] for key in ("line", "source_entry", "string", "entry_hex")):
                 fail(f"check --json of {name} reported {one}, and with --all {it}")
@@ -410,17 +414,22 @@ def judge_entries(path, held, names, planted=None):
 
 def judge_places(path, ones, places):
     """The objects of `survey --all --json` have the places that the plain form prints on standard error, each fault of a
-    field once, with the names of the entries that have it."""
-    placed = [it for it in ones if it["verdict"] == "no" and it["line"] is not None and not it["part"] and not it["another_kind"]]
+    field once, with its grade and the names of the entries that have it; and then the number of each grade."""
+    listed = [it for it in ones if it["verdict"] == "no" and not it["part"] and not it["another_kind"]]
+    placed = [it for it in listed if it["line"] is not None]
     users = {}
     for one in placed:
         name, holder = (shown(one[key].encode().decode("latin-1")) for key in ("entry", "source_entry"))
-        users.setdefault((f"{path}:{one['line']}:{one['column']}: {one['capability']} of {holder}", said(one)), []).append(name)
+        place = f"{path}:{one['line']}:{one['column']}: {one['capability']} of {holder}"
+        users.setdefault((place, said(one), one["grade"]), []).append(name)
     wanted = []
-    for (place, fault), names in users.items():
-        wanted.append(f"{place}: {names[0]} {fault}")
+    for (place, fault, grade), names in users.items():
+        wanted += [f"{place}: {names[0]} {fault}", f"    grade: {grade}"]
         wanted += [f"    in {', '.join(names)}"] if len(names) > 1 else []
-    told = [line for line in places if not line.startswith("    ") or line.startswith("    in ")]
+    grades = [it["grade"] for it in listed]
+    counted = [f"{grade} {grades.count(grade)}" for grade in ("broken", "contradicts", "wrong", "unknown") if grade in grades]
+    wanted += [f"grades: {', '.join(counted)}"] if counted else []
+    told = [line for line in places if not line.startswith("    ") or line.startswith(("    in ", "    grade: "))]
     if told != wanted:
         fail(f"the objects of {path} are about {wanted}, and survey --all printed {told}")
     return len(placed)

@@ -8,8 +8,8 @@ from faults import COLS, ROWS, all_entries
 from trying import PROGRAM, Case, run_cases
 
 SIZE = [str(ROWS), str(COLS)]
-# with these the string may be right
-UNJUDGED = ("NotShown", "NotTame", "TooLong")
+# the level of a fault by its grade
+LEVELS = {"broken": "error", "contradicts": "error", "wrong": "warning", "unknown": "note"}
 # the members of a region
 REGION = {"startLine", "startColumn", "endLine", "endColumn"}
 
@@ -33,7 +33,7 @@ def level(one):
         return "error"
     if one["verdict"] in ("advice", "hint") or one["another_kind"]:
         return "note"
-    return "warning" if one["cause"] in UNJUDGED else "error"
+    return LEVELS[one["grade"]]
 
 
 def statement(one):
@@ -73,7 +73,8 @@ def judge_result(result, one):
     whole = {"startLine": "line", "startColumn": "column", "endLine": "end_line", "endColumn": "end_column"}
     if one["column"] is not None and region != {key: one[name] for key, name in whole.items()}:
         fail(f"not the whole field: {physical}, not that of {one}")
-    if ("fixes" in result) != (None not in (one["suggestion"], one["column"]) and not one["suggested_with"]):
+    mends = None not in (one["suggestion"], one["column"]) and not one["suggested_with"] and one["grade"] != "unknown"
+    if ("fixes" in result) != mends:
         fail(f"a fix without a suggestion, or a suggestion without a fix: {result}")
     if "fixes" in result:
         ((change,),) = (fix["artifactChanges"] for fix in result["fixes"])

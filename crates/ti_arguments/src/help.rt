@@ -202,15 +202,17 @@ parameters for which it does; then conflicts between strings that are each right
 above may resolve. Below each of an entry of a source is a line `FILE:LINE:COLUMN: CAP of NAME`, with the place of its
 field and the first name of the entry that has it, through `use=`. Then comes the field itself, after four spaces, with
 `^~~~` below the code, the control function or its parameter that is at fault, or below all of its value where none is
-alone; with --join it comes as it is in the file, up to the line on which the marks begin, which go no further than
-that line; and then the lines that explain the fault, after two spaces. Where the standard's string would be right in
-that place, with all others that are named taken too, the last of them is `CAP=STRING would be right on T`; below the
-fault of smacs or rmacs there may be one for each of enacs, smacs and rmacs, which are right only together. Where clear
-and cup are both at fault, standard error says instead that the entry seems to be for a terminal of another kind. The
-last line is the number of faults, and then how many have which CAUSE. Standard error has the first of them too, after
-`refused: `. If nothing is wrong, the output is `yes`. Standard error also gets advice on strings that aren't checked
-but don't do on T what their names say, and a line `strings: ..` that counts those that were checked and those that were
-not looked at.
+alone; with --join it comes as it is in the file, up to the line on which the marks begin, which go no further than that
+line; and then the lines that explain the fault, after two spaces. The first of them is its grade: `grade: broken` for a
+string that is wrong for any terminal, `contradicts` for one that the entry's own other strings speak against, `unknown`
+for one that T can't judge or that sends a function which T hasn't, and else `wrong`. Where the standard's string would
+be right in that place, with all others that are named taken too, the last of them is `CAP=STRING would be right on T`;
+below the fault of smacs or rmacs there may be one for each of enacs, smacs and rmacs, which are right only together.
+Where clear and cup are both at fault, standard error says instead that the entry seems to be for a terminal of another
+kind. The last line is the number of faults, and then how many have which CAUSE. Standard error has the first of them
+too, after `refused: `. If nothing is wrong, the output is `yes`. Standard error also gets advice on strings that aren't
+checked but don't do on T what their names say, and a line `strings: ..` that counts those that were checked and those
+that were not looked at.
 
 With --json there is no certificate either. The output is JSON, an object on each line: what is wrong first, or with
 --all one for each fault, or one with the verdict `yes`; then one with the verdict `advice` for each advice, and one
@@ -219,10 +221,11 @@ lists the members of an object; one that doesn't apply is null, or an empty list
 escapes of JSON. The notes, the line `refused: ` and the exit status are those of the form without --json.
 
 With --sarif the output is one file of SARIF 2.1.0, which code hosts show at the lines of FILE: a result for each object
-of --json --all but a yes. ruleId is the rule. The level is error for what was shown to be wrong and for what can't be
-read, warning where the string couldn't be judged, and note for advice, for hints and where the entry seems to be for a
-terminal of another kind. The message has the line of the fault, its explanation and the suggestion. A result marks the
-whole field, and has a fix if a string is suggested that is right without others.
+of --json --all but a yes. ruleId is the rule. The level is error for faults of the grades broken and contradicts and
+for what can't be read, warning for the grade wrong, and note for the grade unknown, for advice, for hints and where the
+entry seems to be for a terminal of another kind. The message has the line of the fault, its explanation and the
+suggestion. A result marks the whole field, and has a fix if a string is suggested that is right without others and the
+grade isn't unknown.
 
 With --fix there is no certificate. The output is the text of the source file in which each string that --all suggests
 is taken: the field is replaced in its place, in the entry that --all names, and a missing one is added after the last
@@ -448,13 +451,13 @@ A source without entries has none. A byte outside 32 to 126 of a name is a backs
 line is the number of the lines before it, and then how many got each answer.
 
 With --all an entry that has no certificate has a line `NAME no CAP P..: CAUSE` for each of its faults, those that
-`ticurses check --all` lists. One that is for a terminal of another kind has one line, `NAME no: OtherKind`. One that
-is only there to be used by others, without `clear`, `cup` and `sgr0` or with a `+` in its first name, has no line, or
-with --parts the line `NAME part`; the last line counts these apart, and --fail passes them. For each fault whose
-value is in a source FILE, standard error has the line `FILE:LINE:COLUMN: CAP of ENTRY: NAME no CAP P..: CAUSE`, and
-below it the field there, as `ticurses check --all` has it; ENTRY is NAME, or an entry that it uses. A fault that
-several entries have at one place is there once, with a line `in NAME, NAME..` of them all. It also gets the hints of
-`ticurses check`, each with `, in FILE` at its end.
+`ticurses check --all` lists. One that is for a terminal of another kind has one line, `NAME no: OtherKind`. One that is
+only there to be used by others, without `clear`, `cup` and `sgr0` or with a `+` in its first name, has no line, or with
+--parts the line `NAME part`; the last line counts these apart, and --fail passes them. For each fault whose value is in
+a source FILE, standard error has the line `FILE:LINE:COLUMN: CAP of ENTRY: NAME no CAP P..: CAUSE`, and below it the
+field there, as `ticurses check --all` has it, and the line `grade: GRADE`; ENTRY is NAME, or an entry that it uses. A
+fault that several entries have at one place is there once, with a line `in NAME, NAME..` of them all. A line
+`grades: ..` counts all listed faults. It also gets the hints of `ticurses check`, each with `, in FILE` at its end.
 
 With --json the output is a JSON object on a line of its own for each of these lines but the last, with the members of
 `ticurses check --json`, and one for each advice, and with --all for each hint. In place of KIND the verdict is

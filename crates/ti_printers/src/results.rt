@@ -8,6 +8,7 @@ use crate::shape::{
 };
 use crate::uris::uri_of;
 use std::alloc::{AllocError, Global};
+use ti_grades::Grade;
 use ti_reports::{Report, Verdict, Written};
 
 /// The JSON of the result of `report`.
@@ -48,15 +49,22 @@ fn result_in(alloc: Global, report: &Report) -> Result<SarifResult<'_>, AllocErr
     })
 }
 
-/// How much the finding of `report` matters: a fault that was shown and what can't be read are errors, a fault that
-/// couldn't be judged is a warning.
+/// How much the finding of `report` matters: a fault by its grade, and what can't be read is an error.
 fn level_of(report: &Report) -> Level {
     match report.verdict {
         Verdict::No if report.finding.another_kind == Some(true) => Level::Note,
-        Verdict::No if report.finding.judged == Some(true) => Level::Error,
-        Verdict::No => Level::Warning,
+        Verdict::No => level_by(report.finding.grade),
         Verdict::Refused => Level::Error,
         Verdict::Advice | Verdict::Hint(_) | Verdict::Yes => Level::Note,
+    }
+}
+
+/// How much a fault of this `grade` matters.
+fn level_by(grade: Option<Grade>) -> Level {
+    match grade {
+        Some(Grade::Broken | Grade::Contradicts) => Level::Error,
+        Some(Grade::Wrong) => Level::Warning,
+        Some(Grade::Unknown) | None => Level::Note,
     }
 }
 
@@ -105,8 +113,8 @@ fn field_of(report: &Report) -> Option<Region> {
     })
 }
 
-/// The fix of `report`, if a string is suggested that is right without others and the whole field is at a known place:
-/// the field with that string in place of the old one.
+/// The fix of `report`, if a string is suggested that is right without others, T could tell that the old one is wrong,
+/// and the whole field is at a known place: the field with that string in place of the old one.
 fn fix_of(alloc: Global, report: &Report) -> Result<Option<Fix>, AllocError> {
     match (sole_suggestion(report), field_of(report)) {
         (Some(suggestion), Some(deleted_region)) => {
@@ -122,9 +130,9 @@ fn fix_of(alloc: Global, report: &Report) -> Result<Option<Fix>, AllocError> {
     }
 }
 
-/// The string that is suggested in `report`, if it is right without others.
+/// The string that is suggested in `report`, if it is right without others, and T could tell that the old one is wrong.
 fn sole_suggestion(report: &Report) -> Option<&Written> {
-    if report.finding.suggested_with.is_empty() {
+    if report.finding.suggested_with.is_empty() && report.finding.grade != Some(Grade::Unknown) {
         report.finding.suggestion.as_ref()
     } else {
         None

@@ -1,12 +1,14 @@
 -- The reports on an entry: that it has a certificate, or each of its faults.
 use Rattle.std.specs.Prelude.{◌≡◌, ℕ, Bool, true, false, List, [], ◌∷◌, ◌++◌, Option, Some, None, IfSome, String, map}
-use Rattle.std.specs.Prelude.{option_map, string_bytes}
+use Rattle.std.specs.Prelude.{◌==◌, length, option_map, string_bytes}
 use Rattle.std.specs.List.{AllByRecursion}
 use Rattle.std.specs.declared.alloc.Global.{Global}
 use Rattle.ti_caps.specs.Entry.{Content, string_at}
 use Rattle.ti_caps.specs.Table.{name_at}
 use Rattle.ti_checker.specs.declared.causes.No.{No}
 use Rattle.ti_faults.specs.declared.mended.Mended.{Mended}
+use Rattle.ti_grades.specs.Grades.{IsGrade}
+use Rattle.ti_grades.specs.declared.grades.Grade.{Grade}
 use Rattle.ti_hints.specs.Places.{IsHintOf}
 use Rattle.ti_hints.specs.declared.hints.FieldHint.{FieldHint}
 use Rattle.ti_reports.specs.Explanations.{HasDigits, ShowsRun}
@@ -80,6 +82,12 @@ of_faults entry height width originals stands all nos mended = record {
   mended = mended;
 }
 
+-- the grade of this fault, which may be the only one of these
+abbrev pub HasGrade : OfFaults → No → Option Grade → Type 0
+HasGrade of refusal (Some grade) =
+    IsGrade of.entry of.height of.width refusal (length of.nos == 1) grade
+HasGrade of refusal None = ⊥
+
 -- what is found of this fault
 pub record Finds (of : OfFaults) (refusal : No) (finding : Finding) : Type 0 where
   pub capability : HasWords (name_at refusal.cap) finding.capability
@@ -95,6 +103,7 @@ pub record Finds (of : OfFaults) (refusal : No) (finding : Finding) : Type 0 whe
       (map string_bytes finding.suggested_with.items)
   pub explains : ShowsRun run finding.run
   pub judged : finding.judged ≡ Some (is_judged refusal.cause)
+  pub grade : HasGrade of refusal finding.grade
   pub another_kind : finding.another_kind ≡ other_kind of.all of.nos
 
 -- the entry has this fault

@@ -24,6 +24,7 @@ pub record SaysWords (finding : Finding) : Type 0 where
   pub wanted : finding.run.wanted ≡ None
   pub seen : finding.run.seen ≡ None
   pub judged : finding.judged ≡ None
+  pub grade : finding.grade ≡ None
   pub another_kind : finding.another_kind ≡ None
 
 -- nothing is said of a fault, but perhaps where something is

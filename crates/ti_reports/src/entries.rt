@@ -68,6 +68,7 @@ fn entry_said<'x, 'y, P: Form>(
         lines: printed(alloc, asked.form, reports.as_slice())?,
         places: Vec::new(alloc),
         answers: answers_if(alloc, has_news, kind, nos.as_slice())?,
+        grades: Vec::new(alloc),
     })
 }
 

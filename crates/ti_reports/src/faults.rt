@@ -23,6 +23,7 @@ use ti_caps::{Cap, Entry, name};
 use ti_checker::{Cause, No};
 use ti_faults::Mended;
 use ti_files::Remarks;
+use ti_grades::grade_of;
 use ti_sources::LinedFile;
 use ti_surveys::is_part;
 use ti_verdicts::{Fault, FaultRun, Judged, SourcePlace, cause_name, explain_fault};
@@ -207,6 +208,7 @@ fn finding_of(
         suggested_with: suggested_with(alloc, entry, faults.mended, no.cap)?,
         run: explained(alloc, &run)?,
         judged: Some(is_judged(no.cause)),
+        grade: Some(grade_of(alloc, entry, subject.size, no, faults.nos.len() == 1)?),
         another_kind: other_kind(subject.lists_all, faults.nos),
         explanation: explanation_of(alloc, &fault)?,
     })

@@ -5,6 +5,7 @@ use crate::places::ValuePlace;
 use crate::texts::text_of;
 use crate::written::Written;
 use std::alloc::{AllocError, Global};
+use ti_grades::Grade;
 use ti_hints::HintKind;
 use ti_sources::Region;
 
@@ -84,6 +85,8 @@ pub struct Finding {
     pub run: Explanation,
     /// Whether the fault was shown; `false` if the string may be right.
     pub judged: Option<bool>,
+    /// The fault's grade.
+    pub grade: Option<Grade>,
     /// Whether the entry seems to be for a terminal of another kind.
     pub another_kind: Option<bool>,
     /// Lines that explain the fault, the advice or the hint to people.
@@ -131,6 +134,7 @@ impl Finding {
                 seen: None,
             },
             judged: None,
+            grade: None,
             another_kind: None,
             explanation: Vec::new(alloc),
         }

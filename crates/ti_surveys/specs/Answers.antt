@@ -63,6 +63,17 @@ abbrev pub part_lines : Bool → List ℕ → List ℕ
 part_lines true name = line_of name (codes " part")
 part_lines false name = []
 
+-- a fault at its place, and below its field a further line, whose words are free
+abbrev pub with_line : List ℕ → PlacedText → PlacedText
+with_line line placed = record placed { fault = placed.fault ++ line }
+
+pub record IsPlacedMore (originals : List FileText) (stands : Option PlaceInSource) (name : List ℕ) (refusal : No)
+    (placed : List PlacedText) : Type 0 where
+  pub bare : List PlacedText
+  pub stands_at : IsPlaced originals stands name refusal bare
+  pub line : List ℕ
+  pub is : placed ≡ map (with_line line) bare
+
 -- The lines of an entry's faults, under its name, and for each of them the place of its value. An entry for terminals
 -- of another kind has one line.
 abbrev pub TellsFaults : EntryKind → Bool → List FileText → Option PlaceInSource → List ℕ → List No → List ℕ
@@ -72,7 +83,7 @@ TellsFaults Part names_parts originals stands name nos lines places =
 TellsFaults Other names_parts originals stands name nos lines places =
     (lines ≡ line_of name (codes " no: OtherKind")) × (places ≡ [])
 TellsFaults Usual names_parts originals stands name nos lines places =
-    (lines ≡ fault_lines name nos) × HasParts (IsPlaced originals stands name) nos places
+    (lines ≡ fault_lines name nos) × HasParts (IsPlacedMore originals stands name) nos places
 
 -- the statement about an entry of which all faults are listed
 pub record HasAllFaults (height width : ℕ) (names_parts : Bool) (originals : List FileText)

@@ -18,6 +18,7 @@ use Rattle.ti_surveys.specs.Lines.{AreLines, Leaving}
 use Rattle.ti_surveys.specs.Places.{places_text}
 use Rattle.ti_surveys.specs.Strict.{EndsStrictly}
 use Rattle.ti_surveys.specs.Told.{IsToldOrLeft, Told}
+use Rattle.ti_verdicts.specs.Locations.{PlacedText}
 use Rattle.ti_requests.specs.declared.request.SurveyWords.{SurveyWords}
 use Rattle.ti_files.specs.Remarks.{quoted}
 use Rattle.ti_files.specs.Shown.{shown}
@@ -56,6 +57,10 @@ pub record EndsPaths (Are : List FurtherFile → OfFile) (Leaves : Leaving) (hel
   pub each : IsToldOrLeft (HasLines (Are others) held) Leaves paths told unread
   pub named : AreNamed unread failed remarks
 
+-- the faults at their places, each once, and behind these a further line, whose words are free
+abbrev pub HasNotes : List PlacedText → List ℕ → Type 0
+HasNotes places notes = (further : List ℕ) × (notes ≡ places_text places ++ further)
+
 -- The lines of each path are heard, and the reply has the number of lines with each answer; its notes are the faults in
 -- the lines at their places, each once. It fails if a path can't be read, or, if the words ask for it, if a line
 -- doesn't say yes.
@@ -71,6 +76,6 @@ pub record IsSurveyed (originals : List FileText) (certifies : Content → ℕ �
       (AreLines (SaysBy words.lists_all words.names_parts originals certifies refuses height width) IsRefused)
       SaysNothing held (texts_of words.paths.items) told failed remarks
   pub strictly : EndsStrictly words.is_strict told.answers failed reply.failure
-  pub places : reply.notes.items ≡ places_text told.places
+  pub places : HasNotes told.places reply.notes.items
   pub heard : AreHeard told.lines
   pub counts : reply.text.items ≡ answers_line told.answers

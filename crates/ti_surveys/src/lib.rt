@@ -3,6 +3,7 @@
 
 mod asked;
 mod files;
+mod grades;
 mod kinds;
 mod laws;
 mod lines;

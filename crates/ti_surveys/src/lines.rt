@@ -5,7 +5,7 @@ ghost use Rattle.std.specs.List.{flat_map};
 ghost use Rattle.ti_surveys.specs.Told.{told_of};
 ghost use Rattle.ti_surveys.specs.Answers as spec;
 ghost use Rattle.ti_verdicts.specs.Parts.{HasParts};
-ghost use Rattle.ti_verdicts.specs.{Locations.{IsPlaced, place_if, placed_if, placed_in}, Refusals.{no_text}};
+ghost use Rattle.ti_verdicts.specs.{Locations.{place_if, placed_if, placed_in}, Refusals.{no_text}};
 ghost use Rattle.ti_sources.specs.LinedFiles.{file_text};
 
 use crate::asked::Asked;
@@ -17,6 +17,7 @@ use ti_caps::Entry;
 use ti_checker::{Cause, No};
 use ti_faults::{faults, must_claim};
 use ti_files::{CommandRefusal, push_shown, refusal_words};
+use ti_grades::{Grade, grade_of};
 use ti_verdicts::{Answer, Certifier, Judged, PlacedFault, no_words, placed};
 
 impl<'a, C: Certifier> Speaker for Asked<'a, C> {
@@ -110,11 +111,13 @@ fn all_faults<C: Certifier>(
     let nos = faults(alloc, found.entry, asked.size)?;
     let kind = kind_of(true, found.entry, nos.as_slice());
     let answers = answers_of(alloc, kind, nos.as_slice())?;
-    let (lines, places) = told(alloc, asked, kind, found, nos.as_slice())?;
+    let (lines, placed) = told(alloc, asked, kind, found, nos.as_slice())?;
+    let GradedFaults { places, grades } = placed;
     Ok(Said {
         lines,
         places,
         answers,
+        grades,
     })
 }
 
@@ -126,20 +129,23 @@ fn told<C>(
     kind: EntryKind,
     found: &FileEntry<'_, '_>,
     nos: &[No],
-) -> Result<(Vec<u8>, Vec<PlacedFault>), AllocError>
+) -> Result<(Vec<u8>, GradedFaults), AllocError>
     ensures { IfOk result (λ told. spec.TellsFaults kind asked.now.names_parts (map file_text asked.now.originals.now)
-        (place_if found.now.stands.now) found.now.name.now nos.now told.0.items (map placed_in told.1.items)) }
+        (place_if found.now.stands.now) found.now.name.now nos.now told.0.items (map placed_in told.1.places.items)) }
 {
     match kind {
         EntryKind::Part => {
             let lines = part_lines(alloc, asked.names_parts, found.name)?;
-            Ok((lines, Vec::new(alloc)))
+            Ok((lines, GradedFaults::none(alloc)))
         }
-        EntryKind::Other => Ok((line(alloc, found.name, b" no: OtherKind")?, Vec::new(alloc))),
+        EntryKind::Other => {
+            let lines = line(alloc, found.name, b" no: OtherKind")?;
+            Ok((lines, GradedFaults::none(alloc)))
+        }
         EntryKind::Usual => {
             let lines = listed(alloc, found.name, nos)?;
-            let places = places_of(alloc, asked, found, nos)?;
-            Ok((lines, places))
+            let placed = places_of(alloc, asked, found, nos)?;
+            Ok((lines, placed))
         }
     }
 }
@@ -155,28 +161,90 @@ fn part_lines(alloc: Global, names_parts: bool, name: &[u8]) -> Result<Vec<u8>, 
     }
 }
 
-/// The faults `nos` of the entry that was `found`: each at the place of the field at fault, as the survey is `asked`
-/// for them.
+/// Faults at their places, as far as they have one, and the grades of them all.
+#[derive(Drop)]
+struct GradedFaults {
+    places: Vec<PlacedFault>,
+    grades: Vec<Grade>,
+}
+
+impl GradedFaults {
+    ghost use Rattle.std.specs.Prelude.{◌≡◌, []};
+
+    /// No faults.
+    fn none(alloc: Global) -> GradedFaults
+        ensures { result.places.items ≡ [] }
+    {
+        GradedFaults {
+            places: Vec::new(alloc),
+            grades: Vec::new(alloc),
+        }
+    }
+}
+
+/// The faults `nos` of the entry that was `found`, with their grades: each at the place of the field at fault, as the
+/// survey is `asked` for them.
 fn places_of<C>(
     alloc: Global,
     asked: &Asked<'_, C>,
     found: &FileEntry<'_, '_>,
     nos: &[No],
-) -> Result<Vec<PlacedFault>, AllocError>
-    ensures { IfOk result (λ places. HasParts
-        (IsPlaced (map file_text asked.now.originals.now) (place_if found.now.stands.now) found.now.name.now) nos.now
-        (map placed_in places.items)) }
+) -> Result<GradedFaults, AllocError>
+    ensures { IfOk result (λ placed. HasParts
+        (spec.IsPlacedMore (map file_text asked.now.originals.now) (place_if found.now.stands.now) found.now.name.now)
+        nos.now (map placed_in placed.places.items)) }
 {
     let mut places = Vec::new(alloc);
+    let mut grades = Vec::new(alloc);
     for no in nos {
-        let fault = Judged {
-            no,
-            size: asked.size,
-        };
-        let own = placed(alloc, found.stands, asked.originals, found.name, &fault)?;
+        let grade = grade_of(alloc, found.entry, asked.size, no, nos.len() == 1)?;
+        grades.push(grade)?;
+        let own = graded_place(alloc, asked, found, no, grade)?;
         push_if(&mut places, own)?;
     }
-    Ok(places)
+    Ok(GradedFaults { places, grades })
+}
+
+/// The fault `no` of the entry that was `found` at the place of the field at fault, with a line that has its `grade`;
+/// `None` if there is no such place.
+fn graded_place<C>(
+    alloc: Global,
+    asked: &Asked<'_, C>,
+    found: &FileEntry<'_, '_>,
+    no: &No,
+    grade: Grade,
+) -> Result<Option<PlacedFault>, AllocError>
+    ensures { IfOk result (λ own. spec.IsPlacedMore (map file_text asked.now.originals.now)
+        (place_if found.now.stands.now) found.now.name.now no.now (placed_if own)) }
+{
+    let fault = Judged {
+        no,
+        size: asked.size,
+    };
+    let bare = placed(alloc, found.stands, asked.originals, found.name, &fault)?;
+    let line = grade_line(alloc, grade)?;
+    with_line(bare, line.as_slice())
+}
+
+/// The line with this `grade`, after four spaces.
+fn grade_line(alloc: Global, grade: Grade) -> Result<Vec<u8>, AllocError> {
+    let mut line = Vec::from_slice(alloc, b"    grade: ")?;
+    line.extend_from_slice(grade.name().as_bytes())?;
+    line.push(b'\n')?;
+    Ok(line)
+}
+
+/// The fault at its place, if there is one, with this `line` below its field.
+fn with_line(bare: Option<PlacedFault>, line: &[u8]) -> Result<Option<PlacedFault>, AllocError>
+    ensures { IfOk result (λ more. placed_if more ≡ map (spec.with_line line.now) (placed_if bare)) }
+{
+    match bare {
+        None => Ok(None),
+        Some(mut placed) => {
+            placed.fault.extend_from_slice(line)?;
+            Ok(Some(placed))
+        }
+    }
 }
 
 /// Adds `own` to `places`, if it is there.

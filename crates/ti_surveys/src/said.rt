@@ -4,6 +4,7 @@ ghost use Rattle.std.specs.Prelude.{◌≡◌, [], ◌∷◌, IfOk, OnOk};
 ghost use Rattle.ti_surveys.specs.Told as spec;
 
 use std::alloc::{AllocError, Global};
+use ti_grades::Grade;
 use ti_verdicts::{Answer, PlacedFault};
 
 /// The statements about an entry, a file or several.
@@ -15,6 +16,8 @@ pub struct Said {
     pub places: Vec<PlacedFault>,
     /// The answer of each line.
     pub answers: Vec<Answer>,
+    /// The grade of each fault in the lines.
+    pub grades: Vec<Grade>,
 }
 
 impl Said {
@@ -26,10 +29,11 @@ impl Said {
             lines: Vec::new(alloc),
             places: Vec::new(alloc),
             answers: Vec::new(alloc),
+            grades: Vec::new(alloc),
         }
     }
 
-    /// One `line` with this `answer`, which has no fault with a place.
+    /// One `line` with this `answer`, in which no fault has a place or a grade.
     pub fn of_line(alloc: Global, line: Vec<u8>, answer: Answer) -> Result<Said, AllocError>
         ensures { IfOk result (λ said. spec.told_of said
             ≡ record { lines = line.items; places = []; answers = answer ∷ [] }) }
@@ -38,6 +42,7 @@ impl Said {
             lines: line,
             places: Vec::new(alloc),
             answers: vec![in alloc; answer]?,
+            grades: Vec::new(alloc),
         })
     }
 
@@ -51,9 +56,11 @@ impl Said {
             lines,
             mut places,
             answers,
+            mut grades,
         } = later;
         self.lines.extend_from_slice(lines.as_slice())?;
         self.places.append(&mut places)?;
+        self.grades.append(&mut grades)?;
         self.answers.extend_from_slice(answers.as_slice())
     }
 }

@@ -10,7 +10,7 @@ ghost use Rattle.ti_surveys.specs.Told.{IsEither, IsToldOrLeft, followed_by, lef
 
 use crate::asked::Asked;
 use crate::files::{Surveying, file_lines};
-use crate::places::places_lines;
+use crate::grades::notes_text;
 use crate::said::Said;
 use crate::speakers::Speaker;
 use crate::strict::strict_failure;
@@ -48,7 +48,8 @@ pub struct Survey<'a, C> {
 /// if the words ask for them. Then an entry that is only there to be used is counted apart, and named if the words
 /// ask for that; and an entry for a terminal of another kind has one line. An entry that can't be read has its line
 /// too. The reply's text is the last line, which counts the answers. For each listed fault of a source's entry, the
-/// reply's notes give the place of its value, the field there, and the names of all entries that have it. If files
+/// reply's notes give the place of its value, the field there, its grade, and the names of all entries that have it;
+/// and then how many faults have which grade. If files
 /// can't be read, the reply has the failure of the first such file, the `remarks` name the further ones, and the
 /// others are surveyed all the same; else it is refused if the words ask for that and a line doesn't say yes. The
 /// `watcher` also receives reports of how far the survey has come.
@@ -87,8 +88,9 @@ pub fn survey_files<C: Certifier, F: Files, W: Watcher>(
         lines: _lines,
         places,
         answers,
+        grades,
     } = surveyed.said;
-    let notes = places_lines(alloc, places.as_slice())?;
+    let notes = notes_text(alloc, places.as_slice(), grades.as_slice())?;
     let text = answers_line(alloc, answers.as_slice())?;
     let failure = strict_failure(alloc, words.is_strict, answers.as_slice(), surveyed.failure)?;
     Ok(Reply {

@@ -1,13 +1,10 @@
 -- The run that shows a fault, in words.
-use Rattle.std.specs.Prelude.{◌≡◌, ◌≢◌, ◌++◌, ℕ, List, Option, Some, None, codes, option_and_then, option_map}
+use Rattle.std.specs.Prelude.{◌≡◌, ◌++◌, ℕ, List, Option, Some, None, codes, option_map}
 use Rattle.ti_caps.specs.Entry.{Content, string_at}
-use Rattle.ti_caps.specs.Table.{name_at}
 use Rattle.ti_checker.specs.declared.causes.Cause.{Cause}
 use Rattle.ti_checker.specs.declared.causes.Cause.TheVariants as causes
 use Rattle.ti_checker.specs.declared.causes.No.{No}
-use Rattle.ti_conforms.specs.Sends.{Sends}
-use Rattle.ti_rows.specs.Names.{name_of}
-use Rattle.ti_rows.specs.Params.{with_params}
+use Rattle.ti_grades.specs.FaultRuns.{IsRowFor, IsSentFor}
 use Rattle.ti_rows.specs.declared.rows.Row.{Row}
 use Rattle.ti_verdicts.specs.Starts.{settings_of}
 use Rattle.ti_verdicts.specs.declared.fault_runs.FaultRun.{FaultRun}
@@ -19,32 +16,6 @@ use Rattle.ti_words.specs.Wanted.{wanted_text}
 use Rattle.vt_term.specs.Look.{Rendition}
 use Rattle.vt_term.specs.Run.{Runs}
 use Rattle.vt_term.specs.Screen.{State, reset}
-
--- ---- the bytes that are sent
-
--- the row of a name's capability that comes first, if there is one
-abbrev pub IsNamed : List ℕ → Option Row → Type 0
-IsNamed name (Some row) = name_of row ≡ name
-IsNamed name None = (row : Row) → name_of row ≢ name
-
--- the row of the refusal's capability with its parameters, if it is about a row
-pub record IsRowFor (refusal : No) (row : Option Row) : Type 0 where
-  pub first : Option Row
-  pub named : IsNamed (name_at refusal.cap) first
-  pub given : row ≡ option_and_then (λ it. with_params it refusal.params.items) first
-
--- the bytes that a string sends for a row; none if it sends nothing
-abbrev pub IsSentBy : List ℕ → Row → Option (List ℕ) → Type 0
-IsSentBy string row (Some bytes) = Sends string row bytes
-IsSentBy string row None = (bytes : List ℕ) → Sends string row bytes → ⊥
-
--- without a row, or without a string, nothing is sent
-abbrev pub IsSentFor : Option Row → Option (List ℕ) → Option (List ℕ) → Type 0
-IsSentFor None string sent = sent ≡ None
-IsSentFor (Some row) None sent = sent ≡ None
-IsSentFor (Some row) (Some string) sent = IsSentBy string row sent
-
--- ---- the words
 
 -- the part of a run that shows the cause
 abbrev pub part_of : Cause → RunPart

@@ -22,6 +22,7 @@ use ti_checker::No;
 use ti_commands::{Sourced, sourced_entry};
 use ti_faults::{Mended, faults};
 use ti_files::{Files, Remarks, Replied, Reply, size_words};
+use ti_grades::{Grade, grade_of};
 use ti_hints::{advise, advise_unchecked};
 use ti_requests::FaultsWords;
 use ti_sources::LinedFile;
@@ -82,7 +83,8 @@ fn reply_of(
 ) -> Result<Reply, AllocError>
     ensures noted { IfOk result (λ reply. reply.notes ≡ notes) }
     ensures told { IfOk result (λ reply. spec.TellsFaults (map file_text asked.now.originals.now)
-        asked.now.found.now.entry (source_place asked.now.found.now.source) asked.now.size.rows asked.now.size.cols nos.now reply) }
+        asked.now.found.now.entry (source_place asked.now.found.now.source) asked.now.size.rows asked.now.size.cols
+        nos.now reply) }
 {
     match nos {
         [] => Ok(Reply {
@@ -188,7 +190,7 @@ fn own_lines(alloc: Global, found: &Located<'_, '_>, mended: &Mended, no: &No, n
     };
     let place = location(alloc, &found.stands, found.originals, &fault)?;
     lines.extend_from_slice(place.as_slice())?;
-    let further = explanation(alloc, found.entry, found.size, no)?;
+    let further = explanation(alloc, found, no, nos.len() == 1)?;
     lines.extend_from_slice(further.as_slice())?;
     let faulty = Faulty {
         entry: found.entry,
@@ -200,11 +202,20 @@ fn own_lines(alloc: Global, found: &Located<'_, '_>, mended: &Mended, no: &No, n
     Ok(lines)
 }
 
-/// The lines that explain `no`, a fault of `entry`.
-fn explanation(alloc: Global, entry: &Entry, size: Size, no: &No) -> Lines
+/// The line with the grade of `no`, a fault of the entry `found` and perhaps its only one, and those that explain it.
+fn explanation(alloc: Global, found: &Located<'_, '_>, no: &No, alone: bool) -> Lines
     ensures { IfOk result (λ lines. spec.AreIndented lines.items) }
 {
+    let grade = grade_of(alloc, found.entry, found.size, no, alone)?;
     let mut remarks = Remarks::new(alloc);
-    explain_no(alloc, entry, size, no, &mut remarks);
+    remarks.add_words(grade_words(alloc, grade)?.as_slice());
+    explain_no(alloc, found.entry, found.size, no, &mut remarks);
     indented(alloc, remarks.lines())
+}
+
+/// The words of a line with this `grade`.
+fn grade_words(alloc: Global, grade: Grade) -> Lines {
+    let mut words = Vec::from_slice(alloc, b"grade: ")?;
+    words.extend_from_slice(grade.name().as_bytes())?;
+    Ok(words)
 }

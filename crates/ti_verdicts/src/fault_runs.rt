@@ -1,17 +1,15 @@
 //! The run that shows a fault, in words.
 
-ghost use Rattle.std.specs.Prelude.{◌≡◌, IfOk, option_and_then, option_copied, option_map};
-ghost use Rattle.ti_caps.specs.Table.{name_at};
-ghost use Rattle.ti_rows.specs.Params.{with_params};
+ghost use Rattle.std.specs.Prelude.{◌≡◌, IfOk, option_map};
 ghost use Rattle.ti_verdicts.specs.FaultRuns as spec;
 ghost use Rattle.ti_words.specs.Wanted.{wanted_text};
 
 use crate::looks::look_words;
 use crate::starts::{probe_run_words, probe_words};
 use std::alloc::{AllocError, Global};
-use ti_caps::{Cap, Entry, name};
+use ti_caps::Entry;
 use ti_checker::{Cause, No, Probe};
-use ti_conforms::{SendFault, send};
+use ti_grades::{row_of, sent_for};
 use ti_rows::Row;
 use ti_words::wanted_words;
 use vt_term::Size;
@@ -69,56 +67,6 @@ impl FaultRun {
             wanted,
             seen,
         })
-    }
-}
-
-/// The row of the table with the capability and the parameters of `no`; `None` if there is none.
-pub fn row_of(no: &No) -> Option<Row>
-    ensures { spec.IsRowFor no.now result }
-{
-    with_params(first_row(no.cap), no.params.as_slice())
-}
-
-/// The first row of `cap`.
-fn first_row(cap: Cap) -> Option<Row>
-    ensures { spec.IsNamed (name_at cap) result }
-{
-    Row::named(name(cap))
-}
-
-/// The `row` with these parameters.
-fn with_params(row: Option<Row>, numbers: &[u16]) -> Option<Row>
-    ensures { result ≡ option_and_then (λ it. with_params it numbers.now) row }
-{
-    match row {
-        Some(row) => row.with_params(numbers),
-        None => None,
-    }
-}
-
-/// The bytes that `string` sends for `row`, where there are both.
-fn sent_for(alloc: Global, row: Option<Row>, string: Option<&[u8]>) -> Found
-    ensures { IfOk result (λ sent. spec.IsSentFor row (option_copied string.entry)
-        (option_map (λ bytes. bytes.items) sent)) }
-{
-    match row {
-        Some(row) => match string {
-            Some(string) => sent_by(alloc, string, row),
-            None => Ok(None),
-        },
-        None => Ok(None),
-    }
-}
-
-/// The bytes that `string` sends for `row`; `None` where it can't be expanded.
-#[tactic(auto, using(crate::proofs::Sends::unsent_sends_nothing))]
-fn sent_by(alloc: Global, string: &[u8], row: Row) -> Found
-    ensures { IfOk result (λ sent. spec.IsSentBy string.now row (option_map (λ bytes. bytes.items) sent)) }
-{
-    match send(alloc, string, row) {
-        Ok(bytes) => Ok(Some(bytes)),
-        Err(SendFault::NoMemory) => Err(AllocError),
-        Err(SendFault::Fault(_) | SendFault::StaticRead) => Ok(None),
     }
 }
 

@@ -4,11 +4,11 @@ ghost use Rattle.std.specs.Prelude.{IfOk};
 ghost use Rattle.ti_blames.specs.BlamedStretches.{IsWithinIf};
 ghost use Rattle.ti_verdicts.specs.Excerpts.{IsFaulty};
 
-use crate::fault_runs::row_of;
 use std::alloc::{AllocError, Global};
 use ti_blames::{Checked, CodeFault, Stretch, code_stretch, meant_stretch, pair_of, sent_stretch};
 use ti_checker::{Cause, No};
 use ti_conforms::misfit;
+use ti_grades::row_of;
 use ti_source::{EscapeFault, unescape};
 use vt_term::Size;
 

@@ -1,11 +1,12 @@
 //! The explanation why an entry gets no certificate.
 
-use crate::fault_runs::{FaultRun, row_of};
+use crate::fault_runs::FaultRun;
 use crate::faulty_parts::Judged;
 use std::alloc::{AllocError, Global};
 use ti_caps::{Entry, name};
 use ti_checker::{Cause, No};
 use ti_files::Remarks;
+use ti_grades::row_of;
 use ti_rows::Row;
 use ti_words::{
     Field, LED_THERE, NO_RESYNC, NOT_SHOWN, NOT_TAME, NOT_TOGETHER, STATIC_READ, STAYS_GRAPHIC,
