@@ -262,7 +262,8 @@ static inline int ticurses_flag(const void *entry, size_t entry_len, const void 
  * `endwin` can still be sent. Without a certificate (a length of 0) it checks the entry itself, which takes
  * some milliseconds more. The terminal must be in its reset state, and the first refresh clears it; if an
  * earlier session may have left another state, call ticurses_lost before the first refresh. A session keeps
- * its size: after a change of the terminal's size, open it anew, call ticurses_lost, and draw again. */
+ * its size: after a change of the terminal's size, make the call `endwin` and write its bytes, open the session
+ * anew, call ticurses_lost, and draw again. */
 static inline int ticurses_open(ticurses *session, const void *entry, size_t entry_len, const void *name,
                                 size_t name_len, uint16_t rows, uint16_t cols, const void *certificate,
                                 size_t certificate_len) {
@@ -422,9 +423,11 @@ static inline size_t ticurses_output(ticurses *session, void *room, size_t room_
 /* For output that was cut off: from some byte on, the bytes that the program took did not get to the terminal. Discards
  * the waiting bytes; the next refresh begins anew and repairs the screen, wherever the output was cut, even within a
  * sequence. Windows and the virtual screen stay. Call it also after another session on the same terminal and entry
- * whose output may have been cut. If another program wrote to the terminal, or bytes are missing from the middle, the
- * next refresh repairs the screen only if the terminal still wraps at the end of a line, inserts nothing, and has no
- * other character sets than the entry's. */
+ * whose output may have been cut. The next refresh begins with the entry's `smcup`: if the session is on the screen,
+ * write its `rmcup` before, provided that it begins with an ESC, since some terminals keep the cursor of one `smcup`
+ * alone. If another program wrote to the terminal, or bytes are missing from the middle, the next refresh repairs the
+ * screen only if the terminal still wraps at the end of a line, inserts nothing, and has no other character sets than
+ * the entry's. */
 static inline int ticurses_lost(ticurses *session) { return session ? ticurses_raw_lost(session) : TICURSES_NULL; }
 
 /* Frees the session and its waiting bytes. It sends nothing: to leave the terminal as other programs want it, make the

@@ -57,6 +57,8 @@ if __name__ == "__main__":
 
 TEXTS = """
 session = Session(b"entry", 24, 80)
+same(ticurses.string(b"entry", "kcuu1"), b"\\033<string>")
+same(raises(Error, ticurses.string, b"", "kcuu1").code, Code.BAD_ENTRY)
 for given in (5, [1, 2], None, 2.5, object()):
     raises(TypeError, session.addstr, 0, given)
     raises(TypeError, session.call, given)
@@ -79,18 +81,22 @@ same((error.code, error.line, error.text), (Code.CLOSED, None, ""))
 
 # what ends `send` is an exception from a handler; each throws away what waits
 SENT = """
-import fcntl, resource, struct, termios, threading, time
+import fcntl, resource, select, struct, termios, threading, time
 
 resource.setrlimit(resource.RLIMIT_NOFILE, (4096, 4096))
-F_GETPIPE_SZ = 1032
-reading, ended_by = -1, []
+reading, high, ended_by = -1, -1, []
 
 def held():
     return struct.unpack("i", fcntl.ioctl(reading, termios.FIONREAD, bytes(4)))[0]
 
+def is_full():
+    room = select.poll()
+    room.register(high, select.POLLOUT)
+    return not room.poll(0)
+
 # a signal is heeded once, and not before the pipe is full; it comes again and again, since one may come between two calls
 def heed(number, _):
-    if ended_by and held() == fcntl.fcntl(reading, F_GETPIPE_SZ):
+    if ended_by and is_full():
         raise ended_by.pop()
 
 def signals(number):
@@ -130,7 +136,8 @@ for blocking in (True, False):
     os.close(writing)
     os.close(high)
     reader.join()
-    same(b"".join(pieces), b"x" * 200000)
+    # a terminal that has got one smcup gets rmcup before the next
+    same(b"".join(pieces), b"\033<string>" + b"x" * 200000)
     os.close(reading)
 reading, writing = os.pipe()
 os.close(reading)
@@ -209,6 +216,13 @@ def cut_and_fail(session, fd):
     session.lost()
     raise ZeroDivisionError
 
+def open_anew(session, fd):
+    draw(session, fd)
+    session.end()
+    session.open(b"entry", 14, 50)
+    session.lost()
+    draw(session, fd)
+
 def draw_and_end(session, fd):
     draw(session, fd)
     session.call("endwin")
@@ -220,7 +234,8 @@ def draw_badly(session, fd):
 
 same(sent(draw), b"<24x80>xx<endwin>")
 same(sent(draw_and_fail, ZeroDivisionError), b"<24x80>xx<endwin>")
-same(sent(cut_and_fail, ZeroDivisionError), b"<24x80>xx<again><endwin>")
+same(sent(cut_and_fail, ZeroDivisionError), b"<24x80>xx\033<string><again><endwin>")
+same(sent(open_anew), b"<24x80>xx<endwin><again><14x50>xx<endwin>")
 same(sent(draw_and_end), b"<24x80>xx<endwin>")
 same(sent(draw_badly, Error), b"<24x80>xxx<endwin>")
 same(sent(lambda session, fd: session.call("refresh 1")), b"")

@@ -83,6 +83,9 @@ class Monitor:
         self.fd = os.open("/dev/tty", os.O_WRONLY | os.O_NONBLOCK | os.O_NOCTTY)
         self.before = termios.tcgetattr(0)
         self.entry, self.session, self.piece = ticurses.find_entry(), None, b""
+        # it must begin with an ESC, which ends whatever was cut off, and have no delay
+        rmcup = ticurses.string(self.entry, "rmcup") or b""
+        self.rmcup = rmcup if rmcup.startswith(b"\x1b") and b"$" not in rmcup else b""
         self.top = self.left = self.base = self.failures = 0
         self.is_helping = self.is_ending = self.is_changed = self.is_up = False
         self.key, self.number = PLAIN, 0
@@ -208,9 +211,10 @@ class Monitor:
                 return
 
     def lose(self):
-        """The terminal may show anything, and the next refresh draws all of it."""
+        """The terminal may show anything, and the next refresh draws all of it. It begins with smcup, so a terminal that
+        has got one gets rmcup before: some keep the cursor of the last smcup alone, which would be this program's."""
         self.session.lost()
-        self.piece, self.is_changed = b"", True
+        self.piece, self.is_changed = self.rmcup if self.is_up else b"", True
 
     def leave(self):
         """Ends the screen that the session has on the terminal; waits at most two seconds for one that takes no

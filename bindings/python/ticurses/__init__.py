@@ -22,6 +22,7 @@ import contextlib
 import ctypes
 import errno
 import os
+import re
 import select
 import signal
 import sys
@@ -40,7 +41,7 @@ from ._terminal import find_entry, set_cooked, set_raw, terminal_size
 __version__ = "1.0.0"
 __all__ = [
     "ENTRY_TEXTS", "TEXTS", "Attrs", "Cell", "Code", "Entry", "EntryCode", "EntryError", "Error", "Session", "check",
-    "find_entry", "reason", "set_cooked", "set_raw", "terminal_size", "verify",
+    "find_entry", "reason", "set_cooked", "set_raw", "string", "terminal_size", "verify",
 ]
 
 Text = Union[str, bytes, bytearray, memoryview]
@@ -94,14 +95,14 @@ def _is_done(code: int, reason: str = "") -> None:
         raise Error(code, reason)
 
 
-def _asked(call: Callable[..., int], room: int, entry: Text, rows: int, cols: int, name: Text) -> tuple[int, bytes]:
-    """The code of a call, and the bytes that it writes to a buffer of `room` bytes, or of more if it needs more."""
-    entry, name, needed = _bytes(entry), _bytes(name), SIZE(0)
-    rows, cols = _numbers(rows, cols)
-    code, space = int(Code.NO_ROOM), ctypes.create_string_buffer(0)
+def _asked(call: Callable[..., int], room: int, *words: bytes | int) -> tuple[int, bytes]:
+    """The code of a call, and the bytes that it writes to a buffer of `room` bytes, or of more if it needs more. Each of
+    the `words` that has bytes is passed with its length."""
+    needed, code, space = SIZE(0), int(Code.NO_ROOM), ctypes.create_string_buffer(0)
+    given = [it for word in words for it in ((word, len(word)) if isinstance(word, bytes) else (word,))]
     for _ in range(2):
         space = ctypes.create_string_buffer(room)
-        code = call(entry, len(entry), name, len(name), rows, cols, space, room, needed)
+        code = call(*given, space, room, needed)
         if code != Code.NO_ROOM:
             break
         room = needed.value
@@ -111,14 +112,14 @@ def _asked(call: Callable[..., int], room: int, entry: Text, rows: int, cols: in
 def check(entry: Text, rows: int, cols: int, name: Text = b"") -> bytes:
     """The certificate of a compiled entry or, with a `name`, of that entry of a source text. If it has none, the error
     says which string is wrong."""
-    code, text = _asked(RAW.ticurses_raw_check, 1 << 16, entry, rows, cols, name)
+    code, text = _asked(RAW.ticurses_raw_check, 1 << 16, _bytes(entry), _bytes(name), *_numbers(rows, cols))
     _is_done(code, reason(entry, rows, cols, name) if code == Code.NO_CERTIFICATE else "")
     return text
 
 
 def reason(entry: Text, rows: int, cols: int, name: Text = b"") -> str:
     """Why an entry has no certificate, as in `no op: WrongEffect`; "" if it has one."""
-    code, text = _asked(RAW.ticurses_raw_reason, 256, entry, rows, cols, name)
+    code, text = _asked(RAW.ticurses_raw_reason, 256, _bytes(entry), _bytes(name), *_numbers(rows, cols))
     _is_done(code)
     return text.decode("ascii")
 
@@ -128,6 +129,33 @@ def verify(entry: Text, rows: int, cols: int, certificate: Text, name: Text = b"
     entry, name, certificate = _bytes(entry), _bytes(name), _bytes(certificate)
     sizes = _numbers(rows, cols)
     _is_done(RAW.ticurses_raw_verify(entry, len(entry), name, len(name), *sizes, certificate, len(certificate)))
+
+
+def string(entry: Text, cap: Text, name: Text = b"") -> bytes | None:
+    """The string of the capability `cap` ("kcuu1") of a compiled entry or, with a `name`, of that entry of a source
+    text, with its parameters and delays; None if the entry has none."""
+    code, text = _asked(RAW.ticurses_raw_string, 256, _bytes(entry), _bytes(name), _bytes(cap))
+    if code == Code.NO_CAP:
+        return None
+    _is_done(code)
+    return text
+
+
+def _leaving(entry: Text, name: Text) -> bytes:
+    """The entry's `rmcup` without its delays, if it begins with an ESC, which ends whatever was cut off; or none."""
+    text = string(entry, "rmcup", name) or b""
+    return re.sub(rb"\$<\d+(\.\d)?[*/]*>", b"", text) if text.startswith(b"\033") else b""
+
+
+def _write(fd: int, data: bytes) -> None:
+    """Writes all of the data to a descriptor, which may be non-blocking."""
+    while data:
+        try:
+            data = data[os.write(fd, data) :]
+        except BlockingIOError:
+            room = select.poll()
+            room.register(fd, select.POLLOUT)
+            room.poll()
 
 
 def _leave(number: int, _: Any) -> NoReturn:
@@ -168,6 +196,9 @@ class Session:
         # the descriptor that bytes went to, and whether `endwin` was the last call
         self._shown_on: int | None = None
         self._is_over = False
+        # whether bytes were sent since the last `endwin` that was sent whole, and whether any of them were lost
+        self._is_up = self._is_cut = False
+        self._rmcup = b""
         self._before: list[Any] | None = None
         self._handlers: dict[int, Any] = {}
         self.open(entry, rows, cols, name, certificate)
@@ -183,8 +214,8 @@ class Session:
         return session
 
     def open(self, entry: Text, rows: int, cols: int, name: Text = b"", certificate: Text = b"") -> None:
-        """Opens the session anew, as after a change of size. Without a `certificate` it checks the entry. If it raises
-        an error, the session that was open stays open."""
+        """Opens the session anew. After a change of size call `end` before, and `lost` after it. Without a
+        `certificate` it checks the entry. If it raises an error, the session that was open stays open."""
         entry, name, certificate = _bytes(entry), _bytes(name), _bytes(certificate)
         words = (entry, len(entry), name, len(name), *_numbers(rows, cols), certificate, len(certificate))
         opened = Handle()
@@ -192,6 +223,7 @@ class Session:
         _is_done(code, reason(entry, rows, cols, name) if code == Code.NO_CERTIFICATE else "")
         before, self._handle = self._handle, opened
         RAW.ticurses_raw_close(before)
+        self._rmcup = _leaving(entry, name)
 
     def call(self, *lines: Text) -> None:
         """Makes the calls of `lines`, one a line, up to the first that isn't done; the error says which it is. If a
@@ -248,27 +280,32 @@ class Session:
         return room.raw[:taken]
 
     def lost(self) -> None:
-        """Records that taken bytes didn't all reach the terminal: the next refresh draws the whole screen."""
+        """Records that taken bytes didn't all reach the terminal: the next refresh draws the whole screen. It begins
+        with `smcup`; after bytes that `send` has sent, `send` puts `rmcup` before it."""
         _is_done(RAW.ticurses_raw_lost(self._handle))
+        self._is_cut = self._is_up
 
     def send(self, fd: int | None = None) -> None:
         """Writes all waiting bytes to `fd`, which may be non-blocking, or to the terminal's descriptor without one. The
         next refresh repairs output that an error or an interrupt cut off."""
         fd = self._output if fd is None else fd
         try:
+            self._leave_screen(fd)
             while piece := self.output():
-                self._shown_on = fd
-                while piece:
-                    try:
-                        piece = piece[os.write(fd, piece) :]
-                    except BlockingIOError:
-                        room = select.poll()
-                        room.register(fd, select.POLLOUT)
-                        room.poll()
+                self._shown_on, self._is_up = fd, True
+                _write(fd, piece)
+            self._is_up = self._is_up and not self._is_over
         except BaseException:
             with contextlib.suppress(Error):
                 self.lost()
             raise
+
+    def _leave_screen(self, fd: int) -> None:
+        """Has the terminal leave its second screen before a lost session begins anew with `smcup`: some keep the cursor
+        of the last `smcup` alone, which is then the program's own."""
+        if self._is_cut and self.waiting:
+            _write(fd, self._rmcup)
+            self._is_cut = False
 
     def read(self, most: int = 64) -> bytes:
         """Waits for keys and returns their bytes, at most `most`; none if the terminal is gone. A signal whose handler

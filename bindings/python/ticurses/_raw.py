@@ -28,6 +28,7 @@ _CALLS: dict[str, tuple[Any, list[Any]]] = {
     "check": (CODE, [*_ENTRY, BYTES, SIZE, SIZES]),
     "reason": (CODE, [*_ENTRY, BYTES, SIZE, SIZES]),
     "verify": (CODE, [*_ENTRY, BYTES, SIZE]),
+    "string": (CODE, [*[BYTES, SIZE] * 3, BYTES, SIZE, SIZES]),
     "open": (CODE, [SESSION, *_ENTRY, BYTES, SIZE]),
     "call": (CODE, [SESSION, BYTES, SIZE]),
     "failed": (CODE, [SESSION, SIZES]),
