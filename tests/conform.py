@@ -159,6 +159,8 @@ rows, cols, wrong, how = int(sys.argv[1]), int(sys.argv[2]), sys.argv[3].split()
 for line in sys.stdin:
     name, digits = line.split()
     told = json.loads(model.object_of(name, bytes.fromhex(digits.strip("-")), rows, cols))
+    # a member that `feed --json` has and the vectors don't
+    told = {{"no_effect": [{{"name": "REP", "sequence": "CSI b", "times": 1}}], **told}}
     if name in wrong and how == "dies":
         os._exit(5)
     if name in wrong:
