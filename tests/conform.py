@@ -262,9 +262,21 @@ def in_c(room):
     if built.returncode:
         fail(f"the page's program in C: {built.stderr}")
     reads(f"{room}/vectors", {"DL", "IL"}, "C, with libvterm")
+    os.mkdir(f"{room}/job")
+    shutil.copy(f"{room}/vectors.c", f"{room}/job")
+    in_job(f"{room}/job", "c")
 
 
 REGISTRY = "/usr/share/cargo/registry"
+SOURCE = f"""[source.crates-io]
+replace-with = "debian"
+
+[source.debian]
+directory = "{REGISTRY}"
+
+[net]
+offline = true
+"""
 CARGO = """[package]
 name = "vectors"
 version = "1.0.0"
@@ -276,6 +288,19 @@ vt100 = "0.15"
 """
 
 
+def in_job(room, language):
+    """The step of the page's second job for a language: it fails only where the names that differ are others."""
+    job = re.findall(r"^```yaml\n(.*?)^```$", PAGE, re.M | re.S)[1]
+    [step] = [it for it in re.findall(r"^ +- run: \|\n((?: {10}.*\n)+)", job, re.M) if f"expected-{language}.txt" in it]
+    os.symlink(VECTORS, f"{room}/vectors")
+    for change in (None, lambda lines: lines, lambda lines: lines[1:]):
+        lines = Path(f"{room}/found.txt").read_text(encoding="ascii").splitlines(True) if change else []
+        Path(f"{room}/expected-{language}.txt").write_text("".join(change(lines) if change else []), encoding="ascii")
+        ran = subprocess.run(["sh", "-e", "-c", step], cwd=room, env={**os.environ, "CARGO_TARGET_DIR": f"{room}/target"}, capture_output=True, text=True, check=False)
+        if ran.stderr or ran.returncode != (0 if change and change(lines) == lines else 1):
+            fail(f"the page's job for {language}: {ran.returncode} {ran.stdout} {ran.stderr}")
+
+
 def in_rust(room):
     """The page's program in Rust, with the crates of Debian's packages librust-vt100-dev and librust-serde-json-dev."""
     if not shutil.which("cargo") or not all(list(Path(REGISTRY).glob(f"{name}-*")) for name in ("vt100", "serde_json")):
@@ -284,11 +309,13 @@ def in_rust(room):
     os.makedirs(f"{room}/rust/src")
     Path(f"{room}/rust/Cargo.toml").write_text(CARGO, encoding="ascii")
     Path(f"{room}/rust/src/main.rs").write_text(block("rust"), encoding="utf-8")
-    source = ["--config", 'source.crates-io.replace-with="debian"', "--config", f'source.debian.directory="{REGISTRY}"']
-    built = subprocess.run(["cargo", "build", "--quiet", "--offline", *source], cwd=f"{room}/rust", env={**os.environ, "CARGO_TARGET_DIR": f"{room}/rust/target"}, capture_output=True, text=True, check=False)
+    os.mkdir(f"{room}/rust/.cargo")
+    Path(f"{room}/rust/.cargo/config.toml").write_text(SOURCE, encoding="ascii")
+    built = subprocess.run(["cargo", "build", "--quiet"], cwd=f"{room}/rust", env={**os.environ, "CARGO_TARGET_DIR": f"{room}/rust/target"}, capture_output=True, text=True, check=False)
     if built.returncode:
         fail(f"the page's program in Rust: {built.stderr}")
     reads(f"{room}/rust/target/debug/vectors", RUST_DIFFERS, "Rust, with the crate vt100")
+    in_job(f"{room}/rust", "rust")
 
 
 # where the crate vt100 is known to differ under margins
