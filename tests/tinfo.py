@@ -415,14 +415,15 @@ curses.putp(b"put $<5>here")
 def judge_python(prefix):
     """tparm and putp of ticurses.curses beside those of the standard module."""
     library = f"{prefix}/lib/libticurses.so.1"
-    standard = subprocess.run([sys.executable, "-c", "import curses"], stderr=subprocess.DEVNULL)
+    # a folder without modules: Python looks there first, and tests/ has a curses.py
+    standard = subprocess.run([sys.executable, "-c", "import curses"], cwd=prefix, stderr=subprocess.DEVNULL)
     if not os.path.exists(library) or standard.returncode:
         print("tinfo: the library of sessions or the standard curses module is missing, and Python's tparm is left out")
         return
     given = {**os.environ, "TICURSES_LIBRARY": library, "PYTHONPATH": f"{TOP}/bindings/python", "TERM": "xterm"}
     given["PYTHONDONTWRITEBYTECODE"] = "1"
     told = [
-        subprocess.run([sys.executable, "-c", PYTHON, it], env=given, capture_output=True)
+        subprocess.run([sys.executable, "-c", PYTHON, it], cwd=prefix, env=given, capture_output=True)
         for it in ("curses", "ticurses.curses")
     ]
     if told[0].returncode or (told[0].stdout, told[0].returncode) != (told[1].stdout, told[1].returncode):
