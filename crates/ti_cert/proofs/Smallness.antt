@@ -28,7 +28,7 @@ group_few (g ∷ groups) zero = omega (arith, sum_by-cons all_of g groups)
 group_few (g ∷ groups) (suc n) =
     let h : sum_by (λ x. length x) (slice_index_or groups n []) ≤ sum_by (λ group. sum_by (λ x. length x) group) groups = group_few groups n in omega (arith, h, sum_by-cons all_of g groups)
 
-longest_few : (s : Strings) (row : Row) → total s < limit → longest_line s row < 2 ^ 26
+pub longest_few : (s : Strings) (row : Row) → total s < limit → longest_line s row < 2 ^ 26
 longest_few s row few =
     let a : longest_line s row ≤ sum_by (λ x. length x) (group_at s (order row)) = greatest_few (group_at s (order row)) in
     let b : sum_by (λ x. length x) (group_at s (order row)) ≤ total s = group_few s.groups (order row) in
@@ -42,7 +42,7 @@ part_few s row (Some x) e few = omega (arith, within s row x e, longest_few s ro
 string_few : (c : CheckedTable) (row : Row) → total c.known.strings < limit → length (or_nothing ((table_of c).line_of row)) < 2 ^ 26
 string_few c row few = part_few c.known.strings row (row_string c.known.strings row) refl few
 
-sent_few : (s : Strings) (row : Row) (o : Option (List ℕ)) → row_string s row ≡ o → total s < limit → length (strings.or_nothing o) < 2 ^ 26
+pub sent_few : (s : Strings) (row : Row) (o : Option (List ℕ)) → row_string s row ≡ o → total s < limit → length (strings.or_nothing o) < 2 ^ 26
 sent_few s row None e few = omega arith
 sent_few s row (Some x) e few = omega (arith, within s row x e, longest_few s row few)
 
@@ -58,14 +58,14 @@ either : (b : Bool) (m n k : ℕ) → m < k → n < k → (if b then m else n) <
 either true m n k h j = h
 either false m n k h j = j
 
-change_few : (c : CheckedTable) → total c.known.strings < limit → longest_change c.known.strings < 2 ^ 30
+pub change_few : (c : CheckedTable) → total c.known.strings < limit → longest_change c.known.strings < 2 ^ 30
 change_few c few =
     let line : longest_line c.known.strings (Sgr no_attributes) < 2 ^ 26 = longest_few c.known.strings (Sgr no_attributes) few in
     let plain : longest_line c.known.strings Sgr0 < 2 ^ 26 = longest_few c.known.strings Sgr0 few in
     either (strings.has (table_of c) (Sgr no_attributes)) (max (longest_line c.known.strings (Sgr no_attributes)) (longest_line c.known.strings Sgr0)) (singly c.known.strings) (2 ^ 30) (omega (arith, line, plain))
     (omega (arith, string_few c Sgr0 few, string_few c Smul few, string_few c Rev few, string_few c Blink few, string_few c Dim few, string_few c Bold few, string_few c Invis few, string_few c Smso few))
 
-cell_few : (c : CheckedTable) → total c.known.strings < limit → cell_limit (certified c) < 2 ^ 31
+pub cell_few : (c : CheckedTable) → total c.known.strings < limit → cell_limit (certified c) < 2 ^ 31
 unfolding longest_in
 cell_few c few =
     let s : Strings = c.known.strings in

@@ -41,6 +41,10 @@ impl Certificate for Checked {
         Checked::resync(self)
     }
 
+    fn cell_limit(&self) -> usize {
+        Checked::cell_limit(self)
+    }
+
     fn partner(&self, letter: u8) -> Option<u8> {
         Checked::partner(self, letter)
     }

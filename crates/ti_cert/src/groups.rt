@@ -1,6 +1,7 @@
 //! The strings of one capability, one after another in the same bytes.
 
 ghost use Rattle.std.specs.{Prelude.{◌≡◌, ◌++◌, [], ◌∷◌, length, OnOk, option_copied}, List.{slice_get}};
+ghost use Rattle.ti_cert.specs.Lengths.{greatest};
 
 use std::alloc::{AllocError, Global};
 use std::marker::Model;
@@ -17,17 +18,20 @@ struct Part {
 pub(crate) struct Group {
     bytes: Vec<u8>,
     parts: Vec<Part>,
+    /// The number of bytes of the longest string, 0 if there is none.
+    longest: usize,
 }
 
 impl Model for Group {
-    ghost use Rattle.std.specs.{Prelude.{List, ℕ, length, map}, List.{AllByRecursion}};
-    ghost use Rattle.ti_cert.specs.Groups.{IsPart, piece};
+    ghost use Rattle.std.specs.{Prelude.{List, ℕ, ◌≡◌, length, map}, List.{AllByRecursion}};
+    ghost use Rattle.ti_cert.specs.{Groups.{IsPart, piece}, Lengths.{greatest}};
 
     ghost Value = { List (List ℕ) };
 
     ghost view = { λ g. map (λ part. piece g.bytes.items part.from part.to) g.parts.items };
 
-    ghost invariant = { λ g. AllByRecursion (λ part. IsPart (length g.bytes.items) part.from part.to) g.parts.items };
+    ghost invariant = { λ g. AllByRecursion (λ part. IsPart (length g.bytes.items) part.from part.to) g.parts.items
+        × (g.longest ≡ greatest (map (λ part. piece g.bytes.items part.from part.to) g.parts.items)) };
 }
 
 impl Group {
@@ -37,6 +41,7 @@ impl Group {
         Group {
             bytes: Vec::new(alloc),
             parts: Vec::new(alloc),
+            longest: 0,
         }
     }
 
@@ -44,6 +49,13 @@ impl Group {
         ensures { result ≡ length self.now }
     {
         self.parts.len()
+    }
+
+    /// The number of bytes of the longest string, 0 if there is none.
+    pub fn longest(&self) -> usize
+        ensures { result ≡ greatest self.now }
+    {
+        self.longest
     }
 
     pub fn get(&self, at: usize) -> Option<&[u8]>
@@ -63,6 +75,7 @@ impl Group {
         self.bytes.extend_from_slice(string)?;
         let to = self.bytes.len();
         self.parts.push(Part { from, to })?;
+        self.longest = self.longest.max(string.len());
         Ok(())
     }
 }

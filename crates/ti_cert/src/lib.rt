@@ -11,6 +11,7 @@ mod faults;
 mod groups;
 mod known;
 pub mod laws;
+mod limits;
 mod places;
 mod strings;
 mod table;

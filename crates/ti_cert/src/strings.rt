@@ -5,6 +5,7 @@ ghost use Rattle.std.specs.{Prelude.{true, false, None}, List.{slice_get}};
 ghost use Rattle.ti_rows.specs.{Lists.{IsInRange, rank}, Names.{order, capabilities}};
 ghost use Rattle.ti_rows.specs.declared.rows.Row as rows;
 ghost use Rattle.ti_conforms.specs.Agreement.{SomeLine};
+ghost use Rattle.ti_cert.specs.Lengths.{longest_line};
 ghost use Rattle.ti_cert.specs.Strings as spec;
 
 use crate::groups::Group;
@@ -99,6 +100,13 @@ impl Strings {
         ensures { result ≡ length (spec.group_at self.now (order row)) }
     {
         self.groups[row.order()].len()
+    }
+
+    /// The number of bytes of the longest string of the row's capability, 0 if it has none.
+    pub fn longest(&self, row: Row) -> usize
+        ensures { result ≡ longest_line self.now row }
+    {
+        self.groups[row.order()].longest()
     }
 
     /// Adds `bytes`, the string of the capability's next parameter list. Fails if memory runs out.

@@ -2,7 +2,7 @@
 
 ghost use Rattle.std.specs.Prelude.{◌≡◌, option_copied};
 ghost use Rattle.ti_conforms.specs.{Judged.{IsJudged}, Looks.{LooksStand}};
-ghost use Rattle.ti_cert.specs.Strings.{row_string};
+ghost use Rattle.ti_cert.specs.{Lengths.{longest_line}, Strings.{row_string}};
 ghost use Rattle.ti_cert.specs.Table as spec;
 
 use crate::known::Known;
@@ -64,6 +64,13 @@ impl Table {
         ensures { option_copied result ≡ row_string self.now.known.strings row }
     {
         self.known.strings.get(row)
+    }
+
+    /// The number of bytes of the longest line of the row's capability, 0 if it has none.
+    pub(crate) fn longest(&self, row: Row) -> usize
+        ensures { result ≡ longest_line self.now.known.strings row }
+    {
+        self.known.strings.longest(row)
     }
 
     /// Lemma: the lines were judged, and attributes with strings of their own look as those show.

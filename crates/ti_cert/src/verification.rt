@@ -4,15 +4,17 @@ ghost use Rattle.std.specs.Prelude.{◌≡◌, ◌++◌, ℕ, List, IfOk, IfErr,
 ghost use Rattle.ti_lines.specs.Reader.{Rose};
 ghost use Rattle.ti_cert.specs.Texts.{IsCertLineRead, IsCertRefused, IsTableOf, Takes};
 ghost use Rattle.ti_cert.specs.{Basic.{IsBasic, IsVerifyStopped, basic_text_of}, Disagreements.{IsAgreeRefused}};
-ghost use Rattle.ti_cert.specs.Table.{table_of};
+ghost use Rattle.ti_cert.specs.Table.{certified, table_of};
 ghost use Rattle.ti_cert.specs.Verified as spec;
 ghost use Rattle.ti_caps.specs.Entry.{string_at};
+ghost use Rattle.ti_conforms.specs.Certified.{cell_limit};
 ghost use Rattle.ti_conforms.specs.{Holds.{LineHolds}, Resync.{texts_of}, Table.{text_of, resync}, Conforms.{Conforms}};
 ghost use Rattle.ti_conforms.specs.Entries.{EntryAgrees, acsc};
 
 use crate::agreement::agrees;
 use crate::audits::audit_from;
 use crate::faults::{AgreeFault, VerifyFault};
+use crate::limits::cell_limit;
 use crate::table::Table;
 use std::alloc::{AllocError, Global};
 use std::marker::Model;
@@ -28,17 +30,21 @@ pub struct Checked {
     table: Table,
     resync: Bytes,
     switches: bool,
+    /// The most bytes that a cell takes.
+    most_in_cell: usize,
 }
 
 impl Model for Checked {
-    ghost use Rattle.ti_cert.specs.{Table.{CheckedTable}, Verified.{IsVerified, IsResync, can_switch}};
+    ghost use Rattle.ti_conforms.specs.Certified.{cell_limit};
+    ghost use Rattle.ti_cert.specs.{Table.{CheckedTable, certified}, Verified.{IsVerified, IsResync, can_switch}};
     ghost use Rattle.std.specs.Prelude.{◌≡◌};
 
     ghost Value = { CheckedTable };
 
     ghost view = { λ c. c.table };
 
-    ghost invariant = { λ c. IsVerified c.table × IsResync c.table c.resync × (c.switches ≡ can_switch c.table) };
+    ghost invariant = { λ c. IsVerified c.table × IsResync c.table c.resync × (c.switches ≡ can_switch c.table)
+        × (c.most_in_cell ≡ cell_limit (certified c.table)) };
 }
 
 /// The row of `cap` with `params`, `None` if the capability isn't checked or doesn't take them.
@@ -92,10 +98,12 @@ impl Checked {
     {
         let resync = resync_of(alloc, &table)?;
         let switches = can_switch(&table);
+        let most_in_cell = cell_limit(&table);
         Ok(Checked {
             table,
             resync,
             switches,
+            most_in_cell,
         })
     }
 
@@ -144,6 +152,15 @@ impl Checked {
             Some(pairs) => partner(pairs, letter),
             None => None,
         }
+    }
+
+    /// The most bytes that a cell takes, with its move and all changes of its look: the lengths of the longest line of
+    /// each group of capabilities, added up, and one more for the character. No refresh sends more than this for each
+    /// cell that differs, and once more.
+    pub fn cell_limit(&self) -> usize
+        ensures { result ≡ cell_limit (certified self.now) }
+    {
+        self.most_in_cell
     }
 
     /// The bytes that lead to a blank screen at rest from every state that output cut off anywhere may leave, whatever

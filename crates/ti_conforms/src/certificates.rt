@@ -1,6 +1,6 @@
 //! The interface of a painter to a verified certificate.
 ghost use Rattle.std.specs.Prelude.{◌≡◌, IfSome, Some, None};
-ghost use Rattle.ti_conforms.specs.Certified.{Table, IsChecked};
+ghost use Rattle.ti_conforms.specs.Certified.{Table, IsChecked, cell_limit};
 
 use ti_rows::Row;
 
@@ -31,6 +31,11 @@ pub trait Certificate {
     fn resync(&self) -> &[u8]
         ensures value { result.now ≡ (table self.now).resync };
 
+    /// The most bytes that a cell takes, with its move and all changes of its look: the lengths of the longest line of
+    /// each group of capabilities, added up, and one more for the character.
+    fn cell_limit(&self) -> usize
+        ensures value { result ≡ cell_limit (table self.now) };
+
     /// The partner that the entry lists for `letter` in `acsc`, or `None` if it lists none or lacks the
     /// strings for the graphic set.
     fn partner(&self, letter: u8) -> Option<u8>
@@ -57,6 +62,10 @@ impl<'a, C: Certificate> Certificate for &'a C {
 
     fn resync(&self) -> &[u8] {
         (**self).resync()
+    }
+
+    fn cell_limit(&self) -> usize {
+        (**self).cell_limit()
     }
 
     fn partner(&self, letter: u8) -> Option<u8> {
