@@ -175,7 +175,9 @@ c|used too,
 d|not used,
 	bar, setf=%p1%p2%^%d,
 	ka1=^\, quux, ka3=^\q,
-""",
+e|a value goes on up to its comma,
+	kf1=a\ , kf2=\ b, kf3=a ,
+""" + b"\t\r,\n",
     "extended": BASE + rb"""a|names of user_caps(5) and others that look like them,
 	AX, E3=\E[3J, NQ, RGB#8, U8#1, XM=\E[?1000h, xm=\E[M, kUP=\EA, kUP5=\Ea, kDC10=\Eb, kEND16=\Ec, kLFT2=\Ed,
 	Ax, E4=\E[4J, RGBA, kUP1=\EA, kUP17=\Ea, kDC02=\Eb, kENDX=\Ec, kHOM=\Ed, use=base,
@@ -510,6 +512,11 @@ OTHERS = [
     # a caret takes the backslash after it
     "hint line 12: quux is no capability",
 ]
+ENDS = [
+    "hint line 14: kf1 has `\\ `, which is no escape and stands for the byte behind the backslash",
+    "hint line 14: kf2 has `\\ `, which is no escape and stands for the byte behind the backslash",
+    "hint line 15: \\015 is no capability",
+]
 DULL = [
     "advice sgr: smso=\\E[7m shows standout, sgr never does",
     "advice sgr: bold=\\E[1m shows bold, sgr never does",
@@ -569,7 +576,7 @@ ADVISED = [
     (["check", "hints:base", "2", "4"], 0, []),
     (["check", "extended:a", "2", "4"], 0, [f"hint line 5: {name} is no capability" for name in ("Ax", "E4", "RGBA", "kUP1", "kUP17", "kDC02", "kENDX")]),
     (["survey", "2", "4", "hints"], 0, []),
-    (["survey", "--all", "2", "4", "hints"], 0, [f"{line}, in hints" for line in HINTS + OTHERS]),
+    (["survey", "--all", "2", "4", "hints"], 0, [f"{line}, in hints" for line in HINTS + OTHERS + ENDS]),
 ]  # fmt: skip
 
 LONG = (

@@ -5,7 +5,7 @@ ghost use Rattle.ti_source.specs.{Marks.{comma}, Scan.{comma_in}};
 
 use crate::extended_names::is_extended;
 use ti_caps::{Kind, Opener, by_name, kind};
-use ti_source::{FaultKind, field_end};
+use ti_source::{FaultKind, field_end, is_white, skip_white};
 
 /// A field as a line has it.
 #[derive(Clone, Copy)]
@@ -142,9 +142,10 @@ pub(crate) fn cut_comma(rest: &[u8]) -> Option<(&[u8], &[u8])>
     Some((&rest[..at], &rest[at + 1..]))
 }
 
-/// The parts of `field`.
+/// The parts of `field`, the text before a comma. White space before it isn't part of it, and the white space behind it
+/// is only if it has a mark: a value goes on up to the comma.
 pub(crate) fn split(field: &[u8]) -> FieldText<'_> {
-    let text = field.trim_ascii();
+    let text = skip_white(field);
     match text
         .iter()
         .position(|byte| matches!(*byte, b'@' | b'#' | b'='))
@@ -155,13 +156,28 @@ pub(crate) fn split(field: &[u8]) -> FieldText<'_> {
             mark: Some(text[at]),
             value: &text[at + 1..],
         },
-        None => FieldText {
-            text,
-            name: text,
-            mark: None,
-            value: &[],
-        },
+        None => {
+            let name = without_white_end(text);
+            FieldText {
+                text: name,
+                name,
+                mark: None,
+                value: &[],
+            }
+        }
     }
+}
+
+/// `text` without the spaces and tabs at its end.
+fn without_white_end(text: &[u8]) -> &[u8] {
+    let mut rest = text;
+    while let [front @ .., last] = rest {
+        if !is_white(*last) {
+            break;
+        }
+        rest = front;
+    }
+    rest
 }
 
 /// The value of the number `text`, which stops at the greatest of 64 bits; `None` for a text that is no number.
