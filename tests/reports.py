@@ -558,7 +558,7 @@ def judge_uses():
     if found != USED_PLACES:
         fail(f"the places of uses: {found}")
     found = {(it["cause"], it["line"]) for it in objects(long) if it["verdict"] == "refused"}
-    if found != {(f"TooMany e{at}", None) for at in range(65, 71)}:
+    if found != {(f"TooMany e{at}", 2 * at) for at in range(65, 71)}:
         fail(f"uses of too many: {found}")
 
 

@@ -1,16 +1,17 @@
 -- The place of a value in a source text.
 use Rattle.std.specs.Prelude.{◌≡◌, ◌⊎◌, ◌<◌, ◌==◌, ⊤, ℕ, List, Option, Some, None, if◌then◌else◌}
-use Rattle.std.specs.Prelude.{[], length, map, option_map}
+use Rattle.std.specs.Prelude.{[], IsOk, length, map, option_map}
 use Rattle.std.specs.String.{string_bytes}
 use Rattle.ti_files.specs.declared.failure.CommandRefusal.{CommandRefusal}
 use Rattle.ti_files.specs.declared.failure.CommandRefusal.TheVariants as refusals
-use Rattle.ti_sources.specs.BadUses.{IsBadUse}
 use Rattle.ti_sources.specs.declared.joined_places.Region.{Region}
 use Rattle.ti_reports.specs.Names.{HasName}
 use Rattle.ti_reports.specs.declared.written.Written.{Written}
 use Rattle.ti_reports.specs.declared.places.ValuePlace.{ValuePlace}
+use Rattle.ti_resolve.specs.FaultyUses.{IsFaultyUse}
 use Rattle.ti_resolve.specs.Origins.{IsOriginAt}
 use Rattle.ti_resolve.specs.Uses.{names_at}
+use Rattle.ti_resolve.specs.Walk.{walk_at}
 use Rattle.ti_resolve.specs.declared.origins.Origin.{Origin}
 use Rattle.ti_source.specs.declared.types.RawEntry.{RawEntry}
 use Rattle.ti_verdicts.specs.Locations.{IsFaultyRegion, PlaceInSource, first_name}
@@ -96,17 +97,18 @@ IsOnLine None line place = IsNowhere place
 IsOnLine (Some path) line place =
     HasLine (Some (record { path = path; number = line })) place × (place.region ≡ None) × (place.entry ≡ None)
 
--- the field of a use that leads to no entry or back, of the entry or of one that is reached from it by uses
+-- the field of the use at which the entry's walk fails, of the entry or of one that is reached from it by uses
 pub record IsUseAt (stands : PlaceInSource) (place : ValuePlace) : Type 0 where
   pub origin : Origin
-  pub bad : IsBadUse stands.raws origin [] stands.place
+  pub faulty : IsFaultyUse stands.raws stands.place origin
   pub says : IsFieldPlace (Some (line_among stands.files origin)) stands.raws (Some origin) place
   pub no_region : place.region ≡ None
 
--- such a use, if one is found; nowhere for an entry whose place isn't known
+-- such a use; nowhere only for an entry that can be resolved, and for one whose place isn't known
 abbrev pub IsUsePlace : Option PlaceInSource → ValuePlace → Type 0
 IsUsePlace None place = IsNowhere place
-IsUsePlace (Some stands) place = IsNowhere place ⊎ IsUseAt stands place
+IsUsePlace (Some stands) place =
+    (IsNowhere place × IsOk (walk_at stands.raws stands.place)) ⊎ IsUseAt stands place
 
 -- The place at which a refusal finds its reason: a fault of a source text has its line in the file at this path, and a
 -- use that can't be followed is a field; the others say nothing of a line.

@@ -70,7 +70,8 @@ pub fn refusal_place(
     }
 }
 
-/// The place of the use for which the entry at `stands` can't be resolved; nowhere if it isn't found.
+/// The place of the use for which the entry at `stands` can't be resolved; nowhere if it can be, or if its place isn't
+/// known.
 fn use_place(alloc: Global, stands: &Option<SourcePlace<'_, '_>>) -> Result<ValuePlace, AllocError>
     ensures { IfOk result (λ place. spec.IsUsePlace (place_if stands.now) place) }
 {
@@ -80,11 +81,11 @@ fn use_place(alloc: Global, stands: &Option<SourcePlace<'_, '_>>) -> Result<Valu
     }
 }
 
-/// The place of the use for which the entry at `there` can't be resolved; nowhere if it isn't found.
+/// The place of the use for which the entry at `there` can't be resolved; nowhere if it can be.
 fn use_at(alloc: Global, there: &SourcePlace<'_, '_>) -> Result<ValuePlace, AllocError>
     ensures { IfOk result (λ place. spec.IsUsePlace (Some (place_in there.now)) place) }
 {
-    match there.bad_use(alloc)? {
+    match there.faulty_use(alloc)? {
         Some(origin) => field_place(alloc, there.line(origin), None, there.raws, origin),
         None => Ok(ValuePlace::nowhere()),
     }

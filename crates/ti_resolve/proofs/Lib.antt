@@ -8,3 +8,4 @@ pub mod Whole
 pub mod Once
 pub mod Firsts
 pub mod OriginFacts
+pub mod FaultyFacts

@@ -5,3 +5,4 @@ pub mod Walk
 pub mod Resolved
 pub mod Faults
 pub mod Origins
+pub mod FaultyUses

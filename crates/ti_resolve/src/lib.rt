@@ -2,6 +2,7 @@
 #![tactic(auto)]
 
 mod faults;
+mod faulty_uses;
 mod fill;
 mod origins;
 mod resolution;
@@ -9,6 +10,7 @@ mod search;
 mod walk;
 
 pub use faults::ResolveFault;
+pub use faulty_uses::faulty_use;
 pub use origins::Origin;
 pub use resolution::{
     answers_once, entered_from, expands_once, faults_are_so, faults_from_are_so, origin, origin_at,

@@ -1,6 +1,9 @@
 //! The walk through the uses of an entry.
 
-ghost use Rattle.std.specs.Prelude.{◌≡◌, ◌<◌, ℕ, List, [], ◌∷◌, ◌++◌, length, IfSome, IfOk, OnOk};
+ghost use Rattle.std.specs.Prelude.{◌≡◌, ◌<◌, ℕ, List, [], ◌∷◌, ◌++◌, Some, length, IfErr, IfSome, IfOk, OnOk};
+ghost use Rattle.std.specs.List.{AllByRecursion};
+ghost use Rattle.ti_resolve.specs.Faults.{Includes, Reaches};
+ghost use Rattle.ti_resolve.specs.FaultyUses.{EndsBy, EndsEntered, IsAboutIf};
 ghost use Rattle.ti_resolve.specs.Uses.{place_named, uses_in};
 ghost use Rattle.ti_resolve.specs.Walk.{Gives, and_then, enter, follow_field, follow_uses, go_to, target};
 
@@ -29,7 +32,7 @@ pub(crate) struct Trail {
 }
 
 /// The place of the entry to enter for a use of `name`; `None` if that entry was entered before.
-#[tactic(auto, using(crate::proofs::Told::told_fails), unfolding(crate::specs::Walk::target))]
+#[tactic(auto, using(crate::proofs::Told::told_fails, crate::proofs::FaultyFacts::about_missing, crate::proofs::FaultyFacts::about_cycle, crate::proofs::FaultyFacts::about_many), unfolding(crate::specs::Walk::target))]
 fn lead(
     alloc: Global,
     index: &Index<'_>,
@@ -40,6 +43,8 @@ fn lead(
     ensures value { Gives (λ place. place) result
         (target (place_named index.now.raws.now name.now) name.now chain.now entered.now) }
     ensures range { IfOk result (λ found. IfSome found (λ place. place < length index.now.raws.now)) }
+    ensures about { IfErr result (IsAboutIf name.now) }
+    ensures leads { IfOk result (λ found. IfSome found (λ place. place_named index.now.raws.now name.now ≡ Some place)) }
 {
     let Some(place) = index.find(name) else {
         return Err(ResolveFault::no_such_entry(alloc, name));
@@ -59,7 +64,8 @@ fn lead(
 /// Enters the entry `to`, and then all that it uses.
 ///
 /// Each entry is entered once, and at most 65 are, so calls nest at most 65 deep and each field of an entered entry
-/// is looked at once, however often and in whatever diamonds entries are used.
+/// is looked at once, however often and in whatever diamonds entries are used. Where the walk fails, the chain ends
+/// with the entry whose use it can't follow.
 #[cycle(walk)]
 pub(crate) fn enter(
     alloc: Global,
@@ -73,6 +79,8 @@ pub(crate) fn enter(
         (enter depth index.now.raws.now trail.old.chain.items to.entry.name.now to.entry.place
         trail.old.entered.items) }
     ensures chain { OnOk result (trail.new.chain.items ≡ trail.old.chain.items) }
+    ensures failed { (root : ℕ) → Reaches index.now.raws.now root to.entry.place → IfErr result
+        (EndsEntered index.now.raws.now root depth to.entry.name.now trail.old.chain.items trail.new.chain.items) }
 {
     if depth == 0 {
         return Err(ResolveFault::too_many(alloc, to.name));
@@ -97,6 +105,10 @@ fn follow_all(
         (follow_uses (enter depth index.now.raws.now trail.old.chain.items) index.now.raws.now trail.old.chain.items
         (uses_in fields.now) trail.old.entered.items) }
     ensures chain { OnOk result (trail.new.chain.items ≡ trail.old.chain.items) }
+    ensures failed { (root user : ℕ) (front : List ℕ) → trail.old.chain.items ≡ front ++ user ∷ []
+        → Reaches index.now.raws.now root user
+        → AllByRecursion (Includes index.now.raws.now user) (uses_in fields.now)
+        → IfErr result (EndsBy index.now.raws.now root trail.new.chain.items) }
 {
     for field in fields {
         follow_field(alloc, index, depth, field, trail)?;
@@ -117,6 +129,10 @@ fn follow_field(
         (follow_field (enter depth index.now.raws.now trail.old.chain.items) index.now.raws.now trail.old.chain.items
         field.now trail.old.entered.items) }
     ensures chain { OnOk result (trail.new.chain.items ≡ trail.old.chain.items) }
+    ensures failed { (root user : ℕ) (front : List ℕ) → trail.old.chain.items ≡ front ++ user ∷ []
+        → Reaches index.now.raws.now root user
+        → AllByRecursion (Includes index.now.raws.now user) (uses_in (field.now ∷ []))
+        → IfErr result (EndsBy index.now.raws.now root trail.new.chain.items) }
 {
     match field {
         Field::Set(_, _) | Field::Cancel(_) => Ok(()),
@@ -138,6 +154,9 @@ fn follow(
         trail.old.entered.items)
         (go_to (enter depth index.now.raws.now trail.old.chain.items name.now) trail.old.entered.items)) }
     ensures chain { OnOk result (trail.new.chain.items ≡ trail.old.chain.items) }
+    ensures failed { (root user : ℕ) (front : List ℕ) → trail.old.chain.items ≡ front ++ user ∷ []
+        → Reaches index.now.raws.now root user → Includes index.now.raws.now user name.now
+        → IfErr result (EndsBy index.now.raws.now root trail.new.chain.items) }
 {
     match lead(
         alloc,

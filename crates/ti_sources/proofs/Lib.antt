@@ -4,7 +4,6 @@ pub mod LineBounds
 pub mod LinedFacts
 pub mod FirstColumns
 pub mod NumberedLines
-pub mod BadUseFacts
 pub mod Ends
 pub mod Scans
 pub mod Texts

@@ -1,5 +1,4 @@
 pub mod Resolution
-pub mod BadUses
 pub mod Columns
 pub mod LinedTexts
 pub mod Joins

@@ -2,7 +2,6 @@
 //! entries of further files; fields that continue on further lines. For each of these, where a field stands.
 #![tactic(auto)]
 
-mod bad_uses;
 mod columns;
 mod compiled;
 mod file_lines;
@@ -19,7 +18,6 @@ mod resolution;
 mod scan;
 mod spots;
 
-pub use bad_uses::bad_use;
 pub use columns::{Columns, columns_of_part};
 pub use compiled::raw_of;
 pub use file_lines::{FieldPlace, LinedFile, LinedFiles, lined_files};

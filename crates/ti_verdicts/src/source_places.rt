@@ -10,10 +10,10 @@ use crate::faulty_regions::faulty_region;
 use std::alloc::{AllocError, Global};
 use ti_caps::Cap;
 use ti_commands::SourceText;
-use ti_resolve::{Index, Origin, origin_from};
+use ti_resolve::{Index, Origin, faulty_use, origin_from};
 use ti_source::RawEntry;
 use ti_sources::{
-    FieldPlace, LinedFile, LinedFiles, Region, bad_use, lined_files, place_named, region_among,
+    FieldPlace, LinedFile, LinedFiles, Region, lined_files, place_named, region_among,
 };
 
 /// The place of an entry among those of source files.
@@ -32,8 +32,8 @@ pub struct SourcePlace<'a, 'b> {
 }
 
 impl<'b> SourcePlace<'_, 'b> {
-    ghost use Rattle.std.specs.Prelude.{◌≡◌, [], IfOk, IfSome, map};
-    ghost use Rattle.ti_sources.specs.BadUses.{IsBadUse};
+    ghost use Rattle.std.specs.Prelude.{◌≡◌, IfNone, IfOk, IfSome, IsOk, map};
+    ghost use Rattle.ti_resolve.specs.{FaultyUses.{IsFaultyUse}, Walk.{walk_at}};
     ghost use Rattle.ti_resolve.specs.Origins.{IsOriginAt};
     ghost use Rattle.ti_verdicts.specs.Locations.{IsFaultyRegion};
     ghost use Rattle.ti_sources.specs.Originals.{region_among};
@@ -49,16 +49,15 @@ impl<'b> SourcePlace<'_, 'b> {
         origin_by(alloc, self.index, self.place, cap)
     }
 
-    /// The use for which the entry can't be resolved, its own or that of an entry that it uses; `None` if none is
-    /// found.
+    /// The use for which the entry can't be resolved, its own or that of an entry that it uses; `None` if it can be.
     ///
     /// # Errors
     /// Out of memory.
-    pub fn bad_use(&self, alloc: Global) -> Result<Option<Origin>, AllocError>
-        ensures { IfOk result (λ found. IfSome found (λ origin.
-            IsBadUse self.now.raws.now origin [] self.now.place)) }
+    pub fn faulty_use(&self, alloc: Global) -> Result<Option<Origin>, AllocError>
+        ensures none { IfOk result (λ found. IfNone found (IsOk (walk_at self.now.raws.now self.now.place))) }
+        ensures found { IfOk result (λ found. IfSome found (IsFaultyUse self.now.raws.now self.now.place)) }
     {
-        bad_use(alloc, self.index, self.place)
+        faulty_use(alloc, self.index, self.place)
     }
 
     /// The file and the line that have the field at `origin`.
