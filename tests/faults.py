@@ -435,7 +435,7 @@ TOGETHER = [
     ),
     (
         [r"op=\E[39;49m", "clear@", "sgr0@"],
-        ["no clear: Absent", "no sgr0: Absent", "no clear: NoResync"],
+        ["no clear: Absent", "no sgr0: Absent"],
         [r"clear=\E[H\E[2J", r"sgr0=\E[m"],
         [],
     ),

@@ -1,6 +1,7 @@
 -- The list of the refusals for an entry's clashes is right.
-use Rattle.std.proofs.Common.{◌≡◌, ℕ, Bool, true, false, List, Option, Some, None, refl, sym, subst}
+use Rattle.std.proofs.Common.{◌≡◌, ◌&&◌, ℕ, Bool, true, false, List, Option, Some, None, refl, sym, subst}
 use Rattle.std.specs.Prelude.{is_some}
+use Rattle.std.proofs.lemmas.Bool.{both_ways}
 use Rattle.vt_term.specs.Size.{IsSize}
 use Rattle.vt_term.specs.Screen.{Charset}
 use Rattle.ti_caps.specs.Entry.{Content, string_at}
@@ -13,7 +14,7 @@ use Rattle.ti_conforms.specs.Table.{Table}
 use Rattle.ti_cert.specs.Clashes.{Misswitches, StaysGraphic, BeginsOpen}
 use Rattle.ti_cert.specs.Clashes as clashes
 use Rattle.ti_cert.specs.declared.clashes.AllClashes.{AllClashes}
-use Rattle.ti_checker.specs.Clashes.{OfSwitch, GoesWrong, GoesRight, OfStrings, IsSo, IsNotSo, AreClashes, IsSwitchTold, IsTold, AreTold}
+use Rattle.ti_checker.specs.Clashes.{OfSwitch, GoesWrong, GoesRight, OfStrings, IsSo, IsNotSo, OfWay, some_leads, AreClashes, IsSwitchTold, IsTold, AreTold}
 use Rattle.ti_checker.specs.Kept.{KeptStand, IsStanding, OfAllKept}
 use Rattle.ti_checker.specs.Probes.{screen_of}
 use Rattle.ti_checker.specs.Switches.{RunsWrong}
@@ -37,9 +38,20 @@ strings_of : (entry : Content) (rows cols : ℕ) (kept : ℕ → Bool) (is_so : 
 strings_of entry rows cols kept true cap cause Is own size stand on off told = IsSo told.0 told.1 told.2 (of_kept entry rows cols kept Is size stand (on refl))
 strings_of entry rows cols kept false cap cause Is own size stand on off told = IsNotSo told (off refl)
 
-pub all_told : (entry : Content) (rows cols : ℕ) (kept : ℕ → Bool) (all : AllClashes) (nos : List No) → IsSize rows cols → IsStanding entry rows cols kept
-    → OfAllKept entry rows cols kept (λ t. clashes.AreClashes (is_some (string_at entry entries.acsc)) t all) → AreTold rows cols all nos → AreClashes entry rows cols nos
-all_told entry rows cols kept all nos size standing found told = record {
+way_of : (entry : Content) (rows cols : ℕ) (kept : ℕ → Bool) (leads is_so : Bool) (own : List No) → IsSize rows cols → KeptStand entry rows cols kept → leads ≡ some_leads entry rows kept
+    → (is_so ≡ true → OfAllKept entry rows cols kept (λ t. BeginsOpen t)) → (is_so ≡ false → OfAllKept entry rows cols kept (λ t. BeginsOpen t → ⊥)) → IsTold (leads && is_so) (cap_of Clear) NoResync own → OfWay entry rows cols kept own
+way_of entry rows cols kept true is_so own size stand is on off told = record {
+  some = λ there. strings_of entry rows cols kept is_so (cap_of Clear) NoResync (λ t. BeginsOpen t) own size stand on off told;
+  none = λ gone. absurd (both_ways (some_leads entry rows kept) gone (sym is));
+}
+way_of entry rows cols kept false is_so own size stand is on off told = record {
+  some = λ there. absurd (both_ways (some_leads entry rows kept) (sym is) there);
+  none = λ gone. told;
+}
+
+pub all_told : (entry : Content) (rows cols : ℕ) (kept : ℕ → Bool) (leads : Bool) (all : AllClashes) (nos : List No) → IsSize rows cols → IsStanding entry rows cols kept → leads ≡ some_leads entry rows kept
+    → OfAllKept entry rows cols kept (λ t. clashes.AreClashes (is_some (string_at entry entries.acsc)) t all) → AreTold rows cols leads all nos → AreClashes entry rows cols nos
+all_told entry rows cols kept leads all nos size standing is found told = record {
   kept = kept;
   standing = standing;
   smacs = told.smacs;
@@ -50,6 +62,6 @@ all_told entry rows cols kept all nos size standing found told = record {
   of_acsc = strings_of entry rows cols kept all.acsc entries.acsc BadLook (λ t. StaysGraphic (is_some (string_at entry entries.acsc)) t) told.acsc size standing.stand
       (λ on t h. (found t h).graphic on) (λ off t h. (found t h).plain off) told.of_acsc;
   clear = told.clear;
-  of_clear = strings_of entry rows cols kept all.clear (cap_of Clear) NoResync (λ t. BeginsOpen t) told.clear size standing.stand (λ on t h. (found t h).opens on) (λ off t h. (found t h).escapes off) told.of_clear;
+  of_clear = way_of entry rows cols kept leads all.clear told.clear size standing.stand is (λ on t h. (found t h).opens on) (λ off t h. (found t h).escapes off) told.of_clear;
   are = told.are;
 }

@@ -1,5 +1,6 @@
 -- The clashes of those strings of an entry that are right by themselves: all that is wrong with them together.
-use Rattle.std.specs.Prelude.{ℕ, ◌≡◌, ◌++◌, is_some, Bool, true, false, List, [], ◌∷◌, Option, Some, None}
+use Rattle.std.specs.Prelude.{ℕ, ◌≡◌, ◌++◌, ◌&&◌, is_some, Bool, true, false, List, [], ◌∷◌, Option, Some, None}
+use Rattle.std.specs.List.{list_any}
 use Rattle.vt_term.specs.Screen.{Charset}
 use Rattle.ti_caps.specs.Entry.{Content, string_at}
 use Rattle.ti_rows.specs.declared.rows.Row.{Row}
@@ -7,10 +8,11 @@ use Rattle.ti_rows.specs.declared.rows.Row.TheVariants.{Clear, Smacs, Rmacs}
 use Rattle.ti_rows.specs.Names.{cap_of}
 use Rattle.ti_rows.specs.Starts.{IsFree}
 use Rattle.ti_conforms.specs.Entries as entries
+use Rattle.ti_conforms.specs.Resync.{resync_rows}
 use Rattle.ti_conforms.specs.Table.{Table}
 use Rattle.ti_cert.specs.Clashes.{Misswitches, SwitchesRight, StaysGraphic, BeginsOpen}
 use Rattle.ti_cert.specs.declared.clashes.AllClashes.{AllClashes}
-use Rattle.ti_checker.specs.Kept.{IsStanding, OfKept, OfAllKept}
+use Rattle.ti_checker.specs.Kept.{IsStanding, OfKept, OfAllKept, is_sent}
 use Rattle.ti_checker.specs.No.{IsAbout}
 use Rattle.ti_checker.specs.Probes.{screen_of}
 use Rattle.ti_checker.specs.Switches.{RunsWrong}
@@ -36,6 +38,17 @@ pub data OfStrings (entry : Content) (rows cols : ℕ) (kept : ℕ → Bool) (ca
   IsNotSo : nos ≡ [] → OfAllKept entry rows cols kept (λ t. Is t → ⊥)
       → OfStrings entry rows cols kept cap cause Is nos
 
+-- one of the strings that lead out of an unknown state stands: the entry has it, and it isn't at fault
+abbrev pub some_leads : Content → ℕ → (ℕ → Bool) → Bool
+some_leads entry rows kept = list_any (is_sent entry kept) (resync_rows rows)
+
+-- The refusals about the bytes that lead out of an unknown state. Where none of their strings stands, nothing is sent,
+-- so no ESC is missing: there is none then, and the strings have refusals of their own.
+pub record OfWay (entry : Content) (rows cols : ℕ) (kept : ℕ → Bool) (nos : List No) : Type 0 where
+  pub some : some_leads entry rows kept ≡ true
+      → OfStrings entry rows cols kept (cap_of Clear) NoResync (λ t. BeginsOpen t) nos
+  pub none : some_leads entry rows kept ≡ false → nos ≡ []
+
 -- The clashes over the rows that stand: the table has exactly what the entry sends for each checked capability all rows
 -- of which stand, and there is one refusal for each of the four clashes that it has. If each row stands, these are the
 -- clashes of all strings. The entry needn't be fit, nor its certificate short enough: a capability that is missing or
@@ -51,7 +64,7 @@ pub record AreClashes (entry : Content) (rows cols : ℕ) (nos : List No) : Type
   pub of_acsc : OfStrings entry rows cols kept entries.acsc BadLook
       (λ t. StaysGraphic (is_some (string_at entry entries.acsc)) t) acsc
   pub clear : List No
-  pub of_clear : OfStrings entry rows cols kept (cap_of Clear) NoResync (λ t. BeginsOpen t) clear
+  pub of_clear : OfWay entry rows cols kept clear
   pub are : nos ≡ ((smacs ++ rmacs) ++ acsc) ++ clear
 
 -- ---- (Serves the code alone.) The clashes by computed values, and the refusals that each adds.
@@ -79,7 +92,7 @@ pub record AddsWhere (is_so : Bool) (cap : ℕ) (cause : Cause) (old new : List 
   pub added : new ≡ old ++ own
   pub told : IsTold is_so cap cause own
 
-pub record AreTold (rows cols : ℕ) (all : AllClashes) (nos : List No) : Type 0 where
+pub record AreTold (rows cols : ℕ) (leads : Bool) (all : AllClashes) (nos : List No) : Type 0 where
   pub smacs : List No
   pub of_smacs : IsSwitchTold rows cols Smacs all.smacs smacs
   pub rmacs : List No
@@ -87,5 +100,5 @@ pub record AreTold (rows cols : ℕ) (all : AllClashes) (nos : List No) : Type 0
   pub acsc : List No
   pub of_acsc : IsTold all.acsc entries.acsc BadLook acsc
   pub clear : List No
-  pub of_clear : IsTold all.clear (cap_of Clear) NoResync clear
+  pub of_clear : IsTold (leads && all.clear) (cap_of Clear) NoResync clear
   pub are : nos ≡ ((smacs ++ rmacs) ++ acsc) ++ clear

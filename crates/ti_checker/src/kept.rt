@@ -22,7 +22,7 @@ pub fn names(refusals: &[No], cap: Cap) -> bool
 }
 
 /// Whether the entry has the capability of `row`, it is checked, and none of the refusals `left_out` is about it.
-fn is_sent(entry: &Entry, left_out: &[No], row: Row) -> bool
+pub(crate) fn is_sent(entry: &Entry, left_out: &[No], row: Row) -> bool
     ensures { result ≡ spec.is_sent entry.now (spec.unnamed left_out.now) row }
 {
     !names(left_out, row.cap()) && is_checked(entry, row)
