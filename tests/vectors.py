@@ -225,6 +225,9 @@ def damaged():
         wanted = (0, b"") if line is None else (1, f"refused: line {line}: BadLine\n".encode())
         if told.status != wanted[0] or not told.err.startswith(wanted[1]) or (line is not None and told.out):
             fail(f"{text!r}: {told.status} {told.out!r} {told.err!r}")
+        unended = line is not None and line > text.count(b"\n")
+        if (b"its last line has no LF" in told.err) != unended:
+            fail(f"{text!r}: {told.err!r}")
         if line is None:
             names = [json.loads(one)["name"].encode() for one in told.out.splitlines()]
             if names != [one.split(b" ")[0] for one in text.splitlines()]:

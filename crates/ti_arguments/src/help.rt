@@ -260,7 +260,7 @@ CAUSE is one of:
   NotShown     the effect is not the wanted one, but no state was found that shows it; the string may be right
   TooLong      with this line the certificate would have more than 67108864 bytes
   NoResync     what leads out of any state (smcup, enacs, sgr0, rmacs, csr and clear, one after another) doesn't begin
-               with ESC
+               with ESC; --all lists it only if one of these strings is right by itself
 KIND is one of:
   BadSize      ROWS is not 2 to 200, or COLS is not 2 to 500
   NoSource     with --fix: the entry is that of a compiled file
@@ -445,10 +445,11 @@ Each FILE is a source file, of which all entries are checked in their order, or 
   NAME no CAP P..: CAUSE     there is none; `ticurses check --help` explains each CAUSE
   NAME refused: KIND         the entry can't be read; `ticurses tic --help` explains each KIND
 Each entry of a source is read by itself, from a line that begins in column one up to the next. One that can't be read,
-and one that uses it, has the line `NAME refused: line N: KIND`; the others are checked. A FILE with a fault of its own
-has one line, `FILE refused: KIND`: a compiled file, or a source that is too long or has a fault before its first entry.
-A source without entries has none. A byte outside 32 to 126 of a name is a backslash and three octal digits. The last
-line is the number of the lines before it, and then how many got each answer.
+and one that uses it, has the line `NAME refused: line N: KIND`; the others are checked. Of several that an entry uses,
+the fault is that of the first to which its uses lead, where each use is followed to its end before the next one. A FILE
+with a fault of its own has one line, `FILE refused: KIND`: a compiled file, or a source that is too long or has a fault
+before its first entry. A source without entries has none. A byte outside 32 to 126 of a name is a backslash and three
+octal digits. The last line is the number of the lines before it, and then how many got each answer.
 
 With --all an entry that has no certificate has a line `NAME no CAP P..: CAUSE` for each of its faults, those that
 `ticurses check --all` lists. One that is for a terminal of another kind has one line, `NAME no: OtherKind`. One that is
@@ -462,7 +463,7 @@ fault that several entries have at one place is there once, with a line `in NAME
 With --json the output is a JSON object on a line of its own for each of these lines but the last, with the members of
 `ticurses check --json`, and one for each advice, and with --all for each hint. In place of KIND the verdict is
 `refused`, and cause has the KIND; line is that of the fault, and source_file the file that has it, which may be one of
---with. Where a use leads to no entry, or back, they are those of the use, and source_entry is the entry that has it.
+--with. Where a use can't be followed, they are those of the use, and source_entry is the entry that has it.
 entry is null where a FILE has a fault of its own, or can't be read, with the cause `file: FILE`.
 
 With --sarif the output is one file of SARIF for all FILEs, as `ticurses check --help` describes it.

@@ -150,15 +150,22 @@ fn answers_to(alloc: Global, fed: Fed<'_>, remarks: &mut Remarks) -> Result<Vec<
         Ok(text) => Ok(text),
         Err(CaseFault::NoMemory) => Err(Failure::NoMemory),
         Err(CaseFault::BadLine(line)) => {
-            remarks.add(fed.path.as_bytes(), CASE_WORDS);
+            remarks.add(fed.path.as_bytes(), case_words(fed.bytes, line));
             Err(bad_line(alloc, line))
         }
     }
 }
 
-/// The form of a line in a file of cases.
-const CASE_WORDS: &[u8] =
-    b": a line of it is a name, a space, and bytes in hexadecimal, or a dash for none";
+/// The reason why the line of this number in a file of cases, which has these `bytes`, isn't a case: it lacks its LF,
+/// or has another form.
+fn case_words(bytes: &[u8], line: usize) -> &'static [u8] {
+    let ended = bytes.iter().filter(|byte| **byte == b'\n').count();
+    if line > ended {
+        b": its last line has no LF at its end"
+    } else {
+        b": a line of it is a name, a space, and bytes in hexadecimal, or a dash for none"
+    }
+}
 
 /// The failure of a file of cases with a line that isn't a case.
 fn bad_line(alloc: Global, line: usize) -> Failure
