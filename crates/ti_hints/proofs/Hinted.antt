@@ -1,10 +1,10 @@
 -- Hints of which each has its place.
-use Rattle.std.proofs.Common.{◌≡◌, ◌<◌, ◌≤◌, ◌+◌, ◌∙◌, ℕ, zero, suc, List, [], ◌∷◌, ◌++◌, Option, Some, None, inl, inr, length, get_or, ap, append_assoc, append-nil, arith, length-append, refl, subst, sym}
-use Rattle.std.specs.Prelude.{IfSome, map}
+use Rattle.std.proofs.Common.{◌≡◌, ◌<◌, ◌≤◌, ◌+◌, ◌∙◌, ◌⊎◌, ℕ, List, [], ◌∷◌, ◌++◌, Option, Some, None, inl, inr, length, ap, append_assoc, append-nil, arith, length-append, refl, subst, sym}
+use Rattle.std.specs.Prelude.{IfSome}
 use Rattle.std.specs.List.{AllByRecursion}
 use Rattle.ti_sources.specs.Columns.{columns_of_part, line_in}
 use Rattle.ti_sources.specs.declared.columns.Columns.{Columns}
-use Rattle.ti_hints.specs.Places.{AreAmong, IsFieldOn, IsHintOf, IsLineOf, IsOn, IsRest}
+use Rattle.ti_hints.specs.Places.{IsFieldOn, IsHintOf, IsLineOf, IsOn, IsRest}
 use Rattle.ti_hints.specs.declared.hints.EntryLine.{EntryLine}
 use Rattle.ti_hints.specs.declared.hints.FieldHint.{FieldHint}
 use Rattle.ti_source.specs.Marks.{comma}
@@ -21,25 +21,6 @@ all_behind P xs ys more is h k = subst (λ (items : List _). AllByRecursion P it
 
 pub one_more : {X : Type 0} (P : X → Type 0) (xs more : List X) (x : X) → more ≡ xs ++ x ∷ [] → AllByRecursion P xs → P x → AllByRecursion P more
 one_more P xs more x is h p = all_behind P xs (x ∷ []) more is h (p, tt)
-
-pub all_at : {X : Type 0} (P : X → Type 0) (xs : List X) (n : ℕ) (x : X) → n < length xs → x ≡ get_or xs n x → AllByRecursion P xs → P x
-all_at P [] n x l is h = absurd (omega (arith, l))
-all_at P (y ∷ xs) zero x l is h = subst P (sym is) h.0
-all_at P (y ∷ xs) (suc n) x l is h = all_at P xs n x (omega (arith, l)) is h.1
-
-pub among_there : {X : Type 0} (f : X → Columns) (xs : List X) (n : ℕ) (x : X) → n < length xs → AreAmong (map f xs) (f (get_or xs n x))
-among_there f [] n x l = absurd (omega (arith, l))
-among_there f (y ∷ xs) zero x l = inl refl
-among_there f (y ∷ xs) (suc n) x l = inr (among_there f xs n x (omega (arith, l)))
-
-all_among : {X : Type 0} (P : Columns → Type 0) (f : X → Columns) (xs : List X) (columns : Columns) → AllByRecursion (λ x. P (f x)) xs → AreAmong (map f xs) columns → P columns
-all_among P f [] columns h m = absurd m
-all_among P f (x ∷ xs) columns h (inl is) = subst P (sym is) h.0
-all_among P f (x ∷ xs) columns h (inr m) = all_among P f xs columns h.1 m
-
-pub some_among : {X : Type 0} (P : Columns → Type 0) (f : X → Columns) (xs : List X) (columns : Option Columns) → AllByRecursion (λ x. P (f x)) xs → IfSome columns (AreAmong (map f xs)) → IfSome columns P
-some_among P f xs None h m = tt
-some_among P f xs (Some columns) h m = all_among P f xs columns h m
 
 -- ---- the fields of a line
 
@@ -92,6 +73,19 @@ rest_stands line rest passed columns is so = record {
 }
 
 -- ---- the hints of an entry
+
+-- the line from which on hints are left out is the one before, or the next one
+pub some_turned : (P : ℕ → Type 0) (old new : Option ℕ) (number : ℕ) → (new ≡ old) ⊎ (new ≡ Some number) → IfSome old P → P number → IfSome new P
+some_turned P old new number (inl same) before next = subst (λ (o : Option ℕ). IfSome o P) (sym same) before
+some_turned P old new number (inr is) before next = subst (λ (o : Option ℕ). IfSome o P) (sym is) next
+
+-- a hint about no single field
+pub further_is : (lines : List (List ℕ)) (raws : List RawEntry) (place number : ℕ) (hint : FieldHint) → hint.entry ≡ place → hint.line ≡ number → hint.columns ≡ None → IsLineOf raws place number → IsHintOf lines raws place hint
+further_is lines raws place number hint entry line columns stands = record {
+  entry = entry;
+  line = subst (λ (n : ℕ). IsLineOf raws place n) (sym line) stands;
+  field = subst (λ (found : Option Columns). IfSome found (IsFieldOn (line_in lines hint.line))) (sym columns) tt;
+}
 
 as_hint : (lines : List (List ℕ)) (raws : List RawEntry) (line : EntryLine) (hint : FieldHint) → IsLineOf raws line.place line.number → line.text.now ≡ line_in lines line.number → IsOn line hint → IsHintOf lines raws line.place hint
 as_hint lines raws line hint stands is on = record {

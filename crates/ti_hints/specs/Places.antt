@@ -45,11 +45,6 @@ pub record IsOn (line : EntryLine) (hint : FieldHint) : Type 0 where
   pub number_is : hint.line ≡ line.number
   pub field : IfSome hint.columns (IsFieldOn line.text.now)
 
--- the columns are among these
-abbrev pub AreAmong : List Columns → Columns → Type 0
-AreAmong [] columns = ⊥
-AreAmong (first ∷ others) columns = (columns ≡ first) ⊎ AreAmong others columns
-
 -- the rest of the line has this number of bytes before it, up to where a field may begin
 pub record IsRest (line : List ℕ) (passed : ℕ) (rest : List ℕ) : Type 0 where
   pub front : List ℕ

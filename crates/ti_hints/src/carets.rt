@@ -70,7 +70,7 @@ fn hinted_by(mark: Mark, found: Option<Cap>, value: &[u8]) -> Option<Cap>
 
 /// The capability of the field `part`, if it is a string whose value has `%^`.
 #[tactic(auto, unfolding(crate::specs::Carets::hinted))]
-fn hinted(part: &[u8]) -> Option<Cap>
+pub(crate) fn hinted(part: &[u8]) -> Option<Cap>
     ensures { result ≡ hinted part.now }
 {
     let field = skip_white(part);

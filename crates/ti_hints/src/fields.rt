@@ -54,11 +54,6 @@ impl FieldText<'_> {
         None
     }
 
-    /// Whether the field's value has `%^`.
-    pub fn has_caret(&self) -> bool {
-        self.value.windows(2).any(|pair| pair == b"%^".as_slice())
-    }
-
     /// Whether the field has the fault `fault`.
     fn has(&self, fault: FaultKind) -> bool {
         let Some(cap) = by_name(self.name) else {

@@ -1,14 +1,14 @@
 //! Hints about fields of a source text that do nothing, or not what they seem to.
 
-ghost use Rattle.std.specs.Prelude.{◌≡◌, ◌<◌, ◌≤◌, ◌+◌, IfOk, IfSome, OnOk, length, map, slice_get};
+ghost use Rattle.std.specs.Prelude.{◌≡◌, ◌⊎◌, ◌≤◌, ◌+◌, IfOk, IfSome, None, OnOk, Some, map, slice_get};
 ghost use Rattle.std.specs.List.{AllByRecursion};
 ghost use Rattle.ti_hints.specs.Places as spec;
 
-use crate::carets::percent_carets;
-use crate::fields::FieldText;
-use crate::places::{PlacedField, placed_fields};
+use crate::carets::hinted;
+use crate::fields::{FieldText, cut_comma};
+use crate::places::{PlacedField, first_rest, placed};
 use std::alloc::{AllocError, Global};
-use ti_caps::{CAPABILITIES, Cap, by_name, name};
+use ti_caps::{CAPABILITIES, Cap, by_name};
 use ti_source::RawEntry;
 use ti_sources::{Columns, line_at};
 
@@ -23,7 +23,12 @@ pub enum HintKind {
     OddEscape,
     /// The string has `%^`, which is read as `%` and a control character.
     PercentCaret,
+    /// Further fields of the entry have hints, which are counted together.
+    FurtherFields,
 }
+
+/// The most fields of an entry that have a hint each; the others are counted.
+const MOST_HINTS: usize = 1000;
 
 /// A hint about a field of a source text.
 #[derive(Debug, Drop)]
@@ -38,13 +43,14 @@ pub struct FieldHint {
     pub columns: Option<Columns>,
     /// The capability of this name, if there is one.
     pub cap: Option<Cap>,
-    /// The words, which begin with the field's name.
+    /// The words, which begin with the field's name, or with the number of further fields.
     pub words: Vec<u8>,
 }
 
 /// The hints about the entry at `place` among `raws`, the entries of a source text that has these `lines`: about each
-/// field that has a name of no capability, a name that its entry has had before, an escape without a meaning, or `%^`.
-/// They are in the order of the lines.
+/// field that has a name of no capability, a name that its entry has had before, an escape without a meaning, or `%^`;
+/// of a field that has several of these about the first one. They are in the order of the fields. If there are more than
+/// a thousand, the last hint has the number of the others.
 ///
 /// # Errors
 /// Out of memory.
@@ -76,7 +82,8 @@ fn hints_from(
         (spec.IsHintOf (map (λ line. line.now) lines.now) raws.now place) hints.items) }
 {
     let mut hints = Vec::new(alloc);
-    let mut seen = [false; CAPABILITIES];
+    let mut told = Told::new();
+    let mut further = None;
     for number in first..end_line(lines, raws, place) {
         let line = EntryLine {
             place,
@@ -84,10 +91,49 @@ fn hints_from(
             text: line_at(lines, number),
             begins: number == first,
         };
-        let mut own = line_hints(alloc, line, &mut seen)?;
+        let mut own = line_hints(alloc, line, &mut told)?;
         hints.append(&mut own)?;
+        further = further_line(further, told.left_out, number);
     }
-    Ok(hints)
+    match further {
+        Some(number) => {
+            hints.push(further_hint(alloc, place, number, told.left_out)?)?;
+            Ok(hints)
+        }
+        None => Ok(hints),
+    }
+}
+
+/// The line from which on hints are left out: `further`, or the line `number` if this many are `left_out` by now.
+fn further_line(further: Option<usize>, left_out: usize, number: usize) -> Option<usize>
+    ensures { (result ≡ further) ⊎ (result ≡ Some number) }
+{
+    match further {
+        None if left_out > 0 => Some(number),
+        None | Some(_) => further,
+    }
+}
+
+/// The hint that from the line `number` on this `count` of fields of the entry at `place` have hints too.
+fn further_hint(
+    alloc: Global,
+    place: usize,
+    number: usize,
+    count: usize,
+) -> Result<FieldHint, AllocError>
+    ensures entry { IfOk result (λ hint. hint.entry ≡ place) }
+    ensures line { IfOk result (λ hint. hint.line ≡ number) }
+    ensures columns { IfOk result (λ hint. hint.columns ≡ None) }
+{
+    let words = format!(in alloc; "{count} further fields of the entry have hints too")?;
+    Ok(FieldHint {
+        kind: HintKind::FurtherFields,
+        entry: place,
+        line: number,
+        columns: None,
+        cap: None,
+        words: words.into_bytes(),
+    })
 }
 
 /// The number of the line behind the last one of the entry at `place`: that of the names of the next entry, or the one
@@ -114,40 +160,81 @@ struct EntryLine<'a> {
     begins: bool,
 }
 
-/// The hints about the fields of `line`; `seen` are the capabilities that have a field before it in its entry.
+/// The fields of an entry so far.
+#[derive(Drop)]
+struct Told {
+    /// Whether one of them was about the capability at this place of the table.
+    seen: [bool; CAPABILITIES],
+    /// How many fields more can have a hint.
+    room: usize,
+    /// How many fields have a hint that is left out.
+    left_out: usize,
+}
+
+impl Told {
+    /// No fields.
+    fn new() -> Told {
+        Told {
+            seen: [false; CAPABILITIES],
+            room: MOST_HINTS,
+            left_out: 0,
+        }
+    }
+}
+
+/// The hints about the fields of `line`; `told` has those before it in its entry.
 fn line_hints(
     alloc: Global,
     line: EntryLine<'_>,
-    seen: &mut [bool; CAPABILITIES],
+    told: &mut Told,
 ) -> Result<Vec<FieldHint>, AllocError>
     ensures { IfOk result (λ hints. AllByRecursion (spec.IsOn line.entry) hints.items) }
 {
-    let fields = placed_fields(alloc, line.text, line.begins)?;
-    let mut hints = Vec::new(alloc);
-    for it in &fields {
-        add_name(alloc, line, it, seen, &mut hints)?;
-        add_escape(alloc, line, it, &mut hints)?;
+    match first_rest(line.text, line.begins) {
+        Some((before, first)) => hints_behind(alloc, line, before, first, told),
+        None => Ok(Vec::new(alloc)),
     }
-    add_carets(alloc, line, fields.as_slice(), &mut hints)?;
+}
+
+/// The hints about the fields of `first`, the part of `line` behind this number of bytes `before` it.
+fn hints_behind(
+    alloc: Global,
+    line: EntryLine<'_>,
+    before: usize,
+    first: &[u8],
+    told: &mut Told,
+) -> Result<Vec<FieldHint>, AllocError>
+    requires { spec.IsRest line.text.now before first.now }
+    ensures { IfOk result (λ hints. AllByRecursion (spec.IsOn line.entry) hints.items) }
+{
+    let mut hints = Vec::new(alloc);
+    let mut passed = before;
+    let mut rest = first;
+    while let Some((part, behind)) = cut_comma(rest) {
+        add_hint(alloc, line, &placed(passed, part), told, &mut hints)?;
+        passed = passed + part.len() + 1;
+        rest = behind;
+    }
+    add_hint(alloc, line, &placed(passed, rest), told, &mut hints)?;
     Ok(hints)
 }
 
-/// Adds to `hints` the one about the name of the field `it` of `line`, if the name is odd; `seen` are the capabilities
+/// Adds to `hints` the one about the field `it` of `line`, if it has one and there is room; `told` has the fields
 /// before it in its entry.
-fn add_name(
+fn add_hint(
     alloc: Global,
     line: EntryLine<'_>,
     it: &PlacedField<'_>,
-    seen: &mut [bool; CAPABILITIES],
+    told: &mut Told,
     hints: &mut Vec<FieldHint>,
 ) -> Result<(), AllocError>
     requires stands { spec.IsFieldOn line.text.now it.now.columns }
     requires before { AllByRecursion (spec.IsOn line) hints.old.items }
     ensures { OnOk result (AllByRecursion (spec.IsOn line.entry) hints.new.items) }
 {
-    match odd_name(&it.field, seen) {
-        Some((kind, words)) => {
-            let hint = field_hint(alloc, line, it, kind, words)?;
+    match told_kind(&it.field, told) {
+        Some(kind) => {
+            let hint = field_hint(alloc, line, it, kind)?;
             hints.push(hint)?;
             Ok(())
         }
@@ -155,41 +242,60 @@ fn add_name(
     }
 }
 
-/// Adds to `hints` the one about an escape without a meaning in the field `it` of `line`, if it has one.
-fn add_escape(
-    alloc: Global,
-    line: EntryLine<'_>,
-    it: &PlacedField<'_>,
-    hints: &mut Vec<FieldHint>,
-) -> Result<(), AllocError>
-    requires stands { spec.IsFieldOn line.text.now it.now.columns }
-    requires before { AllByRecursion (spec.IsOn line) hints.old.items }
-    ensures { OnOk result (AllByRecursion (spec.IsOn line.entry) hints.new.items) }
-{
-    match it.field.odd_escape() {
-        Some(letter) => {
-            let words = escape_words(alloc, letter)?;
-            let hint = field_hint(alloc, line, it, HintKind::OddEscape, words.as_slice())?;
-            hints.push(hint)?;
-            Ok(())
-        }
-        None => Ok(()),
+/// The kind of the hint about `field`, if it has one and there is room; otherwise it is counted. `told` has the fields
+/// before it in its entry.
+fn told_kind(field: &FieldText<'_>, told: &mut Told) -> Option<HintKind> {
+    let kind = hint_kind(field, told)?;
+    if told.room == 0 {
+        told.left_out = told.left_out.saturating_add(1);
+        return None;
+    }
+    told.room -= 1;
+    Some(kind)
+}
+
+/// The kind of the hint about `field`, if it has one; `told` has the fields before it in its entry.
+fn hint_kind(field: &FieldText<'_>, told: &mut Told) -> Option<HintKind> {
+    if field.is_unknown() {
+        Some(HintKind::UnknownName)
+    } else if is_repeated(field, told) {
+        Some(HintKind::Duplicate)
+    } else if field.odd_escape().is_some() {
+        Some(HintKind::OddEscape)
+    } else if hinted(field.text).is_some() {
+        Some(HintKind::PercentCaret)
+    } else {
+        None
     }
 }
 
-/// The hint of this `kind` about the field `it` of `line`, with the words `behind` its name.
+/// Whether a field before `field` was about its capability; from then on one was.
+fn is_repeated(field: &FieldText<'_>, told: &mut Told) -> bool {
+    if field.is_left_out() {
+        return false;
+    }
+    match by_name(field.name) {
+        Some(cap) => {
+            let place = cap.place();
+            let before = told.seen[place];
+            told.seen[place] = true;
+            before
+        }
+        None => false,
+    }
+}
+
+/// The hint of this `kind` about the field `it` of `line`.
 fn field_hint(
     alloc: Global,
     line: EntryLine<'_>,
     it: &PlacedField<'_>,
     kind: HintKind,
-    behind: &[u8],
 ) -> Result<FieldHint, AllocError>
     requires { spec.IsFieldOn line.text.now it.now.columns }
     ensures { IfOk result (spec.IsOn line.entry) }
 {
-    let mut words = Vec::from_slice(alloc, it.field.name)?;
-    words.extend_from_slice(behind)?;
+    let words = hint_words(alloc, &it.field, kind)?;
     Ok(FieldHint {
         kind,
         entry: line.place,
@@ -200,103 +306,36 @@ fn field_hint(
     })
 }
 
-/// The kind of hint about the name of `field`, and the words behind the name, if the name is odd; `seen` are the
-/// capabilities before it in its entry.
-fn odd_name(
-    field: &FieldText<'_>,
-    seen: &mut [bool; CAPABILITIES],
-) -> Option<(HintKind, &'static [u8])> {
-    if field.is_unknown() {
-        return Some((HintKind::UnknownName, b" is no capability"));
-    }
-    if field.is_left_out() {
-        return None;
-    }
-    let place = by_name(field.name)?.place();
-    let stood_before = seen[place];
-    seen[place] = true;
-    if stood_before {
-        Some((
-            HintKind::Duplicate,
-            b" stands in the entry before, where the first one counts",
-        ))
-    } else {
-        None
-    }
+/// The words of the hint of this `kind` about `field`.
+fn hint_words(alloc: Global, field: &FieldText<'_>, kind: HintKind) -> Result<Vec<u8>, AllocError> {
+    let behind: &[u8] = match kind {
+        HintKind::UnknownName => b" is no capability",
+        HintKind::Duplicate => b" stands in the entry before, where the first one counts",
+        HintKind::OddEscape => return escape_words(alloc, field),
+        HintKind::PercentCaret => return caret_words(alloc, field.name),
+        HintKind::FurtherFields => b" is one of several",
+    };
+    let mut words = Vec::from_slice(alloc, field.name)?;
+    words.extend_from_slice(behind)?;
+    Ok(words)
 }
 
-/// The words that a string has a backslash before `letter`, which has no meaning there.
-fn escape_words(alloc: Global, letter: u8) -> Result<Vec<u8>, AllocError> {
-    let mut words = Vec::from_slice(alloc, b" has `\\")?;
-    words.push(letter)?;
+/// The words that the string of `field` has a backslash before a byte without a meaning there.
+fn escape_words(alloc: Global, field: &FieldText<'_>) -> Result<Vec<u8>, AllocError> {
+    let mut words = Vec::from_slice(alloc, field.name)?;
+    words.extend_from_slice(b" has `\\")?;
+    if let Some(letter) = field.odd_escape() {
+        words.push(letter)?;
+    }
     words.extend_from_slice(b"`, which is no escape and stands for the byte behind the backslash")?;
     Ok(words)
 }
 
-/// Adds to `hints` those about `%^` in the `fields` of `line`.
-fn add_carets(
-    alloc: Global,
-    line: EntryLine<'_>,
-    fields: &[PlacedField<'_>],
-    hints: &mut Vec<FieldHint>,
-) -> Result<(), AllocError>
-    requires stand { AllByRecursion (λ it. spec.IsFieldOn line.text.now it.columns) fields.now }
-    requires before { AllByRecursion (spec.IsOn line) hints.old.items }
-    ensures { OnOk result (AllByRecursion (spec.IsOn line.entry) hints.new.items) }
-{
-    for caret in &percent_carets(alloc, line.text)? {
-        let hint = caret_hint(alloc, line, fields, caret.cap)?;
-        hints.push(hint)?;
-    }
-    Ok(())
-}
-
-/// The hint that the string `cap` of `line`, which has these `fields`, has `%^`.
-fn caret_hint(
-    alloc: Global,
-    line: EntryLine<'_>,
-    fields: &[PlacedField<'_>],
-    cap: Cap,
-) -> Result<FieldHint, AllocError>
-    requires { AllByRecursion (λ it. spec.IsFieldOn line.text.now it.columns) fields.now }
-    ensures { IfOk result (spec.IsOn line.entry) }
-{
-    let columns = caret_columns(fields, cap);
-    let words = caret_words(alloc, cap)?;
-    Ok(FieldHint {
-        kind: HintKind::PercentCaret,
-        entry: line.place,
-        line: line.number,
-        columns,
-        cap: Some(cap),
-        words,
-    })
-}
-
-/// The columns of the first of the `fields` that is about `cap` and has `%^`.
-fn caret_columns(fields: &[PlacedField<'_>], cap: Cap) -> Option<Columns>
-    ensures { IfSome result (spec.AreAmong (map (λ it. it.columns) fields.now)) }
-{
-    match caret_place(fields, cap) {
-        Some(at) => Some(fields[at].columns),
-        None => None,
-    }
-}
-
-/// The place of the first of the `fields` that is about `cap` and has `%^`.
-fn caret_place(fields: &[PlacedField<'_>], cap: Cap) -> Option<usize>
-    ensures { IfSome result (λ at. at < length fields.now) }
-{
-    fields
-        .iter()
-        .position(|it| it.field.name == name(cap) && it.field.has_caret())
-}
-
-/// The words that the string `cap` has `%^`: by the rules of escapes it is `%` and a control character, but ncurses
-/// takes no caret behind a `%` for an escape.
-pub(crate) fn caret_words(alloc: Global, cap: Cap) -> Result<Vec<u8>, AllocError> {
+/// The words that the string of this name has `%^`: by the rules of escapes it is `%` and a control character, but
+/// ncurses takes no caret behind a `%` for an escape.
+pub(crate) fn caret_words(alloc: Global, name: &[u8]) -> Result<Vec<u8>, AllocError> {
     let mut words = Vec::from_slice(alloc, b"in ")?;
-    words.extend_from_slice(name(cap))?;
+    words.extend_from_slice(name)?;
     words.extend_from_slice(
         b" `%^` is read as `%` and a control character, by ncurses as exclusive or, which is written `%\\^`",
     )?;

@@ -4,6 +4,7 @@ use crate::carets::percent_carets;
 use crate::hints::{FieldHint, caret_words, entry_hints};
 use crate::uses::used_places;
 use std::alloc::{AllocError, Global};
+use ti_caps::name;
 use ti_files::Remarks;
 use ti_source::RawEntry;
 use ti_sources::{place_named, text_lines};
@@ -48,7 +49,7 @@ pub fn hint_entries(
 pub fn hint_carets(alloc: Global, text: &[u8], remarks: &mut Remarks) {
     if let Ok(carets) = percent_carets(alloc, text) {
         for caret in &carets {
-            if let Ok(words) = caret_words(alloc, caret.cap) {
+            if let Ok(words) = caret_words(alloc, name(caret.cap)) {
                 let _ = add_line(alloc, caret.line, words.as_slice(), None, remarks);
             }
         }

@@ -183,6 +183,7 @@ fn hint_rule(kind: HintKind) -> &'static str {
         HintKind::Duplicate => "Duplicate",
         HintKind::OddEscape => "OddEscape",
         HintKind::PercentCaret => "PercentCaret",
+        HintKind::FurtherFields => "FurtherFields",
     }
 }
 

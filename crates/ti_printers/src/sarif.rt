@@ -20,6 +20,7 @@ const HEAD: &str =
     {\"id\":\"BadNest\",\"shortDescription\":{\"text\":\"A parameter string has a conditional that is not %? %t %e %;\"}},\n\
     {\"id\":\"Duplicate\",\"shortDescription\":{\"text\":\"A field has a name that its entry has had before\"}},\n\
     {\"id\":\"FlagOut\",\"shortDescription\":{\"text\":\"With a flag of the entry programs can't rely on what is on the screen\"}},\n\
+    {\"id\":\"FurtherFields\",\"shortDescription\":{\"text\":\"Further fields of an entry have hints, which are counted\"}},\n\
     {\"id\":\"NoResync\",\"shortDescription\":{\"text\":\"What leads out of any state doesn't begin with ESC\"}},\n\
     {\"id\":\"NotShown\",\"shortDescription\":{\"text\":\"The effect is not the wanted one, but no state was found that shows it\"}},\n\
     {\"id\":\"NotTame\",\"shortDescription\":{\"text\":\"No single effect describes what is sent from all states\"}},\n\
