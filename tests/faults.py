@@ -433,6 +433,13 @@ TOGETHER = [
         [r"cup=\E[%i%p1%d;%p2%dH", r"smacs=\E(0", r"rmacs=\E(B"],
         [],
     ),
+    # an `sgr0` that shifts in would leave the graphic set active
+    (
+        [r"op=\E[39;49m", "acsc@", "sgr0@", r"enacs=\E(0\016", r"rmacs=\E(0", r"smacs=\E(0\016"],
+        ["no sgr0: Absent"],
+        [r"sgr0=\E[m"],
+        [],
+    ),
     (
         [r"op=\E[39;49m", "clear@", "sgr0@"],
         ["no clear: Absent", "no sgr0: Absent"],

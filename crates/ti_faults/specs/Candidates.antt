@@ -48,8 +48,14 @@ way_of entry n =
     if nat_lt n (singles entry) then Single
     else (if n == singles entry then way_by (shifts entry) else way_by (not (shifts entry)))
 
-abbrev pub choice_of : Content → ℕ → Choice
-choice_of entry n = record { second_smacs = n / 2 % 2 == 1; second_rmacs = n % 2 == 1; way = way_of entry n }
+-- the choice of this number, with the second candidate for `sgr0` or its first
+abbrev pub choice_of : Content → Bool → ℕ → Choice
+choice_of entry second n = record {
+  second_smacs = n / 2 % 2 == 1;
+  second_rmacs = n % 2 == 1;
+  second_sgr0 = second;
+  way = way_of entry n;
+}
 
 abbrev pub takes_second : Choice → Row → Bool
 takes_second choice Smacs = choice.second_smacs
@@ -73,7 +79,7 @@ takes_second choice El1 = false
 takes_second choice Ed = false
 takes_second choice (Ech n) = false
 takes_second choice (Sgr a) = false
-takes_second choice Sgr0 = false
+takes_second choice Sgr0 = choice.second_sgr0
 takes_second choice (Setaf c) = false
 takes_second choice (Setab c) = false
 takes_second choice Op = false
@@ -102,7 +108,7 @@ or_other (Some string) other = Some string
 -- ---- the string of each capability
 
 -- the string that fits the entry's other strings, or else that of the standards; always the latter with the second
--- choice for `smacs` or `rmacs`
+-- choice for `smacs`, `rmacs` or `sgr0`
 abbrev pub by_itself : Content → Choice → Row → Option (List ℕ)
 by_itself entry choice row =
     if takes_second choice row then general entry row else or_other (matching entry row) (general entry row)

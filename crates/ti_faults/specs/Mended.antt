@@ -1,10 +1,11 @@
 -- An entry with everything at fault mended at once.
 use Rattle.std.specs.Prelude.{ℕ, ◌+◌, ◌≡◌, ◌≢◌, ◌<◌, ◌&&◌, not, if◌then◌else◌, Bool, true, false, List, [], ◌∷◌, Option}
 use Rattle.std.specs.Prelude.{Some, None}
+use Rattle.std.specs.List.{list_all}
 use Rattle.ti_caps.specs.Entry.{Content, with_value}
 use Rattle.ti_caps.specs.declared.value.Value.TheVariants.{String}
 use Rattle.ti_rows.specs.declared.rows.Row.{Row}
-use Rattle.ti_rows.specs.declared.rows.Row.TheVariants.{Enacs, Smacs, Rmacs}
+use Rattle.ti_rows.specs.declared.rows.Row.TheVariants.{Enacs, Sgr0, Smacs, Rmacs}
 use Rattle.ti_rows.specs.Names.{cap_of}
 use Rattle.ti_conforms.specs.Entries.{acsc}
 use Rattle.ti_checker.specs.Kept.{names}
@@ -74,17 +75,37 @@ abbrev pub choices : Content → List No → ℕ
 choices entry nos = if switches_sets nos then 1 else singles entry + 2
 
 -- `smacs` or `rmacs` is at fault in the entry mended by the choice of this number
-pub record FailsToSwitch (entry : Content) (rows cols : ℕ) (nos : List No) (number : ℕ) : Type 0 where
+pub record FailsToSwitch (entry : Content) (rows cols : ℕ) (nos : List No) (second : Bool) (number : ℕ) : Type 0 where
   pub tried : Mended
-  pub mended : IsMended entry rows cols nos (choice_of entry number) tried
+  pub mended : IsMended entry rows cols nos (choice_of entry second number) tried
   pub fails : switches_sets tried.left.items ≡ false
 
--- mended by the first of the choices with which neither is at fault, or else by the first
-pub data IsBestMended (entry : Content) (rows cols : ℕ) (nos : List No) (m : Mended) : Type 0 where
-  Switching : (number : ℕ) → number < choices entry nos → IsMended entry rows cols nos (choice_of entry number) m
+-- mended by the first of the choices with which neither is at fault, or else by the first; all of them with the second
+-- candidate for `sgr0`, or with its first
+pub data IsBestBy (entry : Content) (rows cols : ℕ) (nos : List No) (second : Bool) (m : Mended) : Type 0 where
+  Switching : (number : ℕ) → number < choices entry nos → IsMended entry rows cols nos (choice_of entry second number) m
       → switches_sets m.left.items ≡ true
-      → ((earlier : ℕ) → earlier < number → FailsToSwitch entry rows cols nos earlier)
+      → ((earlier : ℕ) → earlier < number → FailsToSwitch entry rows cols nos second earlier)
+      → IsBestBy entry rows cols nos second m
+  First : IsMended entry rows cols nos (choice_of entry second 0) m
+      → ((number : ℕ) → number < choices entry nos → FailsToSwitch entry rows cols nos second number)
+      → IsBestBy entry rows cols nos second m
+
+-- each fault that is left is about a capability that had one before
+abbrev pub adds_none : List No → List No → Bool
+adds_none nos left = list_all (λ no. names nos no.cap) left
+
+-- `sgr0` is mended, and something else is at fault then that wasn't before
+abbrev pub needs_other : List No → List No → Bool
+needs_other nos left = names nos (cap_of Sgr0) && not (adds_none nos left)
+
+-- Mended with the first candidate for `sgr0`; if that puts something else at fault, with its second one, unless that
+-- does so too.
+pub data IsBestMended (entry : Content) (rows cols : ℕ) (nos : List No) (m : Mended) : Type 0 where
+  Suits : IsBestBy entry rows cols nos false m → needs_other nos m.left.items ≡ false
       → IsBestMended entry rows cols nos m
-  First : IsMended entry rows cols nos (choice_of entry 0) m
-      → ((number : ℕ) → number < choices entry nos → FailsToSwitch entry rows cols nos number)
+  Second : (first : Mended) → IsBestBy entry rows cols nos false first → needs_other nos first.left.items ≡ true
+      → IsBestBy entry rows cols nos true m → adds_none nos m.left.items ≡ true → IsBestMended entry rows cols nos m
+  Neither : IsBestBy entry rows cols nos false m → needs_other nos m.left.items ≡ true → (other : Mended)
+      → IsBestBy entry rows cols nos true other → adds_none nos other.left.items ≡ false
       → IsBestMended entry rows cols nos m

@@ -79,22 +79,25 @@ fn shifting(row: Row) -> Option<&'static [u8]>
 }
 
 /// The choice of candidates for `enacs`, `smacs` and `rmacs`, which are right only together: for each of the last two
-/// its second one, or else its first, if it is at fault; or one way to switch sets for all three.
+/// its second one, or else its first, if it is at fault; or one way to switch sets for all three. Beside it, whether
+/// `sgr0` gets its second candidate.
 #[derive(Clone, Copy, Debug, PartialEq, Eq)]
 pub struct Choice {
     second_smacs: bool,
     second_rmacs: bool,
+    second_sgr0: bool,
     way: Way,
 }
 
 impl Choice {
-    /// The choice with this number for an entry.
-    pub(crate) fn of(entry: &Entry, number: u8) -> Choice
-        ensures { result ≡ spec.choice_of entry.now number }
+    /// The choice with this number for an entry, with the second candidate for `sgr0` or its first.
+    pub(crate) fn of(entry: &Entry, second_sgr0: bool, number: u8) -> Choice
+        ensures { result ≡ spec.choice_of entry.now second_sgr0 number }
     {
         Choice {
             second_smacs: number / 2 % 2 == 1,
             second_rmacs: number % 2 == 1,
+            second_sgr0,
             way: way_of(entry, number),
         }
     }
@@ -118,11 +121,12 @@ impl Choice {
         match row {
             Row::Smacs => self.second_smacs,
             Row::Rmacs => self.second_rmacs,
+            Row::Sgr0 => self.second_sgr0,
             Row::Clear | Row::Cup(_, _) | Row::Home | Row::Cr | Row::Hpa(_) | Row::Vpa(_) => false,
             Row::Cub1 | Row::Cuf1 | Row::Cuu1 | Row::Cud1 => false,
             Row::Cub(_) | Row::Cuf(_) | Row::Cuu(_) | Row::Cud(_) => false,
             Row::El | Row::El1 | Row::Ed | Row::Ech(_) => false,
-            Row::Sgr(_) | Row::Sgr0 | Row::Setaf(_) | Row::Setab(_) | Row::Op => false,
+            Row::Sgr(_) | Row::Setaf(_) | Row::Setab(_) | Row::Op => false,
             Row::Smul | Row::Rev | Row::Blink | Row::Dim | Row::Bold | Row::Invis => false,
             Row::Smso | Row::Enacs | Row::Csr(_, _) | Row::Ind | Row::Ri => false,
             Row::Civis | Row::Cnorm | Row::Cvvis | Row::Smcup | Row::Rmcup | Row::Bel => false,

@@ -25,7 +25,7 @@ pub struct Mended {
     pub entry: Entry,
     /// All its faults.
     pub left: Vec<No>,
-    /// The choice of its candidates for `enacs`, `smacs` and `rmacs`.
+    /// The choice of its candidates for `enacs`, `smacs`, `rmacs` and `sgr0`.
     pub choice: Choice,
 }
 
@@ -112,17 +112,20 @@ fn with_switching(entry: Entry, choice: Choice) -> Result<Entry, AllocError>
     with_grouped(graphic, choice, Row::Rmacs)
 }
 
-/// The entry mended by the choice with this number, and all faults that are left then.
+/// The entry mended by the choice with this number, with the second candidate for `sgr0` or its first, and all faults
+/// that are left then.
 fn mended_by(
     alloc: Global,
     entry: &Entry,
     size: Size,
     nos: &[No],
+    second_sgr0: bool,
     number: u8,
 ) -> Result<Mended, AllocError>
-    ensures { IfOk result (spec.IsMended entry.now size.rows size.cols nos.now (choice_of entry.now number)) }
+    ensures { IfOk result
+        (spec.IsMended entry.now size.rows size.cols nos.now (choice_of entry.now second_sgr0 number)) }
 {
-    let choice = Choice::of(entry, number);
+    let choice = Choice::of(entry, second_sgr0, number);
     let single = mend_all(entry, choice, nos)?;
     let mended = with_switching(single, choice)?;
     let left = faults(alloc, &mended, size)?;
@@ -151,23 +154,63 @@ fn choices(entry: &Entry, nos: &[No]) -> u8
     }
 }
 
+/// Whether each of the faults `left` is about a capability that one of the faults `nos` is about too.
+fn adds_none(nos: &[No], left: &[No]) -> bool
+    ensures { result ≡ spec.adds_none nos.now left.now }
+{
+    left.iter().all(|no| names(nos, no.cap))
+}
+
+/// Whether the faults `nos` have one of `sgr0`, and one that is `left` once it is mended is about a capability that none
+/// of them is about.
+fn needs_other(nos: &[No], left: &[No]) -> bool
+    ensures { result ≡ spec.needs_other nos.now left.now }
+{
+    names(nos, Row::Sgr0.cap()) && !adds_none(nos, left)
+}
+
 impl Mended {
     /// The entry with the capabilities of all the faults `nos` mended at once. If `smacs` or `rmacs` is among them,
     /// there are choices: to mend only what is at fault, in four ways if the strings of `entry` shift between sets, or
     /// else in one; then `enacs`, `smacs` and `rmacs` as one, by SO and SI or by designating G0. The first is taken
-    /// after which neither `smacs` nor `rmacs` is at fault, or else the first of all.
+    /// after which neither `smacs` nor `rmacs` is at fault, or else the first of all. If `sgr0` is among them, and a
+    /// capability is at fault then that wasn't before, `sgr0` gets its second string, the standard's, unless that puts
+    /// one at fault too.
     ///
     /// # Errors
     /// Out of memory.
+    #[tactic(auto, using(crate::proofs::Mends::suits, crate::proofs::Mends::second_suits, crate::proofs::Mends::neither_suits))]
     pub fn new(alloc: Global, entry: &Entry, size: Size, nos: &[No]) -> Result<Mended, AllocError>
         ensures { IfOk result (spec.IsBestMended entry.now size.rows size.cols nos.now) }
     {
-        let first = mended_by(alloc, entry, size, nos, 0)?;
+        let first = Mended::best(alloc, entry, size, nos, false)?;
+        if !needs_other(nos, &first.left) {
+            return Ok(first);
+        }
+        let second = Mended::best(alloc, entry, size, nos, true)?;
+        if adds_none(nos, &second.left) {
+            Ok(second)
+        } else {
+            Ok(first)
+        }
+    }
+
+    /// The entry mended by the best of the choices with the second candidate for `sgr0`, or of those with its first.
+    fn best(
+        alloc: Global,
+        entry: &Entry,
+        size: Size,
+        nos: &[No],
+        second_sgr0: bool,
+    ) -> Result<Mended, AllocError>
+        ensures { IfOk result (spec.IsBestBy entry.now size.rows size.cols nos.now second_sgr0) }
+    {
+        let first = mended_by(alloc, entry, size, nos, second_sgr0, 0)?;
         if first.switches_sets() {
             return Ok(first);
         }
         for number in 1..choices(entry, nos) {
-            let mended = mended_by(alloc, entry, size, nos, number)?;
+            let mended = mended_by(alloc, entry, size, nos, second_sgr0, number)?;
             if mended.switches_sets() {
                 return Ok(mended);
             }

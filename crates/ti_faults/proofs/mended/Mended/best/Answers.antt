@@ -1,7 +1,7 @@
 use Rattle.std.proofs.Common.{below_more, sym, ◌∙◌, arith}
 use Rattle.ti_faults.specs.Mended.{Switching, First}
 use Rattle.ti_faults.proofs.Mends.{some_choice}
-use Rattle.ti_faults.proofs.mended.Mended.new.Goals as goal
+use Rattle.ti_faults.proofs.mended.Mended.best.Goals as goal
 
 -- the first choice leaves neither `smacs` nor `rmacs` at fault
 pub returns-then-switches_sets : goal.returns-then-switches_sets

@@ -1,6 +1,0 @@
-use Rattle.std.proofs.Common.{ℕ, ◌<◌}
-use Rattle.ti_faults.specs.Mended.{FailsToSwitch}
-use Rattle.ti_faults.proofs.mended.Mended.new.Given as goal
-
-abbrev pub invariant-loop-number : goal.invariant-loop-number
-invariant-loop-number l = (k : ℕ) → k < l.number → FailsToSwitch l.entry l.size.rows l.size.cols l.nos k
