@@ -6,3 +6,4 @@ pub mod MarkedLines
 pub mod Plainly
 pub mod Findings
 pub mod Notes
+pub mod Tallies

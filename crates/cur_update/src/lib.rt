@@ -3,6 +3,7 @@
 
 mod bells;
 mod changes;
+mod differing;
 mod inks;
 mod laws;
 mod painters;

@@ -1,14 +1,15 @@
 //! A painter, which makes a terminal show the virtual screen.
-ghost use Rattle.std.specs.Prelude.{◌≡◌, IfOk, OnOk, OnErr};
+ghost use Rattle.std.specs.Prelude.{◌≡◌, ◌≤◌, IfOk, OnOk, OnErr};
 ghost use Rattle.cur_screens.specs.{Marks.{AreSame}, VirtualScreen.{new_screen}};
 ghost use Rattle.cur_steps.specs.declared.beliefs.Mode.TheVariants.{Normal};
 ghost use Rattle.cur_paint.specs.{declared.updates.Status.TheVariants.{Fresh, Lost}, Finish.{Finishes}};
 ghost use Rattle.cur_paint.specs.Update.{Refreshes};
-ghost use Rattle.cur_update.specs.Inks.{ink_at, means_of};
+ghost use Rattle.cur_update.specs.{Differ.{in_lines}, Inks.{ink_at, means_of}};
 ghost use Rattle.cur_update.specs.{Painters.{IsPainter, mode_number, mode_of, set_mode, wanted_of}, Beep.{Rings}};
 
 use crate::bells::{Unsent, ring};
 use crate::changes::{Found, Shift};
+use crate::differing::differ;
 use crate::inks::{Means, means_of};
 use crate::screens::{PrintedScreen, cells_hold};
 use cur_drawing::{Refusal, place_below};
@@ -169,6 +170,37 @@ impl<C: Certificate> Painter<C> {
         ensures others { self.new ≡ record self.old { session = self.new.session } }
     {
         cur_paint::finish(&self.checked, &mut self.session, wire)
+    }
+
+    /// The certificate of the terminal. Its contract also says that the screen that was shown last is of the terminal's
+    /// size.
+    pub fn checked(&self) -> &C
+        ensures value { result.now ≡ self.now.checked }
+        ensures rows { self.now.shown.rows ≡ (C.table self.now.checked).rows }
+        ensures cols { self.now.shown.cols ≡ (C.table self.now.checked).cols }
+    {
+        &self.checked
+    }
+
+    /// How much is known of the terminal.
+    pub fn status(&self) -> Status
+        ensures { result ≡ self.now.session.status }
+    {
+        self.session.status
+    }
+
+    /// The number of cells in which `screen`, which must be of the terminal's size, differs from the screen that was
+    /// shown last. A pair counts as its colors.
+    pub fn differing(&self, screen: &Virtual) -> usize
+        requires rows { (screen.now).rows ≡ (C.table self.now.checked).rows }
+        requires cols { (screen.now).cols ≡ (C.table self.now.checked).cols }
+        ensures value { result ≡ in_lines self.now.shown screen.now (C.table self.now.checked).cols
+            (C.table self.now.checked).rows }
+        ensures few { result ≤ 100000 }
+    {
+        // only this call's contract says that the size is that of a terminal
+        let _ = self.checked.rows();
+        differ(&self.shown.screen, screen)
     }
 
     /// Makes the session lost, for a caller that knows that not all sent bytes reached the terminal. The next refresh
