@@ -2,8 +2,10 @@
 #![tactic(auto)]
 
 mod answers;
+mod bounds;
 mod creations;
 mod drawings;
+mod laws;
 mod paced;
 mod runs;
 mod sends;
@@ -17,6 +19,7 @@ pub use cur_scripts::{
     NumbersCall, PadCall, PartCall, PlainCall, Put, ScreenCall, ScriptFault, ScriptFaultKind,
     ShowCall, Text, read_script,
 };
+pub use laws::most_kept;
 pub use paced::Paced;
 pub use runs::{Log, LogEntry, run, run_paced};
 pub use sessions::Session;

@@ -1,24 +1,26 @@
 //! A session: windows, the virtual screen, and a painter for the terminal.
 ghost use Rattle.std.specs.Prelude.{◌≡◌, IfOk};
-ghost use Rattle.ti_conforms.specs.Certified.{IsChecked};
+ghost use Rattle.ti_conforms.specs.Certified.{IsChecked, cell_limit};
+ghost use Rattle.cur_paint.specs.Limits.{fresh_limit};
 ghost use Rattle.cur_drawing.specs.Calls.{added_all};
 ghost use Rattle.cur_windows.specs.Desks.{on_window};
 ghost use Rattle.cur_scripts.specs.declared.groups.CellCall.TheVariants.{Addch};
 ghost use Rattle.cur_scripts.specs.declared.groups.NumberCall.TheVariants.{ColorSet};
 ghost use Rattle.cur_scripts.specs.declared.groups.NumbersCall.TheVariants.{Move};
-ghost use Rattle.cur_play.specs.{StaleMarks.{IsKnown}, Deliveries.{Carries}, Outputs.{poised}};
+ghost use Rattle.cur_play.specs.{StaleMarks.{IsKnown}, Deliveries.{Carries}, Log.{most}, Outputs.{poised}};
 ghost use Rattle.cur_play.specs.Scenes.{IsStage, first, lost_stage, scene_of};
 ghost use Rattle.cur_play.specs.Steps.{CallStep, DoesAlone, drawn, lines_shown, output_of, recolored};
 ghost use Rattle.cur_play.specs.Windows.{attributes_step, cell_step, number_step, numbers_step};
 
 use crate::answers::{Answer, answer_of};
+use crate::bounds::{cells_limit, fresh_limit};
 use crate::drawings::draw;
 use crate::sends::{output_of, send};
 use crate::stale_marks::StaleMarks;
 use crate::windows::{attributes, number_call, numbers_call};
 use cur_screens::Virtual;
 use cur_scripts::{Attrs, AttrsCall, Call, NumberCall, NumbersCall, Put};
-use cur_update::{Painter, Wire, cells_bounded};
+use cur_update::{Painter, Status, Wire, cells_bounded};
 use cur_windows::{Desk, Size, WindowLines};
 use std::alloc::{AllocError, Global};
 use std::marker::Model;
@@ -162,6 +164,44 @@ impl<C: Certificate> Session<C> {
         ensures { result.now ≡ self.now.desk }
     {
         &self.desk
+    }
+
+    /// The most bytes that a cell takes, with its move and all changes of its look.
+    pub fn cell_limit(&self) -> usize
+        ensures { result ≡ cell_limit (C.table self.now.painter.checked) }
+    {
+        self.painter.checked().cell_limit()
+    }
+
+    /// The most bytes of a refresh that begins anew: the limit of a cell for each cell of the screen and once more, and
+    /// the length of the way out of an unknown state. Each refresh keeps this bound, the first one among them.
+    pub fn fresh_limit(&self) -> usize
+        ensures { result ≡ fresh_limit (C.table self.now.painter.checked) }
+    {
+        fresh_limit(self.painter.checked())
+    }
+
+    /// The most bytes that the call `doupdate` sends if it comes next, done or cut short: the limit of a cell for each
+    /// cell that differs from the screen shown last and once more, or `fresh_limit` if the terminal isn't known or is
+    /// to be cleared. `most_kept` is the law that no refresh sends more. A safe bound: most refreshes send far less. The
+    /// contract also says that the screen shown last is of the terminal's size.
+    pub fn most(&self) -> usize
+        ensures value { result ≡ most (C.table self.now.painter.checked) self.now.painter.session.status
+            self.now.screen.clearok self.now.painter.shown self.now.screen }
+        ensures rows { self.now.painter.shown.rows ≡ (C.table self.now.painter.checked).rows }
+        ensures cols { self.now.painter.shown.cols ≡ (C.table self.now.painter.checked).cols }
+    {
+        let checked = self.painter.checked();
+        match self.painter.status() {
+            Status::Known => {
+                if self.screen.clearok() {
+                    fresh_limit(checked)
+                } else {
+                    cells_limit(checked, self.painter.differing(&self.screen))
+                }
+            }
+            Status::Fresh | Status::Lost => fresh_limit(checked),
+        }
     }
 
     /// Does `call`. `newwin`, `newpad` and `dupwin` take memory, and are refused with `NoMemory` if there is none; all
