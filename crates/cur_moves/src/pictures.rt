@@ -2,7 +2,7 @@
 ghost use Rattle.std.specs.Prelude.{◌≡◌};
 
 use crate::scrolls::{Scroll, line_before};
-use cur_steps::{Cells, Ink, Picture, blank_shown};
+use cur_steps::{Cells, Ink, Picture, blank_shown, is_same};
 
 /// The screen `old` after `scroll`.
 #[derive(Drop)]
@@ -22,6 +22,20 @@ impl<'a, O: Picture> Picture for Shifted<'a, O> {
         match line_before(self.scroll, row) {
             Some(line) => self.old.at(line, col),
             None => Ink::blank(),
+        }
+    }
+
+    fn shows(&self, row: usize, col: usize, ink: Ink) -> bool {
+        match line_before(self.scroll, row) {
+            Some(line) => self.old.shows(line, col, ink),
+            None => is_same(Ink::blank(), ink),
+        }
+    }
+
+    fn is_blank(&self, row: usize, col: usize) -> bool {
+        match line_before(self.scroll, row) {
+            Some(line) => self.old.is_blank(line, col),
+            None => true,
         }
     }
 
