@@ -4,7 +4,7 @@ use Rattle.std.specs.List.{AllByRecursion, list_any}
 use Rattle.std.proofs.lemmas.Bool.{and_from, and_left, and_right, eq-eqb, ne_eqb, le-leb, lt-leb, cases_eq}
 use Rattle.vt_term.proofs.Sequences.{inside, stem, middle}
 use Rattle.vt_term.specs.Text.{IsIntermediate, IsFinal, IsEscapeFinal, IsIntroducer, IsControlSequence, IsEscapeSequence, IsSequence, IsSingle, IsOpen, IsDropped}
-use Rattle.ti_checker.specs.Ignored.{is_final, is_escape_final, has_final, is_whole_sequence}
+use Rattle.vt_states.specs.Ignored.{is_final, is_escape_final, has_final, is_whole_sequence}
 
 or_right : (a b : Bool) → b ≡ true → (a || b) ≡ true
 or_right true b h = refl

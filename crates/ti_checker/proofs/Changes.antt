@@ -9,7 +9,7 @@ use Rattle.vt_term.specs.Look.{Rendition, plain}
 use Rattle.vt_term.specs.Rendition.{RenditionChange, Plain, Bold, Faint, Underline, Blink, Negative, Concealed, NormalIntensity, NotUnderlined, Steady, Positive, Revealed, Foreground, Background, change_of, changed, changed_if, rendered}
 use Rattle.vt_term.specs.Screen.{Screen, reset_screen}
 use Rattle.vt_term.specs.Step.{mode_set}
-use Rattle.ti_checker.specs.Ignored.{is_unknown_rendition, is_unknown_mode}
+use Rattle.vt_states.specs.Ignored.{is_unknown_rendition, is_unknown_mode}
 
 no_change : (change : Option RenditionChange) (r : Rendition) → is_none change ≡ true → changed_if change r ≡ r
 no_change None r h = refl

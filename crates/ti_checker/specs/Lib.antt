@@ -4,7 +4,6 @@ pub mod Cells
 pub mod Certificate
 pub mod Doubts
 pub mod First
-pub mod Ignored
 pub mod Kept
 pub mod Limit
 pub mod Mislooks

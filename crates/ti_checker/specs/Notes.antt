@@ -9,7 +9,7 @@ use Rattle.ti_rows.specs.Names.{cap_of, first_in_order, firsts}
 use Rattle.ti_rows.specs.Params.{params}
 use Rattle.ti_conforms.specs.Sends.{Sends, ReadsStatic, values}
 use Rattle.ti_conforms.specs.Entries.{is_checked, string_of}
-use Rattle.ti_checker.specs.Ignored.{is_ignored}
+use Rattle.vt_states.specs.Ignored.{is_ignored}
 use Rattle.ti_checker.specs.No.{SendsSome}
 use Rattle.ti_checker.specs.declared.note_list.CheckNote.{CheckNote}
 use Rattle.ti_checker.specs.declared.causes.Cause.{Cause}

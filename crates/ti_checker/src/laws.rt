@@ -6,7 +6,7 @@ ghost use Rattle.ti_caps.specs.Entry.{Content};
 ghost use Rattle.ti_checker.specs.{Breakage.{ShownBreaks}, Certificate.{BasicCertificate, IsCertificateOf}};
 ghost use Rattle.ti_checker.specs.Doubts.{NeverElsewhere, NeverOther, NeverOtherCells, NeverOtherModes, NeverUnasked};
 ghost use Rattle.ti_checker.specs.Doubts.{NeverUntamed, OneTeaching};
-ghost use Rattle.ti_checker.specs.Ignored.{is_unknown_mode, is_unknown_rendition, is_whole_sequence};
+ghost use Rattle.vt_states.specs.Ignored.{is_unknown_mode, is_unknown_rendition, is_whole_sequence};
 ghost use Rattle.ti_checker.specs.{No.{ClaimsNothing, IsNo}, Notes.{EntryNotes}};
 ghost use Rattle.ti_checker.specs.{declared.causes.Cause.TheVariants.{TooLong}, declared.causes.No.{No}};
 ghost use Rattle.ti_checker.specs.declared.note_list.CheckNote.{CheckNote};

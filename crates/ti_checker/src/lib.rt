@@ -10,7 +10,6 @@ mod checks;
 mod clash_lists;
 mod drafts;
 mod fitness;
-mod ignored;
 mod judgements;
 mod kept;
 pub mod laws;

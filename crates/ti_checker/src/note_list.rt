@@ -6,13 +6,13 @@ ghost use Rattle.ti_checker.specs.Notes as spec;
 ghost use Rattle.ti_rows.specs.Names.{cap_of};
 
 use crate::causes::{Cause, No};
-use crate::ignored::is_ignored;
 use crate::judgements::tokens_of;
 use crate::sends::sent;
 use std::alloc::{AllocError, Global};
 use ti_caps::{Bytes, Cap, Entry};
 use ti_conforms::checked_string;
 use ti_rows::{CAPABILITIES, Row};
+use vt_states::is_ignored;
 use vt_term::{Size, Token};
 
 /// A sequence that the terminal ignores, wholly or in one of its numbers.

@@ -1,19 +1,20 @@
 -- Strings that send functions which the terminal T hasn't.
 use Rattle.std.specs.Prelude.{◌≡◌, ◌==◌, ◌&&◌, ◌||◌, ◌<◌, ℕ, not, Bool, true, false, List, [], ◌∷◌, Option, Some, None}
 use Rattle.std.specs.List.{list_any}
-use Rattle.ti_checker.specs.Ignored.{ignores}
 use Rattle.ti_checker.specs.declared.causes.Cause.{Cause}
-use Rattle.ti_checker.specs.declared.causes.Cause.TheVariants.{WrongEffect}
+use Rattle.ti_checker.specs.declared.causes.Cause.TheVariants as causes
 use Rattle.ti_grades.specs.FaultRuns.{AreTokensOf}
 use Rattle.ti_rows.specs.Lists.{IsInRange, rank}
 use Rattle.ti_rows.specs.Names.{order}
 use Rattle.ti_rows.specs.declared.rows.Row.{Row}
+use Rattle.vt_states.specs.Ignored.{ignores}
 use Rattle.vt_term.specs.Function.{function_of}
 
 -- NUL, BEL and DEL, which no terminal shows on its screen (ECMA-48 8.3.88, 8.3.3; ECMA-35 6.2.2)
 abbrev pub is_silent : List ℕ → Bool
+is_silent [] = false
 is_silent (b ∷ []) = (b == 0) || (b == 7) || (b == 127)
-is_silent _ = false
+is_silent (b ∷ c ∷ rest) = false
 
 -- the token is no function of T, or has a number that T hasn't
 abbrev pub is_unknown : List ℕ → Bool
@@ -57,8 +58,20 @@ IsNeverKnownFor rows cols (Some row) (Some string) found = IsNeverKnown rows col
 
 -- it is asked of a wrong effect alone
 abbrev pub IsBeyond : ℕ → ℕ → Cause → Option Row → Option (List ℕ) → Bool → Type 0
-IsBeyond rows cols (WrongEffect probe) row string found = IsNeverKnownFor rows cols row string found
-IsBeyond rows cols _ row string found = found ≡ false
+IsBeyond rows cols (causes.WrongEffect probe) row string found = IsNeverKnownFor rows cols row string found
+IsBeyond rows cols causes.FlagOut row string found = found ≡ false
+IsBeyond rows cols causes.Absent row string found = found ≡ false
+IsBeyond rows cols causes.AcsByte row string found = found ≡ false
+IsBeyond rows cols (causes.Parm fault) row string found = found ≡ false
+IsBeyond rows cols causes.StaticRead row string found = found ≡ false
+IsBeyond rows cols causes.Unfinished row string found = found ≡ false
+IsBeyond rows cols causes.Stuck row string found = found ≡ false
+IsBeyond rows cols causes.NotTame row string found = found ≡ false
+IsBeyond rows cols causes.BadLook row string found = found ≡ false
+IsBeyond rows cols causes.NotShown row string found = found ≡ false
+IsBeyond rows cols causes.TooLong row string found = found ≡ false
+IsBeyond rows cols causes.NoResync row string found = found ≡ false
+IsBeyond rows cols causes.NoMemory row string found = found ≡ false
 
 -- (Serves the code alone.) The rows of a capability before the one of this rank send something that T hasn't.
 abbrev pub UnknownBefore : ℕ → ℕ → List ℕ → ℕ → ℕ → Type 0

@@ -1,60 +1,19 @@
 //! Strings that send functions which the terminal hasn't.
 
 ghost use Rattle.std.specs.{List.{list_any}, Prelude.{◌≡◌, ◌<◌, IfOk, option_copied, option_map, true, false}};
-ghost use Rattle.ti_checker.specs.Ignored as ignored;
 ghost use Rattle.ti_grades.specs.Functions as spec;
 ghost use Rattle.ti_rows.specs.Lists.{IsFirst};
 ghost use Rattle.ti_rows.specs.Names.{order, capabilities};
-ghost use Rattle.vt_term.specs.Function.{function_of};
 
 use crate::fault_runs::tokens_by;
 use std::alloc::{AllocError, Global};
 use ti_checker::Cause;
 use ti_rows::Row;
-use vt_term::{Function, ModeKind, RenditionChange, Size, Token};
+use vt_states::ignores;
+use vt_term::{Size, Token};
 
 /// An answer, or that memory ran out.
 type Answer = Result<bool, AllocError>;
-
-fn is_unknown_rendition(number: Option<u16>) -> bool
-    ensures { result ≡ ignored.is_unknown_rendition number }
-{
-    RenditionChange::of(number.unwrap_or(0)).is_none()
-}
-
-fn is_unknown_mode(kind: ModeKind, number: Option<u16>) -> bool
-    ensures { result ≡ ignored.is_unknown_mode kind number }
-{
-    let number = number.unwrap_or(0);
-    match kind {
-        ModeKind::Standard => number != 4,
-        ModeKind::Private => number != 7 && number != 25,
-    }
-}
-
-fn has_unknown_rendition(numbers: &[Option<u16>]) -> bool
-    ensures { result ≡ list_any ignored.is_unknown_rendition numbers.now }
-{
-    numbers.iter().any(|number| is_unknown_rendition(*number))
-}
-
-fn has_unknown_mode(kind: ModeKind, numbers: &[Option<u16>]) -> bool
-    ensures { result ≡ list_any (ignored.is_unknown_mode kind) numbers.now }
-{
-    numbers.iter().any(|number| is_unknown_mode(kind, *number))
-}
-
-/// Whether the terminal has no such `function`, or not with one of its numbers.
-fn is_ignored(function: Function<'_>) -> bool
-    ensures { result ≡ ignored.ignores function.entry }
-{
-    match function {
-        Function::Ignored => true,
-        Function::SelectRendition(numbers) => has_unknown_rendition(numbers.as_slice()),
-        Function::Modes(kind, _, numbers) => has_unknown_mode(kind, numbers.as_slice()),
-        _ => false,
-    }
-}
 
 /// Whether a token with these bytes is NUL, BEL or DEL.
 fn is_silent(bytes: &[u8]) -> bool
@@ -67,7 +26,7 @@ fn is_silent(bytes: &[u8]) -> bool
 fn is_unknown(token: &Token) -> bool
     ensures { result ≡ spec.is_unknown token.now }
 {
-    is_ignored(token.function()) && !is_silent(token.bytes())
+    ignores(token.function()) && !is_silent(token.bytes())
 }
 
 fn any_unknown(tokens: &[Token]) -> bool

@@ -1,4 +1,3 @@
 pub mod Parts
 pub mod Listing
 pub mod RowFacts
-pub mod Ignored

@@ -10,7 +10,6 @@ mod fault_runs;
 mod faulty_parts;
 mod faulty_regions;
 mod indents;
-pub mod laws;
 mod locations;
 mod looks;
 mod note_texts;

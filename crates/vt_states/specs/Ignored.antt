@@ -1,12 +1,17 @@
 -- The part of a sequence that the terminal ignores: all of it if it names no function, or some of its numbers (ECMA-48
--- 5.4, control sequences; 8.3.106 RM, 8.3.117 SGR, 8.3.125 SM; ECMA-35 13.2, escape sequences). A law of ti_verdicts
--- says that `is_ignored` is the word by which the notes of `check` are chosen.
+-- 5.4, control sequences; 8.3.106 RM, 8.3.117 SGR, 8.3.125 SM; ECMA-35 13.2, escape sequences). `is_ignored` also
+-- chooses the notes of `check`, and `ignores` serves the grades of faults.
 use Rattle.std.specs.Prelude.{ℕ, ◌==◌, ◌&&◌, ◌||◌, nat_le, not, is_none, Bool, true, false, List, [], ◌∷◌}
 use Rattle.std.specs.Prelude.{if◌then◌else◌, min, ◌+◌, ◌-◌, ◌*◌, Option, None, Some}
 use Rattle.std.specs.Option.{unwrap_or}
 use Rattle.std.specs.List.{list_any}
 use Rattle.vt_term.specs.Rendition.{change_of}
-use Rattle.vt_term.specs.Function.{Function, ModeKind, Standard, Private, SelectRendition, Modes, Ignored, function_of}
+use Rattle.vt_term.specs.Function.{Function, ModeKind, Standard, Private, function_of}
+use Rattle.vt_term.specs.Function.{Print, LineFeed, CarriageReturn, Backspace, Tab, ShiftOut, ShiftIn, ReverseIndex}
+use Rattle.vt_term.specs.Function.{NextLine, CursorUp, CursorDown, CursorForward, CursorBack, CursorColumn, CursorRow}
+use Rattle.vt_term.specs.Function.{CursorPosition, EraseLine, EraseDisplay, EraseCells, InsertCells, DeleteCells}
+use Rattle.vt_term.specs.Function.{InsertLines, DeleteLines, ScrollUp, ScrollDown, Margins, Designate}
+use Rattle.vt_term.specs.Function.{SelectRendition, Modes, Ignored}
 use Rattle.vt_states.specs.declared.ignored.Lack.{Lack}
 use Rattle.vt_states.specs.declared.ignored.Lack.TheVariants.{Sequence, Number}
 use Rattle.vt_states.specs.declared.ignored.Numbers.{Numbers}
@@ -51,7 +56,33 @@ abbrev pub ignores : Function → Bool
 ignores Ignored = true
 ignores (SelectRendition numbers) = list_any is_unknown_rendition numbers
 ignores (Modes kind on numbers) = list_any (is_unknown_mode kind) numbers
-ignores _ = false
+ignores (Print b) = false
+ignores LineFeed = false
+ignores CarriageReturn = false
+ignores Backspace = false
+ignores Tab = false
+ignores ShiftOut = false
+ignores ShiftIn = false
+ignores ReverseIndex = false
+ignores NextLine = false
+ignores (CursorUp n) = false
+ignores (CursorDown n) = false
+ignores (CursorForward n) = false
+ignores (CursorBack n) = false
+ignores (CursorColumn n) = false
+ignores (CursorRow n) = false
+ignores (CursorPosition row col) = false
+ignores (EraseLine extent) = false
+ignores (EraseDisplay extent) = false
+ignores (EraseCells n) = false
+ignores (InsertCells n) = false
+ignores (DeleteCells n) = false
+ignores (InsertLines n) = false
+ignores (DeleteLines n) = false
+ignores (ScrollUp n) = false
+ignores (ScrollDown n) = false
+ignores (Margins first last) = false
+ignores (Designate set graphic) = false
 
 abbrev pub is_ignored : List ℕ → Bool
 is_ignored token = is_whole_sequence token && ignores (function_of token)
@@ -72,7 +103,33 @@ abbrev pub lack_in : Function → Option Lack
 lack_in Ignored = Some Sequence
 lack_in (SelectRendition numbers) = number_lack (first_unknown is_unknown_rendition numbers)
 lack_in (Modes kind on numbers) = number_lack (first_unknown (is_unknown_mode kind) numbers)
-lack_in _ = None
+lack_in (Print b) = None
+lack_in LineFeed = None
+lack_in CarriageReturn = None
+lack_in Backspace = None
+lack_in Tab = None
+lack_in ShiftOut = None
+lack_in ShiftIn = None
+lack_in ReverseIndex = None
+lack_in NextLine = None
+lack_in (CursorUp n) = None
+lack_in (CursorDown n) = None
+lack_in (CursorForward n) = None
+lack_in (CursorBack n) = None
+lack_in (CursorColumn n) = None
+lack_in (CursorRow n) = None
+lack_in (CursorPosition row col) = None
+lack_in (EraseLine extent) = None
+lack_in (EraseDisplay extent) = None
+lack_in (EraseCells n) = None
+lack_in (InsertCells n) = None
+lack_in (DeleteCells n) = None
+lack_in (InsertLines n) = None
+lack_in (DeleteLines n) = None
+lack_in (ScrollUp n) = None
+lack_in (ScrollDown n) = None
+lack_in (Margins first last) = None
+lack_in (Designate set graphic) = None
 
 -- (Serves the code alone.) the numbers that functions lack: of SGR, of modes, and those of ED and EL
 abbrev pub is_unknown : Numbers → Option ℕ → Bool

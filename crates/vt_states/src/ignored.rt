@@ -209,7 +209,8 @@ fn with_digit(number: Option<u16>, digit: u8) -> u16
     longer.min(u32::from(u16::MAX)) as u16
 }
 
-fn is_unknown(kind: Numbers, number: Option<u16>) -> bool
+/// Whether the terminal lacks this `number` of its kind.
+pub(crate) fn is_unknown(kind: Numbers, number: Option<u16>) -> bool
     ensures { result ≡ spec.is_unknown kind number }
 {
     match kind {

@@ -4,6 +4,7 @@
 mod cases;
 mod counts;
 mod ignored;
+mod ignored_tokens;
 mod json;
 mod kinds;
 mod lines;
@@ -17,6 +18,7 @@ mod watches;
 
 pub use cases::{CaseFault, case_answers};
 pub use counts::{Counts, Kind};
+pub use ignored_tokens::{ignores, is_ignored};
 pub use json::{case_members, list_member};
 pub use recordings::{Recording, plain_recording};
 pub use scripts::without_script_lines;
