@@ -2,6 +2,7 @@
 //! entries of further files; fields that continue on further lines. For each of these, where a field stands.
 #![tactic(auto)]
 
+mod breaks;
 mod columns;
 mod compiled;
 mod file_lines;
@@ -18,6 +19,7 @@ mod resolution;
 mod scan;
 mod spots;
 
+pub use breaks::rewrapped;
 pub use columns::{Columns, columns_of_part};
 pub use compiled::raw_of;
 pub use file_lines::{FieldPlace, LinedFile, LinedFiles, lined_files};
