@@ -50,7 +50,7 @@ WRONG = [
 BROKEN = ("Underflow", "BadNest", "BadCode", "Overflow", "BadChar", "WrongKind")
 BROKEN_FIELDS = (r"bel=^G\E[", r"civis=\E[?25", r"setaf=\E[3%p2%dm")
 AGAINST_CUP = (r"hpa=\E[%p1%dG", r"vpa=\E[%p1%dd")
-CONTRADICTING = (r"op=\E[m", r"clear=\E[2J")
+CONTRADICTING = (r"op=\E[m",)
 UNKNOWN = ("FlagOut", "AcsByte", "NotTame", "NotShown", "Stuck", "Unfinished", "StaticRead", "TooLong")
 GRADES = ("broken", "contradicts", "wrong", "unknown")
 

@@ -1,2 +1,4 @@
 pub mod Sends
 pub mod Lists
+pub mod BehindSigns
+pub mod Sets

@@ -1,4 +1,4 @@
--- What a string sends, and its tokens.
+-- Strings that send nothing, and the tokens of those that send bytes.
 use Rattle.std.proofs.Common.{◌≡◌, ◌≢◌, ℕ, List, Option, Some, None, Ok, Err, refl, subst}
 use Rattle.ti_conforms.specs.Sends.{IsUnsent, Sends}
 use Rattle.ti_conforms.specs.declared.sends.SendFault.{SendFault}

@@ -1,9 +1,12 @@
 -- The row of the table that a fault is about, what the entry's string sends for it, and the effect of that.
-use Rattle.std.specs.Prelude.{◌≡◌, ◌≢◌, ℕ, List, [], Option, Some, None, Err, option_and_then}
+use Rattle.std.specs.Prelude.{◌≡◌, ◌≢◌, ℕ, List, [], ◌∷◌, Option, Some, None, Err, option_and_then, option_map}
+use Rattle.ti_caps.specs.Entry.{Content}
 use Rattle.ti_caps.specs.Table.{name_at}
 use Rattle.ti_checker.specs.declared.causes.No.{No}
 use Rattle.ti_checker.specs.Notes.{SendsTokens}
+use Rattle.ti_conforms.specs.Entries.{string_of}
 use Rattle.ti_conforms.specs.Sends.{ReadsStatic, Sends, values}
+use Rattle.ti_grades.specs.declared.effects.Runs.{Runs}
 use Rattle.ti_parm.specs.Meaning.{meaning}
 use Rattle.ti_parm.specs.Value.{zeros}
 use Rattle.ti_parm.specs.declared.fault.ParmFault.{ParmFault}
@@ -11,6 +14,7 @@ use Rattle.ti_rows.specs.Asked.{start_of}
 use Rattle.ti_rows.specs.Names.{name_of}
 use Rattle.ti_rows.specs.Params.{with_params}
 use Rattle.ti_rows.specs.declared.rows.Row.{Row}
+use Rattle.ti_rows.specs.declared.rows.Row.TheVariants.{Smcup, Rmcup}
 use Rattle.vt_effects.specs.Record.{record_of}
 use Rattle.vt_effects.specs.declared.effects.Effect.{Effect}
 use Rattle.vt_term.specs.Fault.{TellsFault}
@@ -78,3 +82,16 @@ abbrev pub IsEffectFor : ℕ → ℕ → Option Row → Option (List ℕ) → Op
 IsEffectFor rows cols None string effect = effect ≡ None
 IsEffectFor rows cols (Some row) None effect = effect ≡ None
 IsEffectFor rows cols (Some row) (Some string) effect = HasEffect rows cols string row effect
+
+-- the string with a `%i` in front of it, by which it counts lines and columns from 1
+abbrev pub incremented : List ℕ → List ℕ
+incremented string = 37 ∷ 105 ∷ string
+
+-- the effects that decide a grade: of what the entry's string sends for the row, also if it counts from 1, and of its
+-- `smcup` and `rmcup`
+pub record AreRuns (rows cols : ℕ) (entry : Content) (row : Option Row) (string : Option (List ℕ)) (runs : Runs)
+    : Type 0 where
+  pub own : IsEffectFor rows cols row string runs.own
+  pub counted : IsEffectFor rows cols row (option_map incremented string) runs.counted
+  pub enters : IsEffectFor rows cols (Some Smcup) (string_of entry Smcup) runs.enters
+  pub leaves : IsEffectFor rows cols (Some Rmcup) (string_of entry Rmcup) runs.leaves

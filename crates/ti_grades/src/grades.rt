@@ -3,18 +3,18 @@
 ghost use Rattle.std.specs.Prelude.{◌≡◌, IfOk};
 ghost use Rattle.ti_grades.specs.Grades as spec;
 
-use crate::codes::{CodeKind, has_code};
-use crate::effects::effect_for;
+use crate::codes::{CodeKind, has_code, is_designation};
+use crate::effects::runs_of;
 use crate::fault_runs::{row_of, sent_for};
 use crate::functions::is_beyond;
-use crate::odds::{bytes_of, is_odd_count, is_odd_effect};
-use crate::sequences::{ends_inside, has_padding};
+use crate::odds::{Witness, bytes_of, is_against, is_elsewhere, witness_for};
+use crate::sequences::{is_open_control, is_padded, token_fault};
 use std::alloc::{AllocError, Global};
 use ti_caps::Entry;
 use ti_checker::{Cause, No};
 use ti_parm::ParmFault;
 use ti_rows::{Params, Row};
-use vt_term::Size;
+use vt_term::{Size, TokenFault};
 
 /// How much a fault says to people who keep entries.
 #[derive(Clone, Copy, Debug, PartialEq, Eq)]
@@ -31,7 +31,9 @@ pub enum Grade {
 
 impl Grade {
     /// Its word.
-    pub fn name(self) -> &'static str {
+    pub fn name(self) -> &'static str
+        ensures { result.now ≡ spec.word self }
+    {
         match self {
             Grade::Broken => "broken",
             Grade::Contradicts => "contradicts",
@@ -42,8 +44,8 @@ impl Grade {
 }
 
 /// Whether a string with this fault is none in the language of parameters.
-fn is_broken_code(fault: ParmFault, string: &[u8]) -> bool
-    ensures { result ≡ spec.is_broken_code fault string.now }
+fn is_no_code(fault: ParmFault, string: &[u8]) -> bool
+    ensures { result ≡ spec.is_no_code fault string.now }
 {
     match fault {
         ParmFault::Underflow | ParmFault::BadNest | ParmFault::WrongKind => true,
@@ -53,14 +55,46 @@ fn is_broken_code(fault: ParmFault, string: &[u8]) -> bool
     }
 }
 
+fn takes_none(params: &Params) -> bool
+    ensures { result ≡ spec.takes_none params.now.items }
+{
+    match params.as_slice() {
+        [] => true,
+        [..] => false,
+    }
+}
+
+/// Whether a program may send `string` as it is: the row has no parameters, and each `%` stands right behind ESC.
+fn may_be_plain(row: Option<Row>, string: &[u8]) -> bool
+    ensures { result ≡ spec.may_be_plain row string.now }
+{
+    match row {
+        Some(row) => takes_none(&row.params()) && is_designation(string),
+        None => false,
+    }
+}
+
+/// Whether a string with this fault is none in the language of parameters, and each program expands it.
+fn is_broken_code(fault: ParmFault, row: Option<Row>, string: &[u8]) -> bool
+    ensures { result ≡ spec.is_broken_code fault row string.now }
+{
+    is_no_code(fault, string) && !may_be_plain(row, string)
+}
+
 /// Whether a string with this fault is none in the language of parameters, or sends no control sequence of ECMA-48.
-fn is_broken_text(cause: Cause, string: &[u8], sent: &[u8]) -> bool
-    ensures { result ≡ spec.is_broken_text cause string.now sent.now }
+fn is_broken_text(
+    cause: Cause,
+    row: Option<Row>,
+    string: &[u8],
+    sent: &[u8],
+    end: Option<TokenFault>,
+) -> bool
+    ensures { result ≡ spec.is_broken_text cause row string.now sent.now end }
 {
     match cause {
-        Cause::Parm(fault) => is_broken_code(fault, string),
-        Cause::Stuck => has_padding(sent),
-        Cause::Unfinished => ends_inside(sent),
+        Cause::Parm(fault) => is_broken_code(fault, row, string),
+        Cause::Stuck => is_padded(sent, end),
+        Cause::Unfinished => is_open_control(sent, end),
         Cause::FlagOut | Cause::Absent | Cause::AcsByte | Cause::StaticRead => false,
         Cause::NotTame | Cause::BadLook | Cause::WrongEffect(_) | Cause::NotShown => false,
         Cause::TooLong | Cause::NoResync | Cause::NoMemory => false,
@@ -91,10 +125,16 @@ fn is_unread(row: Option<Row>, string: &[u8]) -> bool
 }
 
 /// Whether the string is wrong for any terminal.
-fn is_broken(cause: Cause, row: Option<Row>, string: &[u8], sent: &[u8]) -> bool
-    ensures { result ≡ spec.is_broken cause row string.now sent.now }
+fn is_broken(
+    cause: Cause,
+    row: Option<Row>,
+    string: &[u8],
+    sent: &[u8],
+    end: Option<TokenFault>,
+) -> bool
+    ensures { result ≡ spec.is_broken cause row string.now sent.now end }
 {
-    is_broken_text(cause, string, sent) || is_unread(row, string)
+    is_broken_text(cause, row, string, sent, end) || is_unread(row, string)
 }
 
 /// Whether T can't tell. The fault may be the entry's only one, and what the string sends may always be beyond T.
@@ -126,6 +166,15 @@ fn first_grade(broken: bool, contradicts: bool, unknown: bool) -> Grade
     }
 }
 
+/// The grade by what is known of a fault: whether it is the entry's only one, whether its string is `broken`, what the
+/// entry's other strings say, and whether all that it sends is beyond T.
+fn graded(cause: Cause, alone: bool, broken: bool, witness: Witness, beyond: bool) -> Grade
+    ensures { result ≡ spec.graded cause alone broken witness beyond }
+{
+    let unknown = is_unknown(cause, alone, beyond || is_elsewhere(witness));
+    first_grade(broken, is_against(witness), unknown)
+}
+
 /// The grade of the fault `no` of `entry` on a terminal of `size`; `alone` tells whether it is the entry's only one.
 ///
 /// # Errors
@@ -143,14 +192,11 @@ pub fn grade_of(
     let string = entry.get_string(no.cap);
     let sent = sent_for(alloc, row, string)?;
     let sent = bytes_of(sent.as_deref());
-    let effect = effect_for(alloc, size, row, string)?;
+    let end = token_fault(alloc, sent)?;
+    let runs = runs_of(alloc, size, entry, row, string)?;
     let beyond = is_beyond(alloc, size, no.cause, row, string)?;
     let string = bytes_of(string);
-    let contradicts = is_odd_count(entry, row, string)
-        || is_odd_effect(entry, no.cause, row, sent, effect);
-    Ok(first_grade(
-        is_broken(no.cause, row, string, sent),
-        contradicts,
-        is_unknown(no.cause, alone, beyond),
-    ))
+    let broken = is_broken(no.cause, row, string, sent, end);
+    let witness = witness_for(entry, no.cause, row, string, sent, &runs);
+    Ok(graded(no.cause, alone, broken, witness, beyond))
 }

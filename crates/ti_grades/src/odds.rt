@@ -1,16 +1,27 @@
-//! Contradictions between a string and the entry's own other strings.
+//! The entry's other strings as witnesses against a string with a wrong effect.
 
-ghost use Rattle.std.specs.Prelude.{◌≡◌, None, option_copied};
-ghost use Rattle.ti_conforms.specs.Entries as entries;
-ghost use Rattle.ti_grades.specs.Grades as spec;
+ghost use Rattle.std.specs.Prelude.{◌≡◌, option_copied};
+ghost use Rattle.ti_grades.specs.Odds as spec;
 
 use crate::codes::{CodeKind, has_code};
-use crate::effects::{erases_away, takes_rendition};
-use crate::sequences::are_shifts;
-use ti_caps::Entry;
+use crate::effects::{
+    Runs, bounds, clears, ends_in_col, ends_in_row, erases_away, takes_rendition,
+};
+use crate::sequences::{are_shifts, has_other_set};
+use ti_caps::{Cap, Entry, Kind, at};
 use ti_checker::Cause;
 use ti_rows::Row;
-use vt_effects::Effect;
+
+/// An entry's other strings as witnesses about one of its strings.
+#[derive(Clone, Copy)]
+pub(crate) enum Witness {
+    /// They say nothing of it.
+    Silent,
+    /// They contradict it.
+    Against,
+    /// It needs a set that they designate and the terminal T hasn't.
+    Elsewhere,
+}
 
 /// The bytes of a string; none where there is no string.
 pub(crate) fn bytes_of(string: Option<&[u8]>) -> &[u8]
@@ -22,70 +33,176 @@ pub(crate) fn bytes_of(string: Option<&[u8]>) -> &[u8]
     }
 }
 
-/// Whether `own` counts from 1 by `%i`, and `kin` neither so nor by a sum.
-fn counts_alone(own: &[u8], kin: &[u8]) -> bool
-    ensures { result ≡ spec.counts_alone own.now kin.now }
+/// Whether the entry has `home`, and its `smcup` or `rmcup` clears the screen as `clear` should.
+fn homes_elsewhere(entry: &Entry, runs: &Runs) -> bool
+    ensures { result ≡ spec.homes_elsewhere entry.now runs.now }
 {
-    has_code(own, CodeKind::Increments)
-        && !(has_code(kin, CodeKind::Increments) || has_code(kin, CodeKind::Adds))
+    entry.get_string(Row::Home.cap()).is_some() && (clears(runs.enters) || clears(runs.leaves))
 }
 
-/// Whether one of the two counts from 1 by `%i`, and the other neither so nor by a sum.
-fn counts_otherwise(own: &[u8], kin: &[u8]) -> bool
-    ensures { result ≡ spec.counts_otherwise own.now kin.now }
+/// Whether the entry's string for `row` has `%i`.
+fn increments(entry: &Entry, row: Row) -> bool
+    ensures { result ≡ spec.increments entry.now row }
 {
-    counts_alone(own, kin) || counts_alone(kin, own)
+    has_code(bytes_of(entry.get_string(row.cap())), CodeKind::Increments)
 }
 
-/// Whether the entry has a `cup`, and one of it and `string` alone counts from 1.
-fn differs_from_cup(entry: &Entry, string: &[u8]) -> bool
-    ensures { result ≡ spec.differs_from_cup entry.now string.now }
+/// Whether `string` has no `%i`, and the entry's `cup` has it.
+fn misses_increment(entry: &Entry, string: &[u8]) -> bool
+    ensures { result ≡ spec.misses_increment entry.now string.now }
 {
-    let cup = entry.get_string(Row::Cup(0, 0).cap());
-    cup.is_some() && counts_otherwise(string, bytes_of(cup))
+    !has_code(string, CodeKind::Increments) && increments(entry, Row::Cup(0, 0))
 }
 
-/// Whether the `string` for lines or columns and the entry's `cup` count otherwise.
-pub(crate) fn is_odd_count(entry: &Entry, row: Option<Row>, string: &[u8]) -> bool
-    ensures { result ≡ spec.is_odd_count entry.now row string.now }
+/// Whether `string` has no `%i`, and the entry's `hpa`, `vpa` or `csr` has it.
+fn misses_increment_of_kin(entry: &Entry, string: &[u8]) -> bool
+    ensures { result ≡ spec.misses_increment_of_kin entry.now string.now }
 {
-    match row {
-        Some(Row::Hpa(_) | Row::Vpa(_) | Row::Csr(_, _)) => differs_from_cup(entry, string),
-        Some(_) | None => false,
+    !has_code(string, CodeKind::Increments)
+        && (increments(entry, Row::Hpa(0))
+            || increments(entry, Row::Vpa(0))
+            || increments(entry, Row::Csr(0, 0)))
+}
+
+#[tactic(auto, unfolding(ti_caps::specs::Table::kind_of, ti_caps::specs::Table::position_of, ti_caps::specs::Table::place_from))]
+fn is1() -> Cap
+    ensures { result ≡ spec.is1 }
+{
+    at(Kind::String, 48).unwrap()
+}
+
+#[tactic(auto, unfolding(ti_caps::specs::Table::kind_of, ti_caps::specs::Table::position_of, ti_caps::specs::Table::place_from))]
+fn is2() -> Cap
+    ensures { result ≡ spec.is2 }
+{
+    at(Kind::String, 49).unwrap()
+}
+
+#[tactic(auto, unfolding(ti_caps::specs::Table::kind_of, ti_caps::specs::Table::position_of, ti_caps::specs::Table::place_from))]
+fn is3() -> Cap
+    ensures { result ≡ spec.is3 }
+{
+    at(Kind::String, 50).unwrap()
+}
+
+#[tactic(auto, unfolding(ti_caps::specs::Table::kind_of, ti_caps::specs::Table::position_of, ti_caps::specs::Table::place_from))]
+fn enacs() -> Cap
+    ensures { result ≡ spec.enacs }
+{
+    at(Kind::String, 155).unwrap()
+}
+
+/// Whether the entry's string `cap` designates to G1 a set that the terminal hasn't.
+fn designates_other(entry: &Entry, cap: Cap) -> bool
+    ensures { result ≡ spec.designates_other entry.now cap }
+{
+    has_other_set(bytes_of(entry.get_string(cap)))
+}
+
+/// Whether a string that prepares the terminal does so.
+fn has_own_set(entry: &Entry) -> bool
+    ensures { result ≡ spec.has_own_set entry.now }
+{
+    designates_other(entry, is1())
+        || designates_other(entry, is2())
+        || designates_other(entry, is3())
+        || designates_other(entry, enacs())
+}
+
+/// The witness about a string for a set that sends these bytes.
+fn of_shifts(entry: &Entry, sent: &[u8]) -> Witness
+    ensures { result ≡ spec.of_shifts entry.now sent.now }
+{
+    if !are_shifts(sent) {
+        Witness::Silent
+    } else if has_own_set(entry) {
+        Witness::Elsewhere
+    } else {
+        Witness::Against
     }
 }
 
-/// Whether a wrong effect of what is `sent` for `row` is at odds with what the entry's other strings are for.
-fn is_at_odds(entry: &Entry, row: Row, sent: &[u8], effect: Option<Effect>) -> bool
-    ensures { result ≡ spec.is_at_odds entry.now row sent.now effect }
+fn against(so: bool) -> Witness
+    ensures { result ≡ spec.against so }
 {
-    match row {
-        Row::Op => takes_rendition(effect),
-        Row::Clear => entry.get_string(Row::Home.cap()).is_some() && erases_away(effect),
-        Row::Smacs | Row::Rmacs => are_shifts(sent),
-        Row::Cup(_, _) | Row::Home | Row::Cr | Row::Hpa(_) | Row::Vpa(_) => false,
-        Row::Cub1 | Row::Cuf1 | Row::Cuu1 | Row::Cud1 => false,
-        Row::Cub(_) | Row::Cuf(_) | Row::Cuu(_) | Row::Cud(_) => false,
-        Row::El | Row::El1 | Row::Ed | Row::Ech(_) => false,
-        Row::Sgr(_) | Row::Sgr0 | Row::Setaf(_) | Row::Setab(_) => false,
-        Row::Smul | Row::Rev | Row::Blink | Row::Dim | Row::Bold | Row::Invis => false,
-        Row::Smso | Row::Enacs | Row::Csr(_, _) | Row::Ind | Row::Ri => false,
-        Row::Civis | Row::Cnorm | Row::Cvvis | Row::Smcup | Row::Rmcup | Row::Bel => false,
+    if so {
+        Witness::Against
+    } else {
+        Witness::Silent
     }
 }
 
-/// Whether a fault with this `cause` is a wrong effect that is at odds with the entry's other strings.
-pub(crate) fn is_odd_effect(
+/// The witness about the `string` for `row`, which sends these bytes with these `runs`.
+fn witness_of(entry: &Entry, row: Row, string: &[u8], sent: &[u8], runs: &Runs) -> Witness
+    ensures { result ≡ spec.witness_of entry.now row string.now sent.now runs.now }
+{
+    match row {
+        Row::Op => against(takes_rendition(runs.own)),
+        Row::Clear => against(erases_away(runs.own) && homes_elsewhere(entry, runs)),
+        Row::Hpa(col) => against(misses_increment(entry, string) && ends_in_col(col, runs.counted)),
+        Row::Vpa(row) => against(misses_increment(entry, string) && ends_in_row(row, runs.counted)),
+        Row::Csr(top, bottom) => {
+            against(misses_increment(entry, string) && bounds(top, bottom, runs.counted))
+        }
+        Row::Cup(row, col) => against(
+            misses_increment_of_kin(entry, string)
+                && ends_in_row(row, runs.counted)
+                && ends_in_col(col, runs.counted),
+        ),
+        Row::Smacs | Row::Rmacs => of_shifts(entry, sent),
+        Row::Home | Row::Cr | Row::Cub1 | Row::Cuf1 | Row::Cuu1 | Row::Cud1 => Witness::Silent,
+        Row::Cub(_) | Row::Cuf(_) | Row::Cuu(_) | Row::Cud(_) => Witness::Silent,
+        Row::El | Row::El1 | Row::Ed | Row::Ech(_) => Witness::Silent,
+        Row::Sgr(_) | Row::Sgr0 | Row::Setaf(_) | Row::Setab(_) => Witness::Silent,
+        Row::Smul | Row::Rev | Row::Blink | Row::Dim | Row::Bold | Row::Invis => Witness::Silent,
+        Row::Smso | Row::Enacs | Row::Ind | Row::Ri | Row::Bel => Witness::Silent,
+        Row::Civis | Row::Cnorm | Row::Cvvis | Row::Smcup | Row::Rmcup => Witness::Silent,
+    }
+}
+
+fn is_wrong_effect(cause: Cause) -> bool
+    ensures { result ≡ spec.is_wrong_effect cause }
+{
+    match cause {
+        Cause::WrongEffect(_) => true,
+        Cause::FlagOut | Cause::Absent | Cause::AcsByte | Cause::Parm(_) => false,
+        Cause::StaticRead | Cause::Unfinished | Cause::Stuck => false,
+        Cause::NotTame | Cause::BadLook | Cause::NotShown => false,
+        Cause::TooLong | Cause::NoResync | Cause::NoMemory => false,
+    }
+}
+
+/// The witness about the string of a fault with this `cause`, if it is a wrong effect of a row.
+pub(crate) fn witness_for(
     entry: &Entry,
     cause: Cause,
     row: Option<Row>,
+    string: &[u8],
     sent: &[u8],
-    effect: Option<Effect>,
-) -> bool
-    ensures { result ≡ spec.is_odd_effect entry.now cause row sent.now effect }
+    runs: &Runs,
+) -> Witness
+    ensures { result ≡ spec.witness_for entry.now cause row string.now sent.now runs.now }
 {
-    match (cause, row) {
-        (Cause::WrongEffect(_), Some(row)) => is_at_odds(entry, row, sent, effect),
-        _ => false,
+    match row {
+        Some(row) if is_wrong_effect(cause) => witness_of(entry, row, string, sent, runs),
+        Some(_) | None => Witness::Silent,
+    }
+}
+
+pub(crate) fn is_against(witness: Witness) -> bool
+    ensures { result ≡ spec.is_against witness }
+{
+    match witness {
+        Witness::Against => true,
+        Witness::Silent | Witness::Elsewhere => false,
+    }
+}
+
+pub(crate) fn is_elsewhere(witness: Witness) -> bool
+    ensures { result ≡ spec.is_elsewhere witness }
+{
+    match witness {
+        Witness::Elsewhere => true,
+        Witness::Silent | Witness::Against => false,
     }
 }

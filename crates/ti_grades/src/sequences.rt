@@ -1,19 +1,30 @@
-//! Control sequences among bytes that are sent (ECMA-48 5.4).
+//! Bytes that are sent: where a control sequence goes wrong (ECMA-48 5.4), and the sets that they designate (ECMA-35
+//! 14.3).
 
-ghost use Rattle.std.specs.{Prelude.{◌≡◌}, List.{list_all}};
+ghost use Rattle.std.specs.{Prelude.{◌≡◌, IfOk, drop}, List.{list_all}};
 ghost use Rattle.ti_grades.specs.Sequences as spec;
 
-/// A place among bytes, by the control sequence that goes on there.
-#[derive(Clone, Copy)]
-enum SequencePlace {
-    /// None.
-    Outside,
-    /// Behind ESC.
-    Escape,
-    /// Behind ESC [, with no blank or sign right before it.
-    Inside,
-    /// Behind a blank or a sign of a control sequence.
-    Padded,
+use std::alloc::{AllocError, Global};
+use vt_term::{TokenFault, TokenFaultKind, tokens};
+
+/// The first fault of `bytes`, if they aren't whole tokens.
+pub(crate) fn token_fault(alloc: Global, bytes: &[u8]) -> Result<Option<TokenFault>, AllocError>
+    ensures { IfOk result (spec.IsTokenFault bytes.now) }
+{
+    match tokens(alloc, bytes) {
+        Ok(_) => Ok(None),
+        Err(fault) => match fault.kind {
+            TokenFaultKind::NoMemory => Err(AllocError),
+            TokenFaultKind::Unfinished | TokenFaultKind::Stuck => Ok(Some(fault)),
+        },
+    }
+}
+
+/// The byte at a `place`, 0 past the end.
+fn byte_at(bytes: &[u8], place: usize) -> u8
+    ensures { result ≡ spec.byte_at bytes.now place }
+{
+    bytes.get(place).copied().unwrap_or(0)
 }
 
 fn is_padding(byte: u8) -> bool
@@ -28,84 +39,48 @@ fn is_parameter(byte: u8) -> bool
     matches!(byte, 0x30..=0x3f)
 }
 
-fn is_body(byte: u8) -> bool
-    ensures { result ≡ spec.is_body byte }
+/// Whether the byte at the `fault` is one of a parameter, right behind a blank or a sign.
+pub(crate) fn is_padded(bytes: &[u8], fault: Option<TokenFault>) -> bool
+    ensures { result ≡ spec.is_padded bytes.now fault }
 {
-    matches!(byte, 0x20..=0x3f)
-}
-
-/// Where `byte` leads behind ESC [, or behind a byte of the body.
-fn place_inside(byte: u8) -> SequencePlace
-    ensures { result ≡ spec.place_inside byte }
-{
-    if is_padding(byte) {
-        SequencePlace::Padded
-    } else if is_body(byte) {
-        SequencePlace::Inside
-    } else {
-        SequencePlace::Outside
-    }
-}
-
-/// Where `byte`, which isn't ESC, leads at this `place`.
-fn place_on(place: SequencePlace, byte: u8) -> SequencePlace
-    ensures { result ≡ spec.place_on place byte }
-{
-    match place {
-        SequencePlace::Escape if byte == b'[' => SequencePlace::Inside,
-        SequencePlace::Outside | SequencePlace::Escape => SequencePlace::Outside,
-        SequencePlace::Inside | SequencePlace::Padded => place_inside(byte),
-    }
-}
-
-/// Where `byte` leads at this `place`.
-fn place_behind(place: SequencePlace, byte: u8) -> SequencePlace
-    ensures { result ≡ spec.place_behind place byte }
-{
-    if byte == 27 {
-        SequencePlace::Escape
-    } else {
-        place_on(place, byte)
-    }
-}
-
-fn is_padded(place: SequencePlace) -> bool
-    ensures { result ≡ spec.is_padded place }
-{
-    matches!(place, SequencePlace::Padded)
-}
-
-fn is_inside(place: SequencePlace) -> bool
-    ensures { result ≡ spec.is_inside place }
-{
-    matches!(place, SequencePlace::Inside | SequencePlace::Padded)
-}
-
-/// Whether a control sequence of `bytes` has a blank or a sign before a parameter byte.
-#[tactic(auto, unfolding(crate::specs::Sequences::has_padding))]
-pub(crate) fn has_padding(bytes: &[u8]) -> bool
-    ensures { result ≡ spec.has_padding bytes.now }
-{
-    let mut place = SequencePlace::Outside;
-    for byte in bytes {
-        if is_padded(place) && is_parameter(*byte) {
-            return true;
+    match fault {
+        Some(fault) => {
+            is_padding(byte_at(bytes, fault.at.saturating_sub(1)))
+                && is_parameter(byte_at(bytes, fault.at))
         }
-        place = place_behind(place, *byte);
+        None => false,
     }
-    false
 }
 
-/// Whether `bytes` end within a control sequence.
-#[tactic(auto, unfolding(crate::specs::Sequences::ends_inside))]
-pub(crate) fn ends_inside(bytes: &[u8]) -> bool
-    ensures { result ≡ spec.ends_inside bytes.now }
+/// Whether the second of `bytes` is that of a control sequence.
+fn is_control(bytes: &[u8]) -> bool
+    ensures { result ≡ spec.is_control bytes.now }
 {
-    let mut place = SequencePlace::Outside;
-    for byte in bytes {
-        place = place_behind(place, *byte);
+    match bytes {
+        [] | [_] => false,
+        [_, second, ..] => *second == b'[',
     }
-    is_inside(place)
+}
+
+/// Whether the sequence that begins at the `fault` is a control sequence.
+pub(crate) fn is_open_control(bytes: &[u8], fault: Option<TokenFault>) -> bool
+    ensures { result ≡ spec.is_open_control bytes.now fault }
+{
+    match fault {
+        Some(fault) => is_control(from_place(bytes, fault.at)),
+        None => false,
+    }
+}
+
+/// The bytes from `place` on, none past the end.
+fn from_place(bytes: &[u8], place: usize) -> &[u8]
+    ensures { result.now ≡ drop place bytes.now }
+{
+    if place < bytes.len() {
+        &bytes[place..]
+    } else {
+        &[]
+    }
 }
 
 fn is_shift(byte: u8) -> bool
@@ -128,4 +103,37 @@ fn all_shifts(bytes: &[u8]) -> bool
     ensures { result ≡ list_all spec.is_shift bytes.now }
 {
     bytes.iter().all(|byte| is_shift(*byte))
+}
+
+fn is_set_of_terminal(last: u8) -> bool
+    ensures { result ≡ spec.is_set_of_terminal last }
+{
+    last == b'0' || last == b'B'
+}
+
+/// Whether `bytes` begin with the designation to G1 of a set that the terminal hasn't.
+fn begins_other_set(bytes: &[u8]) -> bool
+    ensures { result ≡ spec.begins_other_set bytes.now }
+{
+    match bytes {
+        [] | [_] | [_, _] => false,
+        [first, second, last, ..] => {
+            *first == 27 && *second == b')' && *last >= b'0' && !is_set_of_terminal(*last)
+        }
+    }
+}
+
+/// Whether some of `bytes` designate to G1 a set that the terminal hasn't.
+#[tactic(auto, using(crate::proofs::Sets::first_has_it))]
+pub(crate) fn has_other_set(bytes: &[u8]) -> bool
+    ensures { result ≡ spec.has_other_set bytes.now }
+{
+    let mut text = bytes;
+    while let [_, behind @ ..] = text {
+        if begins_other_set(text) {
+            return true;
+        }
+        text = behind;
+    }
+    false
 }
