@@ -80,7 +80,7 @@ these names.
 
 Standard error has a line for each kind of sequence that T ignores, wholly or for one of its numbers, and how often it
 came: `no effect: REP (CSI b) 15 times`; the screen may then differ from a real terminal's. After the first 50 kinds
-one line counts all others. With --state these are lines `no-effect TIMES NAME (SEQUENCE)` behind the state, and with
+one line counts all others. With --state these are lines `no-effect TIMES NAME (SEQUENCE)` after the state, and with
 --json they are the items of the member `no_effect`.
 
 With --cases each line of the file is a case: a name, a space, and bytes in hexadecimal, or - for none. The output has
