@@ -1,8 +1,8 @@
 //! The lines of `feed` about sequences that had no effect.
 
-use crate::function_names::function_name;
 use std::alloc::{AllocError, Global};
 use ti_files::{Pushed, Remarks};
+use ti_words::{function_name, has_other_numbers, push_sequence};
 use vt_states::{Counts, Kind, ignored_in};
 
 /// Adds a line to `remarks` for each kind of sequence in `bytes` that T ignores, wholly or in one of its numbers, and
@@ -68,7 +68,9 @@ pub fn ignored_items(alloc: Global, bytes: &[u8]) -> Result<Vec<u8>, AllocError>
 fn push_item(alloc: Global, kind: &Kind, text: &mut Vec<u8>) -> Pushed {
     let times = kind.times();
     text.extend_from_slice(b"{\"name\":\"")?;
-    text.extend_from_slice(function_name(kind.sequence()).as_bytes())?;
+    if let Some(function) = function_name(kind.sequence()) {
+        text.extend_from_slice(function.name.as_bytes())?;
+    }
     text.extend_from_slice(b"\",\"sequence\":\"")?;
     push_quoted(alloc, kind.sequence(), text)?;
     let end = format!(in alloc; "\",\"times\":{times}")?;
@@ -80,7 +82,7 @@ fn push_item(alloc: Global, kind: &Kind, text: &mut Vec<u8>) -> Pushed {
 /// Adds the sequence as a JSON string has it.
 fn push_quoted(alloc: Global, sequence: &[u8], text: &mut Vec<u8>) -> Pushed {
     let mut spelled = Vec::new(alloc);
-    push_spelled(sequence, &mut spelled)?;
+    push_sequence(sequence, &mut spelled)?;
     for byte in &spelled {
         if *byte == b'"' || *byte == b'\\' {
             text.push(b'\\')?;
@@ -92,60 +94,17 @@ fn push_quoted(alloc: Global, sequence: &[u8], text: &mut Vec<u8>) -> Pushed {
 
 /// Adds the name of a sequence, if it has one, and the sequence.
 fn push_named(sequence: &[u8], line: &mut Vec<u8>) -> Pushed {
-    let name = function_name(sequence);
-    if name.is_empty() {
-        push_spelled(sequence, line)?;
-    } else {
-        line.extend_from_slice(name.as_bytes())?;
-        line.extend_from_slice(b" (")?;
-        push_spelled(sequence, line)?;
-        line.push(b')')?;
+    match function_name(sequence) {
+        Some(function) => {
+            line.extend_from_slice(function.name.as_bytes())?;
+            line.extend_from_slice(b" (")?;
+            push_sequence(sequence, line)?;
+            line.push(b')')?;
+        }
+        None => push_sequence(sequence, line)?,
     }
-    if is_known(sequence) {
+    if has_other_numbers(sequence) {
         line.extend_from_slice(b" with numbers that T does not take")?;
-    }
-    Ok(())
-}
-
-/// Whether T has the function, with other numbers.
-fn is_known(sequence: &[u8]) -> bool {
-    match sequence {
-        [27, b'[', last] => matches!(
-            *last,
-            b'@'..=b'D' | b'G'..=b'H' | b'J'..=b'M' | b'P' | b'S'..=b'T' | b'X' | b'd' | b'f' | b'r'
-        ),
-        _ => false,
-    }
-}
-
-/// Adds a sequence as manuals spell it: `CSI ? 25 h`, `ESC 7`.
-fn push_spelled(sequence: &[u8], line: &mut Vec<u8>) -> Pushed {
-    match sequence {
-        [27, b'[', body @ ..] => {
-            line.extend_from_slice(b"CSI")?;
-            push_apart(body, line)
-        }
-        [27, behind @ ..] => {
-            line.extend_from_slice(b"ESC")?;
-            push_apart(behind, line)
-        }
-        _ => Ok(()),
-    }
-}
-
-/// Adds bytes with a space before each, but within numbers.
-fn push_apart(bytes: &[u8], line: &mut Vec<u8>) -> Pushed {
-    let mut in_number = false;
-    for byte in bytes {
-        if !(in_number && byte.is_ascii_digit()) {
-            line.push(b' ')?;
-        }
-        in_number = byte.is_ascii_digit();
-        if *byte == b' ' {
-            line.extend_from_slice(b"SP")?;
-        } else {
-            line.push(*byte)?;
-        }
     }
     Ok(())
 }

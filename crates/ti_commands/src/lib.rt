@@ -7,7 +7,6 @@ mod entries;
 mod expansion;
 mod fed;
 mod feeds;
-mod function_names;
 mod further;
 mod ignored;
 mod sources;

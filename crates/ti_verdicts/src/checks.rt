@@ -5,6 +5,7 @@ ghost use Rattle.ti_verdicts.specs.Checks.{Delivers, FailsToCheck, IsChecked, St
 
 use crate::certifiers::Certifier;
 use crate::note_texts::note_lines;
+use crate::outside::note_outside;
 use crate::reasons::explain_no;
 use crate::refusals::no_failure;
 use std::alloc::{AllocError, Global};
@@ -86,6 +87,7 @@ fn certificate_of<C: Certifier>(
         Ok(text) => Ok(text),
         Err(no) => {
             explain_no(alloc, entry, size, &no, remarks);
+            note_outside(alloc, entry, size, remarks);
             Err(no_failure(alloc, &no))
         }
     }

@@ -11,6 +11,7 @@ use crate::checks::notes_on;
 use crate::faulty_parts::Judged;
 use crate::indents::indented;
 use crate::locations::location;
+use crate::outside::note_all_outside;
 use crate::reasons::explain_no;
 use crate::refusals::{no_failure, no_words};
 use crate::remedies::{Faulty, note_another_kind, note_left_out, suggestion_lines};
@@ -59,6 +60,7 @@ pub fn check_all<F: Files>(
     let reply = reply_of(alloc, &asked, notes, nos.as_slice())?;
     note_another_kind(nos.as_slice(), remarks);
     note_left_out(nos.as_slice(), remarks);
+    note_all_outside(alloc, &found.entry, size, nos.as_slice(), remarks);
     if nos.is_empty() {
         advise(alloc, &found.entry, size, remarks);
     }

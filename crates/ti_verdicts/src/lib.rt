@@ -13,6 +13,7 @@ mod indents;
 mod locations;
 mod looks;
 mod note_texts;
+mod outside;
 mod reasons;
 mod refusals;
 mod remedies;

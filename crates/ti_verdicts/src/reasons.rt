@@ -2,6 +2,7 @@
 
 use crate::fault_runs::FaultRun;
 use crate::faulty_parts::Judged;
+use crate::outside::outside_words;
 use std::alloc::{AllocError, Global};
 use ti_caps::{Entry, name};
 use ti_checker::{Cause, No};
@@ -47,6 +48,16 @@ pub fn explain_fault(alloc: Global, fault: &Fault<'_>, remarks: &mut Remarks) {
 }
 
 fn explain_cause(alloc: Global, fault: &Fault<'_>, remarks: &mut Remarks) -> Explained {
+    explain_itself(alloc, fault, remarks)?;
+    let judged = &fault.judged;
+    if let Some(words) = outside_words(alloc, fault.entry, judged.size, judged.no)? {
+        remarks.add_words(words.as_slice());
+    }
+    Ok(())
+}
+
+/// Explains the cause of the `fault`, without a function that T lacks.
+fn explain_itself(alloc: Global, fault: &Fault<'_>, remarks: &mut Remarks) -> Explained {
     let cap = fault.judged.no.cap;
     match fault.judged.no.cause {
         Cause::FlagOut => explain_flag(cap, remarks),

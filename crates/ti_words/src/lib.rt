@@ -5,6 +5,8 @@ mod certificates;
 mod changes;
 mod checked_strings;
 mod escapes;
+mod function_names;
+mod lacking;
 mod numbers;
 mod remedies;
 mod runs;
@@ -21,6 +23,10 @@ pub use checked_strings::{
     has_own_effect, unsent_words,
 };
 pub use escapes::push_spelled;
+pub use function_names::{FunctionName, function_name};
+pub use lacking::{
+    ALL_LACKING, code_page_words, eight_bit_words, has_other_numbers, lacking_words, push_sequence,
+};
 pub use numbers::push_numbers;
 pub use remedies::{LEFT_OUT, OF_ANOTHER_KIND};
 pub use runs::run_words;
