@@ -174,13 +174,28 @@ fn cut_before(line: &[u8], start: usize, place: usize) -> Option<usize> {
     None
 }
 
+/// Where a break of the group goes in the line, behind `start`: where it was, if the line `is_same` as the group's.
+fn place_of(
+    own: Break<'_>,
+    group: &[u8],
+    line: &[u8],
+    is_same: bool,
+    start: usize,
+) -> Option<usize> {
+    if is_same {
+        Some(own.at)
+    } else {
+        cut_before(line, start, moved(own.at, group, line))
+    }
+}
+
 /// Appends the line with the breaks of the group, and a blank line for each break that it has no place for.
 fn push_broken(text: &mut Vec<u8>, group: &Group<'_>, line: &[u8]) -> Result<(), AllocError> {
+    let is_same = group.line.as_slice() == line;
     let mut start: usize = 0;
     let mut lost: usize = 0;
     for own in &group.breaks {
-        let place = moved(own.at, group.line.as_slice(), line);
-        match cut_before(line, start, place) {
+        match place_of(*own, group.line.as_slice(), line, is_same, start) {
             Some(at) => {
                 text.extend_from_slice(part_of(line, start, at))?;
                 text.extend_from_slice(own.end)?;
