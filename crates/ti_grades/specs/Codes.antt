@@ -1,5 +1,5 @@
 -- The codes of a parameter string, by how they begin (terminfo(5), "Parameterized Strings").
-use Rattle.std.specs.Prelude.{ℕ, ◌==◌, ◌&&◌, ◌||◌, nat_le, not, Bool, true, false, if◌then◌else◌, List, [], ◌∷◌}
+use Rattle.std.specs.Prelude.{ℕ, ◌==◌, ◌&&◌, ◌||◌, nat_le, not, Bool, false, if◌then◌else◌, List, [], ◌∷◌}
 use Rattle.std.specs.List.{list_any}
 use Rattle.ti_grades.specs.declared.codes.CodeKind.{CodeKind}
 use Rattle.ti_grades.specs.declared.codes.CodeKind.TheVariants.{Reads, Increments, Control}
