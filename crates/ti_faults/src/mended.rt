@@ -161,8 +161,8 @@ fn adds_none(nos: &[No], left: &[No]) -> bool
     left.iter().all(|no| names(nos, no.cap))
 }
 
-/// Whether the faults `nos` have one of `sgr0`, and one that is `left` once it is mended is about a capability that none
-/// of them is about.
+/// Whether the faults `nos` have one of `sgr0`, and one that is `left` once it is mended is about a capability that
+/// none of them is about.
 fn needs_other(nos: &[No], left: &[No]) -> bool
     ensures { result ≡ spec.needs_other nos.now left.now }
 {

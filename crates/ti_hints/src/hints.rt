@@ -49,8 +49,8 @@ pub struct FieldHint {
 
 /// The hints about the entry at `place` among `raws`, the entries of a source text that has these `lines`: about each
 /// field that has a name of no capability, a name that its entry has had before, an escape without a meaning, or `%^`;
-/// of a field that has several of these about the first one. They are in the order of the fields. If there are more than
-/// a thousand, the last hint has the number of the others.
+/// of a field that has several of these about the first one. They are in the order of the fields. If there are more
+/// than a thousand, the last hint has the number of the others.
 ///
 /// # Errors
 /// Out of memory.

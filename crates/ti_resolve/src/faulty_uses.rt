@@ -4,7 +4,8 @@ ghost use Rattle.std.specs.Prelude.{◌≡◌, ◌<◌, ℕ, Some, IfNone, IfOk,
 ghost use Rattle.std.specs.{Prelude.{IsSomeAnd}, List.{position}};
 ghost use Rattle.ti_source.specs.declared.types.Field.TheVariants.{Include};
 ghost use Rattle.ti_resolve.specs.FaultyUses as spec;
-ghost use Rattle.ti_resolve.specs.{Origins.{field_there, origin_at}, Faults.{Reaches}, Uses.{fields_at}, Walk.{walk_at}};
+ghost use Rattle.ti_resolve.specs.{Origins.{field_there, origin_at}, Faults.{Reaches}};
+ghost use Rattle.ti_resolve.specs.{Uses.{fields_at}, Walk.{walk_at}};
 
 use crate::faults::ResolveFault;
 use crate::origins::Origin;

@@ -44,7 +44,8 @@ fn lead(
         (target (place_named index.now.raws.now name.now) name.now chain.now entered.now) }
     ensures range { IfOk result (λ found. IfSome found (λ place. place < length index.now.raws.now)) }
     ensures about { IfErr result (IsAboutIf name.now) }
-    ensures leads { IfOk result (λ found. IfSome found (λ place. place_named index.now.raws.now name.now ≡ Some place)) }
+    ensures leads { IfOk result
+        (λ found. IfSome found (λ place. place_named index.now.raws.now name.now ≡ Some place)) }
 {
     let Some(place) = index.find(name) else {
         return Err(ResolveFault::no_such_entry(alloc, name));
