@@ -182,6 +182,7 @@ e|a value goes on up to its comma,
 	AX, E3=\E[3J, NQ, RGB#8, U8#1, XM=\E[?1000h, xm=\E[M, kUP=\EA, kUP5=\Ea, kDC10=\Eb, kEND16=\Ec, kLFT2=\Ed,
 	Ax, E4=\E[4J, RGBA, kUP1=\EA, kUP17=\Ea, kDC02=\Eb, kENDX=\Ec, kHOM=\Ed, use=base,
 """,
+    "many": b"a|many fields,\n" + b"".join(b"\tq%d,\n" % at for at in range(1200)),
     "hostile": b"a|a, use=\x1b[31m,\n",
     "latin": b"h\xe9",
     "wrap": b"abcde",
@@ -575,6 +576,10 @@ ADVISED = [
     (["check", "hints:d", "2", "4"], 1, OTHERS),
     (["check", "hints:base", "2", "4"], 0, []),
     (["check", "extended:a", "2", "4"], 0, [f"hint line 5: {name} is no capability" for name in ("Ax", "E4", "RGBA", "kUP1", "kUP17", "kDC02", "kENDX")]),
+    (["check", "many:a", "2", "4"], 1, [
+        *(f"hint line {at + 2}: q{at} is no capability" for at in range(1000)),
+        "hint line 1002: 200 further fields of the entry have hints too",
+    ]),
     (["survey", "2", "4", "hints"], 0, []),
     (["survey", "--all", "2", "4", "hints"], 0, [f"{line}, in hints" for line in HINTS + OTHERS + ENDS]),
 ]  # fmt: skip
