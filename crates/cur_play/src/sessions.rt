@@ -183,8 +183,8 @@ impl<C: Certificate> Session<C> {
 
     /// The most bytes that the call `doupdate` sends if it comes next, done or cut short: the limit of a cell for each
     /// cell that differs from the screen shown last and once more, or `fresh_limit` if the terminal isn't known or is
-    /// to be cleared. `most_kept` is the law that no refresh sends more. A safe bound: most refreshes send far less. The
-    /// contract also says that the screen shown last is of the terminal's size.
+    /// to be cleared. `most_kept` is the law that no refresh sends more. A safe bound: most refreshes send far less.
+    /// The contract also says that the screen shown last is of the terminal's size.
     pub fn most(&self) -> usize
         ensures value { result ≡ most (C.table self.now.painter.checked) self.now.painter.session.status
             self.now.screen.clearok self.now.painter.shown self.now.screen }
