@@ -6,8 +6,8 @@ pub add_hint-requires-clause-stands : goal.add_hint-requires-clause-stands
 add_hint-requires-clause-stands c = part_stands c.args.line.text.now c.loop-part.rest.now c.in-Some.part.now c.in-Some.behind.now c.loop-part.passed c.placed.result.columns c.loop-part.invariant.left c.in-Some.ensures.parts c.placed.ensures
 
 -- and what is left is the last one
-pub add_hint-2-requires-clause-stands : goal.add_hint-2-requires-clause-stands
-add_hint-2-requires-clause-stands c = rest_stands c.args.line.text.now c.loop-part.rest.now c.loop-part.passed c.placed-2.result.columns c.loop-part.invariant.left c.placed-2.ensures
+pub add_hint-requires-2-clause-stands : goal.add_hint-requires-2-clause-stands
+add_hint-requires-2-clause-stands c = rest_stands c.args.line.text.now c.loop-part.rest.now c.loop-part.passed c.placed-2.result.columns c.loop-part.invariant.left c.placed-2.ensures
 
 pub loop-part-preserved : goal.loop-part-preserved
 loop-part-preserved c = record {

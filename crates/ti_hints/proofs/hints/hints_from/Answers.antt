@@ -8,7 +8,7 @@ use Rattle.ti_hints.proofs.hints.hints_from.Goals as goal
 pub loop-number-preserved : goal.loop-number-preserved
 loop-number-preserved c =
     let lines = map (λ line. line.now) c.args.lines.now in
-    let stands = record {
+    let stands : IsLineOf c.args.raws.now c.args.place c.loop-number.number = record {
       from = from_line (slice_get c.args.raws.now c.args.place) c.args.first c.loop-number.number c.requires (omega arith);
       before = before_line (slice_get c.args.raws.now (c.args.place + 1)) c.end_line-number-end.result c.loop-number.number c.end_line-number-end.ensures (omega arith);
     } in
