@@ -25,8 +25,12 @@ fn or_one(nos: Vec<No>, refusal: No) -> Result<Vec<No>, AllocError>
     Ok(nos)
 }
 
-/// The faults of `entry`. `refusal` must be its refusal by `check`, other than for memory.
-fn faults_beside(
+/// All faults of `entry` for `size`, as [`faults`] lists them, where `check` was called already: `refusal` must be its
+/// refusal, other than for want of memory.
+///
+/// # Errors
+/// Out of memory.
+pub fn faults_beside(
     alloc: Global,
     entry: &Entry,
     size: Size,

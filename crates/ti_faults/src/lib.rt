@@ -14,7 +14,7 @@ mod remedies;
 mod row_faults;
 mod standards;
 
-pub use all_faults::faults;
+pub use all_faults::{faults, faults_beside};
 pub use candidates::Choice;
 pub use capabilities::row_of;
 pub use claims::must_claim;

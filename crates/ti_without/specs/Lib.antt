@@ -1,0 +1,4 @@
+pub mod Less
+pub mod Rounds
+pub mod Going
+pub mod Without
