@@ -59,9 +59,9 @@ shifted_below : (x : Scroll) (g : ℕ → ℕ → Ink) (i j : ℕ) → x.bottom 
 shifted_below x g i j lt = grind (arith, nat_tests)
 
 -- a scrolled screen doesn't differ outside the region and the lines that differed before
-pub moved_outside : (between : (ℕ → ℕ → Ink) → (ℕ → ℕ → Ink) → Type 0) (x : Scroll) (g new : ℕ → ℕ → Ink) (from end first last rows cols : ℕ) → (m : IsMoved between x g new)
+pub moved_outside : (between : (ℕ → ℕ → Ink) → (ℕ → ℕ → Ink) → Type 0) (x : Scroll) (shown g new : ℕ → ℕ → Ink) (from end first last rows cols : ℕ) → (m : IsMoved between x shown g new)
     → AreSameOutside m.old new from end rows cols → first ≤ from → first ≤ x.top → end ≤ last → ((i : ℕ) → last ≤ i → i < rows → x.bottom < i) → AreSameOutside g new first last rows cols
-moved_outside between x g new from end first last rows cols m h a b d past = record {
+moved_outside between x shown g new from end first last rows cols m h a b d past = record {
   above = λ i j lt lj. ap (λ (f : ℕ → ℕ → Ink). f i j) m.is ∙ shifted_above x m.old i j (omega (arith, lt, b)) ∙ h.above i j (omega (arith, lt, a)) lj;
   below = λ i j le li lj. ap (λ (f : ℕ → ℕ → Ink). f i j) m.is ∙ shifted_below x m.old i j (past i le li) ∙ h.below i j (omega (arith, d, le)) li lj;
 }
@@ -92,7 +92,7 @@ counts_below a b new cols end (suc n) le h = elim (cases_lt n end) [
 
 -- a scroll saves as many cells on the whole screen as in its region
 pub region_saves : (x : Scroll) (old new : ℕ → ℕ → Ink) (cols from end rows left count by : ℕ) → x.top < x.bottom → x.bottom < rows → from ≡ x.top → end ≡ x.bottom + 1
-    → all_differ (shifted x old) new cols from + left ≡ all_differ (shifted x old) new cols end → all_differ old new cols from + count ≤ all_differ old new cols end → left + by ≤ count
+    → all_differ (shifted x old) new cols end ≤ all_differ (shifted x old) new cols from + left → all_differ old new cols from + count ≤ all_differ old new cols end → left + by ≤ count
     → by + all_differ (shifted x old) new cols rows ≤ all_differ old new cols rows
 region_saves x old new cols from end rows left count by region bottom f e after before saves =
     let above = counts_above (shifted x old) old new cols from (λ i j lt k. shifted_above x old i j (omega (arith, lt, f))) in

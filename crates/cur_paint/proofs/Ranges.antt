@@ -1,13 +1,13 @@
 -- A line that differs only within some of its columns.
-use Rattle.std.proofs.Common.{◌≡◌, Option, Some, ℕ, ◌+◌, ◌-◌, ◌<◌, ◌≤◌, inl, inr, ◌==◌, ◌&&◌, Bool, true, false, zero, suc, if◌then◌else◌, refl, ap, subst, ◌∙◌, arith}
+use Rattle.std.proofs.Common.{◌≡◌, Option, Some, None, ℕ, ◌+◌, ◌-◌, ◌<◌, ◌≤◌, inl, inr, ◌==◌, ◌&&◌, Bool, true, false, zero, suc, if◌then◌else◌, refl, sym, ap, subst, ◌∙◌, arith}
 use Rattle.std.proofs.lemmas.Bool.Decides.{nat_tests}
 use Rattle.std.proofs.lemmas.Bool.{cases_lt}
-use Rattle.cur_steps.specs.Inks.{alike, same}
+use Rattle.cur_steps.specs.Inks.{alike, blank_ink, same}
 use Rattle.cur_steps.specs.declared.inks.Ink.{Ink}
 use Rattle.cur_steps.proofs.Sameness.{brush_known}
 use Rattle.cur_moves.specs.declared.scrolls.Scroll.{Scroll}
 use Rattle.cur_moves.specs.Scrolls.{cell_of, shifted}
-use Rattle.cur_paint.specs.Differ.{IsMoved, IsSameOutside, differs, span}
+use Rattle.cur_paint.specs.Differ.{IsMoved, IsSameOutside, IsWritten, differs, span}
 use Rattle.cur_paint.proofs.Mixtures.{span_more, span_parts, span_split}
 
 number_self : (n : ℕ) → (n == n) ≡ true
@@ -37,6 +37,15 @@ span_none old new i from zero h = refl
 span_none old new i from (suc n) h =
     omega (arith, span_none old new i from n (λ j a b. h j a (omega (arith, b))), none_differs old new i (from + n) (h (from + n) (omega arith) (omega arith)))
 
+few_differ : (t : Bool) → (if t then 0 else 1) ≤ 1
+few_differ true = omega arith
+few_differ false = omega arith
+
+-- no more places differ than there are
+pub span_few : (old new : ℕ → ℕ → Ink) (i from n : ℕ) → span old new i from n ≤ n
+span_few old new i from zero = omega arith
+span_few old new i from (suc n) = omega (arith, span_few old new i from n, few_differ (same (old i (from + n)) (new i (from + n))))
+
 -- only the columns that may differ add to the count
 pub span_within : (old new : ℕ → ℕ → Ink) (i from end cols : ℕ) → IsSameOutside old new i from end cols → from ≤ end → end ≤ cols → span old new i from (end - from) ≡ span old new i 0 cols
 span_within old new i from end cols h order within =
@@ -49,11 +58,26 @@ pub span_on : (old new : ℕ → ℕ → Ink) (i from n count one : ℕ) → cou
 span_on old new i from n count one e f = omega (arith, e, f, span_more old new i from n)
 
 -- a screen that was scrolled, in other words
-pub moved_same : (between : (ℕ → ℕ → Ink) → (ℕ → ℕ → Ink) → Type 0) (x : Scroll) (g new : ℕ → ℕ → Ink) (i from end cols : ℕ) → (m : IsMoved between x g new)
+pub moved_same : (between : (ℕ → ℕ → Ink) → (ℕ → ℕ → Ink) → Type 0) (x : Scroll) (shown g new : ℕ → ℕ → Ink) (i from end cols : ℕ) → (m : IsMoved between x shown g new)
     → IsSameOutside (shifted x m.old) new i from end cols → IsSameOutside g new i from end cols
-moved_same between x g new i from end cols m h = record {
+moved_same between x shown g new i from end cols m h = record {
   before = λ j lt. ap (λ (f : ℕ → ℕ → Ink). f i j) m.is ∙ h.before j lt;
   after = λ j le lt. ap (λ (f : ℕ → ℕ → Ink). f i j) m.is ∙ h.after j le lt;
+}
+
+-- a blank line that a scroll brings in
+pub incoming_same : (between : (ℕ → ℕ → Ink) → (ℕ → ℕ → Ink) → Type 0) (x : Scroll) (shown g new : ℕ → ℕ → Ink) (i from end cols : ℕ) (o : Option ℕ) → (m : IsMoved between x shown g new) → o ≡ None → from ≡ 0
+    → ((j : ℕ) → shifted x m.old i j ≡ cell_of m.old o j) → ((k : ℕ) → end ≤ k → k < cols → shown i k ≡ blank_ink) → IsSameOutside g new i from end cols
+incoming_same between x shown g new i from end cols o m none start before blank = record {
+  before = λ j lt. absurd (omega (arith, lt, start));
+  after = λ j le lt. ap (λ (f : ℕ → ℕ → Ink). f i j) m.is ∙ before j ∙ ap (λ (p : Option ℕ). cell_of m.old p j) none ∙ sym (blank j le lt) ∙ sym (m.other i j);
+}
+
+-- a line on a blank screen
+pub written_same : (shown old new : ℕ → ℕ → Ink) (i from end cols : ℕ) → IsWritten shown old new → from ≡ 0 → ((k : ℕ) → end ≤ k → k < cols → shown i k ≡ blank_ink) → IsSameOutside old new i from end cols
+written_same shown old new i from end cols h start blank = record {
+  before = λ j lt. absurd (omega (arith, lt, start));
+  after = λ j le lt. h.blank i j ∙ sym (blank j le lt) ∙ sym (h.other i j);
 }
 
 -- a line that a scroll leaves where it is

@@ -1,12 +1,12 @@
 -- Cells that go out in one piece.
-use Rattle.std.proofs.Common.{◌≡◌, ◌+◌, ◌*◌, ◌<◌, ◌≤◌, ℕ, Bool, true, false, refl, if◌then◌else◌, List, length-take, slice_index_or, take, sym, ap, subst, ◌∙◌, arith}
+use Rattle.std.proofs.Common.{◌≡◌, ◌+◌, ◌-◌, ◌*◌, ◌<◌, ◌≤◌, ℕ, Bool, true, false, None, zero, suc, refl, if◌then◌else◌, List, length, length-take, slice_index_or, take, sym, ap, subst, ◌∙◌, arith}
 use Rattle.std.proofs.lemmas.List.{get_or-take}
 use Rattle.ti_conforms.specs.Certified.{Table, cell_limit}
-use Rattle.cur_steps.specs.Inks.{same}
-use Rattle.cur_steps.specs.Stretches.{AreLike, AreShown}
+use Rattle.cur_steps.specs.Inks.{blank_ink, byte_as, same}
+use Rattle.cur_steps.specs.Stretches.{AreLike, AreShown, IsTextLike}
 use Rattle.cur_steps.specs.declared.inks.Cells.{Cells}
 use Rattle.cur_steps.specs.declared.inks.Ink.{Ink}
-use Rattle.cur_steps.proofs.Sameness.{byte_as_is}
+use Rattle.cur_steps.proofs.Sameness.{byte_as_is, byte_as_known}
 use Rattle.cur_paint.specs.Differ.{differs, span, HasFewGaps, IsSameBy}
 use Rattle.cur_paint.specs.Scenes.{AreInked}
 use Rattle.cur_paint.proofs.Mixtures.{span_grows, span_more, times_grows}
@@ -41,6 +41,30 @@ pub piece_short : (t : Table) (d few n : ℕ) → n ≤ d * (few + 1) → few �
 piece_short t d few n short le =
     let room : few + 1 ≤ cell_limit t = omega (arith, le) in
     omega (arith, short, times_more d few (cell_limit t) room)
+
+-- one more place of a line, which is the same or differs
+pub marks_on : {t : Bool} (old new : ℕ → ℕ → Ink) (i from k count one : ℕ) → (t ≡ true → one ≡ 0) → (t ≡ false → one ≡ 1) → differs old new i (from + k) ≡ (if t then 0 else 1)
+    → count ≡ span old new i from k → count + one ≡ span old new i from (k + 1)
+marks_on {t = true} old new i from k count one stays moves told e = let none = stays refl in omega (arith, none, told, e, span_more old new i from k)
+marks_on {t = false} old new i from k count one stays moves told e = let some = moves refl in omega (arith, some, told, e, span_more old new i from k)
+
+-- a place of a line is printed in the set and the brush of itself
+pub some_alike : (g : ℕ → ℕ → Ink) (s : Cells) (n : ℕ) (text : List ℕ) → IsTextLike g s s.from n text → 0 < s.count → 0 < length text → 0 < n
+some_alike g s zero text found some room =
+    let P : ℕ → Type 0 = λ k. byte_as (g s.row k) (g s.row s.from) ≡ None in
+    let here : s.from + 0 ≡ s.from = omega arith in
+    let none : byte_as (g s.row s.from) (g s.row s.from) ≡ None = subst P here (found.end some room) in
+    let known = byte_as_known (g s.row s.from) (g s.row s.from) (g s.row s.from).byte refl in
+    absurd (cc)
+some_alike g s (suc n) text found some room = omega arith
+
+-- a place that becomes blank
+pub blank_differs : (old new : ℕ → ℕ → Ink) (i from n k : ℕ) → from ≤ k → k < from + n → same (old i k) blank_ink ≡ false → new i k ≡ blank_ink → 0 < span old new i from n
+blank_differs old new i from n k le lt other blank =
+    let told : differs old new i k ≡ 1 = ap (λ (x : Ink). if same (old i k) x then 0 else 1) blank ∙ ap (λ (t : Bool). if t then 0 else 1) other in
+    let at : from + (k - from) ≡ k = omega (arith, le) in
+    let here : differs old new i (from + (k - from)) ≡ 1 = subst (λ (m : ℕ). differs old new i m ≡ 1) (sym at) told in
+    omega (arith, here, span_more old new i from (k - from), span_grows old new i from (k - from + 1) n (omega (arith, le, lt)))
 
 -- a piece without a gap is one with few
 pub gaps_wider : (marks : List Bool) (few n : ℕ) → HasFewGaps marks 0 n → HasFewGaps marks few n

@@ -1,7 +1,7 @@
 -- The number of places in which two screens differ.
 use Rattle.std.specs.Prelude.{ℕ, ◌+◌, ◌*◌, ◌<◌, ◌≤◌, ◌≡◌, Bool, false, if◌then◌else◌, zero, suc, List, length}
 use Rattle.std.specs.Prelude.{slice_index_or}
-use Rattle.cur_steps.specs.Inks.{same}
+use Rattle.cur_steps.specs.Inks.{blank_ink, same}
 use Rattle.cur_steps.specs.declared.inks.Ink.{Ink}
 use Rattle.cur_moves.specs.declared.scrolls.Scroll.{Scroll}
 use Rattle.cur_moves.specs.Scrolls.{shifted}
@@ -30,11 +30,18 @@ pub record AreSameOutside (old new : ℕ → ℕ → Ink) (from end rows cols : 
   pub above : (i j : ℕ) → i < from → j < cols → old i j ≡ new i j
   pub below : (i j : ℕ) → end ≤ i → i < rows → j < cols → old i j ≡ new i j
 
--- (Serves the code alone.) one screen was scrolled before it is compared with the other
-pub record IsMoved (between : (ℕ → ℕ → Ink) → (ℕ → ℕ → Ink) → Type 0) (x : Scroll) (g new : ℕ → ℕ → Ink) : Type 0 where
+-- (Serves the code alone.) one screen was scrolled before it is compared with the other, which is shown
+pub record IsMoved (between : (ℕ → ℕ → Ink) → (ℕ → ℕ → Ink) → Type 0) (x : Scroll) (shown g new : ℕ → ℕ → Ink)
+    : Type 0 where
   pub old : ℕ → ℕ → Ink
   pub known : between old new
   pub is : g ≡ shifted x old
+  pub other : (i j : ℕ) → new i j ≡ shown i j
+
+-- (Serves the code alone.) a blank screen before one that is shown
+pub record IsWritten (shown old new : ℕ → ℕ → Ink) : Type 0 where
+  pub blank : (i j : ℕ) → old i j ≡ blank_ink
+  pub other : (i j : ℕ) → new i j ≡ shown i j
 
 -- (Serves the code alone.) for each place of a line from a column on, whether it is the same on both screens
 abbrev pub IsSameBy : (ℕ → ℕ → Ink) → (ℕ → ℕ → Ink) → ℕ → ℕ → List Bool → Type 0

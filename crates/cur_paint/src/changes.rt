@@ -1,9 +1,10 @@
 //! The lines and columns that may differ.
 ghost use Rattle.std.specs.Prelude.{◌≡◌, ◌+◌, ◌<◌, ◌≤◌, ℕ, true};
 ghost use Rattle.cur_moves.specs.Scrolls.{shifted};
-ghost use Rattle.cur_steps.specs.declared.inks.Ink.{Ink};
+ghost use Rattle.cur_steps.specs.{Inks.{blank_ink}, declared.inks.Ink.{Ink}};
 
 use cur_moves::{Scroll, line_before};
+use cur_steps::{Picture, blank_from};
 
 /// The columns of a line from the column `from` up to, but not including, the column `end`.
 #[derive(Clone, Copy)]
@@ -99,25 +100,27 @@ pub(crate) fn region(scroll: Scroll, rows: usize) -> LineRange
     }
 }
 
-/// The places where the screens differ after a scroll.
+/// The places where the screens differ after a scroll, the second of which is `new`.
 #[derive(Drop)]
-pub(crate) struct Moved<'a, D> {
+pub(crate) struct Moved<'a, D, N> {
     pub changes: &'a D,
     pub scroll: Scroll,
+    pub new: &'a N,
 }
 
-impl<'a, D: Changes> Changes for Moved<'a, D> {
+impl<'a, D: Changes, N: Picture> Changes for Moved<'a, D, N> {
     ghost use Rattle.std.specs.Prelude.{◌≤◌, ℕ};
     ghost use Rattle.cur_steps.specs.declared.inks.Ink.{Ink};
     ghost use Rattle.cur_moves.specs.Scrolls.{shifted};
     ghost use Rattle.cur_paint.specs.Differ.{AreSameOutside, IsMoved, IsSameOutside};
 
-    ghost between = { λ m g new. IsMoved (D.between m.changes.now) m.scroll g new };
+    ghost between = { λ m g new. IsMoved (D.between m.changes.now) m.scroll (N.cells m.new.now) g new };
 
     fn lines(&self, rows: usize, cols: usize) -> LineRange
         ensures order { result.from ≤ result.end }
         ensures within { result.end ≤ rows }
-        ensures same { (g new : ℕ → ℕ → Ink) → IsMoved (D.between self.now.changes.now) self.now.scroll g new
+        ensures same { (g new : ℕ → ℕ → Ink)
+            → IsMoved (D.between self.now.changes.now) self.now.scroll (N.cells self.now.new.now) g new
             → AreSameOutside g new result.from result.end rows cols }
     {
         let lines = self.changes.lines(rows, cols);
@@ -127,16 +130,21 @@ impl<'a, D: Changes> Changes for Moved<'a, D> {
     fn columns(&self, row: usize, cols: usize) -> Columns
         ensures order { result.from ≤ result.end }
         ensures within { result.end ≤ cols }
-        ensures same { (g new : ℕ → ℕ → Ink) → IsMoved (D.between self.now.changes.now) self.now.scroll g new
+        ensures same { (g new : ℕ → ℕ → Ink)
+            → IsMoved (D.between self.now.changes.now) self.now.scroll (N.cells self.now.new.now) g new
             → IsSameOutside g new row result.from result.end cols }
     {
-        self.changes.columns_after(self.scroll, row, cols)
+        match line_before(self.scroll, row) {
+            Some(_) => self.changes.columns_after(self.scroll, row, cols),
+            None => columns_written(self.new, row, cols),
+        }
     }
 
     fn columns_after(&self, scroll: Scroll, row: usize, cols: usize) -> Columns
         ensures order { result.from ≤ result.end }
         ensures within { result.end ≤ cols }
-        ensures same { (g new : ℕ → ℕ → Ink) → IsMoved (D.between self.now.changes.now) self.now.scroll g new
+        ensures same { (g new : ℕ → ℕ → Ink)
+            → IsMoved (D.between self.now.changes.now) self.now.scroll (N.cells self.now.new.now) g new
             → IsSameOutside (shifted scroll g) new row result.from result.end cols }
     {
         let whole = Columns { from: 0, end: cols };
@@ -153,6 +161,19 @@ impl<'a, D: Changes> Changes for Moved<'a, D> {
     }
 }
 
+/// The columns of the line `row` of `screen` up to the blanks at its end.
+fn columns_written<P: Picture>(screen: &P, row: usize, cols: usize) -> Columns
+    ensures order { result.from ≤ result.end }
+    ensures within { result.end ≤ cols }
+    ensures blank { (k : ℕ) → result.end ≤ k → k < cols → P.cells screen.now row k ≡ blank_ink }
+    ensures start { result.from ≡ 0 }
+{
+    Columns {
+        from: 0,
+        end: blank_from(screen, row, cols),
+    }
+}
+
 /// Whether the `scroll` leaves the line `row` where it is.
 fn stays(scroll: Scroll, row: usize) -> bool
     ensures { result ≡ true → (g : ℕ → ℕ → Ink) (j : ℕ) → shifted scroll g row j ≡ g row j }
@@ -163,15 +184,18 @@ fn stays(scroll: Scroll, row: usize) -> bool
     }
 }
 
-/// Any column may differ.
-pub(crate) struct Whole;
+/// The places where the screen `new` may differ from a blank one: its lines up to the blanks at their ends.
+#[derive(Drop)]
+pub(crate) struct Written<'a, N> {
+    pub new: &'a N,
+}
 
-impl Changes for Whole {
-    ghost use Rattle.std.specs.Prelude.{⊤};
+impl<'a, N: Picture> Changes for Written<'a, N> {
+    ghost use Rattle.cur_paint.specs.Differ.{IsWritten};
 
-    ghost between = { λ w old new. ⊤ };
+    ghost between = { λ w old new. IsWritten (N.cells w.new.now) old new };
 
-    fn columns(&self, _row: usize, cols: usize) -> Columns {
-        Columns { from: 0, end: cols }
+    fn columns(&self, row: usize, cols: usize) -> Columns {
+        columns_written(self.new, row, cols)
     }
 }

@@ -4,7 +4,7 @@ ghost use Rattle.std.specs.Prelude.{◌≡◌, IfSome, Some, false, true};
 ghost use Rattle.cur_paint.specs.Limits.{IsPlaced, last_move};
 ghost use Rattle.cur_paint.specs.Scenes.{CanCompare, ClearSaves, IsDue, IsUseful, all_changed, scene};
 
-use crate::changes::{Changes, Moved, Whole, region};
+use crate::changes::{Changes, Moved, Written, region};
 use crate::clears::{may_become_blanks, saves};
 use crate::counts::MOST_CELLS;
 use crate::screens::Screens;
@@ -54,7 +54,8 @@ impl<C: Certificate, O: Picture, N: Picture> Screens<'_, C, O, N> {
     }
 
     /// The `scroll`, if the terminal can do it and enough fewer cells differ after it. Counts the cells of its region
-    /// that differ without it and after it; elsewhere it changes nothing.
+    /// that differ without it, and if the columns that may differ after it aren't few enough, also those that differ
+    /// after it; elsewhere it changes nothing.
     #[inline(never)]
     fn useful<D: Changes>(&self, changes: &D, scroll: Scroll) -> Option<Scroll>
         requires compared { CanCompare D.between changes.now (scene C.table O.cells N.cells self.now) }
@@ -72,10 +73,21 @@ impl<C: Certificate, O: Picture, N: Picture> Screens<'_, C, O, N> {
             old: &moved,
             new: self.new,
         };
+        let after = Moved {
+            changes,
+            scroll,
+            new: self.new,
+        };
         let lines = region(scroll, self.checked.rows());
-        let left = then.count_lines(&Moved { changes, scroll }, lines, MOST_CELLS);
-        let most = left + usize::from(scroll.count) + (BESIDE - 1);
-        if self.count_lines(changes, lines, most) > most {
+        let cost = usize::from(scroll.count) + (BESIDE - 1);
+        let width = then.columns_in(&after, lines);
+        let most = width + cost;
+        let before = self.count_lines(changes, lines, most);
+        if before > most {
+            return Some(scroll);
+        }
+        let left = then.count_lines(&after, lines, MOST_CELLS);
+        if before > left + cost {
             Some(scroll)
         } else {
             None
@@ -101,7 +113,7 @@ impl<C: Certificate, O: Picture, N: Picture> Screens<'_, C, O, N> {
         ensures saves { result ≡ true → ClearSaves (scene C.table O.cells N.cells self.now) }
     {
         let clear = self.checked.line(Row::Clear).unwrap().len();
-        if !saves(self.checked, &Blank, self.old, self.new, clear) {
+        if !saves(self.checked, self.old, self.new, clear) {
             return false;
         }
         let anew = Screens {
@@ -109,7 +121,7 @@ impl<C: Certificate, O: Picture, N: Picture> Screens<'_, C, O, N> {
             old: &Blank,
             new: self.new,
         };
-        let left = anew.count_cells(&Whole);
+        let left = anew.count_cells(&Written { new: self.new });
         self.differ_in_more(changes, clear + left)
     }
 }

@@ -1,15 +1,15 @@
 //! Whether to clear everything before a known screen is painted.
 use crate::changes::Changes;
 use crate::tails::may_differ;
-use cur_steps::{Picture, are_blank};
+use cur_steps::{Picture, are_blank, blank_from};
 use ti_conforms::Certificate;
 use ti_rows::Row;
 
 /// An estimate of the bytes of a move and a change of attributes, for each line whose cells are printed again.
 const AGAIN: usize = 8;
 
-/// A line of two screens: whether it is blank on the new one, how many cells at its end become blank, and how many
-/// cells that aren't blank stay as they are.
+/// A line of two screens: whether it is blank on the new one, how many cells at its end become blank (none is counted
+/// past as many as erasing them has bytes), and how many cells that aren't blank stay as they are.
 #[derive(Clone, Copy)]
 struct Tally {
     is_blank: bool,
@@ -17,41 +17,46 @@ struct Tally {
     kept: usize,
 }
 
-/// The `tally` with one more cell, which is blank if `is_blank`, and unchanged if `stays`.
-fn with_cell(tally: Tally, is_blank: bool, stays: bool) -> Tally {
-    match (is_blank, stays) {
-        (true, true) => tally,
-        (true, false) => Tally {
-            blanked: tally.blanked.saturating_add(1),
-            ..tally
-        },
-        (false, _) => Tally {
-            is_blank: false,
-            blanked: 0,
-            kept: tally.kept.saturating_add(stays as usize),
-        },
+/// The number of cells that aren't blank in the line `row` of `screen`, from the column `from` up to `end`, but at most
+/// `most`.
+fn solid_within<P: Picture>(screen: &P, row: usize, from: usize, end: usize, most: usize) -> usize {
+    let mut count = 0usize;
+    for col in from..end {
+        if count >= most {
+            return most;
+        }
+        if !screen.is_blank(row, col) {
+            count = count.saturating_add(1);
+        }
     }
+    count
 }
 
-/// The tally of the line `row` of `cols` columns, from the `old` screen to the `new` one; `blank` is a blank screen.
-fn tally_of<B: Picture, O: Picture, N: Picture>(
-    blank: &B,
+/// The number of cells of the line `row`, before the column `end`, that aren't blank and stay as they are.
+fn kept_before<O: Picture, N: Picture>(old: &O, new: &N, row: usize, end: usize) -> usize {
+    let mut count = 0usize;
+    for col in 0..end {
+        let stays = !new.is_blank(row, col) && old.shows(row, col, new.at(row, col));
+        count = count.saturating_add(stays as usize);
+    }
+    count
+}
+
+/// The tally of the line `row` of `cols` columns, from the `old` screen to the `new` one, where erasing takes `erasing`
+/// bytes.
+fn tally_of<O: Picture, N: Picture>(
     old: &O,
     new: &N,
     row: usize,
     cols: usize,
+    erasing: usize,
 ) -> Tally {
-    let mut tally = Tally {
-        is_blank: true,
-        blanked: 0,
-        kept: 0,
-    };
-    for col in 0..cols {
-        let cell = new.at(row, col);
-        let is_blank = blank.shows(row, col, cell);
-        tally = with_cell(tally, is_blank, old.shows(row, col, cell));
+    let end = blank_from(new, row, cols);
+    Tally {
+        is_blank: end == 0,
+        blanked: solid_within(old, row, end, cols, erasing),
+        kept: kept_before(old, new, row, end),
     }
-    tally
 }
 
 /// The bytes that clearing saves, above the last line that isn't blank and below it, and the bytes that it costs, with
@@ -63,9 +68,9 @@ struct Balance {
     again: usize,
 }
 
-/// The `balance` with one more line, whose tally is `tally` and whose end takes `erasing` bytes to erase.
-fn with_line(balance: Balance, tally: Tally, erasing: usize) -> Balance {
-    let saved = balance.below.saturating_add(tally.blanked.min(erasing));
+/// The `balance` with one more line, whose tally is `tally`.
+fn with_line(balance: Balance, tally: Tally) -> Balance {
+    let saved = balance.below.saturating_add(tally.blanked);
     if tally.is_blank {
         return Balance {
             below: saved,
@@ -93,9 +98,8 @@ fn bytes_within<C: Certificate>(checked: &C, row: Row, most: usize) -> usize {
 }
 
 /// Whether clearing, by `clear` bytes, is likely to take fewer bytes than erasing line by line.
-pub(crate) fn saves<C: Certificate, B: Picture, O: Picture, N: Picture>(
+pub(crate) fn saves<C: Certificate, O: Picture, N: Picture>(
     checked: &C,
-    blank: &B,
     old: &O,
     new: &N,
     clear: usize,
@@ -109,7 +113,7 @@ pub(crate) fn saves<C: Certificate, B: Picture, O: Picture, N: Picture>(
         again: clear,
     };
     for row in 0..checked.rows() {
-        balance = with_line(balance, tally_of(blank, old, new, row, cols), erasing);
+        balance = with_line(balance, tally_of(old, new, row, cols, erasing));
         if balance.again >= most {
             return false;
         }

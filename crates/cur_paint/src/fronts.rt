@@ -6,7 +6,7 @@ ghost use Rattle.cur_paint.specs.Scenes.{CanPaint, CanRefresh, Ends, IsSame, IsU
 ghost use Rattle.cur_steps.specs.{Beliefs.{Agrees}, Inks.{blank_ink}, declared.inks.Ink.{Ink}};
 ghost use Rattle.ti_rows.specs.declared.rows.Row.TheVariants.{Clear};
 
-use crate::changes::{Changes, Moved, Whole};
+use crate::changes::{Changes, Moved, Written};
 use crate::painters::Painter;
 use crate::screens::Screens;
 use crate::updates::{Wanted, start_belief};
@@ -57,7 +57,10 @@ impl<C: Certificate, O: Picture, N: Picture, W: Wire> Painter<'_, C, O, N, W> {
         ensures ends { Ends C.table O.cells N.cells W.went W.failures self.old self.new result
             (λ s. renewal_limit s.table (λ i j. blank_ink) s.new) (λ s i j. blank_ink) wanted }
     {
-        self.paint_over(&Blank, &Whole, wanted)
+        let written = Written {
+            new: self.screens.new,
+        };
+        self.paint_over(&Blank, &written, wanted)
     }
 
     /// Paints onto a terminal that shows `old`, which must differ from the new screen as `changes` says.
@@ -100,7 +103,12 @@ impl<C: Certificate, O: Picture, N: Picture, W: Wire> Painter<'_, C, O, N, W> {
             old: self.screens.old,
             scroll,
         };
-        self.paint_moved(&moved, &Moved { changes, scroll }, second, wanted)
+        let after = Moved {
+            changes,
+            scroll,
+            new: self.screens.new,
+        };
+        self.paint_moved(&moved, &after, second, wanted)
     }
 
     /// Paints onto a terminal that shows `old`, as `paint_over` does, after the scroll `second`, if that saves cells.
@@ -144,6 +152,11 @@ impl<C: Certificate, O: Picture, N: Picture, W: Wire> Painter<'_, C, O, N, W> {
             old: self.screens.old,
             scroll,
         };
-        self.paint_over(&moved, &Moved { changes, scroll }, wanted)
+        let after = Moved {
+            changes,
+            scroll,
+            new: self.screens.new,
+        };
+        self.paint_over(&moved, &after, wanted)
     }
 }

@@ -5,10 +5,9 @@ ghost use Rattle.cur_steps.specs.Inks.{blank_ink};
 ghost use Rattle.ti_rows.specs.declared.rows.Row.TheVariants.{Ed, El};
 
 use crate::changes::{Changes, Columns};
-use crate::pieces::differs_in;
 use crate::screens::Screens;
 use cur_moves::{ErasedPart, erasing_line};
-use cur_steps::{Cells, Picture, Place, blank_from, first_solid};
+use cur_steps::{Picture, Place, are_blank, blank_from, first_solid};
 use ti_conforms::Certificate;
 use ti_rows::Row;
 
@@ -55,12 +54,7 @@ impl<C: Certificate, O: Picture, N: Picture> Screens<'_, C, O, N> {
             };
         }
         let solid = first_solid(self.new, row + 1, rows, cols);
-        let end = Cells {
-            row,
-            from: tail.col,
-            count: cols - tail.col,
-        };
-        if solid < rows || !differs_in(self.old, self.new, end) {
+        if solid < rows || are_blank(self.old, row, tail.col, cols) {
             return Bottom { col: cols, solid };
         }
         if !self.rest_is_short(row, tail.col) {
@@ -86,7 +80,7 @@ impl<C: Certificate, O: Picture, N: Picture> Screens<'_, C, O, N> {
         }
     }
 
-    /// Whether it takes at least `bytes` bytes to make the differing lines from `from` on blank, one by one.
+    /// Whether it takes at least `bytes` bytes to make the lines from `from` on blank, one by one, where they aren't.
     fn lines_take(&self, from: usize, bytes: usize) -> bool
         requires scene { IsPaintable (scene C.table O.cells N.cells self.now) }
     {
@@ -94,12 +88,7 @@ impl<C: Certificate, O: Picture, N: Picture> Screens<'_, C, O, N> {
         let line = tail_bytes(self.checked, cols).saturating_add(1);
         let mut left = bytes;
         for row in from..self.checked.rows() {
-            let cells = Cells {
-                row,
-                from: 0,
-                count: cols,
-            };
-            if differs_in(self.old, self.new, cells) {
+            if !are_blank(self.old, row, 0, cols) {
                 left = left.saturating_sub(line);
             }
             if left == 0 {

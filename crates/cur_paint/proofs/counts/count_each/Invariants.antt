@@ -1,6 +1,6 @@
 use Rattle.std.proofs.Common.{◌≡◌, ◌≤◌}
 use Rattle.cur_paint.specs.Differ.{span}
-use Rattle.cur_paint.proofs.counts.count_columns.Given as goal
+use Rattle.cur_paint.proofs.counts.count_each.Given as goal
 
 abbrev pub invariant-loop-n : goal.invariant-loop-n
 invariant-loop-n g l = record {

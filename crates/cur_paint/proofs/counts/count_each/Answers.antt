@@ -1,6 +1,6 @@
 use Rattle.std.proofs.Common.{arith}
 use Rattle.cur_paint.proofs.Ranges.{span_on}
-use Rattle.cur_paint.proofs.counts.count_columns.Goals as goal
+use Rattle.cur_paint.proofs.counts.count_each.Goals as goal
 
 pub loop-n-preserved : goal.loop-n-preserved
 loop-n-preserved g c = record {
