@@ -175,6 +175,8 @@ int32_t ticurses_raw_noutrefresh_lines(ticurses *session, size_t window, int32_t
 int32_t ticurses_raw_cursor(ticurses *session, size_t window, uint16_t *row, uint16_t *col);
 int32_t ticurses_raw_size(ticurses *session, size_t window, uint16_t *rows, uint16_t *cols);
 int32_t ticurses_raw_cell(ticurses *session, size_t window, uint16_t row, uint16_t col, ticurses_cell *cell);
+size_t ticurses_raw_cell_limit(ticurses *session);
+size_t ticurses_raw_most(ticurses *session);
 size_t ticurses_raw_waiting(ticurses *session);
 size_t ticurses_raw_output(ticurses *session, uint8_t *room, size_t room_len);
 int32_t ticurses_raw_lost(ticurses *session);
@@ -409,6 +411,17 @@ static inline int ticurses_window_size(ticurses *session, size_t window, uint16_
 static inline int ticurses_cell_at(ticurses *session, size_t window, uint16_t row, uint16_t col, ticurses_cell *cell) {
     return !session || !cell ? TICURSES_NULL : ticurses_raw_cell(session, window, row, col, cell);
 }
+
+/* The most bytes that one cell takes on the session's terminal, with its move and all changes of its look: the lengths
+ * of the entry's longest strings of each kind, added up. It stays the same for as long as the session is open, and is 0
+ * for a session that isn't. */
+static inline size_t ticurses_cell_limit(ticurses *session) { return session ? ticurses_raw_cell_limit(session) : 0; }
+
+/* The most bytes that the call `doupdate` adds to those that wait, if it is the next call: the limit of a cell for each
+ * cell that differs from the screen shown last, and once more; or for all cells of the screen, with the way out of an
+ * unknown state, if the refresh begins anew. No refresh adds more, and nearly all add far less. 0 for a session that
+ * isn't open. A window counts once `noutrefresh` has copied it. */
+static inline size_t ticurses_most(ticurses *session) { return session ? ticurses_raw_most(session) : 0; }
 
 /* The number of bytes that wait to be written to the terminal. */
 static inline size_t ticurses_waiting(ticurses *session) { return session ? ticurses_raw_waiting(session) : 0; }

@@ -57,6 +57,22 @@ def check_names(made, prefix, work):
     hold(texts.stdout.splitlines() == [made.TEXTS[it] for it in made.Code], "the words differ", texts.stdout)
 
 
+def check_bound(session):
+    # of `xc` at 6 by 24, by its source: cup 7, sgr 19, setaf and setab 5, op 8, smacs and rmacs 3, el and ech 5,
+    # civis 6, cnorm 12, cvvis 9, and the character; the way out of an unknown state has 37 bytes
+    hold(session.cell_limit == 80 and session.most == 80, "the limit differs", session.cell_limit, session.most)
+    session.addstr(0, "c")
+    hold(session.most == 80, "a window counts before it is copied", session.most)
+    session.call("noutrefresh 0")
+    hold(session.most == 160, "one cell differs", session.most)
+    session.call("doupdate")
+    hold(0 < session.waiting <= 160 and session.most == 80, "the bound is passed", session.waiting)
+    session.lost()
+    hold(session.most == 145 * 80 + 37, "a whole screen differs", session.most)
+    session.call("refresh 0")
+    session.output()
+
+
 def check_calls(made):
     source = held_in(TERMINALS)
     session = made.Session(source, 6, 24, name="xc")
@@ -72,6 +88,7 @@ def check_calls(made):
     waits = session.waiting
     hold(waits > 5 and len(session.output(3)) == 3 and session.waiting == waits - 3, "the count differs", waits)
     hold(len(session.output()) == waits - 3 and session.output() == b"" and session.output(0) == b"", "more waits")
+    check_bound(session)
     raises(made, made.Code.NO_CAP, session.call, "beep 0")
     other = made.Session(source, 6, 24, name="vt")
     other.lost()

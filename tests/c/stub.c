@@ -135,6 +135,10 @@ int32_t ticurses_raw_cell(handle *at, size_t window, uint16_t row, uint16_t col,
     return ticurses_raw_addstr(at, window, NULL, 0);
 }
 
+size_t ticurses_raw_cell_limit(handle *at) { return at->at ? 1 : 0; }
+
+size_t ticurses_raw_most(handle *at) { return at->at ? 1 : 0; }
+
 size_t ticurses_raw_waiting(handle *at) {
     session *it = at->at;
     return it ? it->to - it->from : 0;

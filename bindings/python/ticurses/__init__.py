@@ -269,6 +269,16 @@ class Session:
         return Cell(chr(cell.byte), Attrs(cell.attrs), cell.pair)
 
     @property
+    def cell_limit(self) -> int:
+        """The most bytes that one cell takes on this terminal; 0 after `close`."""
+        return int(RAW.ticurses_raw_cell_limit(self._handle))
+
+    @property
+    def most(self) -> int:
+        """The most bytes that the call `doupdate` adds to those that wait, if it comes next; 0 after `close`."""
+        return int(RAW.ticurses_raw_most(self._handle))
+
+    @property
     def waiting(self) -> int:
         """The number of bytes that wait to be written."""
         return int(RAW.ticurses_raw_waiting(self._handle))

@@ -36,6 +36,8 @@ _CALLS: dict[str, tuple[Any, list[Any]]] = {
     "cursor": (CODE, [SESSION, SIZE, SHORTS, SHORTS]),
     "size": (CODE, [SESSION, SIZE, SHORTS, SHORTS]),
     "cell": (CODE, [SESSION, SIZE, SHORT, SHORT, ctypes.POINTER(Cell)]),
+    "cell_limit": (SIZE, [SESSION]),
+    "most": (SIZE, [SESSION]),
     "waiting": (SIZE, [SESSION]),
     "output": (SIZE, [SESSION, BYTES, SIZE]),
     "lost": (CODE, [SESSION]),

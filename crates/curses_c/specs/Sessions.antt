@@ -5,6 +5,7 @@ use Rattle.ti_cert.specs.Table.{CheckedTable, certified}
 use Rattle.ti_cert.specs.Texts.{IsTableOf}
 use Rattle.ti_checker.specs.Owned.{IsOwnTable}
 use Rattle.ti_conforms.specs.Certified.{IsChecked}
+use Rattle.cur_play.specs.Log.{most}
 use Rattle.cur_play.specs.Scenes.{first, scene_of}
 use Rattle.curses_c.specs.Codes.{failure_code}
 use Rattle.curses_c.specs.Entries.{Gives, IsShown, IsUncertified, IsUnshown, Lacks}
@@ -19,6 +20,16 @@ Answers none R (Some h) answer (Some k) = R h answer k
 Answers none R (Some h) answer None = ⊥
 Answers none R None answer (Some k) = ⊥
 Answers none R None answer None = answer ≡ none
+
+-- a number that is read of an open handle, which stays as it is; 0 for a closed one
+abbrev pub Counts : (Held → ℕ) → Option Held → ℕ → Option Held → Type 0
+Counts count old n new = Answers 0 (λ h m k. (k ≡ h) × (m ≡ count h)) old n new
+
+-- the most bytes that a refresh by `doupdate` sends if it comes next
+abbrev pub most_of : Held → ℕ
+most_of h =
+    most (certified h.session.painter.checked) h.session.painter.session.status h.session.screen.clearok
+    h.session.painter.shown h.session.screen
 
 -- the answer of a closed handle
 abbrev pub closed : ℤ

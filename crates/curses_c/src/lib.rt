@@ -1,6 +1,7 @@
 //! ticurses for programs in C: certificates, and sessions by a handle.
 #![tactic(auto)]
 
+mod bounds;
 mod capabilities;
 mod codes;
 mod entries;
