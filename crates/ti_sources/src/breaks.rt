@@ -239,9 +239,10 @@ fn with_breaks(alloc: Global, original: &[u8], text: &[u8]) -> Result<Vec<u8>, A
     Ok(broken)
 }
 
-/// The `text`, whose fields are each on one line, with the line breaks of the `original` from which it was joined: where
-/// a line is still the same, each break is where it was; in another line, each break is as far from the line's start or
-/// end, or before that place. The original itself if the text is what it is joined to; `None` if it has other lines.
+/// The `text`, whose fields are each on one line, with the line breaks of the `original` from which it was joined:
+/// where a line is still the same, each break is where it was; in another line, each break is as far from the line's
+/// start or end, or before that place. The original itself if the text is what it is joined to; `None` if it has other
+/// lines.
 ///
 /// # Errors
 /// Out of memory.
