@@ -37,7 +37,12 @@ PARTS = [
         ],
     ),
     ("The terminal", ["vt_effects", "vt_states", "vt_term", "vt_screen", "grids"]),
-    ("Certificates", ["ti_grades", "ti_faults", "ti_checker", "ti_cert", "ti_forms", "ti_lines", "ti_conforms", "ti_rows"]),
+    (
+        "Certificates",
+        [
+            "ti_sizes", "ti_grades", "ti_faults", "ti_checker", "ti_cert", "ti_forms", "ti_lines", "ti_conforms", "ti_rows",
+        ],
+    ),
     ("Windows", ["cur_pads", "cur_windows", "cur_screens", "cur_drawing"]),
     (
         "Painting",

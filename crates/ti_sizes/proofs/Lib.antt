@@ -1,0 +1,5 @@
+pub mod StartFacts
+pub mod StepFacts
+pub mod TokenFacts
+pub mod Walks
+pub mod Narrowed

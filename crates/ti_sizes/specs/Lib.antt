@@ -1,0 +1,4 @@
+pub mod EverySize
+pub mod Steady
+pub mod Lines
+pub mod Answers
