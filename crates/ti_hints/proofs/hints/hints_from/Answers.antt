@@ -15,5 +15,5 @@ loop-number-preserved c =
     record {
       hold = all_behind (IsHintOf lines c.args.raws.now c.args.place) c.loop-number.hints.items c.in_ok-own.own.items c.append.new.self.items c.in_ok-append.ensures.items c.loop-number.invariant.hold
           (as_hints lines c.args.raws.now _ c.in_ok-own.own.items stands c.line_at.ensures c.in_ok-own.ensures);
-      further = some_turned (IsLineOf c.args.raws.now c.args.place) c.loop-number.further c.further_line.result c.loop-number.number c.further_line.ensures c.loop-number.invariant.further stands;
+      further = some_turned (IsLineOf c.args.raws.now c.args.place) c.loop-number.further c.further_line-further.result c.loop-number.number c.further_line-further.ensures c.loop-number.invariant.further stands;
     }
