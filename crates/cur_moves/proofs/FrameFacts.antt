@@ -27,7 +27,7 @@ use Rattle.cur_steps.proofs.Answers.{moves_few}
 use Rattle.cur_steps.proofs.Turns.{by_screen, calmly, look_at-drawn, stands_at}
 use Rattle.cur_moves.specs.Scrolls.{edge, scroll_row, shifted}
 use Rattle.cur_moves.specs.declared.scrolls.Scroll.{Scroll}
-use Rattle.cur_moves.specs.Frames.{Frame, Framed, IsThere, Moves, Reframes, at_edge, framed, whole}
+use Rattle.cur_moves.specs.Frames.{Frame, Framed, IsThere, Moves, Reframes, at_edge, framed, framed_at, whole}
 use Rattle.cur_moves.proofs.Shifts.{choice, shifted_next, shifted_none, times_grows}
 
 -- ---- a line, sent
@@ -95,11 +95,11 @@ margins_set t f b top bottom = record {
 }
 
 -- the cursor moves, whatever the margins are
-pub moved_in : (t : Table) (f : Frame) (b : Belief) (row : ℕ) → 0 < t.cols → Reframes t (Cup row 0) f (framed f.top f.bottom f.cells row) b
-moved_in t f b row some = record {
+pub moved_in : (t : Table) (f : Frame) (b : Belief) (row col : ℕ) → col < t.cols → Reframes t (Cup row col) f (framed_at f.top f.bottom f.cells row col) b
+moved_in t f b row col some = record {
   starts = λ s h. any_of t f b s h;
-  ends = λ s u h sized closed w. framed_anew t f (framed f.top f.bottom f.cells row) b s u s.screen.grid s.screen.top s.screen.bottom row 0 false
-      h sized closed w.wants h.top h.bottom h.cells (stands_at t.cols row 0 some);
+  ends = λ s u h sized closed w. framed_anew t f (framed_at f.top f.bottom f.cells row col) b s u s.screen.grid s.screen.top s.screen.bottom row col false
+      h sized closed w.wants h.top h.bottom h.cells (stands_at t.cols row col some);
 }
 
 -- ---- scrolling by a line
@@ -221,9 +221,9 @@ plain_colored : (t : Table) → IsColored t plain_brush
 plain_colored t = record { foreground = λ e. refl; background = λ e. refl }
 
 -- a frame of the whole screen agrees with the belief
-pub left : (t : Table) (g : ℕ → ℕ → Ink) (b : Belief) (row : ℕ) → 0 < t.rows → b.brush ≡ plain_brush → (s : State) → Framed t (whole t g row) (record b { place = record { row = row; col = 0 } }) s
-    → Agrees t g (record b { place = record { row = row; col = 0 } }) s
-left t g b row some e s x = record {
+pub left : (t : Table) (g : ℕ → ℕ → Ink) (b : Belief) (row col : ℕ) → 0 < t.rows → b.brush ≡ plain_brush → (s : State) → Framed t (whole t g row col) (record b { place = record { row = row; col = col } }) s
+    → Agrees t g (record b { place = record { row = row; col = col } }) s
+left t g b row col some e s x = record {
   ready = record { sized = x.sized; rest = x.rest; tame = x.tame; whole = record { top = x.top; bottom = omega (arith, x.bottom, x.sized.rows, some) }; settled = x.settled; visible = x.visible };
   cells = x.cells;
   place = x.place;

@@ -58,15 +58,20 @@ abbrev pub Moves : {W T E : Type 0} → (W → W → List ℕ → Type 0) → (W
 Moves went failures before after answer t limit f h b =
     Steps went failures before after answer (IsPaint t) limit (IsLost t) (Framed t f b) (Framed t h b)
 
+-- these margins and cells, with the cursor in this line and column
+abbrev pub framed_at : ℕ → ℕ → (ℕ → ℕ → Ink) → ℕ → ℕ → Frame
+framed_at top bottom g row col =
+    record { top = top; bottom = bottom; cells = g; place = Some (record { row = row; col = col }) }
+
 -- these margins and cells, with the cursor in the first column of this line
 abbrev pub framed : ℕ → ℕ → (ℕ → ℕ → Ink) → ℕ → Frame
-framed top bottom g row = record { top = top; bottom = bottom; cells = g; place = Some (record { row = row; col = 0 }) }
+framed top bottom g row = framed_at top bottom g row 0
 
 -- a scroll's margins and these cells, with the cursor in the first column of the edge: the line in which it makes the
 -- region scroll
 abbrev pub at_edge : Scroll → (ℕ → ℕ → Ink) → Frame
 at_edge x g = framed x.top x.bottom g (edge x)
 
--- the whole screen as margins and these cells, with the cursor in the first column of this line
-abbrev pub whole : Table → (ℕ → ℕ → Ink) → ℕ → Frame
-whole t g row = framed 0 (t.rows - 1) g row
+-- the whole screen as margins and these cells, with the cursor in this line and column
+abbrev pub whole : Table → (ℕ → ℕ → Ink) → ℕ → ℕ → Frame
+whole t g row col = framed_at 0 (t.rows - 1) g row col

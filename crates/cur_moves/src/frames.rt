@@ -3,7 +3,7 @@ ghost use Rattle.std.specs.Prelude.{◌≡◌, ◌+◌, ◌<◌, ◌≤◌, ℕ,
 ghost use Rattle.ti_conforms.specs.{Certified.{IsChecked, has, limit_of}, Table.{widening}};
 ghost use Rattle.cur_steps.specs.{Pieces.{paints}, declared.beliefs.Belief.{Belief}};
 ghost use Rattle.ti_rows.specs.declared.rows.Row.TheVariants.{Csr};
-ghost use Rattle.cur_moves.specs.Frames.{Frame, Moves, Reframes, framed};
+ghost use Rattle.cur_moves.specs.Frames.{Frame, Moves, Reframes, framed_at};
 
 use cur_steps::{Sent, Wire, send_all};
 use ti_conforms::Certificate;
@@ -23,21 +23,24 @@ pub(crate) fn send_row<C: Certificate, W: Wire>(checked: &C, wire: &mut W, row: 
     send_all(wire, line)
 }
 
-/// Sets the margins to the lines from `top` to `bottom`, and moves the cursor to the start of the line `row`.
+/// Sets the margins to the lines from `top` to `bottom`, and moves the cursor to line `row` and column `col`.
 pub(crate) fn set_frame<C: Certificate, W: Wire>(
     checked: &C,
     wire: &mut W,
     top: u16,
     bottom: u16,
     row: u16,
+    col: u16,
 ) -> Sent
     requires checked { IsChecked (C.table checked.now) }
     requires widens { has (C.table checked.now) (widening (C.table checked.now)) ≡ true }
     requires there { has (C.table checked.now) (Csr top bottom) ≡ true }
     requires row { row < (C.table checked.now).rows }
+    requires col { col < (C.table checked.now).cols }
     ensures step { (f : Frame) (b : Belief) → Moves W.went W.failures wire.old wire.new result (C.table checked.now)
-        ((C.table checked.now).longest.scroll + (C.table checked.now).longest.cup) f (framed top bottom f.cells row) b }
+        ((C.table checked.now).longest.scroll + (C.table checked.now).longest.cup) f
+        (framed_at top bottom f.cells row col) b }
 {
     send_row(checked, wire, Row::Csr(top, bottom))?;
-    send_row(checked, wire, Row::Cup(row, 0))
+    send_row(checked, wire, Row::Cup(row, col))
 }

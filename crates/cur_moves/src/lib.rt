@@ -18,6 +18,6 @@ pub use erasures::{ErasedPart, Erasure, erase_at, erasing_line};
 pub use pictures::Shifted;
 pub use reaches::line_bytes;
 pub use regions::scroll_lines;
-pub use scrolls::{Scroll, can_scroll, line_before};
+pub use scrolls::{Landing, Scroll, can_scroll, first_blank, line_before};
 pub use targets::Target;
 pub use texts::goes_on;

@@ -7,7 +7,7 @@ ghost use Rattle.cur_moves.specs.{Scrolls.{CanScroll, shifted}, Frames.{Frame, M
 
 use crate::cells::brush_as;
 use crate::frames::{send_row, set_frame};
-use crate::scrolls::{Scroll, edge, first_blank, is_whole, scroll_row};
+use crate::scrolls::{Landing, Scroll, edge, is_whole, scroll_row};
 use crate::targets::Target;
 use cur_steps::{Blank, Brush, Pen, Place, Sent, Wire};
 use ti_conforms::Certificate;
@@ -28,24 +28,26 @@ fn scroll_at_edge<C: Certificate, W: Wire>(checked: &C, wire: &mut W, scroll: Sc
 }
 
 /// Moves the lines of the region of `scroll` from any margins, and leaves the margins at the whole screen and the
-/// cursor at the start of the line `row`.
+/// cursor at `to`.
 fn scroll_region<C: Certificate, W: Wire>(
     checked: &C,
     wire: &mut W,
     scroll: Scroll,
-    row: u16,
+    to: Landing,
 ) -> Sent
     requires checked { IsChecked (C.table checked.now) }
     requires lines { CanScroll (C.table checked.now) scroll }
-    requires row { row < (C.table checked.now).rows }
+    requires row { to.row < (C.table checked.now).rows }
+    requires col { to.col < (C.table checked.now).cols }
     ensures step { (f : Frame) (b : Belief) → Moves W.went W.failures wire.old wire.new result
         (C.table checked.now) ((scroll.count + 2) * (C.table checked.now).longest.scroll
         + 2 * (C.table checked.now).longest.cup)
-        f (whole (C.table checked.now) (shifted scroll f.cells) row) b }
+        f (whole (C.table checked.now) (shifted scroll f.cells) to.row to.col) b }
 {
-    set_frame(checked, wire, scroll.top, scroll.bottom, edge(scroll))?;
+    set_frame(checked, wire, scroll.top, scroll.bottom, edge(scroll), 0)?;
     scroll_at_edge(checked, wire, scroll)?;
-    set_frame(checked, wire, 0, (checked.rows() - 1) as u16, row)
+    let last = (checked.rows() - 1) as u16;
+    set_frame(checked, wire, 0, last, to.row, to.col)
 }
 
 /// Moves the lines of the whole screen as `scroll` says, in the plain brush. The margins are whole already.
@@ -72,10 +74,18 @@ fn scroll_screen<C: Certificate, W: Wire>(checked: &C, pen: &mut Pen<W>, scroll:
 }
 
 /// Moves lines as `scroll` says, by the terminal's own scrolling: in the plain brush, within margins that are the whole
-/// screen again at the end. The lines that come in are blank, and no other line changes. At a failure the terminal is
-/// lost, whatever its margins are.
-pub fn scroll_lines<C: Certificate, W: Wire>(checked: &C, pen: &mut Pen<W>, scroll: Scroll) -> Sent
+/// screen again at the end, with the cursor then at `to`. If the region is the whole screen, no margins are set, and
+/// the cursor stays in the line from which it scrolls. The lines that come in are blank, and no other line changes. At
+/// a failure the terminal is lost, whatever its margins are.
+pub fn scroll_lines<C: Certificate, W: Wire>(
+    checked: &C,
+    pen: &mut Pen<W>,
+    scroll: Scroll,
+    to: Landing,
+) -> Sent
     requires lines { CanScroll (C.table checked.now) scroll }
+    requires row { to.row < (C.table checked.now).rows }
+    requires col { to.col < (C.table checked.now).cols }
     ensures step { Makes W.went W.failures pen.old pen.new result (C.table checked.now)
         ((scroll.count + 4) * cell_limit (C.table checked.now)) (shifted scroll) }
     ensures mode { OnOk result (pen.new.belief.mode ≡ pen.old.belief.mode) }
@@ -86,10 +96,9 @@ pub fn scroll_lines<C: Certificate, W: Wire>(checked: &C, pen: &mut Pen<W>, scro
     if is_whole(scroll, rows) {
         return scroll_screen(checked, pen, scroll);
     }
-    let row = first_blank(scroll);
     pen.belief.place = Place {
-        row: row as usize,
-        col: 0,
+        row: to.row as usize,
+        col: to.col as usize,
     };
-    scroll_region(checked, &mut pen.wire, scroll, row)
+    scroll_region(checked, &mut pen.wire, scroll, to)
 }

@@ -17,6 +17,13 @@ pub struct Scroll {
     pub up: bool,
 }
 
+/// The place to which the cursor goes after a scroll within margins.
+#[derive(Clone, Copy)]
+pub struct Landing {
+    pub row: u16,
+    pub col: u16,
+}
+
 /// The line in which the cursor makes the region scroll: the last one for a `scroll` up, else the first.
 pub(crate) fn edge(scroll: Scroll) -> u16
     ensures { result ≡ edge scroll }
@@ -25,7 +32,7 @@ pub(crate) fn edge(scroll: Scroll) -> u16
 }
 
 /// The first line that comes in by the `scroll`.
-pub(crate) fn first_blank(scroll: Scroll) -> u16
+pub fn first_blank(scroll: Scroll) -> u16
     requires { scroll.top ≤ scroll.bottom }
     ensures { result ≤ scroll.bottom }
 {

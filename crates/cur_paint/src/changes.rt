@@ -3,7 +3,7 @@ ghost use Rattle.std.specs.Prelude.{◌≡◌, ◌+◌, ◌<◌, ◌≤◌, ℕ,
 ghost use Rattle.cur_moves.specs.Scrolls.{shifted};
 ghost use Rattle.cur_steps.specs.{Inks.{blank_ink}, declared.inks.Ink.{Ink}};
 
-use cur_moves::{Scroll, line_before};
+use cur_moves::{Landing, Scroll, first_blank, line_before};
 use cur_steps::{Picture, blank_from};
 
 /// The columns of a line from the column `from` up to, but not including, the column `end`.
@@ -97,6 +97,30 @@ pub(crate) fn region(scroll: Scroll, rows: usize) -> LineRange
     LineRange {
         from: usize::from(scroll.top),
         end: (usize::from(scroll.bottom) + 1).min(rows),
+    }
+}
+
+/// The place of the first cell above the region of `scroll` that may differ; or else, the start of the first line that
+/// comes in.
+pub(crate) fn landing<D: Changes>(changes: &D, scroll: Scroll, cols: usize) -> Landing
+    requires lines { scroll.top ≤ scroll.bottom }
+    requires some { 0 < cols }
+    requires few { cols ≤ 1000 }
+    ensures row { result.row ≤ scroll.bottom }
+    ensures col { result.col < cols }
+{
+    for row in 0..scroll.top {
+        let columns = changes.columns(usize::from(row), cols);
+        if columns.from < columns.end {
+            return Landing {
+                row,
+                col: columns.from as u16,
+            };
+        }
+    }
+    Landing {
+        row: first_blank(scroll),
+        col: 0,
     }
 }
 

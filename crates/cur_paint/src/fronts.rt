@@ -6,7 +6,7 @@ ghost use Rattle.cur_paint.specs.Scenes.{CanPaint, CanRefresh, Ends, IsSame, IsU
 ghost use Rattle.cur_steps.specs.{Beliefs.{Agrees}, Inks.{blank_ink}, declared.inks.Ink.{Ink}};
 ghost use Rattle.ti_rows.specs.declared.rows.Row.TheVariants.{Clear};
 
-use crate::changes::{Changes, Moved, Written};
+use crate::changes::{Changes, Moved, Written, landing};
 use crate::painters::Painter;
 use crate::screens::Screens;
 use crate::updates::{Wanted, start_belief};
@@ -98,7 +98,8 @@ impl<C: Certificate, O: Picture, N: Picture, W: Wire> Painter<'_, C, O, N, W> {
             (λ s. paint_limit s.table s.old s.new self.old.pen.now.belief wanted.cursor wanted.mode) (λ s. s.old)
             wanted }
     {
-        scroll_lines(self.screens.checked, self.pen, scroll)?;
+        let to = landing(changes, scroll, self.screens.checked.cols());
+        scroll_lines(self.screens.checked, self.pen, scroll, to)?;
         let moved = Shifted {
             old: self.screens.old,
             scroll,
@@ -147,7 +148,8 @@ impl<C: Certificate, O: Picture, N: Picture, W: Wire> Painter<'_, C, O, N, W> {
             (λ s. paint_limit s.table s.old s.new self.old.pen.now.belief wanted.cursor wanted.mode) (λ s. s.old)
             wanted }
     {
-        scroll_lines(self.screens.checked, self.pen, scroll)?;
+        let to = landing(changes, scroll, self.screens.checked.cols());
+        scroll_lines(self.screens.checked, self.pen, scroll, to)?;
         let moved = Shifted {
             old: self.screens.old,
             scroll,

@@ -16,6 +16,9 @@ const TRIES: u8 = 16;
 /// The number of cells that may be painted once more to save the margins of a scroll.
 const MARGINS: usize = 28;
 
+/// The number of bytes of a move back to lines below those that are painted once more.
+const BACK: usize = 6;
+
 /// How lines move: by `count` lines, up if `up`, else down.
 #[derive(Clone, Copy)]
 struct Way {
@@ -299,7 +302,8 @@ impl<'a> Pages<'a> {
         let rows = self.new.size().0;
         let above = self.repainted(0, scroll.top.min(rows));
         let below = self.repainted(scroll.bottom.saturating_add(1), rows);
-        if above.saturating_add(below) > MARGINS {
+        let back = if above > 0 { BACK } else { 0 };
+        if above.saturating_add(below).saturating_add(back) > MARGINS {
             return scroll;
         }
         Scroll {

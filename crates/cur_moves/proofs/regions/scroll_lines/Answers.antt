@@ -27,16 +27,17 @@ returns-clause-step g c h =
     let b : Belief = c.args.pen.now.belief in
     let a : Belief = c.brush_as.new.pen.belief in
     let x = c.args.scroll in
-    let row : ℕ = c.first_blank-row.result in
-    let p : Place = record { row = row; col = 0 } in
+    let row : ℕ = c.args.to.row in
+    let col : ℕ = c.args.to.col in
+    let p : Place = record { row = row; col = col } in
     let z : Belief = record a { place = p } in
     let f : Frame = record { top = 0; bottom = t.rows - 1; cells = h; place = None } in
     let plain : a.brush ≡ plain_brush = c.in_ok-brush_as.ensures.brush ∙ c.plain.ensures.value in
     let n : ℕ = (x.count + 2) * t.longest.scroll + 2 * t.longest.cup in
     steps_next g.W.Wire.went g.W.Wire.failures g.met.W.Wire.lawful c.args.pen.now.wire c.brush_as.new.pen.wire c.scroll_region.new.wire _ c.scroll_region.result (IsPaint t) (brush_limit t) n ((x.count + 4) * cell_limit t) (IsLost t)
     (Agrees t h b) (Agrees t h a) (Agrees t (shifted x h) z) (scroll_enough t x.count) (c.in_ok-brush_as.ensures.step h)
-    (steps_wider g.W.Wire.went g.W.Wire.failures c.brush_as.new.pen.wire c.scroll_region.new.wire c.scroll_region.result (IsPaint t) n n (IsLost t) (Framed t f z) (Framed t (whole t (shifted x h) row) z) (Agrees t h a) (Agrees t (shifted x h) z)
-    (omega arith) (entered t h a p plain) (left t (shifted x h) a row (omega (arith, c.rows-rows.ensures.checked.size)) plain) (c.scroll_region.ensures.step f z))
+    (steps_wider g.W.Wire.went g.W.Wire.failures c.brush_as.new.pen.wire c.scroll_region.new.wire c.scroll_region.result (IsPaint t) n n (IsLost t) (Framed t f z) (Framed t (whole t (shifted x h) row col) z) (Agrees t h a) (Agrees t (shifted x h) z)
+    (omega arith) (entered t h a p plain) (left t (shifted x h) a row col (omega (arith, c.rows-rows.ensures.checked.size)) plain) (c.scroll_region.ensures.step f z))
 
 pub returns-then-is_whole-clause-step : goal.returns-then-is_whole-clause-step
 returns-then-is_whole-clause-step g c h =

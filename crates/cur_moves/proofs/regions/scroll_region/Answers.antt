@@ -18,7 +18,7 @@ returns-in_err-set_frame g c =
     let enough : k + x.count * t.longest.scroll + k ≤ n = region_enough x.count t.longest.scroll t.longest.cup in
     record {
       step = λ f b. rw e.1 (steps_fail g.W.Wire.went g.W.Wire.failures c.args.wire.now c.set_frame.new.wire _ _ (IsPaint t) k n (IsLost t)
-          (Framed t f b) (Framed t (framed x.top x.bottom f.cells c.edge.result) b) (Framed t (whole t (shifted x f.cells) c.args.row) b) (omega (arith, enough)) (c.in_err-set_frame.ensures.step f b));
+          (Framed t f b) (Framed t (framed x.top x.bottom f.cells c.edge.result) b) (Framed t (whole t (shifted x f.cells) c.args.to.row c.args.to.col) b) (omega (arith, enough)) (c.in_err-set_frame.ensures.step f b));
     }
 
 pub returns-in_err-scroll_at_edge : goal.returns-in_err-scroll_at_edge
@@ -32,7 +32,7 @@ returns-in_err-scroll_at_edge g c = record {
       let n : ℕ = (x.count + 2) * t.longest.scroll + 2 * t.longest.cup in
       let enough : k + m + k ≤ n = region_enough x.count t.longest.scroll t.longest.cup in
       rw e.1 (steps_two_fail g.W.Wire.went g.W.Wire.failures g.met.W.Wire.lawful c.args.wire.now c.set_frame.new.wire c.scroll_at_edge.new.wire _ _ _ (IsPaint t) k m n (IsLost t)
-      (Framed t f b) (Framed t (at_edge x f.cells) b) (Framed t (at_edge x (shifted x f.cells)) b) (Framed t (whole t (shifted x f.cells) c.args.row) b) (omega (arith, enough))
+      (Framed t f b) (Framed t (at_edge x f.cells) b) (Framed t (at_edge x (shifted x f.cells)) b) (Framed t (whole t (shifted x f.cells) c.args.to.row c.args.to.col) b) (omega (arith, enough))
       (rw (c.edge.ensures) at c.in_ok-set_frame.ensures.step f b) (c.in_err-scroll_at_edge.ensures.step f.cells b)));
 }
 
@@ -45,6 +45,6 @@ returns g c = record {
       let m : ℕ = x.count * t.longest.scroll in
       let n : ℕ = (x.count + 2) * t.longest.scroll + 2 * t.longest.cup in
       steps_three g.W.Wire.went g.W.Wire.failures g.met.W.Wire.lawful c.args.wire.now c.set_frame.new.wire c.scroll_at_edge.new.wire c.set_frame-2.new.wire _ _ c.set_frame-2.result (IsPaint t) k m k n (IsLost t)
-      (Framed t f b) (Framed t (at_edge x f.cells) b) (Framed t (at_edge x (shifted x f.cells)) b) (Framed t (whole t (shifted x f.cells) c.args.row) b) (region_enough x.count t.longest.scroll t.longest.cup)
+      (Framed t f b) (Framed t (at_edge x f.cells) b) (Framed t (at_edge x (shifted x f.cells)) b) (Framed t (whole t (shifted x f.cells) c.args.to.row c.args.to.col) b) (region_enough x.count t.longest.scroll t.longest.cup)
       (rw (c.edge.ensures) at c.in_ok-set_frame.ensures.step f b) (c.in_ok-scroll_at_edge.ensures.step f.cells b) (rw (c.rows.ensures.value) at c.set_frame-2.ensures.step (at_edge x (shifted x f.cells)) b));
 }
