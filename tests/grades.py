@@ -19,18 +19,21 @@ GRADES = [
     (r"hpa=\E[%p1%dG", "contradicts"), (r"vpa=\E[%p1%dd", "contradicts"), (r"csr=\E[%p1%d;%p2%dr", "contradicts"),
     (r"op=\E[m", "contradicts"), (r"clear=\E[2J, rmcup=\E[H\E[2J", "contradicts"),
     (r"smacs=^N, rmacs=^O, acsc=qq", "contradicts"), (r"rmacs=^O, smacs=\E(0, acsc=qq", "contradicts"),
-    (r"cup=\E[%p1%d;%p2%dH, csr=\E[%i%p1%d;%p2%dr", "contradicts"), (r"smacs=^N, rmacs=^O, acsc=qq, is2=\E)0", "contradicts"),
+    (r"cup=\E[%p1%d;%p2%dH, csr=\E[%i%p1%d;%p2%dr", "contradicts"),
+    (r"smacs=^N, rmacs=^O, acsc=qq, is2=\E)0", "contradicts"),
     # it isn't judged, or sends what the terminal hasn't
     ("xmc#1", "unknown"), (r"acsc=q\001", "unknown"), (r"cr=\r\377", "unknown"), (r"home=x\E[H", "unknown"),
     (r"ech=\E[%p1%dP", "unknown"), (r"cud=\E[%p1%PA%gB%dB", "unknown"), (r"el=%^D\E[K", "unknown"), (r"ri=\E", "unknown"),
     (r"setaf=\E[38;5;%p1%dm", "unknown"), (r"vpa=\E[%i%p1%de", "unknown"), (r"civis=\E[?12l", "unknown"), (r"home=^L", "unknown"),
-    (r"smacs=\E[11m, rmacs=\E[10m, acsc=qq", "unknown"), (r"cnorm=\E%!0\ETD10\E%!1", "unknown"), (r"rmcup=\E%", "unknown"),
+    (r"smacs=\E[11m, rmacs=\E[10m, acsc=qq", "unknown"),
+    (r"cnorm=\E%!0\ETD10\E%!1", "unknown"), (r"rmcup=\E%", "unknown"),
     (r"smacs=^N, rmacs=^O, acsc=qq, enacs=\E(B\E)1", "unknown"), (r"smacs=^N, rmacs=^O, acsc=qq, is1=\E)6", "unknown"),
     (r"clear=\E[H\E[2J, sgr0=^O\E[m, el=\E[1K", "unknown"),
     # T shows it
     ("cup@", "wrong"), (r"el=\E[1K", "wrong"), (r"cup=\E[%i%p2%d;%p1%dH", "wrong"), (r"op=\E[37;40m", "wrong"),
     (r"clear=\E[2J, home@, rmcup=\E[H\E[2J", "wrong"), (r"clear=\E[2J", "wrong"), (r"hpa=\r\E[%p1%dC", "wrong"),
-    (r"cup=\E[%p1%d;%p2%dH, csr@, hpa@, vpa@", "wrong"), (r"bold=\E[2m", "wrong"), (r"smacs=\E(B, rmacs=\E(B, acsc=qq", "wrong"),
+    (r"cup=\E[%p1%d;%p2%dH, csr@, hpa@, vpa@", "wrong"), (r"bold=\E[2m", "wrong"),
+    (r"smacs=\E(B, rmacs=\E(B, acsc=qq", "wrong"),
     (r"clear=\E[H\E[2J, sgr0=^O\E[m", "wrong"), (r"cr=^G\E[H", "wrong"),
 ]  # fmt: skip
 
@@ -72,9 +75,9 @@ def judge_outside():
     """Ends the script where `check` says something else of an entry with one of these fields, or of one with a judged fault
     beside them."""
     both = [*OUTSIDE, (OUTSIDE[0][0] + r", el=\E[1K", None)]
-    cases = [Case(["check", f"-:g{number}", str(ROWS), str(COLS)], source(both)) for number in range(len(both))]
+    cases = [Case(["check", "--", f"-:g{number}", str(ROWS), str(COLS)], source(both)) for number in range(len(both))]
     for (fields, function), told in zip(both, run_cases(PROGRAM, cases)):
-        lines = told.err.decode("ascii").splitlines()
+        lines = [line for line in told.err.decode("ascii").splitlines() if not line.startswith("note ")]
         right = told.status == 1 and lines[0].startswith("refused: no ")
         if function is None:
             right = right and not any(line.startswith("T has no ") for line in lines) and ALL_UNKNOWN not in lines

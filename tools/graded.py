@@ -5,9 +5,9 @@
 
 A place is a field of a file (its line and column) with its capability. Faults of parts and of entries of another kind don't
 count. Of the places with the grades `broken` and `contradicts`, COUNT (else 60) are drawn at random from NUMBER (else
-20261201). It prints how many there are, and then a line for each in the order of the files, with tabs between: line, entry,
-capability, grade, cause, field, number of users. The fields are read from the files, so it must run where their paths
-lead to them."""
+20261201), or all if there aren't more. It prints how many there are, and then a line for each that is drawn, in the order
+of the files, with tabs between: line, entry, capability, grade, cause, field, number of users. The fields are read from
+the files, so it must run where their paths lead to them."""
 
 import json
 import random
@@ -57,10 +57,8 @@ def main():
     places = places_of(sys.stdin)
     grades = Counter(faults[0]["grade"] for faults in places)
     print(f"{len(places)} places: " + ", ".join(f"{grades[grade]} {grade}" for grade in GRADES))
-    if count > len(places):
-        sys.exit(f"graded: there are no {count} places")
     files = {path: lines_of(path) for path in {faults[0]["source_file"] for faults in places}}
-    for at in sorted(random.Random(number).sample(range(len(places)), count)):
+    for at in sorted(random.Random(number).sample(range(len(places)), min(count, len(places)))):
         print(row_of(places[at], files[places[at][0]["source_file"]]))
 
 
