@@ -5,7 +5,8 @@ use Rattle.std.specs.List.{starts_with}
 use Rattle.std.specs.Prelude.{option_map}
 use Rattle.ti_files.specs.Contents.{Held, longest_file}
 use Rattle.ti_files.specs.declared.files.NewFile.{NewFile}
-use Rattle.ti_sources.specs.Joins.{joined_text}
+use Rattle.ti_source.specs.Layout.{lines_of}
+use Rattle.ti_sources.specs.Joins.{joined_text, none_continues}
 
 -- a compiled file begins with a magic number (term(5)): octal 432, or 1036 for numbers of 32 bits
 abbrev pub is_compiled : List ℕ → Bool
@@ -20,9 +21,13 @@ is_certificate bytes = starts_with nat_eq bytes (codes "ticert ")
 abbrev pub is_source : List ℕ → Bool
 is_source bytes = nat_le (length bytes) longest_file && not (is_compiled bytes) && not (is_certificate bytes)
 
--- what the bytes of a file are read as: a source text is joined, and everything else stays as it is
+-- a source of which a field continues on the next line
+abbrev pub is_wrapped : List ℕ → Bool
+is_wrapped bytes = is_source bytes && not (none_continues (lines_of bytes))
+
+-- what the bytes of a file are read as: such a source is joined, and everything else stays as it is
 unfoldable pub read_as : List ℕ → List ℕ
-read_as bytes = if is_source bytes then joined_text bytes else bytes
+read_as bytes = if is_wrapped bytes then joined_text bytes else bytes
 
 -- the same files, each read so
 abbrev pub joined_held : Held → Held

@@ -5,7 +5,7 @@ ghost use Rattle.ti_files.specs.Wrapped as spec;
 
 use crate::{LONGEST_FILE, NewFile};
 use std::alloc::{AllocError, Global};
-use ti_sources::joined;
+use ti_sources::{is_joined, joined};
 
 /// Whether the file begins as a compiled one.
 fn is_compiled(bytes: &[u8]) -> bool
@@ -31,12 +31,20 @@ fn is_source(bytes: &[u8]) -> bool
     bytes.len() <= LONGEST_FILE as usize && !is_compiled(bytes) && !is_certificate(bytes)
 }
 
-/// The text that the `bytes` of a file are read as: a source is joined.
+/// Whether the file is a source of which a field continues on the next line.
+fn is_wrapped(bytes: &[u8]) -> bool
+    ensures { result ≡ spec.is_wrapped bytes.now }
+{
+    is_source(bytes) && !is_joined(bytes)
+}
+
+/// The text that the `bytes` of a file are read as: a source of which fields continue on further lines is joined. Any
+/// other file stays as it is, so that a source of the greatest length needs no LF at its end.
 #[tactic(auto, unfolding(crate::specs::Wrapped::read_as))]
 pub fn read_as(alloc: Global, bytes: Vec<u8>) -> Result<Vec<u8>, AllocError>
     ensures { IfOk result (λ text. text.items ≡ spec.read_as bytes.items) }
 {
-    if is_source(bytes.as_slice()) {
+    if is_wrapped(bytes.as_slice()) {
         joined(alloc, bytes.as_slice())
     } else {
         Ok(bytes)
@@ -48,7 +56,7 @@ pub fn read_as(alloc: Global, bytes: Vec<u8>) -> Result<Vec<u8>, AllocError>
 pub fn reads_as_is(alloc: Global, bytes: &[u8]) -> Result<bool, AllocError>
     ensures { IfOk result (λ same. OnTrue same (spec.read_as bytes.now ≡ bytes.now)) }
 {
-    if !is_source(bytes) {
+    if !is_wrapped(bytes) {
         return Ok(true);
     }
     let text = joined(alloc, bytes)?;

@@ -1,5 +1,5 @@
 -- A terminfo(5) source text in which a field may continue on the next line, and the text in which it doesn't.
-use Rattle.std.specs.Prelude.{ℕ, Bool, false, not, ◌&&◌, List, [], ◌∷◌, ◌++◌, if◌then◌else◌, ◌==◌}
+use Rattle.std.specs.Prelude.{ℕ, Bool, false, true, not, ◌&&◌, List, [], ◌∷◌, ◌++◌, if◌then◌else◌, ◌==◌}
 use Rattle.std.specs.List.{flat_map, list_all}
 use Rattle.ti_source.specs.Layout.{cut_of, is_white, lines_of, skip_white}
 use Rattle.ti_source.specs.Lines.{is_further}
@@ -13,6 +13,12 @@ is_open line = not (is_comment line) && not (list_all is_white (cut_of line).las
 -- a field of the line continues on the next one, which begins with white space and is neither blank nor a comment
 abbrev pub continues : List ℕ → List ℕ → Bool
 continues line next = is_open line && is_further next
+
+-- no field of these lines continues on the next one
+abbrev pub none_continues : List (List ℕ) → Bool
+none_continues [] = true
+none_continues (line ∷ []) = true
+none_continues (line ∷ next ∷ behind) = not (continues line next) && none_continues (next ∷ behind)
 
 -- one line or more
 pub record Lines : Type 0 where

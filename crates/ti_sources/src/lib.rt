@@ -18,6 +18,7 @@ mod originals;
 mod resolution;
 mod scan;
 mod spots;
+mod unjoined;
 
 pub use breaks::rewrapped;
 pub use columns::{Columns, columns_of_part};
@@ -33,3 +34,4 @@ pub use names::place_named;
 pub use originals::{begun_line, original_at, region_among, region_at, region_in};
 pub use resolution::{ApartFault, faultless_are_resolved, resolve_apart};
 pub use spots::{Spot, spot_of};
+pub use unjoined::is_joined;
