@@ -98,7 +98,7 @@ pub(crate) fn may_go(entry: &Entry, cap: Cap) -> bool
     entry.get_string(cap).is_some() && !is_among(&required(), cap)
 }
 
-/// What of `left` stays left out when `cap` is put back, with those that come with it.
+/// The part of `left` that stays left out when `cap` is put back, with those that come with it.
 pub(crate) fn but(alloc: Global, cap: Cap, left: &[LeftOut]) -> Result<Vec<LeftOut>, AllocError>
     ensures { IfOk result (λ fewer. fewer.items ≡ spec.but cap left.now) }
 {

@@ -35,7 +35,7 @@ fn accepted(alloc: Global, entry: &Entry, size: Size) -> Result<Option<Checked>,
     }
 }
 
-/// What is found if `cap` comes back, with what comes with it; `None` if the entry is refused then.
+/// The strings that are left if `cap` comes back, with all that comes with it; `None` if the entry is refused then.
 fn put_back(
     alloc: Global,
     entry: &Entry,
@@ -60,7 +60,7 @@ fn put_back(
     }
 }
 
-/// What is found if the first of `left` comes back that can; `None` if none can.
+/// The strings that are left if the first of `left` comes back that can; `None` if none can.
 fn less_left(
     alloc: Global,
     entry: &Entry,

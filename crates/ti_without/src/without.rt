@@ -1,4 +1,4 @@
-//! What is found: checked strings, and what was left out for them.
+//! The answer: checked strings, and the capabilities that were left out for them.
 
 use crate::left_out::LeftOut;
 use ti_cert::Checked;
