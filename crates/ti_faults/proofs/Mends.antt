@@ -8,9 +8,8 @@ use Rattle.ti_rows.specs.declared.rows.Row.{Row}
 use Rattle.ti_rows.specs.Names.{cap_of, order, string_in_order}
 use Rattle.ti_checker.specs.declared.causes.No.{No}
 use Rattle.ti_faults.specs.Candidates.{singles}
-use Rattle.ti_faults.specs.Mended.{IsBestBy, IsBestMended, Mends, MendsAll, Neither, Second, Suits, adds_none, choices, needs_other, switches_sets}
+use Rattle.ti_faults.specs.Mended.{Mends, MendsAll, choices, switches_sets}
 use Rattle.ti_faults.specs.declared.candidates.Choice.{Choice}
-use Rattle.ti_faults.specs.declared.mended.Mended.{Mended}
 
 -- ---- a checked capability is a string
 
@@ -43,14 +42,3 @@ some_of false n = omega arith
 
 pub some_choice : (entry : Content) (nos : List No) → 0 < choices entry nos
 some_choice entry nos = some_of (switches_sets nos) (singles entry)
-
--- ---- the choice for `sgr0`
-
-pub suits : (entry : Content) (rows cols : ℕ) (nos : List No) (m : Mended) → IsBestBy entry rows cols nos false m → needs_other nos m.left.items ≡ false → IsBestMended entry rows cols nos m
-suits entry rows cols nos m best suited = Suits best suited
-
-pub second_suits : (entry : Content) (rows cols : ℕ) (nos : List No) (first m : Mended) → IsBestBy entry rows cols nos false first → needs_other nos first.left.items ≡ true → IsBestBy entry rows cols nos true m → adds_none nos m.left.items ≡ true → IsBestMended entry rows cols nos m
-second_suits entry rows cols nos first m best unsuited other suited = Second first best unsuited other suited
-
-pub neither_suits : (entry : Content) (rows cols : ℕ) (nos : List No) (m other : Mended) → IsBestBy entry rows cols nos false m → needs_other nos m.left.items ≡ true → IsBestBy entry rows cols nos true other → adds_none nos other.left.items ≡ false → IsBestMended entry rows cols nos m
-neither_suits entry rows cols nos m other best unsuited second unsuited_too = Neither best unsuited other second unsuited_too

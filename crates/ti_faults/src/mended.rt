@@ -1,6 +1,6 @@
 //! An entry with everything at fault mended at once.
 
-ghost use Rattle.std.specs.Prelude.{◌≡◌, ◌<◌, IfOk, IsTrue, ◌≢◌};
+ghost use Rattle.std.specs.Prelude.{◌≡◌, ◌<◌, IfOk, IsTrue, ◌≢◌, true, false};
 ghost use Rattle.ti_caps.specs.{Entry.{with_value}, Fits.{string_fits}};
 ghost use Rattle.ti_conforms.specs.Entries.{acsc};
 ghost use Rattle.ti_faults.specs.Candidates.{choice_of};
@@ -154,21 +154,6 @@ fn choices(entry: &Entry, nos: &[No]) -> u8
     }
 }
 
-/// Whether each of the faults `left` is about a capability that one of the faults `nos` is about too.
-fn adds_none(nos: &[No], left: &[No]) -> bool
-    ensures { result ≡ spec.adds_none nos.now left.now }
-{
-    left.iter().all(|no| names(nos, no.cap))
-}
-
-/// Whether the faults `nos` have one of `sgr0`, and one that is `left` once it is mended is about a capability that
-/// none of them is about.
-fn needs_other(nos: &[No], left: &[No]) -> bool
-    ensures { result ≡ spec.needs_other nos.now left.now }
-{
-    names(nos, Row::Sgr0.cap()) && !adds_none(nos, left)
-}
-
 impl Mended {
     /// The entry with the capabilities of all the faults `nos` mended at once. If `smacs` or `rmacs` is among them,
     /// there are choices: to mend only what is at fault, in four ways if the strings of `entry` shift between sets, or
@@ -179,20 +164,51 @@ impl Mended {
     ///
     /// # Errors
     /// Out of memory.
-    #[tactic(auto, using(crate::proofs::Mends::suits, crate::proofs::Mends::second_suits, crate::proofs::Mends::neither_suits))]
     pub fn new(alloc: Global, entry: &Entry, size: Size, nos: &[No]) -> Result<Mended, AllocError>
         ensures { IfOk result (spec.IsBestMended entry.now size.rows size.cols nos.now) }
     {
         let first = Mended::best(alloc, entry, size, nos, false)?;
-        if !needs_other(nos, &first.left) {
-            return Ok(first);
-        }
-        let second = Mended::best(alloc, entry, size, nos, true)?;
-        if adds_none(nos, &second.left) {
-            Ok(second)
+        if first.needs_other(nos) {
+            first.or_second(alloc, entry, size, nos)
         } else {
             Ok(first)
         }
+    }
+
+    /// The entry mended with the second candidate for `sgr0`, or `self`, which must be mended with the first one and need
+    /// another one, if the second puts a capability at fault too.
+    fn or_second(
+        self,
+        alloc: Global,
+        entry: &Entry,
+        size: Size,
+        nos: &[No],
+    ) -> Result<Mended, AllocError>
+        requires best { spec.IsBestBy entry.now size.rows size.cols nos.now false self }
+        requires unsuited { spec.needs_other nos.now self.left.items ≡ true }
+        ensures { IfOk result (spec.IsBestMended entry.now size.rows size.cols nos.now) }
+    {
+        let second = Mended::best(alloc, entry, size, nos, true)?;
+        if second.adds_none(nos) {
+            Ok(second)
+        } else {
+            Ok(self)
+        }
+    }
+
+    /// Whether each fault that is left is about a capability that one of the faults `nos` is about too.
+    fn adds_none(&self, nos: &[No]) -> bool
+        ensures { result ≡ spec.adds_none nos.now self.now.left.items }
+    {
+        self.left.iter().all(|no| names(nos, no.cap))
+    }
+
+    /// Whether the faults `nos` have one of `sgr0`, and one that is left once it is mended is about a capability that
+    /// none of them is about.
+    fn needs_other(&self, nos: &[No]) -> bool
+        ensures { result ≡ spec.needs_other nos.now self.now.left.items }
+    {
+        names(nos, Row::Sgr0.cap()) && !self.adds_none(nos)
     }
 
     /// The entry mended by the best of the choices with the second candidate for `sgr0`, or of those with its first.
