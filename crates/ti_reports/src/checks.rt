@@ -20,7 +20,7 @@ use ti_commands::{Sourced, sourced_entry};
 use ti_files::{Failure, Files, Remarks, Replied, Reply, size_words};
 use ti_requests::FaultsWords;
 use ti_sources::LinedFile;
-use ti_verdicts::{LinedSource, SourcePlace, explain_no, no_failure, notes_on};
+use ti_verdicts::{LinedSource, SourcePlace, explain_no, no_failure, note_outside, notes_on};
 use vt_term::Size;
 
 /// The reply that a function makes, or that memory ran out.
@@ -205,5 +205,6 @@ fn failure_of(alloc: Global, has_news: bool, nos: &[No]) -> Option<Failure>
 fn explain_first(alloc: Global, entry: &Entry, size: Size, nos: &[No], remarks: &mut Remarks) {
     if let [first, ..] = nos {
         explain_no(alloc, entry, size, first, remarks);
+        note_outside(alloc, entry, size, remarks);
     }
 }

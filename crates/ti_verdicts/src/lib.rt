@@ -30,6 +30,7 @@ pub use fault_runs::FaultRun;
 pub use faulty_parts::Judged;
 pub use locations::{PlacedFault, first_name, names_of, placed};
 pub use note_texts::note_lines;
+pub use outside::note_outside;
 pub use reasons::{Fault, explain_fault, explain_no};
 pub use refusals::{cause_name, no_failure, no_words, verdict};
 pub use source_places::{LinedSource, SourcePlace};

@@ -66,7 +66,7 @@ fn page_words(alloc: Global, entry: &Entry) -> Found {
 }
 
 /// Adds to `remarks` that each fault of `entry` is a function that T lacks, if it is so, as far as there is memory.
-pub(crate) fn note_outside(alloc: Global, entry: &Entry, size: Size, remarks: &mut Remarks) {
+pub fn note_outside(alloc: Global, entry: &Entry, size: Size, remarks: &mut Remarks) {
     if let Ok(nos) = faults(alloc, entry, size) {
         note_all_outside(alloc, entry, size, nos.as_slice(), remarks);
     }
