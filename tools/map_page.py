@@ -40,8 +40,8 @@ PARTS = [
     (
         "Certificates",
         [
-            "ti_sizes", "ti_without", "ti_grades", "ti_faults", "ti_checker", "ti_cert", "ti_forms", "ti_lines",
-            "ti_conforms", "ti_rows",
+            "ti_sizes", "ti_advice", "ti_without", "ti_grades", "ti_faults", "ti_checker", "ti_cert", "ti_forms",
+            "ti_lines", "ti_conforms", "ti_rows",
         ],
     ),
     ("Windows", ["cur_pads", "cur_windows", "cur_screens", "cur_drawing"]),

@@ -1,0 +1,9 @@
+pub mod Duties
+pub mod Strings
+pub mod Runs
+pub mod Deeds
+pub mod Sets
+pub mod Pictures
+pub mod Keys
+pub mod Advice
+pub mod Parts
