@@ -1,5 +1,5 @@
 -- What the rounds lead to, and what comes back.
-use Rattle.std.proofs.Common.{◌≡◌, ◌<◌, ◌≤◌, ◌+◌, ◌||◌, ℕ, zero, suc, Bool, true, false, cond, not, List, [], ◌∷◌, ◌++◌, length, take, get_or, filter, All, Contains, refl, sym, subst, ap, ◌∙◌, arith}
+use Rattle.std.proofs.Common.{◌≡◌, ◌<◌, ◌≤◌, ◌||◌, ℕ, zero, suc, Bool, true, false, cond, not, List, [], ◌∷◌, length, get_or, filter, All, Contains, refl, sym, subst, ap, ◌∙◌, arith}
 use Rattle.std.proofs.lemmas.Bool.{false≢true}
 use Rattle.std.proofs.lemmas.List.Elements.{All-contains, All-contains_itself, All-filter, All-weaker}
 use Rattle.ti_caps.specs.Entry.{Content}
@@ -7,7 +7,7 @@ use Rattle.ti_checker.specs.No as nos
 use Rattle.ti_checker.specs.declared.causes.Cause.TheVariants.{NoMemory}
 use Rattle.ti_checker.specs.declared.causes.No.{No}
 use Rattle.ti_without.specs.Going.{IsFurther}
-use Rattle.ti_without.specs.Less.{but, caps_of, comes_with, both, colors, alternate, goes_with, is_among, less}
+use Rattle.ti_without.specs.Less.{but, caps_of, comes_with, both, colors, alternate, goes_with, less}
 use Rattle.ti_without.specs.Rounds.{AreRounds, IsRound, NoRound, OneMore}
 use Rattle.ti_without.specs.Without.{IsCertified, IsEnd, IsFound, OutOfMemory}
 use Rattle.ti_without.specs.declared.left_out.LeftOut.{LeftOut}

@@ -1,10 +1,10 @@
 -- A round, step by step.
-use Rattle.std.proofs.Common.{◌≡◌, ◌≢◌, ◌⊎◌, inl, inr, ⊎_elim, ◌<◌, ◌≤◌, ◌+◌, ℕ, zero, suc, Bool, true, false, ◌==◌, ◌||◌, ◌&&◌, not, List, [], ◌∷◌, ◌++◌, length, take, get_or, Option, Some, None, is_some, All, Contains, refl, sym, subst, ap, ◌∙◌, append-nil, append_assoc, eq-eqb, eqb-true, arith}
+use Rattle.std.proofs.Common.{◌≡◌, ◌⊎◌, inl, inr, ⊎_elim, ◌<◌, ◌+◌, ℕ, suc, Bool, true, false, ◌==◌, ◌||◌, ◌&&◌, not, List, [], ◌∷◌, ◌++◌, length, take, get_or, None, is_some, Contains, refl, sym, subst, ap, ◌∙◌, append-nil, append_assoc, eq-eqb, eqb-true, arith}
 use Rattle.std.proofs.lemmas.Bool.{false≢true}
 use Rattle.std.proofs.lemmas.List.{take_more}
 use Rattle.std.proofs.lemmas.List.Elements.{All-nil, All-cons, All-append, All-weaker, Contains-append_left, Contains-push, Contains-push_cases}
 use Rattle.std.specs.List.{list_all, list_any}
-use Rattle.ti_caps.specs.Entry.{Content, string_at, with_value}
+use Rattle.ti_caps.specs.Entry.{Content, string_at}
 use Rattle.ti_checker.specs.declared.causes.No.{No}
 use Rattle.ti_faults.specs.AllFaults.{AreFaults}
 use Rattle.ti_without.specs.Going.{Had, Lacked, IsDueTo, IsFurther, LacksFor, LeavesAll, LeavesFor, LeavesOut, left_for, present}

@@ -1,4 +1,4 @@
-use Rattle.std.proofs.Common.{◌≡◌, ◌<◌, Option, IfSome, All, Contains, List, length, subst}
+use Rattle.std.proofs.Common.{◌<◌, Option, IfSome, All, Contains, List, length, subst}
 use Rattle.ti_without.specs.Less.{caps_of, less}
 use Rattle.ti_without.specs.Without.{IsCertified}
 use Rattle.ti_without.specs.declared.left_out.LeftOut.{LeftOut}
