@@ -175,8 +175,8 @@ impl Mended {
         }
     }
 
-    /// The entry mended with the second candidate for `sgr0`, or `self`, which must be mended with the first one and need
-    /// another one, if the second puts a capability at fault too.
+    /// The entry mended with the second candidate for `sgr0`; or `self`, which must be mended with the first one and
+    /// need another, if the second puts a capability at fault too.
     fn or_second(
         self,
         alloc: Global,
