@@ -1,12 +1,17 @@
-use Rattle.std.proofs.Common.{List, arith, subst, sym}
+use Rattle.std.proofs.Common.{◌≡◌, ◌<◌, ℕ, zero, suc, List, [], ◌∷◌, length, get_or, arith, subst, sym}
 use Rattle.std.specs.List.{AllByRecursion}
-use Rattle.ti_hints.proofs.Hinted.{all_at, one_more}
+use Rattle.ti_hints.proofs.Hinted.{one_more}
 use Rattle.ti_hints.specs.Places.{IsHintOf}
 use Rattle.ti_hints.specs.declared.hints.FieldHint.{FieldHint}
 use Rattle.ti_reports.specs.Faults.{ReportsHint}
 use Rattle.ti_reports.specs.Hints.{text_in}
 use Rattle.ti_source.specs.Layout.{lines_of}
 use Rattle.ti_reports.proofs.hints.entry_reports.Goals as goal
+
+all_at : {X : Type 0} (P : X → Type 0) (xs : List X) (n : ℕ) (x : X) → n < length xs → x ≡ get_or xs n x → AllByRecursion P xs → P x
+all_at P [] n x l is h = absurd (omega (arith, l))
+all_at P (y ∷ xs) zero x l is h = subst P (sym is) h.0
+all_at P (y ∷ xs) (suc n) x l is h = all_at P xs n x (omega (arith, l)) is h.1
 
 pub hint_report-requires : goal.hint_report-requires
 hint_report-requires c =
