@@ -1,8 +1,6 @@
 -- The faults of a survey at their places, and the lines of one more.
-use Rattle.std.specs.Prelude.{Bool, ◌||◌}
 use Rattle.std.proofs.Common.{◌≡◌, ◌∙◌, ◌<◌, ◌+◌, ◌++◌, ℕ, List, [], ◌∷◌, append_assoc, ap, drop, get_or, length, map, refl, sym, take}
 use Rattle.std.proofs.lemmas.List.{drop_more, map-append, take_more}
-use Rattle.std.specs.List.{list_any}
 use Rattle.ti_surveys.specs.Places.{lines_behind, lines_unless}
 use Rattle.ti_verdicts.specs.Locations.{PlacedText, placed_in}
 use Rattle.ti_verdicts.specs.declared.locations.PlacedFault.{PlacedFault}
@@ -23,10 +21,6 @@ whole_after P xs n x lines more whole l is spelled was =
     ap (λ (t : List ℕ). t ++ lines_behind (map P (take (n + 1) xs)) (map P (drop (n + 1) xs))) spelled
     ∙ (append_assoc lines (lines_unless (map P (take n xs)) (P x) (map P (drop (n + 1) xs))) (lines_behind (map P (take (n + 1) xs)) (map P (drop (n + 1) xs)))
     ∙ (ap (λ (t : List ℕ). lines ++ t) (sym (next_lines P xs n x l is)) ∙ was))
-
-pub any_placed : (p : PlacedText → Bool) (xs : List PlacedFault) → list_any (λ x. p (placed_in x)) xs ≡ list_any p (map placed_in xs)
-any_placed p [] = refl
-any_placed p (x ∷ xs) = ap (λ (b : Bool). p (placed_in x) || b) (any_placed p xs)
 
 pub placed_append : (xs ys : List PlacedFault) → map placed_in (xs ++ ys) ≡ map placed_in xs ++ map placed_in ys
 placed_append xs ys = map-append placed_in xs ys

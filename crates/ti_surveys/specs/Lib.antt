@@ -4,6 +4,7 @@ pub mod Heard
 pub mod Kinds
 pub mod Parts
 pub mod Places
+pub mod Shares
 pub mod Strict
 pub mod Surveys
 pub mod Told

@@ -10,6 +10,7 @@ mod lines;
 mod parts;
 mod places;
 mod said;
+mod shares;
 mod speakers;
 mod strict;
 mod surveys;
