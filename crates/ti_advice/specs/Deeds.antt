@@ -1,6 +1,6 @@
 -- Strings that don't do on T what their names mean, as a run of each beside the meaning shows.
 use Rattle.std.specs.Prelude.{◌≡◌, ℕ, pos, Bool, true, false, List, [], ◌∷◌, ◌++◌, Option, Some, None}
-use Rattle.std.specs.Prelude.{option_map, codes}
+use Rattle.std.specs.Prelude.{◌&&◌, not, option_map, codes}
 use Rattle.ti_caps.specs.Entry.{Content}
 use Rattle.ti_caps.specs.Table.{place_in}
 use Rattle.ti_parm.specs.Value.{Value, Number, values_of}
@@ -13,7 +13,10 @@ use Rattle.ti_advice.specs.Strings.{IsOwn, IsSent, has_string, or_none, string_n
 use Rattle.ti_advice.specs.declared.advice.Advice.{Advice}
 use Rattle.ti_advice.specs.declared.advice.AdviceKind.TheVariants.{Deed}
 use Rattle.ti_advice.specs.declared.duties.Duty.{Duty}
-use Rattle.ti_advice.specs.declared.duties.Duty.TheVariants.{Smul, Rev, Blink, Dim, Bold, Invis, Smso}
+use Rattle.ti_advice.specs.declared.duties.Duty.TheVariants.{Smul, Rev, Blink, Dim, Bold, Invis}
+use Rattle.ti_advice.specs.declared.duties.Duty.TheVariants.{Smso, Rmul, Rmso, Ich1, Ich}
+use Rattle.ti_advice.specs.declared.duties.Duty.TheVariants.{Dch1, Dch, Il1, Il, Dl1, Dl, Indn, Rin, Ht, Cbt}
+use Rattle.ti_advice.specs.declared.duties.Duty.TheVariants.{Nel, Sc, Rc, Flash, Rmam, Smam, Smir, Rmir, Smkx, Rmkx}
 
 -- ---- the run
 
@@ -67,6 +70,16 @@ pub record DoesElse (entry : Content) (duty : Duty) (own : List ℕ) : Type 0 wh
 
 -- ---- the advice
 
+-- the entry has an insertion mode, and nothing that has to be sent before a character (terminfo(5), "Insert/Delete
+-- Character")
+abbrev pub is_nothing : Option (List ℕ) → Bool
+is_nothing (Some []) = true
+is_nothing (Some (first ∷ others)) = false
+is_nothing None = false
+
+abbrev pub inserts_by_mode : Content → Bool
+inserts_by_mode entry = has_string entry (codes "smir") && is_nothing (string_named entry (codes "ich1"))
+
 -- a string that begins a mark is checked where there is no `sgr`, and there is advice only beside one
 abbrev pub applies : Content → Duty → Bool
 applies entry Smul = has_string entry (codes "sgr")
@@ -76,7 +89,30 @@ applies entry Dim = has_string entry (codes "sgr")
 applies entry Bold = has_string entry (codes "sgr")
 applies entry Invis = has_string entry (codes "sgr")
 applies entry Smso = has_string entry (codes "sgr")
-applies entry _ = true
+applies entry Rmul = true
+applies entry Rmso = true
+applies entry Ich1 = not (inserts_by_mode entry)
+applies entry Ich = true
+applies entry Dch1 = true
+applies entry Dch = true
+applies entry Il1 = true
+applies entry Il = true
+applies entry Dl1 = true
+applies entry Dl = true
+applies entry Indn = true
+applies entry Rin = true
+applies entry Ht = true
+applies entry Cbt = true
+applies entry Nel = true
+applies entry Sc = true
+applies entry Rc = true
+applies entry Flash = true
+applies entry Rmam = true
+applies entry Smam = true
+applies entry Smir = true
+applies entry Rmir = true
+applies entry Smkx = true
+applies entry Rmkx = true
 
 -- the advice on a duty, with what its string sends
 pub record IsOn (duty : Duty) (run : Option (List ℕ)) (advice : Advice) : Type 0 where

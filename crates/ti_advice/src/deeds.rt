@@ -1,6 +1,6 @@
 //! Strings that don't do on T what their names mean.
 
-ghost use Rattle.std.specs.Prelude.{◌≡◌, ◌++◌, IfOk, OnOk, option_map, true, false};
+ghost use Rattle.std.specs.Prelude.{◌≡◌, ◌++◌, IfOk, OnOk, option_copied, option_map, true, false};
 ghost use Rattle.ti_advice.specs.Deeds as spec;
 ghost use Rattle.ti_advice.specs.Parts.{optional};
 ghost use Rattle.ti_advice.specs.Runs.{DoAlike, DoUnlike};
@@ -103,15 +103,33 @@ fn does_as_meant(alloc: Global, entry: &Entry, duty: Duty, own: &[u8]) -> Answer
     runs_alike(alloc, duty, lead.as_slice(), own)
 }
 
+/// Whether `entry` has an insertion mode, and an `ich1` that says that nothing is sent before a character.
+fn inserts_by_mode(entry: &Entry) -> bool
+    ensures { result ≡ spec.inserts_by_mode entry.now }
+{
+    has_string(entry, b"smir") && is_nothing(string_named(entry, b"ich1"))
+}
+
+/// Whether the string is there, and empty.
+fn is_nothing(string: Option<&[u8]>) -> bool
+    ensures { result ≡ spec.is_nothing (option_copied string.entry) }
+{
+    match string {
+        Some([]) => true,
+        Some([_, ..]) | None => false,
+    }
+}
+
 /// Whether the string of `duty` is one on which there can be advice: beside `sgr` alone, if it begins a mark, since it
-/// is checked if there is none.
+/// is checked if there is none; and not an `ich1` that is empty beside an insertion mode.
 fn applies(entry: &Entry, duty: Duty) -> bool
     ensures { result ≡ spec.applies entry.now duty }
 {
     match duty {
         Duty::Smul | Duty::Rev | Duty::Blink | Duty::Dim => has_string(entry, b"sgr"),
         Duty::Bold | Duty::Invis | Duty::Smso => has_string(entry, b"sgr"),
-        Duty::Rmul | Duty::Rmso | Duty::Ich1 | Duty::Ich | Duty::Dch1 | Duty::Dch => true,
+        Duty::Ich1 => !inserts_by_mode(entry),
+        Duty::Rmul | Duty::Rmso | Duty::Ich | Duty::Dch1 | Duty::Dch => true,
         Duty::Il1 | Duty::Il | Duty::Dl1 | Duty::Dl | Duty::Indn | Duty::Rin => true,
         Duty::Ht | Duty::Cbt | Duty::Nel | Duty::Sc | Duty::Rc | Duty::Flash => true,
         Duty::Rmam | Duty::Smam | Duty::Smir | Duty::Rmir | Duty::Smkx | Duty::Rmkx => true,
