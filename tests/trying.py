@@ -59,7 +59,7 @@ def run_in_room(case, data):
             if any(name in word for word in words):
                 write(f"{room}/here/{name}", held)
         pipe = subprocess.PIPE
-        how = {"cwd": f"{room}/here", "env": {}, "input": case.given, "stdout": pipe, "stderr": pipe, "timeout": 600}
+        how = {"cwd": f"{room}/here", "env": {}, "input": case.given, "stdout": pipe, "stderr": pipe, "timeout": PATIENCE}
         ran = subprocess.run([f"{PROGRAM}/out/ticurses", *words], **how)
     if case.wanted is not None and ran.stdout != case.wanted:
         print(f"ticurses {' '.join(map(str, case.words))}: it printed\n{ran.stdout!r}\nand was to print", file=sys.stderr)

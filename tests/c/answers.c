@@ -124,6 +124,8 @@ static void nulls(void) {
     IS(TICURSES_NULL, ticurses_number(NULL, 1, "vt", 2, "cols", &number));
     IS(TICURSES_NULL, ticurses_number(source, source_len, "vt", 2, "cols", NULL));
     IS(TICURSES_NULL, ticurses_flag(source, source_len, "vt", 2, "am", NULL));
+    IS(0, ticurses_cell_limit(NULL));
+    IS(0, ticurses_most(NULL));
     IS(0, ticurses_waiting(NULL));
     IS(0, ticurses_output(NULL, room, 9));
     ticurses_close(NULL);
@@ -149,6 +151,8 @@ static void closed(void) {
     IS(TICURSES_CLOSED, ticurses_window_size(&session, 0, &one, &other));
     IS(TICURSES_CLOSED, ticurses_cell_at(&session, 0, 0, 0, &found));
     IS(TICURSES_CLOSED, ticurses_lost(&session));
+    IS(0, ticurses_cell_limit(&session));
+    IS(0, ticurses_most(&session));
     IS(0, ticurses_waiting(&session));
     IS(0, ticurses_output(&session, room, 9));
     ticurses_close(&session);
@@ -170,6 +174,8 @@ static void opening(void) {
     IS(TICURSES_BAD_ENTRY, ticurses_open(&session, NULL, 0, NULL, 0, 24, 80, NULL, 0));
     IS(TICURSES_NO_CERTIFICATE, ticurses_open(&session, wrong, sizeof wrong - 1, "w", 1, 24, 80, NULL, 0));
     IS(TICURSES_OK, OPEN(&session, "mini", 2, 2));
+    /* \E[2;2H, \E[m and the character */
+    IS(6 + 3 + 1, ticurses_cell_limit(&session));
     IS(TICURSES_OK, CALL(&session, "move 0 1 1\nrefresh 0"));
     /* what was open stays so where nothing is opened, with all that it has, and can be ended */
     size_t waiting = ticurses_waiting(&session);
@@ -183,6 +189,8 @@ static void opening(void) {
     IS(1, ticurses_waiting(&session) > waiting);
     /* else it is closed, and nothing of it waits */
     IS(TICURSES_OK, OPEN(&session, "mini", 200, 500));
+    /* \E[200;500H here */
+    IS(10 + 3 + 1, ticurses_cell_limit(&session));
     IS(0, ticurses_waiting(&session));
     IS(0, cursor(&session, 0));
     IS(TICURSES_OK, OPEN(&session, "mini", 3, 9));

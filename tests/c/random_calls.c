@@ -83,6 +83,13 @@ static int ask(ticurses *session) {
     }
 }
 
+/* A refresh adds at most what the session says before it. */
+static int update(ticurses *session) {
+    size_t most = ticurses_most(session), waits = ticurses_waiting(session);
+    int code = ticurses_call(session, "doupdate", 8);
+    return ticurses_waiting(session) - waits <= most ? code : -1;
+}
+
 static int reopen(ticurses *session) {
     const char *name = names[any(5)];
     size_t waits = ticurses_waiting(session);
@@ -100,6 +107,7 @@ static int step(ticurses *session) {
         case 4: case 5: case 6: case 7: case 8: case 9: return take(session);
         case 10: case 11: case 12: return ask(session);
         case 13: case 14: case 15: case 16: return write_text(session);
+        case 17: case 18: return update(session);
         default: return call(session);
     }
 }
