@@ -7,7 +7,7 @@ use Rattle.ti_files.specs.declared.failure.CommandRefusal.{CommandRefusal}
 use Rattle.ti_files.specs.declared.failure.CommandRefusal.TheVariants as refusals
 use Rattle.ti_sources.specs.Resolution.{no_faults}
 use Rattle.ti_sources.proofs.Faultless.{faultless_are_resolved}
-use Rattle.ti_source.specs.Apart.{Alone, apart_of, was_read}
+use Rattle.ti_source.specs.Apart.{Alone, was_read}
 use Rattle.ti_source.specs.declared.types.RawEntry.{RawEntry}
 use Rattle.ti_source.specs.declared.types.SourceFault.{SourceFault}
 use Rattle.ti_source.proofs.Stretching.{faultless_is_apart, same_ok}

@@ -1,5 +1,5 @@
 -- The faults of a survey at their places, and the lines of one more.
-use Rattle.std.proofs.Common.{◌≡◌, ◌∙◌, ◌<◌, ◌+◌, ◌++◌, ℕ, List, [], ◌∷◌, append_assoc, ap, drop, get_or, length, map, refl, sym, take}
+use Rattle.std.proofs.Common.{◌≡◌, ◌∙◌, ◌<◌, ◌+◌, ◌++◌, ℕ, List, [], ◌∷◌, append_assoc, ap, drop, get_or, length, map, sym, take}
 use Rattle.std.proofs.lemmas.List.{drop_more, map-append, take_more}
 use Rattle.ti_surveys.specs.Places.{lines_behind, lines_unless}
 use Rattle.ti_verdicts.specs.Locations.{PlacedText, placed_in}

@@ -1,5 +1,6 @@
 -- (Serves the code alone.) The index in which the code finds faults that are the same.
-use Rattle.std.specs.Prelude.{◌≡◌, ◌+◌, ◌==◌, ℕ, List, [], ◌∷◌, ◌++◌, Option, Some, None, codes, flat_map, drop, get_or, if◌then◌else◌, map, option_map, take}
+use Rattle.std.specs.Prelude.{◌≡◌, ◌+◌, ◌==◌, ℕ, List, [], ◌∷◌, ◌++◌, Option, Some, None, codes, drop, flat_map}
+use Rattle.std.specs.Prelude.{get_or, if◌then◌else◌, map, option_map, take}
 use Rattle.std.specs.BTreeMap.{BTreeMap, get_by}
 use Rattle.std.specs.List.{list_any}
 use Rattle.std.specs.Cmp.Lexicographic.{slice_cmp}
@@ -59,7 +60,8 @@ AddsFault old new number fault =
     then Some (with_name number fault.name (share_at old key))
     else share_at old key)
 
--- what an index says of a fault behind others: nothing if it is the same as one of these, else the names of those behind
+-- what an index says of a fault behind others: nothing if it is the same as one of these, else the names of those
+-- behind it
 abbrev pub names_behind : List PlacedText → PlacedText → List PlacedText → Option (List ℕ)
 names_behind before fault others =
     if list_any (is_same fault) before then None else Some (flat_map (name_if_same fault) others)
@@ -68,7 +70,8 @@ names_behind before fault others =
 abbrev pub AreNamesAt : List PlacedFault → ℕ → Option (List ℕ) → Type 0
 AreNamesAt faults number names =
     (fault : PlacedFault) → fault ≡ get_or faults number fault
-    → names ≡ names_behind (map placed_in (take number faults)) (placed_in fault) (map placed_in (drop (number + 1) faults))
+    → names ≡ names_behind (map placed_in (take number faults)) (placed_in fault)
+    (map placed_in (drop (number + 1) faults))
 
 -- the names behind a fault with a number, by what the index has at its key
 abbrev pub names_if : Option Shared → ℕ → Option (List ℕ)

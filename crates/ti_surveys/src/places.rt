@@ -25,10 +25,11 @@ pub fn places_lines(alloc: Global, faults: &[PlacedFault]) -> Lines
     Ok(lines)
 }
 
-/// Appends the lines of `fault` with its own name and the names of the `others` that have it, each behind a comma; nothing
-/// without these, where an earlier fault is the same.
+/// Appends the lines of `fault` with its own name and the names of the `others` that have it, each behind a comma.
+/// Appends nothing without these, where an earlier fault is the same.
 fn push_unless(fault: &PlacedFault, others: Option<&[u8]>, lines: &mut Vec<u8>) -> Added
-    ensures { OnOk result (lines.new.items ≡ lines.old.items ++ lines_if (placed_in fault.now) (option_copied others.entry)) }
+    ensures { OnOk result (lines.new.items
+        ≡ lines.old.items ++ lines_if (placed_in fault.now) (option_copied others.entry)) }
 {
     match others {
         None => Ok(()),

@@ -1,4 +1,3 @@
-use Rattle.std.proofs.Common.{IfOk, Result, Ok, Err}
 use Rattle.ti_reports.proofs.ReportFacts.{advice_reported, as_reported}
 use Rattle.ti_reports.specs.Faults.{ReportsAdvice}
 use Rattle.ti_reports.proofs.advice.advice_report.Goals as goal

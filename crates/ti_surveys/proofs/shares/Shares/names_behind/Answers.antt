@@ -2,7 +2,6 @@ use Rattle.std.proofs.Common.{◌∙◌, ap, arith, rules, sym}
 use Rattle.ti_verdicts.specs.declared.locations.PlacedFault.{PlacedFault}
 use Rattle.ti_surveys.proofs.ShareFacts.{names_at, one_fault}
 use Rattle.ti_surveys.proofs.shares.Shares.names_behind.Goals as goal
-use Rattle.ti_surveys.proofs.shares.Shares.names_behind.Goals.{in-Some+else-share-number, in-None-1}
 
 pub returns-in-Some : goal.returns-in-Some
 returns-in-Some c fault is =
