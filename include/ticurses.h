@@ -160,6 +160,9 @@ int32_t ticurses_raw_flag(const uint8_t *entry, size_t entry_len, const uint8_t 
 int32_t ticurses_raw_open(ticurses *session, const uint8_t *entry, size_t entry_len, const uint8_t *name,
                           size_t name_len, uint16_t rows, uint16_t cols, const uint8_t *certificate,
                           size_t certificate_len);
+int32_t ticurses_raw_open_without(ticurses *session, const uint8_t *entry, size_t entry_len, const uint8_t *name,
+                                  size_t name_len, uint16_t rows, uint16_t cols);
+int32_t ticurses_raw_left_out(ticurses *session, uint8_t *room, size_t room_len, size_t *needed);
 int32_t ticurses_raw_call(ticurses *session, const uint8_t *text, size_t len);
 int32_t ticurses_raw_failed(ticurses *session, size_t *line);
 int32_t ticurses_raw_addstr(ticurses *session, size_t window, const uint8_t *text, size_t len);
@@ -274,6 +277,28 @@ static inline int ticurses_open(ticurses *session, const void *entry, size_t ent
         return TICURSES_NULL;
     return ticurses_raw_open(session, ticurses_bytes(entry), entry_len, ticurses_bytes(name), name_len, rows, cols,
                              ticurses_bytes(certificate), certificate_len);
+}
+
+/* Opens a session as ticurses_open does without a certificate, also for an entry with strings that are wrong, if a
+ * terminal can do without them: the session is that of the entry without these strings, and ticurses_left_out says which
+ * they are. `smcup` and `rmcup` go together. A string stays if it is right beside the others, and an entry with a
+ * certificate loses nothing. TICURSES_NO_CERTIFICATE if a fault can't be left out: that of `clear`, `cup` or `sgr0`, or
+ * of a flag such as `hc`. */
+static inline int ticurses_open_without(ticurses *session, const void *entry, size_t entry_len, const void *name,
+                                        size_t name_len, uint16_t rows, uint16_t cols) {
+    if (!session || ticurses_is_bad(entry, entry_len) || ticurses_is_bad(name, name_len)) return TICURSES_NULL;
+    return ticurses_raw_open_without(session, ticurses_bytes(entry), entry_len, ticurses_bytes(name), name_len, rows,
+                                     cols);
+}
+
+/* Writes to `room` what a session goes without: for each string that was left out a line "NAME FAULTY CAUSE\n" with its
+ * name, the name of the string at fault, which is the same but for the other one of `smcup` and `rmcup`, and the cause
+ * in the word of `ticurses check`. *needed becomes the length of all lines, even if `room` is shorter
+ * (TICURSES_NO_ROOM): 0 if nothing was left out, or if the session isn't open (TICURSES_CLOSED). */
+static inline int ticurses_left_out(ticurses *session, void *room, size_t room_len, size_t *needed) {
+    uint8_t none;
+    if (!session || ticurses_is_bad(room, room_len) || !needed) return TICURSES_NULL;
+    return ticurses_raw_left_out(session, room ? (uint8_t *)room : &none, room_len, needed);
 }
 
 /* Makes calls, one a line, in the language of scripts (man 5 ticurses-script), up to the first that

@@ -16,6 +16,10 @@
 
 static char source[1 << 16], certificate[1 << 20], room[1 << 20];
 static size_t source_len, certificate_len;
+/* rev underlines, and rmcup writes a letter; bold is right */
+static const char some[] =
+    "w|w,\n\tclear=\\E[H\\E[2J, cup=\\E[%i%p1%d;%p2%dH, sgr0=\\E[m, bold=\\E[1m, rev=\\E[4m,\n"
+    "\tsmcup=\\E[?1049h, rmcup=x,\n";
 static int faults;
 /* how much of the long parts is left out */
 static long scale = 1;
@@ -96,6 +100,11 @@ static void nulls(void) {
     IS(TICURSES_NULL, ticurses_open(&session, source, source_len, NULL, 2, 24, 80, NULL, 0));
     IS(TICURSES_NULL, ticurses_open(&session, source, source_len, NULL, 0, 24, 80, NULL, 1));
     IS(TICURSES_NULL, ticurses_open(&session, source, (size_t)PTRDIFF_MAX + 1, NULL, 0, 24, 80, NULL, 0));
+    IS(TICURSES_NULL, ticurses_open_without(NULL, source, source_len, NULL, 0, 24, 80));
+    IS(TICURSES_NULL, ticurses_open_without(&session, NULL, 5, NULL, 0, 24, 80));
+    IS(TICURSES_NULL, ticurses_left_out(NULL, room, 9, &needed));
+    IS(TICURSES_NULL, ticurses_left_out(&session, NULL, 9, &needed));
+    IS(TICURSES_NULL, ticurses_left_out(&session, room, 9, NULL));
     IS(TICURSES_NULL, ticurses_call(NULL, "doupdate", 8));
     IS(TICURSES_NULL, ticurses_call(&session, NULL, 8));
     IS(TICURSES_NULL, ticurses_call(&session, "doupdate", SIZE_MAX));
@@ -160,6 +169,8 @@ static void closed(void) {
     IS(15, one + other);
     IS(27, found.byte + found.attrs + found.pair);
     IS(5, line);
+    IS(TICURSES_CLOSED, ticurses_left_out(&session, room, 9, &line));
+    IS(0, line);
 }
 
 static void opening(void) {
@@ -197,6 +208,51 @@ static void opening(void) {
     IS(TICURSES_OUT_OF_WINDOW, CALL(&session, "move 0 3 0"));
     ticurses_close(&session);
     IS(TICURSES_CLOSED, CALL(&session, "refresh 0"));
+    ticurses_close(&session);
+}
+
+/* The session goes without these lines. */
+static void goes_without(ticurses *session, const char *lines) {
+    size_t needed = 5, len = strlen(lines);
+    memset(room, 'z', len + 1);
+    IS(TICURSES_OK, ticurses_left_out(session, room, len, &needed));
+    IS(len, needed);
+    if (memcmp(room, lines, len)) printf("left out is %.*s, and %s was wanted\n", (int)needed, room, lines), faults++;
+    IS('z', room[len]);
+    if (len == 0) return;
+    IS(TICURSES_NO_ROOM, ticurses_left_out(session, room, len - 1, &needed));
+    IS(len, needed);
+    IS(TICURSES_NO_ROOM, ticurses_left_out(session, NULL, 0, &needed));
+}
+
+/* Strings that are wrong are left out, if a terminal can do without them. */
+static void leaving_out(void) {
+    ticurses session = {0, 0};
+    static const char basic[] = "w|w,\n\tclear=\\E[H\\E[2J, cup=\\E[%p1%d;%p2%dH, sgr0=\\E[m,\n";
+    static const char left[] = "rev rev BadLook\nrmcup rmcup NotTame\nsmcup rmcup NotTame\n";
+    size_t count;
+    IS(TICURSES_NO_CERTIFICATE, ticurses_open(&session, some, sizeof some - 1, "w", 1, 24, 80, NULL, 0));
+    IS(TICURSES_OK, ticurses_open_without(&session, some, sizeof some - 1, "w", 1, 24, 80));
+    goes_without(&session, left);
+    IS(TICURSES_OK, CALL(&session, "attrset 0 RB\naddstr 0 a\nrefresh 0\nendwin"));
+    room[count = drain(&session, room)] = 0;
+    IS(1, strstr(room, "\033[1m") && !strstr(room, "\033[4m") && !strstr(room, "\033[?1049") && !strchr(room, 'x'));
+    IS(count, strlen(room));
+    /* an entry with a certificate is whole, and sends the same */
+    IS(TICURSES_OK, OPEN(&session, "xt", 24, 80));
+    goes_without(&session, "");
+    IS(TICURSES_OK, CALL(&session, "addstr 0 whole\nrefresh 0"));
+    count = drain(&session, certificate);
+    IS(TICURSES_OK, ticurses_open_without(&session, source, source_len, "xt", 2, 24, 80));
+    goes_without(&session, "");
+    IS(TICURSES_OK, CALL(&session, "addstr 0 whole\nrefresh 0"));
+    /* what was open stays so where nothing is opened */
+    IS(TICURSES_NO_CERTIFICATE, ticurses_open_without(&session, basic, sizeof basic - 1, "w", 1, 24, 80));
+    IS(TICURSES_BAD_SIZE, ticurses_open_without(&session, some, sizeof some - 1, "w", 1, 1, 80));
+    IS(TICURSES_BAD_ENTRY, ticurses_open_without(&session, some, sizeof some - 1, "v", 1, 24, 80));
+    IS(TICURSES_BAD_ENTRY, ticurses_open_without(&session, NULL, 0, NULL, 0, 24, 80));
+    IS(count, drain(&session, room));
+    IS(0, memcmp(room, certificate, count));
     ticurses_close(&session);
 }
 
@@ -671,12 +727,13 @@ static void many_calls(void) {
 }
 
 /* Requests for memory that fail, one after the other: opening answers so and keeps nothing. */
-static void no_memory_open(void) {
+static void no_memory_open_so(int is_whole) {
     ticurses session = {0, 0};
     long kept = blocks, count = 0;
     for (;; count += scale) {
         allowed = count;
-        int code = ticurses_open(&session, source, source_len, "vt", 2, 24, 80, certificate, certificate_len);
+        int code = is_whole ? ticurses_open(&session, source, source_len, "vt", 2, 24, 80, certificate, certificate_len)
+                            : ticurses_open_without(&session, some, sizeof some - 1, "w", 1, 24, 80);
         int failed = allowed == 0;
         allowed = -1;
         if (code == TICURSES_OK && !failed) break;
@@ -689,6 +746,10 @@ static void no_memory_open(void) {
     IS(TICURSES_OK, CALL(&session, "addstr 0 a\nrefresh 0"));
     ticurses_close(&session);
     IS(kept, blocks);
+}
+
+static void no_memory_open(void) {
+    for (int is_whole = 0; is_whole < 2; is_whole++) no_memory_open_so(is_whole);
 }
 
 /* A refresh for which there is no memory: the next one begins anew. */
@@ -727,7 +788,7 @@ static void no_memory_call(void) {
 
 int main(int argc, char **argv) {
     static void (*const parts[])(void) = {
-        nulls,    closed, opening,   certificates, reasons, capabilities, packed_capabilities,
+        nulls,    closed, opening,   leaving_out, certificates, reasons, capabilities, packed_capabilities,
         refusals, lines,  questions, default_colors, copied_lines, strings, numbers, output, texts,
         many_sessions, many_calls, no_memory_open, no_memory_call,
     };

@@ -45,6 +45,17 @@ int32_t ticurses_raw_open(handle *at, const uint8_t *entry, size_t entry_len, co
     return 0;
 }
 
+int32_t ticurses_raw_open_without(handle *at, const uint8_t *entry, size_t entry_len, const uint8_t *name,
+                                  size_t name_len, uint16_t rows, uint16_t cols) {
+    return ticurses_raw_open(at, entry, entry_len, name, name_len, rows, cols, NULL, 0);
+}
+
+int32_t ticurses_raw_left_out(handle *at, uint8_t *room, size_t room_len, size_t *needed) {
+    (void)room, (void)room_len;
+    *needed = 0;
+    return at->at ? 0 : CLOSED;
+}
+
 int32_t ticurses_raw_check(const uint8_t *entry, size_t entry_len, const uint8_t *name, size_t name_len, uint16_t rows,
                            uint16_t cols, uint8_t *room, size_t room_len, size_t *needed) {
     (void)name, (void)name_len, (void)room, (void)room_len;

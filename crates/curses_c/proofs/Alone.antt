@@ -1,5 +1,5 @@
 -- A call on windows alone, done by itself, is the call.
-use Rattle.std.proofs.Common.{◌≡◌}
+use Rattle.std.proofs.Common.{◌≡◌, refl}
 use Rattle.ti_cert.specs.Table.{CheckedTable, certified}
 use Rattle.ti_cert.specs.Verified.{partner_in}
 use Rattle.cur_windows.specs.Desks.{DeskStep}
@@ -19,4 +19,4 @@ pub makes_alone : (h : Held) (call : Call) (answer : Answer) (q : Stage CheckedT
     → DoesAlone certified x h.session answer q → Makes h call answer (record h { session = q })
 makes_alone h call answer q x bound is quiet does =
     let all = alone_played Posts failures_of Posts-lawful bound h.outbox certified partner_in h.session q call answer x is quiet does in
-    record { step = all.step; carries = all.carries; certificate = all.certificate }
+    record { step = all.step; carries = all.carries; certificate = all.certificate; left_out = refl }

@@ -1,5 +1,5 @@
 -- The entry that a program's bytes give, a certificate of it, and the strings that the certificate shows.
-use Rattle.std.specs.Prelude.{ℕ, ◌≡◌, ◌≢◌, ◌⊎◌, List, [], ◌∷◌, Ok, Err}
+use Rattle.std.specs.Prelude.{ℕ, ◌≡◌, ◌≢◌, ◌⊎◌, All, List, [], ◌∷◌, Ok, Err}
 use Rattle.vt_term.specs.Size.{IsSize}
 use Rattle.ti_caps.specs.Entry.{Content, string_at}
 use Rattle.ti_cert.specs.Table.{CheckedTable, table_of}
@@ -29,6 +29,8 @@ use Rattle.ti_source.specs.Source.{source_of}
 use Rattle.ti_source.specs.declared.types.FaultKind.TheVariants as sources
 use Rattle.ti_source.specs.declared.types.SourceFault.{SourceFault}
 use Rattle.ti_source.specs.declared.types.RawEntry.{RawEntry}
+use Rattle.ti_without.specs.Without.{IsEnd, IsFound, IsNeeded, IsWhole}
+use Rattle.ti_without.specs.declared.without.Without.{Without}
 use Rattle.curses_c.specs.declared.codes.Failure.{Failure}
 use Rattle.curses_c.specs.declared.codes.Failure.TheVariants.{NoMemory, BadSize, BadEntry, BadCertificate}
 use Rattle.curses_c.specs.declared.codes.Failure.TheVariants.{NoCertificate}
@@ -101,3 +103,14 @@ pub record IsCertified (entry : Content) (rows cols : ℕ) (text : List ℕ) : T
 abbrev pub IsUncertified : Content → ℕ → ℕ → Failure → Type 0
 IsUncertified entry rows cols e =
     (refusal : No) × IsNo entry rows cols refusal × IsOf causes.NoMemory NoCertificate refusal.cause e
+
+-- the checked strings of the entry without those left out: each of these went in a round, and none can come back
+pub record IsLess (entry : Content) (rows cols : ℕ) (less : Without) : Type 0 where
+  pub found : IsFound entry rows cols less
+  pub needed : All (IsNeeded entry rows cols less.left_out.items) less.left_out.items
+  pub whole : IsWhole entry rows cols less.left_out.items
+
+-- not all strings at fault can be left out: the no is that of the entry without what was left out by then
+abbrev pub IsUnleft : Content → ℕ → ℕ → Failure → Type 0
+IsUnleft entry rows cols e =
+    (refusal : No) × IsEnd entry rows cols refusal × IsOf causes.NoMemory NoCertificate refusal.cause e

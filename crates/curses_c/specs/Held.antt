@@ -3,6 +3,7 @@ use Rattle.std.specs.Prelude.{ℕ, ℤ, ◌+◌, ◌≡◌, ◌⊎◌, Bool, tru
 use Rattle.std.specs.Prelude.{Err, min, length, drop, pos, if◌then◌else◌}
 use Rattle.ti_cert.specs.Table.{certified}
 use Rattle.ti_cert.specs.Verified.{partner_in}
+use Rattle.ti_conforms.specs.Certified.{IsChecked}
 use Rattle.cur_scripts.specs.Texts.{only_call, script_of}
 use Rattle.cur_scripts.specs.declared.calls.Call.{Call}
 use Rattle.cur_scripts.specs.declared.groups.AttrsCall.{AttrsCall}
@@ -11,7 +12,7 @@ use Rattle.cur_scripts.specs.declared.faults.ScriptFaultKind.{ScriptFaultKind}
 use Rattle.cur_scripts.specs.declared.faults.ScriptFaultKind.TheVariants.{BadLine, TooLong, NoMemory}
 use Rattle.cur_play.specs.Deliveries.{Carries}
 use Rattle.cur_play.specs.Outputs.{poised}
-use Rattle.cur_play.specs.Scenes.{lost_stage, scene_of}
+use Rattle.cur_play.specs.Scenes.{first, lost_stage, scene_of}
 use Rattle.cur_play.specs.Steps.{CallStep, drawn, lines_shown, output_of, recolored}
 use Rattle.cur_play.specs.declared.answers.Answer.{Answer}
 use Rattle.cur_play.specs.declared.answers.Answer.TheVariants.{Done, Was, Refused, WireFailed}
@@ -26,6 +27,13 @@ use Rattle.curses_c.specs.declared.requests.Request.{Request}
 abbrev pub failures_of : Posted → ℕ
 failures_of o = o.failures
 
+-- a session that has sent nothing
+pub record IsBegun (h : Held) : Type 0 where
+  pub scene : scene_of h.session ≡ first (certified h.session.painter.checked)
+  pub nothing : h.outbox.waiting ≡ []
+  pub failed : h.failed ≡ 0
+  pub checked : IsChecked (certified h.session.painter.checked)
+
 -- one call: it is done as defined, and the bytes that it sends wait after those that waited before
 pub record Makes (h : Held) (call : Call) (answer : Answer) (k : Held) : Type 0 where
   pub step : CallStep (certified h.session.painter.checked) (scene_of h.session) call answer (scene_of k.session)
@@ -34,6 +42,7 @@ pub record Makes (h : Held) (call : Call) (answer : Answer) (k : Held) : Type 0 
       (drawn (certified h.session.painter.checked) (scene_of h.session) call).0.screen (output_of call) answer
       (poised (certified h.session.painter.checked) h.session call) k.session.painter
   pub certificate : k.session.painter.checked ≡ h.session.painter.checked
+  pub left_out : k.left_out ≡ h.left_out
 
 -- one call that is no line of a text: the noted line stays, and the number is that of the answer
 abbrev pub MakesAlone : Call → Held → ℤ → Held → Type 0
@@ -128,6 +137,7 @@ pub record Loses (h k : Held) : Type 0 where
   pub session : k.session ≡ lost_stage h.session
   pub waiting : k.outbox.waiting ≡ []
   pub failed : k.failed ≡ h.failed
+  pub left_out : k.left_out ≡ h.left_out
 
 -- the first waiting bytes are handed out, as many as there is room for
 pub record Hands (h : Held) (room : List ℕ) (count : ℕ) (k : Held) : Type 0 where
@@ -135,6 +145,7 @@ pub record Hands (h : Held) (room : List ℕ) (count : ℕ) (k : Held) : Type 0 
   pub counted : count ≡ min (length room) (length h.outbox.waiting)
   pub rest : k.outbox.waiting ≡ drop count h.outbox.waiting
   pub failed : k.failed ≡ h.failed
+  pub left_out : k.left_out ≡ h.left_out
 
 -- the content of an open handle changes so; a closed handle stays closed
 abbrev pub Changes : (Held → Held → Type 0) → Option Held → Option Held → Type 0

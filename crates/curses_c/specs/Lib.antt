@@ -4,6 +4,7 @@ pub mod Entries
 pub mod Handles
 pub mod Held
 pub mod Laws
+pub mod LeftOut
 pub mod Lines
 pub mod Outbox
 pub mod Queries

@@ -45,10 +45,6 @@ pub record Reasons (bytes name : List ℕ) (rows cols : ℕ) (words : List ℕ) 
 abbrev pub LacksReason : List ℕ → List ℕ → ℕ → ℕ → Failure → Type 0
 LacksReason bytes name rows cols e = Lacks bytes name rows cols e ⊎ (e ≡ NoMemory)
 
-abbrev pub SameWords : {A E : Type 0} → Result A E → Result A Failure → Type 0
-SameWords (Ok words) result = result ≡ Ok words
-SameWords (Err e) result = result ≡ Err NoMemory
-
 -- nothing is written if the text is too long; else the rest of the room stays
 abbrev pub FillsBy : Bool → List ℕ → List ℕ → List ℕ → ℤ → Type 0
 FillsBy true text old new code = (new ≡ old) × (code ≡ pos 25)

@@ -5,6 +5,7 @@ ghost use Rattle.curses_c.specs.Codes as spec;
 use cur_play::Answer;
 use cur_scripts::ScriptFaultKind;
 use cur_windows::Refusal;
+use std::alloc::AllocError;
 
 /// All was done.
 pub const OK: i32 = 0;
@@ -42,6 +43,17 @@ pub enum Failure {
     BadName = 28,
     /// The entry has no such capability.
     NoCap = 14,
+}
+
+impl From<AllocError> for Failure {
+    ghost use Rattle.std.specs.Prelude.{◌≡◌};
+    ghost use Rattle.curses_c.specs.declared.codes.Failure.TheVariants.{NoMemory};
+
+    ghost from_gives = { λ _ failure. failure ≡ NoMemory };
+
+    fn from(_: AllocError) -> Failure {
+        Failure::NoMemory
+    }
 }
 
 /// The number of a failure.

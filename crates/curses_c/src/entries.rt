@@ -10,10 +10,11 @@ use crate::codes::Failure;
 use std::alloc::Global;
 use ti_caps::Entry;
 use ti_cert::{AgreeFault, CertFaultKind, Checked, VerifyFault, verify};
-use ti_checker::{Cause, certify, check};
+use ti_checker::{Cause, No, certify, check};
 use ti_compiled::{PackFault, decode};
 use ti_resolve::{ResolveFault, resolve};
 use ti_source::{FaultKind, read};
+use ti_without::{Without, certify_without};
 use vt_term::Size;
 
 /// The subject of a program's request: the entry of a compiled file, or of a name in a source text, on a terminal of a
@@ -95,6 +96,18 @@ fn failure(is_memory: bool, other: Failure) -> Failure
     if is_memory { Failure::NoMemory } else { other }
 }
 
+impl From<No> for Failure {
+    ghost use Rattle.ti_checker.specs.declared.causes.Cause.TheVariants as causes;
+    ghost use Rattle.curses_c.specs.Entries.{IsOf};
+    ghost use Rattle.curses_c.specs.declared.codes.Failure.TheVariants.{NoCertificate};
+
+    ghost from_gives = { λ no failure. IsOf causes.NoMemory NoCertificate no.cause failure };
+
+    fn from(no: No) -> Failure {
+        failure(matches!(no.cause, Cause::NoMemory), Failure::NoCertificate)
+    }
+}
+
 /// The entry of `name` in the source `text`. Fails with `BadEntry` if the text has a fault or doesn't yield the entry,
 /// or with `NoMemory`.
 pub fn source_entry(alloc: Global, text: &[u8], name: &[u8]) -> Result<Entry, Failure>
@@ -149,10 +162,7 @@ pub fn certificate_of(alloc: Global, described: &Described) -> Result<Vec<u8>, F
     ensures refused { IfErr result (spec.IsUncertified described.now.entry described.now.size.rows
         described.now.size.cols) }
 {
-    match check(alloc, &described.entry, described.size) {
-        Ok(text) => Ok(text),
-        Err(no) => Err(failure(matches!(no.cause, Cause::NoMemory), Failure::NoCertificate)),
-    }
+    Ok(check(alloc, &described.entry, described.size)?)
 }
 
 /// The strings of the certificate of the entry of `described`. Fails with `NoCertificate` if the entry has none, or
@@ -163,8 +173,15 @@ pub fn checked_by_own(alloc: Global, described: &Described) -> Result<Checked, F
     ensures refused { IfErr result (spec.IsUncertified described.now.entry described.now.size.rows
         described.now.size.cols) }
 {
-    match certify(alloc, &described.entry, described.size) {
-        Ok(checked) => Ok(checked),
-        Err(no) => Err(failure(matches!(no.cause, Cause::NoMemory), Failure::NoCertificate)),
-    }
+    Ok(certify(alloc, &described.entry, described.size)?)
+}
+
+/// The strings of the certificate of the entry of `described` without those of its strings that are at fault, and
+/// these. Fails with `NoCertificate` if one of them can't be left out, or with `NoMemory`.
+pub fn checked_less(alloc: Global, described: &Described) -> Result<Without, Failure>
+    ensures less { IfOk result (spec.IsLess described.now.entry described.now.size.rows described.now.size.cols) }
+    ensures refused { IfErr result (spec.IsUnleft described.now.entry described.now.size.rows
+        described.now.size.cols) }
+{
+    Ok(certify_without(alloc, &described.entry, described.size)?)
 }

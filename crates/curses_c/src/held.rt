@@ -1,15 +1,12 @@
 //! The content of an open handle: a session, and the bytes that wait to be taken.
-ghost use Rattle.std.specs.Prelude.{◌≡◌, ◌++◌, IfOk, [], drop, take};
+ghost use Rattle.std.specs.Prelude.{◌≡◌, ◌++◌, IfOk, drop, take};
 ghost use Rattle.cur_scripts.specs.declared.calls.Call.TheVariants.{Addstr, Attributes, Cell, Number, Numbers};
 ghost use Rattle.cur_scripts.specs.declared.groups.CellCall.TheVariants.{Addch};
 ghost use Rattle.cur_scripts.specs.declared.groups.NumberCall.TheVariants.{ColorSet};
 ghost use Rattle.cur_scripts.specs.declared.groups.NumbersCall.TheVariants.{Move};
-ghost use Rattle.cur_play.specs.Scenes.{first, scene_of};
-ghost use Rattle.ti_cert.specs.Table.{certified};
-ghost use Rattle.ti_conforms.specs.Certified.{IsChecked};
 ghost use Rattle.curses_c.specs.Codes as codes;
 ghost use Rattle.curses_c.specs.Held.{CopiesLines, Does, Hands, Loses, Makes, MakesUpTo, Plays, Recolors, Says, Styles};
-ghost use Rattle.curses_c.specs.Held.{fault_line, is_done, line_left, noting};
+ghost use Rattle.curses_c.specs.Held.{IsBegun, fault_line, is_done, line_left, noting};
 
 use crate::codes::{Failure, answer_code, failure_code, script_code};
 use crate::lines::line_of;
@@ -32,6 +29,8 @@ pub struct Held {
     /// The line, from 1, at which the last text of calls was left; 0 if all of it was done, or couldn't be read for
     /// want of memory.
     pub failed: usize,
+    /// A line for each of the entry's capabilities that the session goes without.
+    pub left_out: Vec<u8>,
 }
 
 /// How many calls were done, and the answer of the one after them; `Done` if all were done.
@@ -42,21 +41,28 @@ pub struct Made {
 }
 
 impl Held {
-    /// A session on the terminal of `checked` that has sent nothing. Fails if memory runs out.
-    pub fn open(alloc: Global, checked: Checked) -> Result<Held, AllocError>
-        ensures scene { IfOk result (λ held. scene_of held.session ≡ first (certified checked)) }
-        ensures certificate { IfOk result (λ held. held.session.painter.checked ≡ checked) }
-        ensures nothing { IfOk result (λ held. held.outbox.waiting ≡ []) }
-        ensures failed { IfOk result (λ held. held.failed ≡ 0) }
-        ensures sound { IfOk result (λ _. IsChecked (certified checked)) }
+    /// A session on the terminal of `checked` that has sent nothing, with the lines of what is left out. Fails if
+    /// memory runs out.
+    pub fn open(
+        alloc: Global,
+        checked: Checked,
+        left_out: Vec<u8>,
+    ) -> Result<Box<Held, Global>, AllocError>
+        ensures begun { IfOk result (λ b. IsBegun b.value) }
+        ensures certificate { IfOk result (λ b. b.value.session.painter.checked ≡ checked) }
+        ensures left_out { IfOk result (λ b. b.value.left_out ≡ left_out) }
     {
         // only this call's contract says that the certificate is verified
         let _rows = checked.rows();
-        Ok(Held {
-            session: Session::open(alloc, checked)?,
-            outbox: Outbox::new(alloc),
-            failed: 0,
-        })
+        Ok(Box::new(
+            alloc,
+            Held {
+                session: Session::open(alloc, checked)?,
+                outbox: Outbox::new(alloc),
+                failed: 0,
+                left_out,
+            },
+        )?)
     }
 
     /// Does `call`; what it sends waits in the outbox.

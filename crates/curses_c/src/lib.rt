@@ -8,6 +8,7 @@ mod entries;
 mod handles;
 mod held;
 pub mod laws;
+mod left_out;
 mod lines;
 mod loose;
 mod outbox;

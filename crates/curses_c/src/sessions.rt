@@ -8,18 +8,34 @@ ghost use Rattle.cur_scripts.specs.declared.groups.NumbersCall.TheVariants.{Move
 ghost use Rattle.curses_c.specs.Entries.{IsShown};
 ghost use Rattle.curses_c.specs.Held.{CopiesLinesAs, Does, Loses, MakesAlone, RecolorsAs, Says, Styles};
 ghost use Rattle.curses_c.specs.Requests.{put_of};
-ghost use Rattle.curses_c.specs.Sessions.{Answers, Fetches, IsOpened, IsTableFor, IsUnopened, LacksChecked, Opens};
-ghost use Rattle.curses_c.specs.Sessions.{closed};
+ghost use Rattle.curses_c.specs.Sessions.{Answers, Fetches, Holds, IsOpened, IsOpenedLess, IsTableFor, IsUnopened};
+ghost use Rattle.curses_c.specs.Sessions.{LacksChecked, LacksLess, Opens, OpensLess, closed};
 
 use crate::codes::{Failure, OK, answer_code, failure_code};
-use crate::entries::{Described, Subject, checked_by, checked_by_own, describe};
+use crate::entries::{Described, Subject, checked_by, checked_by_own, checked_less, describe};
 use crate::handles::Handle;
 use crate::held::Held;
+use crate::left_out::left_lines;
 use crate::queries::Standing;
 use crate::requests::{Request, put_of};
 use cur_scripts::AttrsCall;
 use std::alloc::Global;
 use ti_cert::Checked;
+use ti_without::Without;
+
+// Makes `$call` with what `$handle` holds, which is named `$held` there, and gives its number; that of `Closed` if the
+// handle is closed.
+macro_rules! with_held {
+    ($alloc:ident, $handle:ident, $held:ident => $call:expr) => {{
+        let Some(opened) = $handle.take($alloc) else {
+            return failure_code(Failure::Closed);
+        };
+        let mut $held = opened;
+        let code = $call;
+        $handle.put($held);
+        code
+    }};
+}
 
 /// Opens a session on a terminal of `rows` and `cols` for an entry: that of the compiled file `entry`, or of `name` in
 /// the source text `entry`. If `certificate` is empty, it makes one. A session that was open is closed; if none can be
@@ -43,7 +59,39 @@ pub extern "C" fn ticurses_raw_open(
         rows,
         cols,
     };
-    match open(alloc, &subject, certificate) {
+    hold(alloc, handle, open(alloc, &subject, certificate))
+}
+
+/// Opens a session on a terminal of `rows` and `cols` for an entry, that of the compiled file `entry` or of `name` in
+/// the source text `entry`, without those of its strings that are at fault: `ticurses_raw_left_out` tells which they
+/// are. An entry with a certificate keeps all of its strings. A session that was open is closed; if none can be opened,
+/// it stays open. Returns 0, or the number of `BadSize`, of `BadEntry` if the entry can't be read, of `NoCertificate`
+/// if a string at fault can't be left out, or of `NoMemory`.
+#[unsafe(no_mangle)]
+pub extern "C" fn ticurses_raw_open_without(
+    alloc: Global,
+    handle: &mut Handle,
+    entry: &[u8],
+    name: &[u8],
+    rows: u16,
+    cols: u16,
+) -> i32
+    ensures { OpensLess entry.now name.now rows cols (handle.old).slot.held result (handle.new).slot.held }
+{
+    let subject = Subject {
+        bytes: entry,
+        name,
+        rows,
+        cols,
+    };
+    hold(alloc, handle, open_less(alloc, &subject))
+}
+
+/// Has `handle` hold what was `opened`, in place of what it held, and gives 0; or the number of the failure.
+fn hold(alloc: Global, handle: &mut Handle, opened: Result<Box<Held, Global>, Failure>) -> i32
+    ensures { Holds (λ b. b.value) opened (handle.old).slot.held result (handle.new).slot.held }
+{
+    match opened {
         Ok(held) => {
             let _ = handle.take(alloc);
             handle.put(held);
@@ -65,13 +113,19 @@ fn open(
 {
     let described = describe(alloc, subject)?;
     let checked = checked_for(alloc, &described, certificate)?;
-    let Ok(held) = Held::open(alloc, checked) else {
-        return Err(Failure::NoMemory);
-    };
-    match Box::new(alloc, held) {
-        Ok(held) => Ok(held),
-        Err(_) => Err(Failure::NoMemory),
-    }
+    Ok(Held::open(alloc, checked, Vec::new(alloc))?)
+}
+
+fn open_less(alloc: Global, subject: &Subject<'_>) -> Result<Box<Held, Global>, Failure>
+    ensures opened { IfOk result (λ b. IsOpenedLess subject.now.bytes.now subject.now.name.now subject.now.rows
+        subject.now.cols b.value) }
+    ensures unopened { IfErr result (LacksLess subject.now.bytes.now subject.now.name.now subject.now.rows
+        subject.now.cols) }
+{
+    let described = describe(alloc, subject)?;
+    let Without { checked, left_out } = checked_less(alloc, &described)?;
+    let lines = left_lines(alloc, left_out.as_slice())?;
+    Ok(Held::open(alloc, checked, lines)?)
 }
 
 /// Verifies `certificate` for the entry of `described`; if it is empty, makes the entry's own and verifies that.
@@ -102,13 +156,7 @@ pub extern "C" fn ticurses_raw_close(alloc: Global, handle: &mut Handle)
 pub extern "C" fn ticurses_raw_call(alloc: Global, handle: &mut Handle, text: &[u8]) -> i32
     ensures { Answers closed (Says text.now) (handle.old).slot.held result (handle.new).slot.held }
 {
-    let Some(held) = handle.take(alloc) else {
-        return failure_code(Failure::Closed);
-    };
-    let mut held = held;
-    let code = held.script(alloc, text);
-    handle.put(held);
-    code
+    with_held!(alloc, handle, held => held.script(alloc, text))
 }
 
 /// Does `addstr` in `window`, with any bytes as `text`. Returns the number of the answer, or of `Closed`.
@@ -122,13 +170,7 @@ pub extern "C" fn ticurses_raw_addstr(
     ensures { Answers closed (MakesAlone (Addstr window text.now)) (handle.old).slot.held result
         (handle.new).slot.held }
 {
-    let Some(held) = handle.take(alloc) else {
-        return failure_code(Failure::Closed);
-    };
-    let mut held = held;
-    let code = answer_code(held.addstr(window, text));
-    handle.put(held);
-    code
+    with_held!(alloc, handle, held => answer_code(held.addstr(window, text)))
 }
 
 /// Does `addch` in `window` of the character `byte` with the attributes `attrs`, a set from 0 to 255, and the color
@@ -146,13 +188,7 @@ pub extern "C" fn ticurses_raw_addch(
         (MakesAlone (Cell Addch window (put_of (record { byte = byte; attrs = attrs; pair = pair }))))
         (handle.old).slot.held result (handle.new).slot.held }
 {
-    let Some(held) = handle.take(alloc) else {
-        return failure_code(Failure::Closed);
-    };
-    let mut held = held;
-    let code = answer_code(held.addch(window, put_of(Standing { byte, attrs, pair })));
-    handle.put(held);
-    code
+    with_held!(alloc, handle, held => answer_code(held.addch(window, put_of(Standing { byte, attrs, pair }))))
 }
 
 /// Does `move` in `window`. Returns the number of the answer, or of `Closed`.
@@ -167,13 +203,7 @@ pub extern "C" fn ticurses_raw_move(
     ensures { Answers closed (MakesAlone (Numbers Move window row col)) (handle.old).slot.held result
         (handle.new).slot.held }
 {
-    let Some(held) = handle.take(alloc) else {
-        return failure_code(Failure::Closed);
-    };
-    let mut held = held;
-    let code = answer_code(held.move_to(window, row, col));
-    handle.put(held);
-    code
+    with_held!(alloc, handle, held => answer_code(held.move_to(window, row, col)))
 }
 
 /// Does `color_set` of `pair` in `window`. Returns the number of the answer, or of `Closed`.
@@ -187,13 +217,7 @@ pub extern "C" fn ticurses_raw_color_set(
     ensures { Answers closed (MakesAlone (Number ColorSet window pair)) (handle.old).slot.held result
         (handle.new).slot.held }
 {
-    let Some(held) = handle.take(alloc) else {
-        return failure_code(Failure::Closed);
-    };
-    let mut held = held;
-    let code = answer_code(held.color_set(window, pair));
-    handle.put(held);
-    code
+    with_held!(alloc, handle, held => answer_code(held.color_set(window, pair)))
 }
 
 /// Does `attron` of the set `attrs` in `window`. Returns the number of the answer, of `BadCall` if `attrs` isn't 0 to
@@ -208,13 +232,7 @@ pub extern "C" fn ticurses_raw_attron(
     ensures { Answers closed (Styles Attron window attrs) (handle.old).slot.held result
         (handle.new).slot.held }
 {
-    let Some(held) = handle.take(alloc) else {
-        return failure_code(Failure::Closed);
-    };
-    let mut held = held;
-    let code = held.attributes(AttrsCall::Attron, window, attrs);
-    handle.put(held);
-    code
+    with_held!(alloc, handle, held => held.attributes(AttrsCall::Attron, window, attrs))
 }
 
 /// Does `attroff` of the set `attrs` in `window`. Returns the number of the answer, of `BadCall` if `attrs` isn't 0 to
@@ -229,13 +247,7 @@ pub extern "C" fn ticurses_raw_attroff(
     ensures { Answers closed (Styles Attroff window attrs) (handle.old).slot.held result
         (handle.new).slot.held }
 {
-    let Some(held) = handle.take(alloc) else {
-        return failure_code(Failure::Closed);
-    };
-    let mut held = held;
-    let code = held.attributes(AttrsCall::Attroff, window, attrs);
-    handle.put(held);
-    code
+    with_held!(alloc, handle, held => held.attributes(AttrsCall::Attroff, window, attrs))
 }
 
 /// Does `attrset` of the set `attrs` in `window`. Returns the number of the answer, of `BadCall` if `attrs` isn't 0 to
@@ -250,13 +262,7 @@ pub extern "C" fn ticurses_raw_attrset(
     ensures { Answers closed (Styles Attrset window attrs) (handle.old).slot.held result
         (handle.new).slot.held }
 {
-    let Some(held) = handle.take(alloc) else {
-        return failure_code(Failure::Closed);
-    };
-    let mut held = held;
-    let code = held.attributes(AttrsCall::Attrset, window, attrs);
-    handle.put(held);
-    code
+    with_held!(alloc, handle, held => held.attributes(AttrsCall::Attrset, window, attrs))
 }
 
 /// Does the call that the numbers of `request` encode. The bytes that it sends wait to be taken. Returns the number of
@@ -265,13 +271,7 @@ pub extern "C" fn ticurses_raw_attrset(
 pub extern "C" fn ticurses_raw_make(alloc: Global, handle: &mut Handle, request: &Request) -> i32
     ensures { Answers closed (Does request.now) (handle.old).slot.held result (handle.new).slot.held }
 {
-    let Some(held) = handle.take(alloc) else {
-        return failure_code(Failure::Closed);
-    };
-    let mut held = held;
-    let code = held.make(request);
-    handle.put(held);
-    code
+    with_held!(alloc, handle, held => held.make(request))
 }
 
 /// Sets the colors of `pair`, 1 to 63, to `foreground` and `background`, each 0 to 7, or -1 for the terminal's default
@@ -287,13 +287,7 @@ pub extern "C" fn ticurses_raw_init_pair_or_default(
     ensures { Answers closed (RecolorsAs pair foreground background) (handle.old).slot.held result
         (handle.new).slot.held }
 {
-    let Some(held) = handle.take(alloc) else {
-        return failure_code(Failure::Closed);
-    };
-    let mut held = held;
-    let code = answer_code(held.init_pair_or_default(pair, foreground, background));
-    handle.put(held);
-    code
+    with_held!(alloc, handle, held => answer_code(held.init_pair_or_default(pair, foreground, background)))
 }
 
 /// Copies the lines `top` to `bottom` of `window` to the virtual screen, as `noutrefresh` copies all of its lines.
@@ -308,13 +302,7 @@ pub extern "C" fn ticurses_raw_noutrefresh_lines(
 ) -> i32
     ensures { Answers closed (CopiesLinesAs window top bottom) (handle.old).slot.held result (handle.new).slot.held }
 {
-    let Some(held) = handle.take(alloc) else {
-        return failure_code(Failure::Closed);
-    };
-    let mut held = held;
-    let code = answer_code(held.noutrefresh_lines(window, top, bottom));
-    handle.put(held);
-    code
+    with_held!(alloc, handle, held => answer_code(held.noutrefresh_lines(window, top, bottom)))
 }
 
 /// The number of bytes that wait; 0 if `handle` is closed.

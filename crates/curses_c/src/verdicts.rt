@@ -5,7 +5,7 @@ ghost use Rattle.curses_c.specs.Verdicts as spec;
 
 use crate::codes::{Failure, OK, failure_code};
 use crate::entries::{Subject, certificate_of, checked_by, describe};
-use std::alloc::{AllocError, Global};
+use std::alloc::Global;
 use ti_checker::{Cause, No, check};
 use ti_verdicts::no_words;
 
@@ -92,16 +92,7 @@ fn words_of(alloc: Global, no: &No) -> Result<Vec<u8>, Failure>
     if matches!(no.cause, Cause::NoMemory) {
         return Err(Failure::NoMemory);
     }
-    or_no_memory(no_words(alloc, no))
-}
-
-fn or_no_memory(words: Result<Vec<u8>, AllocError>) -> Result<Vec<u8>, Failure>
-    ensures { spec.SameWords words result }
-{
-    match words {
-        Ok(words) => Ok(words),
-        Err(_) => Err(Failure::NoMemory),
-    }
+    Ok(no_words(alloc, no)?)
 }
 
 /// Writes the text of `answer` to the start of `room`, if `room` is long enough. `needed` gets the text's length, or 0
