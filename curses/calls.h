@@ -9,7 +9,8 @@
 /* Whether a handler of the program has interrupted one of these calls: all of them return ERR then. */
 bool session_is_busy(void);
 
-/* Opens the session for the entry and the size. If it can't, it writes why to `reason`, at most `room_len` bytes. */
+/* Opens the session for the entry and the size, without strings that are wrong if a terminal can do without them and
+ * TICURSES_STRICT isn't 1. If it can't, it writes why to `reason`, at most `room_len` bytes. */
 int session_open(int lines, int columns, char *reason, size_t room_len);
 /* Opens a session of another size, which session_begin_next puts in place of this one. session_former_cell can read the
  * former one until session_forget_former. */

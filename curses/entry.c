@@ -21,10 +21,12 @@ static int color_count;
 static char texts[TICURSES_ENTRY_MAX];
 static size_t texts_len;
 
+enum { STRINGS = 31 };
+
 /* The strings that aren't keys; null if the entry has none. */
 static struct {
     const char *name, *text;
-} strings[] = {
+} strings[STRINGS] = {
     {"acsc", NULL},  {"bel", NULL},   {"blink", NULL}, {"bold", NULL}, {"cnorm", NULL}, {"csr", NULL},
     {"dch", NULL},   {"dch1", NULL},  {"dim", NULL},   {"dl", NULL},   {"dl1", NULL},   {"flash", NULL},
     {"ich", NULL},   {"ich1", NULL},  {"il", NULL},    {"il1", NULL},  {"invis", NULL}, {"op", NULL},
@@ -32,6 +34,9 @@ static struct {
     {"setaf", NULL}, {"sgr0", NULL},  {"smacs", NULL}, {"smir", NULL}, {"smkx", NULL},  {"smso", NULL},
     {"smul", NULL},
 };
+
+/* Which of them the session goes without. */
+static bool is_left_out[STRINGS];
 
 bool entry_find(const char *type, int fd) {
     TERMINAL *former = cur_term;
@@ -47,7 +52,8 @@ bool entry_find(const char *type, int fd) {
     own = cur_term;
     color_count = tigetnum("colors");
     texts_len = 0;
-    for (size_t at = 0; at < sizeof strings / sizeof *strings; at++) strings[at].text = entry_learn(strings[at].name);
+    for (size_t at = 0; at < STRINGS; at++) strings[at].text = entry_learn(strings[at].name);
+    entry_leave_out("", 0);
     return true;
 }
 
@@ -71,9 +77,26 @@ const char *entry_learn(const char *name) {
     return text;
 }
 
+/* Whether one of the lines begins with `name` and a space. */
+static bool has_line_of(const char *name, const char *lines, size_t len) {
+    size_t name_len = strlen(name);
+    while (len > 0) {
+        const char *end = memchr(lines, '\n', len);
+        size_t line_len = end ? (size_t)(end - lines) + 1 : len;
+        if (line_len > name_len && memcmp(lines, name, name_len) == 0 && lines[name_len] == ' ') return true;
+        lines += line_len;
+        len -= line_len;
+    }
+    return false;
+}
+
+void entry_leave_out(const char *lines, size_t len) {
+    for (size_t at = 0; at < STRINGS; at++) is_left_out[at] = has_line_of(strings[at].name, lines, len);
+}
+
 const char *entry_string(const char *name) {
-    for (size_t at = 0; at < sizeof strings / sizeof *strings; at++)
-        if (strcmp(strings[at].name, name) == 0) return strings[at].text;
+    for (size_t at = 0; at < STRINGS; at++)
+        if (strcmp(strings[at].name, name) == 0) return is_left_out[at] ? NULL : strings[at].text;
     return NULL;
 }
 

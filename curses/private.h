@@ -123,9 +123,12 @@ bool entry_find(const char *type, int fd);
 void entry_leave(void);
 const void *entry_bytes(size_t *len);
 /* A string of the entry, or null if it has none of this name. entry_learn is for keys: it reads the string, which stays
- * until entry_find is called again. entry_string is for all other names that this library asks for. */
+ * until entry_find is called again. entry_string is for all other names that this library asks for, and returns null for
+ * a string that the session goes without. */
 const char *entry_learn(const char *name);
 const char *entry_string(const char *name);
+/* Notes which strings the session goes without, by the lines of ticurses_left_out. */
+void entry_leave_out(const char *lines, size_t len);
 /* How many colors the terminal has; negative if the entry doesn't say. */
 int entry_colors(void);
 
@@ -174,6 +177,8 @@ int tcu_resize(void);
 
 /* signals.c */
 void signals_begin(void);
+/* Learns anew what a signal that ends the program sends, which is only safe while a call is being made. */
+void signals_learn(void);
 void signals_forget(void);
 void signals_enter(void);
 void signals_leave(void);

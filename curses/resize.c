@@ -144,6 +144,7 @@ int resize_term(int lines, int columns) {
     /* what a session begins with goes to a terminal that has got what one ends with */
     if (session_is_up()) session_end(tcu.output);
     if (session_begin_next() != OK) return ERR;
+    tcu_map_signs();
     LINES = lines;
     COLS = columns;
     code = begin_anew(now);

@@ -4,6 +4,7 @@
 
 #include <errno.h>
 #include <poll.h>
+#include <stdlib.h>
 #include <string.h>
 #include <unistd.h>
 
@@ -17,6 +18,9 @@ static ticurses former, next;
 /* Whether the terminal has got output since the last endwin, and whether the session was lost since: the next refresh
  * then sends once more what a session begins with. */
 static bool is_up, is_cut;
+
+/* Whether the session must have all strings of the entry. */
+static bool is_strict;
 
 bool session_is_busy(void) {
     return tcu_is_busy != 0;
@@ -42,15 +46,27 @@ static int opened(ticurses *at, int lines, int columns) {
     size_t len;
     const void *entry = entry_bytes(&len);
     if (lines < 2 || lines > 200 || columns < 2 || columns > 500) return TICURSES_BAD_SIZE;
-    return ticurses_open(at, entry, len, NULL, 0, (uint16_t)lines, (uint16_t)columns, NULL, 0);
+    if (is_strict) return ticurses_open(at, entry, len, NULL, 0, (uint16_t)lines, (uint16_t)columns, NULL, 0);
+    return ticurses_open_without(at, entry, len, NULL, 0, (uint16_t)lines, (uint16_t)columns);
+}
+
+/* Has the library do without the strings that the session goes without. */
+static void leave_out(void) {
+    /* more than all strings of a session need */
+    char lines[4096];
+    size_t len = 0;
+    ticurses_left_out(&tcu_session, lines, sizeof lines, &len);
+    entry_leave_out(lines, len <= sizeof lines ? len : 0);
 }
 
 int session_open(int lines, int columns, char *reason, size_t room_len) {
     int code;
     size_t len, told = 0;
     const void *entry = entry_bytes(&len);
+    const char *strict = getenv("TICURSES_STRICT");
     char why[256];
     if (!session_begins()) return ERR;
+    is_strict = strict && strcmp(strict, "1") == 0;
     code = opened(&tcu_session, lines, columns);
     if (code == TICURSES_NO_CERTIFICATE)
         ticurses_reason(entry, len, NULL, 0, (uint16_t)lines, (uint16_t)columns, why, sizeof why, &told);
@@ -61,6 +77,7 @@ int session_open(int lines, int columns, char *reason, size_t room_len) {
         /* an earlier program may have left anything on the terminal */
         ticurses_lost(&tcu_session);
         is_up = is_cut = false;
+        leave_out();
         run_begin();
     }
     return session_done(code);
@@ -77,6 +94,8 @@ int session_begin_next(void) {
     tcu_session = next;
     memset(&next, 0, sizeof next);
     ticurses_lost(&tcu_session);
+    leave_out();
+    signals_learn();
     run_begin();
     return session_done(TICURSES_OK);
 }

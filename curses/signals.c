@@ -89,7 +89,7 @@ static void add_farewell(const char *name) {
     if (text) farewell_len += beside_plain(text, farewell + farewell_len, sizeof farewell - farewell_len);
 }
 
-void signals_begin(void) {
+void signals_learn(void) {
     static const char *const strings[] = {"sgr0", "rmacs", "op", "cnorm", "rmkx"};
     farewell_len = 0;
     for (size_t at = 0; at < sizeof strings / sizeof *strings; at++) add_farewell(strings[at]);
@@ -98,6 +98,10 @@ void signals_begin(void) {
         farewell_len += 2;
     }
     add_farewell("rmcup");
+}
+
+void signals_begin(void) {
+    signals_learn();
     has_shell = tcgetattr(tcu.input, &shell) == 0;
     if (has_begun) return;
     has_begun = true;

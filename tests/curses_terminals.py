@@ -13,6 +13,12 @@ from trying import PROGRAM, TOP, Case, held_in, run_cases
 HERE = f"{TOP}/tests/curses"
 # an entry whose cup is wrong below line 31, so that larger screens have no certificate
 PARTIAL = b"p|p,\n\tclear=\\E[H\\E[2J, cup=\\E[%i%p1%d;%p2%dH%?%p1%{31}%>%t\\E[H%;, sgr0=\\E[m,\n"
+# an entry whose setaf, rev and rmcup are wrong, and its csr below line 31, so that sessions go without them
+FAULTY = (
+    b"o|o,\n\tcolors#8, clear=\\E[H\\E[2J, cup=\\E[%i%p1%d;%p2%dH, sgr0=\\E[m, rev=\\E[4m, op=\\E[39;49m,\n"
+    b"\tsetaf=\\E[4%p1%dm, setab=\\E[4%p1%dm, smcup=\\E[?1049h, rmcup=x,\n"
+    b"\tcsr=\\E[%i%p1%d;%p2%dr%?%p2%{31}%>%tx%;,\n"
+)
 # sizes that no session can have
 UNFIT = ((1, 1), (300, 600), (40, 80), (24, 501))
 
@@ -90,6 +96,29 @@ def judge_sizes(work, program):
     print(f"curses: {len(UNFIT)} sizes that no session can have are no news to a program, and sizes after them are")
 
 
+def judge_left_out(work, program):
+    """A session goes without strings that are wrong, has_colors and the like answer for the others, and a new size is
+    judged anew. With TICURSES_STRICT=1 there is no session."""
+    os.makedirs(f"{work}/faulty/o", exist_ok=True)
+    words = ["tic", "faulty.ti:o", "--out", f"{work}/faulty/o/o"]
+    hold(run_cases(PROGRAM, [Case(words)], {"faulty.ti": FAULTY})[0].status == 0, "the entry isn't compiled")
+    given = {"TERM": "o", "TERMINFO": f"{work}/faulty"}
+    run = Run(24, 80, [program], {**given, "TICURSES_STRICT": "0"})
+    run.waits_for(b"<24 by 80: colors 0, reverse 0, lines 1, setaf 1>")
+    for rows, lines in ((40, 0), (30, 1)):
+        begin = len(run.sent)
+        run.resize(rows, 80)
+        run.waits_for(b"<%d by 80: colors 0, reverse 0, lines %d, setaf 1>" % (rows, lines), begin)
+    run.press(b"q")
+    hold(run.ends() == 0, "a program with a faulty entry ends otherwise", run.sent)
+    hold(not any(it in run.sent for it in (b"\033[?1049", b"\033[4m", b"x")), "what was left out is sent", run.sent)
+    run = Run(24, 80, [program], {**given, "TICURSES_STRICT": "1"})
+    hold(run.ends() == 1, "a strict program ends otherwise", run.sent)
+    told = b"Error opening terminal: a string of the entry is wrong: no "
+    hold(told in run.sent, "a strict program says something else", run.sent)
+    print("curses: a session goes without strings that are wrong, which a new size judges anew, and not if it is strict")
+
+
 def judge_libvterm(work, program):
     """After a change of size, and after lost output, the shell's cursor is where it was and visible, on a terminal that
     keeps one saved cursor."""
@@ -138,9 +167,10 @@ def judge_ends(work, program):
 
 def judge(made):
     """All of this, with programs that are compiled for the library."""
-    for name in ("resized", "ends"):
+    for name in ("resized", "ends", "left_out"):
         refused = made.make(name, [f"{HERE}/{name}.c"], "-std=gnu99")
         hold(not refused, f"{name}.c doesn't compile", refused)
     judge_sizes(made.work, f"{made.work}/ticurses/resized")
+    judge_left_out(made.work, f"{made.work}/ticurses/left_out")
     judge_libvterm(made.work, f"{made.work}/ticurses/resized")
     judge_ends(made.work, f"{made.work}/ticurses/ends")
