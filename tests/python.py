@@ -73,6 +73,32 @@ def check_bound(session):
     session.output()
 
 
+def check_left_out(made):
+    """A session goes without wrong strings where it may, and says which they are."""
+    # rev underlines, and rmcup writes a letter; smcup goes with it
+    entry = b"w|w,\n\tclear=\\E[H\\E[2J, cup=\\E[%i%p1%d;%p2%dH, sgr0=\\E[m, rev=\\E[4m,\n\tsmcup=\\E[?1049h, rmcup=x,\n"
+    seen = raises(made, made.Code.NO_CERTIFICATE, made.Session, entry, 6, 24, "w")
+    hold("no rev: BadLook" in seen, "the error says something else", seen)
+    session = made.Session(entry, 6, 24, "w", leaving_out=True)
+    hold([it.name for it in session.left_out] == ["rev", "rmcup", "smcup"], "others are left out", session.left_out)
+    hold(session.left_out[2].faulty == "rmcup", "smcup goes by itself", session.left_out)
+    session.call("attrset 0 R", "addstr 0 a", "refresh 0")
+    hold(b"\033[4m" not in session.output(), "what was left out is sent")
+    certificate = made.check(held_in(TERMINALS), 6, 24, "vt")
+    try:
+        session.open(held_in(TERMINALS), 6, 24, "vt", certificate, leaving_out=True)
+        sys.exit("python: a certificate and leaving_out go together")
+    except ValueError:
+        pass
+    session.open(held_in(TERMINALS), 6, 24, "vt", leaving_out=True)
+    hold(session.left_out == [], "a right entry loses something", session.left_out)
+    wrong = b"w|w,\n\tclear=\\E[H\\E[2J, cup=\\E[%p1%d;%p2%dH, sgr0=\\E[m,\n"
+    raises(made, made.Code.NO_CERTIFICATE, lambda: session.open(wrong, 6, 24, "w", leaving_out=True))
+    hold(session.left_out == [], "a refused entry is left in its place", session.left_out)
+    session.close()
+    raises(made, made.Code.CLOSED, lambda: session.left_out)
+
+
 def check_calls(made):
     source = held_in(TERMINALS)
     session = made.Session(source, 6, 24, name="xc")
@@ -184,6 +210,7 @@ def main():
         made, folder = module(prefix)
         check_names(made, prefix, work)
         check_calls(made)
+        check_left_out(made)
         check_certificates(made, work)
         check_scripts(made, work)
         print("python: codes, answers, certificates, reasons and scripts are those of the header and of the program")

@@ -40,8 +40,8 @@ from ._terminal import find_entry, set_cooked, set_raw, terminal_size
 
 __version__ = "1.0.0"
 __all__ = [
-    "ENTRY_TEXTS", "TEXTS", "Attrs", "Cell", "Code", "Entry", "EntryCode", "EntryError", "Error", "Session", "check",
-    "find_entry", "reason", "set_cooked", "set_raw", "string", "terminal_size", "verify",
+    "ENTRY_TEXTS", "TEXTS", "Attrs", "Cell", "Code", "Entry", "EntryCode", "EntryError", "Error", "LeftOut", "Session",
+    "check", "find_entry", "reason", "set_cooked", "set_raw", "string", "terminal_size", "verify",
 ]
 
 Text = Union[str, bytes, bytearray, memoryview]
@@ -53,6 +53,15 @@ class Cell(NamedTuple):
     byte: str
     attrs: Attrs
     pair: int
+
+
+class LeftOut(NamedTuple):
+    """A string that a session goes without: its name, the name of the string at fault, which is the same but for the
+    other one of `smcup` and `rmcup`, and the cause in the word of `ticurses check`."""
+
+    name: str
+    faulty: str
+    cause: str
 
 
 class Attrs(enum.IntFlag):
@@ -95,7 +104,7 @@ def _is_done(code: int, reason: str = "") -> None:
         raise Error(code, reason)
 
 
-def _asked(call: Callable[..., int], room: int, *words: bytes | int) -> tuple[int, bytes]:
+def _asked(call: Callable[..., int], room: int, *words: bytes | int | Handle) -> tuple[int, bytes]:
     """The code of a call, and the bytes that it writes to a buffer of `room` bytes, or of more if it needs more. Each of
     the `words` that has bytes is passed with its length."""
     needed, code, space = SIZE(0), int(Code.NO_ROOM), ctypes.create_string_buffer(0)
@@ -190,7 +199,9 @@ class Session:
     The end of a `with` statement closes it. Before that it sends `endwin` if it has sent anything, and restores the
     terminal's modes if it has set them."""
 
-    def __init__(self, entry: Text, rows: int, cols: int, name: Text = b"", certificate: Text = b"") -> None:
+    def __init__(
+        self, entry: Text, rows: int, cols: int, name: Text = b"", certificate: Text = b"", *, leaving_out: bool = False
+    ) -> None:
         self._handle = Handle()
         self._input, self._output, self._is_owner = 0, 1, False
         # the descriptor that bytes went to, and whether `endwin` was the last call
@@ -201,29 +212,47 @@ class Session:
         self._rmcup = b""
         self._before: list[Any] | None = None
         self._handlers: dict[int, Any] = {}
-        self.open(entry, rows, cols, name, certificate)
+        self.open(entry, rows, cols, name, certificate, leaving_out=leaving_out)
 
     @classmethod
-    def on_terminal(cls, term: str | None = None, input: int = 0, output: int = 1) -> Session:
+    def on_terminal(
+        cls, term: str | None = None, input: int = 0, output: int = 1, *, leaving_out: bool = False
+    ) -> Session:
         """A session on the terminal at these descriptors, whose name is `term` or $TERM, for a `with` statement. At its
         beginning the statement sets the terminal raw, and from then on SIGTERM and SIGHUP leave the block unless the
         program handles them. It raises `FileNotFoundError` without an entry, `termios.error` if the input is no
         terminal, and `Error`."""
-        session = cls(find_entry(term), *terminal_size(output))
+        session = cls(find_entry(term), *terminal_size(output), leaving_out=leaving_out)
         session._input, session._output, session._is_owner = input, output, True
         return session
 
-    def open(self, entry: Text, rows: int, cols: int, name: Text = b"", certificate: Text = b"") -> None:
+    def open(
+        self, entry: Text, rows: int, cols: int, name: Text = b"", certificate: Text = b"", *, leaving_out: bool = False
+    ) -> None:
         """Opens the session anew. After a change of size call `end` before, and `lost` after it. Without a
-        `certificate` it checks the entry. If it raises an error, the session that was open stays open."""
+        `certificate` it checks the entry. With `leaving_out`, and no certificate, it opens the entry without its wrong
+        strings, if a terminal can do without them; `left_out` has them. If it raises an error, the session that was open
+        stays open."""
         entry, name, certificate = _bytes(entry), _bytes(name), _bytes(certificate)
-        words = (entry, len(entry), name, len(name), *_numbers(rows, cols), certificate, len(certificate))
+        words = (entry, len(entry), name, len(name), *_numbers(rows, cols))
         opened = Handle()
-        code = RAW.ticurses_raw_open(opened, *words)
+        if leaving_out and certificate:
+            raise ValueError("a session with a certificate leaves out nothing")
+        if leaving_out:
+            code = RAW.ticurses_raw_open_without(opened, *words)
+        else:
+            code = RAW.ticurses_raw_open(opened, *words, certificate, len(certificate))
         _is_done(code, reason(entry, rows, cols, name) if code == Code.NO_CERTIFICATE else "")
         before, self._handle = self._handle, opened
         RAW.ticurses_raw_close(before)
-        self._rmcup = _leaving(entry, name)
+        self._rmcup = b"" if any(it.name == "rmcup" for it in self.left_out) else _leaving(entry, name)
+
+    @property
+    def left_out(self) -> list[LeftOut]:
+        """The strings that the session goes without, in the order in which they were left out."""
+        code, text = _asked(RAW.ticurses_raw_left_out, 256, self._handle)
+        _is_done(code)
+        return [LeftOut(*line.split(" ")) for line in text.decode("ascii").splitlines()]
 
     def call(self, *lines: Text) -> None:
         """Makes the calls of `lines`, one a line, up to the first that isn't done; the error says which it is. If a

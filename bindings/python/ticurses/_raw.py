@@ -30,6 +30,8 @@ _CALLS: dict[str, tuple[Any, list[Any]]] = {
     "verify": (CODE, [*_ENTRY, BYTES, SIZE]),
     "string": (CODE, [*[BYTES, SIZE] * 3, BYTES, SIZE, SIZES]),
     "open": (CODE, [SESSION, *_ENTRY, BYTES, SIZE]),
+    "open_without": (CODE, [SESSION, *_ENTRY]),
+    "left_out": (CODE, [SESSION, BYTES, SIZE, SIZES]),
     "call": (CODE, [SESSION, BYTES, SIZE]),
     "failed": (CODE, [SESSION, SIZES]),
     "addstr": (CODE, [SESSION, SIZE, BYTES, SIZE]),
