@@ -46,6 +46,15 @@ def pieces(lines):
             calls.append(line)
 
 
+def make(session, call):
+    """Makes a call, which may write up to the last cell of a window that doesn't scroll."""
+    try:
+        session.call(call)
+    except ticurses.Error as error:
+        if error.code != ticurses.Code.NO_SCROLL:
+            raise
+
+
 def played(session, lines):
     """The bytes that the refreshes of a scene sent, the sum of their bounds, and whether each kept its own. Without a
     `# from here` all of them count."""
@@ -53,8 +62,8 @@ def played(session, lines):
     sent = bounds = 0
     keeps = True
     for calls, counts in pieces(lines):
-        if calls:
-            session.call(*calls)
+        for call in calls:
+            make(session, call)
         most = session.most
         session.call("doupdate")
         count = session.waiting
