@@ -87,7 +87,7 @@ fn has_meaning(byte: u8) -> bool {
     byte.is_ascii_digit() && byte < b'8' || b"Eenlrtbfas^\\,:".contains(&byte)
 }
 
-/// The line `number` of `text`, counted from 1; empty if there is no such line.
+/// The line `number` of `text`, counted from 1, without its LF and a CR before that; empty if there is no such line.
 pub fn line_of(text: &[u8], number: u32) -> &[u8] {
     let mut rest = text;
     for _ in 1..number {
@@ -97,8 +97,16 @@ pub fn line_of(text: &[u8], number: u32) -> &[u8] {
         }
     }
     match rest.iter().position(|byte| *byte == b'\n') {
-        Some(end) => &rest[..end],
+        Some(end) => without_cr(&rest[..end]),
         None => rest,
+    }
+}
+
+/// The bytes of `line`, which stood before an LF, without a CR at their end: readers of a source drop it.
+pub(crate) fn without_cr(line: &[u8]) -> &[u8] {
+    match line {
+        [front @ .., b'\r'] => front,
+        _ => line,
     }
 }
 

@@ -1,6 +1,6 @@
 //! The names in a source text that no capability has, counted by name.
 
-use crate::fields::next_field;
+use crate::fields::{next_field, without_cr};
 use std::alloc::{AllocError, Global};
 
 /// The most names that are listed one by one.
@@ -24,10 +24,11 @@ pub fn unknown_names(alloc: Global, text: &[u8]) -> Result<Vec<u8>, AllocError> 
             .iter()
             .position(|byte| *byte == b'\n')
             .unwrap_or(rest.len());
-        others = others.saturating_add(count_line(&rest[..end], &mut listed)?);
         if end >= rest.len() {
+            others = others.saturating_add(count_line(rest, &mut listed)?);
             break;
         }
+        others = others.saturating_add(count_line(without_cr(&rest[..end]), &mut listed)?);
         rest = &rest[end + 1..];
     }
     spell(alloc, listed.as_slice(), others)
