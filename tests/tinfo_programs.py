@@ -90,7 +90,8 @@ class Pane:
             with open(f"{self.room}/{file}", "w", encoding="ascii") as out:
                 out.write(CONFIGURED.get(name, text) if file == "conf" else text)
         given = [f"HOME={self.room}/home", f"SCREENDIR={self.room}/home", f"TMUX_TMPDIR={self.room}", "LC_ALL=C.UTF-8"]
-        given += ["TERM=screen-256color", "SHELL=/bin/bash", "PS1=$ ", "ESCDELAY=25"]
+        # an editor that loads ncurses, as nano does, needs more names than the drop-in has
+        given += ["TERM=screen-256color", "SHELL=/bin/bash", "PS1=$ ", "ESCDELAY=25", "VISUAL=true"]
         given += [f"LD_LIBRARY_PATH={folder}"] if folder else []
         os.chmod(f"{self.room}/home", 0o700)
         line = f"cd {self.room}; env -u TMUX -u LS_COLORS -u STY {' '.join(quoted(it) for it in given)} {words}"
