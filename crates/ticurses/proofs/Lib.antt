@@ -1,1 +1,3 @@
-pub mod Storings
+mod OriginalReadings
+mod OriginalStorings
+mod Storings

@@ -107,8 +107,8 @@ impl<'a, R: rt::Files> Batch<'a, R> {
                 return Err(FileFault::NoMemory);
             };
             match fs::File::create_new(self.rt, temporary.as_str()) {
-                Ok(file) => {
-                    return match write_synced(file, permissions, bytes) {
+                Ok(mut file) => {
+                    return match write_synced(&mut file, permissions, bytes) {
                         Ok(()) => Ok(temporary),
                         Err(error) => {
                             let _ = fs::remove_file(self.rt, temporary.as_str());

@@ -1,5 +1,8 @@
 //! The forms of reports: without what an earlier run has said, and as a file of SARIF.
 
+ghost use Rattle.std.specs.Prelude.{◌≡◌, ◌++◌, IfOk};
+ghost use Rattle.ticurses.specs.Formed.{IsFormed};
+
 use std::alloc::Global;
 use ti_arguments::Asked;
 use ti_files::{Failure, Files, Remarks, Replied, Reply, read_whole};
@@ -29,7 +32,12 @@ pub fn baseline_of<F: Files>(
 }
 
 /// The `reply` with the `kept` reports before its own text; as a file, if SARIF is `asked` for.
-pub fn formed(alloc: Global, asked: &Asked<'_>, kept: Vec<u8>, reply: Reply) -> Replied {
+pub fn formed(alloc: Global, asked: &Asked<'_>, kept: Vec<u8>, reply: Reply) -> Replied
+    ensures text { IfOk result (λ formed.
+        IsFormed asked.now.sarif (kept.entry.items ++ reply.entry.text.items) formed.text.items) }
+    ensures notes { IfOk result (λ formed. formed.notes ≡ reply.entry.notes) }
+    ensures failure { IfOk result (λ formed. formed.failure ≡ reply.entry.failure) }
+{
     let Reply {
         notes,
         text: own,

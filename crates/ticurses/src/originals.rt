@@ -1,12 +1,20 @@
 //! Source files as they are before their lines are joined.
 
+ghost use Rattle.std.specs.Prelude.{◌≡◌, ◌∷◌, ◌++◌, [], IfOk, OnOk, option_map};
+ghost use Rattle.ti_files.specs.Contents.{AreFirstBytesOf};
+ghost use Rattle.ticurses.specs.Originals.{WereRead, bytes_read, held_before};
+ghost use Rattle.ticurses.specs.Originals as spec;
+
 use crate::stored::Opened;
 use std::alloc::{AllocError, Global};
 use std::io::{Cursor, Read};
 use ti_arguments::Asked;
-use ti_files::{Failure, FileFault, Files, LONGEST_FILE, NewFile};
+use ti_files::{Failure, FileCause, FileFault, Files, LONGEST_FILE, NewFile};
 use ti_requests::Request;
 use ti_sources::LinedFile;
+
+/// One byte more than a source may have.
+const LONGEST_READ: u64 = LONGEST_FILE as u64 + 1;
 
 /// A file that was read: its path, and its bytes, or one more than a source may have.
 #[derive(Drop)]
@@ -21,16 +29,42 @@ pub fn originals<'a, F: Files>(
     alloc: Global,
     asked: &'a Asked<'a>,
     files: &mut F,
-) -> Result<Vec<Original<'a>>, Failure> {
+) -> Result<Vec<Original<'a>>, Failure>
+    ensures read { IfOk result (λ originals. WereRead (F.holds files.old) originals.items) }
+    ensures kept { F.holds files.new ≡ F.holds files.old }
+{
     let mut originals = Vec::new(alloc);
     for path in &paths_of(alloc, asked)? {
-        match read_original(alloc, files, path) {
-            Ok(bytes) => originals.push(Original { path, bytes })?,
-            Err(FileFault::NoMemory) => return Err(Failure::NoMemory),
-            Err(FileFault::Failed(_)) => {}
-        }
+        add_original(alloc, files, path, &mut originals)?;
     }
     Ok(originals)
+}
+
+/// Adds the file at `path` to the `originals`, unless it can't be read.
+fn add_original<'a, F: Files>(
+    alloc: Global,
+    files: &mut F,
+    path: &'a str,
+    originals: &mut Vec<Original<'a>>,
+) -> Result<(), Failure>
+    ensures read { OnOk result (WereRead (F.holds files.old) originals.old.items
+        → WereRead (F.holds files.old) originals.new.items) }
+    ensures kept { F.holds files.new ≡ F.holds files.old }
+{
+    match read_original(alloc, files, path, LONGEST_READ) {
+        Ok(bytes) => add(originals, Original { path, bytes }),
+        Err(FileFault::NoMemory) => Err(Failure::NoMemory),
+        Err(FileFault::Failed(_)) => Ok(()),
+    }
+}
+
+fn add<'a>(originals: &mut Vec<Original<'a>>, original: Original<'a>) -> Result<(), Failure>
+    ensures { OnOk result (originals.new.items ≡ originals.old.items ++ original.entry ∷ []) }
+{
+    match originals.push(original) {
+        Ok(()) => Ok(()),
+        Err(_) => Err(Failure::NoMemory),
+    }
 }
 
 /// The paths of the files in which the places are that the reply names.
@@ -63,13 +97,22 @@ fn paths_of<'a>(alloc: Global, asked: &'a Asked<'a>) -> Result<Vec<&'a str>, All
     Ok(paths)
 }
 
-/// The bytes of the file at `path`, up to one more than a source may have.
-fn read_original<F: Files>(alloc: Global, files: &mut F, path: &str) -> Result<Vec<u8>, FileFault> {
+/// The first `count` bytes of the file at `path`, or all of them if there are fewer.
+fn read_original<F: Files>(
+    alloc: Global,
+    files: &mut F,
+    path: &str,
+    count: u64,
+) -> Result<Vec<u8>, FileFault>
+    ensures bytes { IfOk result (λ bytes. AreFirstBytesOf ((F.holds files.old).at path.now) count bytes.items) }
+    ensures kept { F.holds files.new ≡ F.holds files.old }
+{
     let file = files.reader(path)?;
     let mut bytes = Vec::new(alloc);
-    file.take(u64::from(LONGEST_FILE) + 1)
-        .read_to_end(&mut bytes)?;
-    Ok(bytes)
+    match file.take(count).read_to_end(&mut bytes) {
+        Ok(_) => Ok(bytes),
+        Err(error) => Err(FileFault::from(error)),
+    }
 }
 
 /// The texts of the `originals`, cut into lines.
@@ -99,16 +142,40 @@ impl<'a, F> Kept<'a, F> {
     }
 }
 
+/// The bytes of the first of the `originals` that was read at `path`.
+fn read_at<'a, 'b>(originals: &'a [Original<'b>], path: &str) -> Option<&'a [u8]>
+    ensures { option_map (λ bytes. bytes.now) result ≡ bytes_read originals.now path.now }
+{
+    for original in originals {
+        if original.path == path {
+            return Some(original.bytes.as_slice());
+        }
+    }
+    None
+}
+
+/// Whether none of these `files` has the path of one of the `originals`.
+fn are_unread(originals: &[Original<'_>], files: &[NewFile]) -> bool
+    ensures { result ≡ spec.are_unread originals.now files.now }
+{
+    for file in files {
+        if read_at(originals, file.path.as_str()).is_some() {
+            return false;
+        }
+    }
+    true
+}
+
 impl<'a, F: Files> Files for Kept<'a, F> {
+    ghost holds = { λ kept. held_before kept.originals.now (F.holds kept.files.now) };
+
     type File = Opened<F::File, Cursor<&'a [u8]>>;
 
     fn reader(&mut self, path: &str) -> Result<Opened<F::File, Cursor<&'a [u8]>>, FileFault> {
-        for original in self.originals {
-            if original.path == path {
-                return Ok(Opened::Input(Cursor::new(original.bytes.as_slice())));
-            }
+        match read_at(self.originals, path) {
+            Some(bytes) => Ok(Opened::Input(Cursor::new(bytes))),
+            None => Ok(Opened::File(self.files.reader(path)?)),
         }
-        Ok(Opened::File(self.files.reader(path)?))
     }
 
     fn with_paths(&self) -> &[&str] {
@@ -119,11 +186,19 @@ impl<'a, F: Files> Files for Kept<'a, F> {
         0
     }
 
+    /// Stores to no path that was read before: its bytes are still to be given.
     fn store(&mut self, path: &str, bytes: &[u8]) -> Result<(), FileFault> {
-        self.files.store(path, bytes)
+        match read_at(self.originals, path) {
+            Some(_) => Err(FileFault::Failed(FileCause::Source)),
+            None => self.files.store(path, bytes),
+        }
     }
 
     fn store_all(&mut self, new_files: &[NewFile]) -> Result<(), FileFault> {
-        self.files.store_all(new_files)
+        if are_unread(self.originals, new_files) {
+            self.files.store_all(new_files)
+        } else {
+            Err(FileFault::Failed(FileCause::Source))
+        }
     }
 }

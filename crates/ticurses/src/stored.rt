@@ -1,5 +1,9 @@
 //! The system's files, and standard input as one of them.
 
+ghost use Rattle.std.specs.Prelude.{OnOk};
+ghost use Rattle.std.specs.Io.KnownBytes.{Appends};
+ghost use Rattle.ticurses.specs.Opened.{left_of};
+
 use crate::batches::Batch;
 use std::alloc::Global;
 use std::fs::{Metadata, OpenFile, Permissions};
@@ -126,13 +130,15 @@ impl<'a, R: rt::Files, I> Stored<'a, R, I> {
     /// Writes `bytes` to the file `file`, whose name is `temporary`, and renames it as `path`.
     fn fill(
         &self,
-        file: R::File,
+        mut file: R::File,
         temporary: &str,
         path: &str,
         permissions: Option<Permissions>,
         bytes: &[u8],
     ) -> Result<(), FileFault> {
-        let renamed = match write_synced(file, permissions, bytes) {
+        let written = write_synced(&mut file, permissions, bytes);
+        drop(file);
+        let renamed = match written {
             Ok(()) => fs::rename(self.rt, temporary, path),
             Err(error) => Err(error),
         };
@@ -147,11 +153,13 @@ impl<'a, R: rt::Files, I> Stored<'a, R, I> {
 }
 
 /// Writes `bytes` to the empty file `file`, and waits until the device has them.
-pub fn write_synced<F: Write + OpenFile + Drop>(
-    mut file: F,
+pub fn write_synced<F: Write + OpenFile>(
+    file: &mut F,
     permissions: Option<Permissions>,
     bytes: &[u8],
-) -> io::Result<()> {
+) -> io::Result<()>
+    ensures { OnOk result (Appends (F.Write.contents file.old) (F.Write.contents file.new) bytes.now) }
+{
     file.write_all(bytes)?;
     if let Some(permissions) = permissions {
         file.set_permissions(permissions)?;
@@ -173,6 +181,8 @@ pub enum Opened<F, I> {
 }
 
 impl<F: Read, I: Read> Read for Opened<F, I> {
+    ghost remaining = { λ opened. left_of F.remaining I.remaining opened };
+
     fn read(&mut self, into: &mut [u8]) -> io::Result<usize> {
         match self {
             Opened::File(file) => file.read(into),
