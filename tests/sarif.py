@@ -181,7 +181,36 @@ def judge_baselines(folder, earlier):
             fail(f"{words}: status {got.status}, {got.out}")
 
 
+def surveyed(words, data):
+    return run_cases(PROGRAM, [Case(["survey", "--json", "--all", *words])], data)[0]
+
+
+def judge_gone():
+    """Findings of a baseline that a run hasn't are counted. A file has the same path with `./` and further slashes, and an
+    entry of another size is another one. A text that is no output of --json is no baseline."""
+    whole, mended = WHOLE.encode(), (RIGHT + LOST).encode()
+    earlier = surveyed([*SIZE, "a.ti"], {"a.ti": whole})
+    gone = sum(one["verdict"] == "no" for one in objects(earlier))
+    data = {"old.json": earlier.out, "a.ti": mended}
+    for path in ("a.ti", "./a.ti", ".//a.ti"):
+        told = surveyed(["--baseline", "old.json", *SIZE, path], data)
+        if told.out or f"'old.json': {gone} finding is gone\n".encode() not in told.err or gone != 1:
+            fail(f"{path}, a fault of which is mended: {told.out}, {told.err}")
+    told = surveyed(["--baseline", "old.json", *SIZE, "a.ti"], {**data, "a.ti": whole})
+    if told.out or b"gone" in told.err:
+        fail(f"what it was before: {told.out}, {told.err}")
+    told = surveyed(["--baseline", "old.json", str(ROWS + 1), str(COLS), "a.ti"], data)
+    if {one["entry"] for one in objects(told)} != {"right", "lost"} or b"'old.json': 2 findings are gone\n" not in told.err:
+        fail(f"at another size: {told.out}, {told.err}")
+    for odd, line in ((b"{}\n", 1), (earlier.out + b"no object\n", len(objects(earlier)) + 1)):
+        told = surveyed(["--baseline", "old.json", *SIZE, "a.ti"], {**data, "old.json": odd})
+        words = f"file: old.json\n'old.json' is no output of --json: line {line} has no report\n"
+        if told.status != 3 or told.out or told.err != words.encode():
+            fail(f"no baseline: status {told.status}, {told.out}, {told.err}")
+
+
 def main():
+    judge_gone()
     with tempfile.TemporaryDirectory() as folder:
         count, earlier = judge_forms(folder)
         judge_baselines(folder, earlier)

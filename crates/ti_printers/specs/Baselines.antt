@@ -1,5 +1,6 @@
 -- The reports of an earlier run.
-use Rattle.std.specs.Prelude.{◌≡◌, ◌&&◌, ℕ, Bool, true, false, List, [], ◌∷◌, Option, Some, None, String, string_bytes}
+use Rattle.std.specs.Prelude.{◌≡◌, ◌&&◌, ℕ, Bool, true, false, List, [], ◌∷◌, Option, Some, None, String, nat_eq}
+use Rattle.std.specs.Prelude.{string_bytes}
 use Rattle.std.specs.declared.alloc.Global.{Global}
 use Rattle.std.specs.List.{list_any}
 use Rattle.std.specs.Str.{bytes_eq}
@@ -11,6 +12,8 @@ use Rattle.ti_printers.specs.declared.baselines.Baseline.{Baseline}
 use Rattle.ti_printers.specs.declared.baselines.Known.{Known}
 use Rattle.ti_printers.specs.declared.baselines.KnownVerdict.{KnownVerdict}
 use Rattle.ti_printers.specs.declared.baselines.KnownVerdict.TheVariants as known_verdicts
+use Rattle.ti_printers.specs.declared.baselines.Statement.{Statement}
+use Rattle.ti_printers.specs.Paths.{is_same_path}
 
 -- two texts are the same, or neither is there
 abbrev pub is_same : Option (String Global) → Option (String Global) → Bool
@@ -26,10 +29,10 @@ is_digits_of (Some digits) None = false
 is_digits_of None (Some name) = false
 is_digits_of None None = true
 
--- the object is about the same entry of the same file
+-- the object is about the same entry of the same file at the same size
 abbrev pub is_about : Known → Report → Bool
-is_about known report =
-    bytes_eq (string_bytes known.file) (string_bytes report.file) && is_digits_of known.entry_hex report.entry
+is_about known report = nat_eq known.size.rows report.rows && (nat_eq known.size.cols report.cols
+    && (is_digits_of known.entry_hex report.entry && is_same_path (string_bytes known.file) (string_bytes report.file)))
 
 -- about the same capability and parameters
 abbrev pub has_subject : Known → Report → Bool
@@ -63,7 +66,7 @@ says known report = is_about known report && states known report
 
 -- an object of the earlier run says what the report says
 abbrev pub knows : Baseline → Report → Bool
-knows baseline report = list_any (λ known. says known report) baseline.known.items
+knows baseline report = list_any (λ (statement : Statement). says statement.known report) baseline.statements.items
 
 -- nothing of a report that is known, and else what the form prints of it
 abbrev pub PrintsNews : Bool → (List ℕ → Type 0) → List ℕ → Type 0

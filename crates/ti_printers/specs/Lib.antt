@@ -2,4 +2,5 @@
 pub mod Baselines
 pub mod Escapes
 pub mod Json
+pub mod Paths
 pub mod Sarif

@@ -3,20 +3,30 @@
 ghost use Rattle.std.specs.{Prelude.{◌≡◌, ◌≤◌, not, map, option_map}, List.{list_any}};
 ghost use Rattle.ti_printers.specs.Baselines as spec;
 
+use crate::paths::is_same_path;
 use serde::Deserialize;
 use std::alloc::{AllocError, Global};
+use std::cell::Cell;
 use ti_reports::{Form, Report, Verdict, Written};
 
 /// The members of an object by which its statement is known in a later run. Others are passed over.
 #[derive(Debug, Drop, Deserialize)]
 struct Known {
     file: String,
+    size: KnownSize,
     entry_hex: Option<String>,
     verdict: KnownVerdict,
     cause: Option<String>,
     capability: Option<String>,
     parameters: Vec<u16>,
     explanation: Vec<String>,
+}
+
+/// The size in an object.
+#[derive(Clone, Copy, Debug, PartialEq, Eq, Deserialize)]
+struct KnownSize {
+    cols: usize,
+    rows: usize,
 }
 
 /// The verdict of an object.
@@ -30,35 +40,85 @@ enum KnownVerdict {
     Hint,
 }
 
+/// The statement of an object of the earlier run, and whether a report of this run repeats it.
+#[derive(Drop)]
+struct Statement {
+    known: Known,
+    is_repeated: Cell<bool>,
+}
+
 /// The statements of an earlier run's reports in JSON.
 #[derive(Drop)]
 pub struct Baseline {
-    known: Vec<Known>,
+    statements: Vec<Statement>,
+}
+
+/// Why a text is no baseline.
+#[derive(Clone, Copy, Debug, PartialEq, Eq)]
+pub enum BaselineFault {
+    /// The line with this number, from 1, is no object of a report.
+    NoReport(usize),
+    /// Out of memory.
+    NoMemory,
+}
+
+impl From<AllocError> for BaselineFault {
+    fn from(_refused: AllocError) -> BaselineFault {
+        BaselineFault::NoMemory
+    }
 }
 
 impl Baseline {
-    ghost use Rattle.std.specs.{Prelude.{◌≡◌}, List.{list_any}};
+    ghost use Rattle.std.specs.Prelude.{◌≡◌};
     ghost use Rattle.ti_printers.specs.Baselines as spec;
 
-    /// The statements of the lines of `reports`. A line that is no object of a report has none.
+    /// The statements of the lines of `reports`, each of which must be an object of a report.
     ///
     /// # Errors
-    /// Out of memory.
-    pub fn new(alloc: Global, reports: &str) -> Result<Baseline, AllocError> {
-        let mut known = Vec::new(alloc);
-        for line in reports.lines() {
-            if let Some(own) = known_in(alloc, line)? {
-                known.push(own)?;
+    /// `NoReport` with the first line that is none; `NoMemory`.
+    pub fn new(alloc: Global, reports: &str) -> Result<Baseline, BaselineFault> {
+        let mut statements = Vec::new(alloc);
+        for (number, line) in reports.lines().enumerate() {
+            let Some(known) = known_in(alloc, line)? else {
+                return Err(BaselineFault::NoReport(number.saturating_add(1)));
+            };
+            let statement = Statement {
+                known,
+                is_repeated: Cell::new(false),
+            };
+            if statements.push(statement).is_err() {
+                return Err(BaselineFault::NoMemory);
             }
         }
-        Ok(Baseline { known })
+        Ok(Baseline { statements })
     }
 
-    /// Whether an object says what `report` says of the same entry of the same file, whatever line it is on.
+    /// Whether an object says what `report` says of the same entry of the same file, whatever line it is on. Each
+    /// object that does isn't counted by `count_gone` any more.
     pub fn knows(&self, report: &Report) -> bool
         ensures { result ≡ spec.knows self.now report.now }
     {
-        self.known.iter().any(|known| says(known, report))
+        let mut is_known = false;
+        for statement in &self.statements {
+            if says(&statement.known, report) {
+                statement.is_repeated.set(true);
+                is_known = true;
+            }
+        }
+        is_known
+    }
+
+    /// How many faults and refusals no report has stated again of which `knows` was asked.
+    pub fn count_gone(&self) -> usize {
+        self.statements.iter().filter(|one| is_gone(one)).count()
+    }
+}
+
+/// Whether the `statement` is about something wrong and hasn't been repeated.
+fn is_gone(statement: &Statement) -> bool {
+    match statement.known.verdict {
+        KnownVerdict::No | KnownVerdict::Refused => !statement.is_repeated.get(),
+        KnownVerdict::Yes | KnownVerdict::Advice | KnownVerdict::Hint => false,
     }
 }
 
@@ -78,11 +138,14 @@ fn says(known: &Known, report: &Report) -> bool
     is_about(known, report) && states(known, report)
 }
 
-/// Whether `known` is about the entry of `report`.
+/// Whether `known` is about the entry of `report` at its size.
 fn is_about(known: &Known, report: &Report) -> bool
     ensures { result ≡ spec.is_about known.now report.now }
 {
-    known.file.as_str() == report.file.as_str() && is_digits_of(&known.entry_hex, &report.entry)
+    known.size.rows == report.rows
+        && known.size.cols == report.cols
+        && is_digits_of(&known.entry_hex, &report.entry)
+        && is_same_path(known.file.as_str(), report.file.as_str())
 }
 
 /// Whether `digits` are those of `name`, or neither is there.

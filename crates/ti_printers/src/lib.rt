@@ -5,11 +5,12 @@ mod baselines;
 mod escapes;
 mod json;
 mod messages;
+mod paths;
 mod results;
 mod sarif;
 mod shape;
 mod uris;
 
-pub use baselines::{Baseline, News};
+pub use baselines::{Baseline, BaselineFault, News};
 pub use json::Json;
 pub use sarif::{Sarif, sarif_file};

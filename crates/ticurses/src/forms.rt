@@ -6,7 +6,7 @@ ghost use Rattle.ticurses.specs.Formed.{IsFormed};
 use std::alloc::Global;
 use ti_arguments::Asked;
 use ti_files::{Failure, Files, Remarks, Replied, Reply, read_whole};
-use ti_printers::{Baseline, sarif_file};
+use ti_printers::{Baseline, BaselineFault, sarif_file};
 
 /// The most bytes of an earlier run's reports.
 const LONGEST_REPORT: u32 = 268_435_456;
@@ -27,8 +27,53 @@ pub fn baseline_of<F: Files>(
         return Ok(None);
     };
     let earlier = read_whole(alloc, files, path, LONGEST_REPORT, remarks)?;
-    let reports = str::from_utf8(earlier.as_slice()).unwrap_or("");
-    Ok(Some(Baseline::new(alloc, reports)?))
+    let Ok(reports) = str::from_utf8(earlier.as_slice()) else {
+        remarks.add(path.as_bytes(), b" is no output of --json");
+        return Err(unread(alloc, path));
+    };
+    match Baseline::new(alloc, reports) {
+        Ok(baseline) => Ok(Some(baseline)),
+        Err(BaselineFault::NoReport(line)) => {
+            if let Ok(words) = format!(in alloc;
+                " is no output of --json: line {line} has no report"
+            ) {
+                remarks.add(path.as_bytes(), words.as_bytes());
+            }
+            Err(unread(alloc, path))
+        }
+        Err(BaselineFault::NoMemory) => Err(Failure::NoMemory),
+    }
+}
+
+/// The failure of the file at `path`.
+fn unread(alloc: Global, path: &str) -> Failure {
+    match String::from_str(alloc, path) {
+        Ok(path) => Failure::File(path),
+        Err(_) => Failure::NoMemory,
+    }
+}
+
+/// Adds a line to `remarks` that says how many findings of the `baseline` this run didn't have, if there are any.
+pub fn count_gone(
+    alloc: Global,
+    asked: &Asked<'_>,
+    baseline: &Option<Baseline>,
+    remarks: &mut Remarks,
+) {
+    let (Some(path), Some(baseline)) = (asked.baseline, baseline) else {
+        return;
+    };
+    let gone = baseline.count_gone();
+    if gone > 0 {
+        let has = if gone == 1 {
+            "finding is"
+        } else {
+            "findings are"
+        };
+        if let Ok(words) = format!(in alloc; ": {gone} {has} gone") {
+            remarks.add(path.as_bytes(), words.as_bytes());
+        }
+    }
 }
 
 /// The `reply` with the `kept` reports before its own text; as a file, if SARIF is `asked` for.

@@ -3,7 +3,7 @@
 ghost use Rattle.std.specs.Prelude.{◌≤◌};
 
 use crate::counted::Counted;
-use crate::forms::{baseline_of, formed, is_kept};
+use crate::forms::{baseline_of, count_gone, formed, is_kept};
 use crate::hints::{hint_join, hint_path};
 use crate::originals::{Kept, lined, originals};
 use crate::progress::SurveyLines;
@@ -246,6 +246,7 @@ fn reply_in_form<F: Files + Sources, O: Output, E: Write + IsTerminal>(
         err: &mut *streams.err,
     };
     let reply = kept_reply(alloc, asked, &baseline, files, &mut streams, remarks)?;
+    count_gone(alloc, asked, &baseline, remarks);
     formed(alloc, asked, kept, reply)
 }
 
