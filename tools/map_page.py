@@ -22,6 +22,7 @@ PARTS = [
             "ti_surveys",
             "ti_repairs",
             "ti_verdicts",
+            "ti_openings",
             "ti_commands",
             "ti_hints",
             "ti_words",

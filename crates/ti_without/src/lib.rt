@@ -10,4 +10,5 @@ mod without;
 
 pub use certification::certify_without;
 pub use left_out::{LeftOut, without_all};
+pub use rounds::can_go_on;
 pub use without::Without;

@@ -63,7 +63,7 @@ fn each_may_go(entry: &Entry, nos: &[No]) -> bool
 
 /// Whether there is a round: one of the faults `nos` doesn't wait, and `entry` can do without the string of each that
 /// doesn't.
-fn can_go_on(entry: &Entry, nos: &[No]) -> bool
+pub fn can_go_on(entry: &Entry, nos: &[No]) -> bool
     ensures { result ≡ spec.can_go_on entry.now nos.now }
 {
     some_counts(nos) && each_may_go(entry, nos)
