@@ -306,7 +306,8 @@ def judge_hints():
 
 
 def judge_count():
-    """`check --out` ends with the count of lines, on a terminal alone."""
+    """`check --out` ends with the bound of a session and the count of lines, on a terminal alone. A cell takes 1 byte, 6 of
+    the longest cup and 3 of sgr0; sgr0 and clear, with 10 bytes, lead out of an unknown state."""
     with tempfile.TemporaryDirectory() as room:
         with open(f"{room}/mini", "wb") as file:
             file.write(MINI)
@@ -317,9 +318,10 @@ def judge_count():
         os.close(follower)
         shown = os.read(leader, 4096)
         os.close(leader)
-    if silent.stderr or shown.replace(b"\r", b"") != b"yes, 8 lines\n":
+    wanted = b"a refresh sends at most 10 bytes for each cell that differs, and once more; the way out of an unknown state has 10\n"
+    if silent.stderr or shown.replace(b"\r", b"") != wanted + b"yes, 8 lines\n":
         fail(f"check --out: {silent.stderr}; on a terminal {shown}")
-    print("manual: check --out has its count of lines, on a terminal alone")
+    print("manual: check --out has the bound of a session and its count of lines, on a terminal alone")
 
 
 def main():

@@ -182,7 +182,9 @@ pub const CHECK_MORE: &str = "\
 The output is a certificate: for each checked string of the entry, and for all parameters that a terminal of this
 size allows, the bytes that the string sends and what they do. There is one only if each of them does what programs
 rely on, from every state in which programs send it. `ticurses verify` reads it. With --out it is written to FILE,
-whole or not at all, and there is no output; a terminal as standard error has a last line `yes, N lines`.
+whole or not at all, and there is no output. A terminal as standard error has a further line with the bound of a
+session: the most bytes that a refresh sends for each cell that differs, and once more, and the length of the way out of
+an unknown state. With --out it also has a last line `yes, N lines`.
 
 Standard error gets a line `note CAP HEX` for each sequence of the entry's strings, with the first parameters of each,
 that the terminal ignores, or of which it ignores a number. There are none where a string can't be expanded, or doesn't
@@ -194,7 +196,8 @@ without cnorm. Neither changes what is answered.
 
 If there is no certificate, standard error has a line `refused: no CAP P..: CAUSE` with a capability and its parameters,
 the first in the order of a certificate's lines. The lines below it say what the string sends for these parameters, from
-which state of the terminal it goes wrong, what was wanted there, and what happens instead.
+which state of the terminal it goes wrong, what was wanted there, and what happens instead. If the library for C opens a
+session without the strings at fault, the last line names what it leaves out: `a session leaves out CAP..`.
 
 With --all there is no certificate. The output is all that is wrong: a line `no CAP P..: CAUSE` for what the entry as a
 whole has or lacks (FlagOut, Absent, AcsByte), and one for each other capability that goes wrong, with the first of its
@@ -458,7 +461,9 @@ only there to be used by others, without `clear`, `cup` and `sgr0` or with a `+`
 a source FILE, standard error has the line `FILE:LINE:COLUMN: CAP of ENTRY: NAME no CAP P..: CAUSE`, and below it the
 field there, as `ticurses check --all` has it, and the line `grade: GRADE`; ENTRY is NAME, or an entry that it uses. A
 fault that several entries have at one place is there once, with a line `in NAME, NAME..` of them all. A line
-`grades: ..` counts all listed faults. It also gets the hints of `ticurses check`, each with `, in FILE` at its end.
+`grades: ..` counts all listed faults, and the line `opens N` the entries on which the library for C opens a session,
+whole or without some strings; parts and entries for a terminal of another kind don't count. It also gets the hints of
+`ticurses check`, each with `, in FILE` at its end.
 
 With --json the output is a JSON object on a line of its own for each of these lines but the last, with the members of
 `ticurses check --json`, and one for each advice, and with --all for each hint. In place of KIND the verdict is

@@ -18,6 +18,9 @@ pub trait Certifier {
     /// The relation that a refusal for an entry, rows and columns satisfies.
     ghost refuses: { Self → Content → ℕ → ℕ → No → Type 0 };
 
+    /// Whether further lines tell the bound of a session on an entry with a certificate.
+    fn tells_bound(&self) -> bool;
+
     /// The certificate of `entry` for `size`.
     ///
     /// # Errors
@@ -36,6 +39,28 @@ impl Certifier for Checker {
     ghost certifies = { λ _ entry rows cols text. IsCertified entry rows cols text };
 
     ghost refuses = { λ _ entry rows cols refusal. IsNo entry rows cols refusal };
+
+    fn tells_bound(&self) -> bool {
+        false
+    }
+
+    fn certify(&self, alloc: Global, entry: &Entry, size: Size) -> Result<Vec<u8>, No> {
+        check(alloc, entry, size)
+    }
+}
+
+/// The checker, where further lines tell the bound of a session too.
+#[derive(Clone, Copy)]
+pub struct TellingChecker;
+
+impl Certifier for TellingChecker {
+    ghost certifies = { λ _ entry rows cols text. IsCertified entry rows cols text };
+
+    ghost refuses = { λ _ entry rows cols refusal. IsNo entry rows cols refusal };
+
+    fn tells_bound(&self) -> bool {
+        true
+    }
 
     fn certify(&self, alloc: Global, entry: &Entry, size: Size) -> Result<Vec<u8>, No> {
         check(alloc, entry, size)

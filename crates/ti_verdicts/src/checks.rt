@@ -14,12 +14,14 @@ use ti_checker::{Cause, No, notes};
 use ti_commands::{Sourced, sourced_entry};
 use ti_files::{Failure, Files, Remarks, Replied, Reply, file_fault, size_words};
 use ti_hints::advise;
+use ti_openings::{note_bound, note_left_out_names};
 use ti_requests::CheckWords;
 use vt_term::Size;
 
 /// Replies with the notes on the entry that the `words` give and with the certificate that the `certifier` writes of
 /// it, which goes to its path or to standard output, or with the reason why there is none. Further lines go to
-/// `remarks`, advice on an entry with a certificate among them.
+/// `remarks`: on an entry with a certificate advice and, if the `certifier` tells it, the bound of a session; on
+/// another one what explains the refusal, and what a session goes without.
 pub fn check_entry<C: Certifier, F: Files>(
     alloc: Global,
     certifier: &C,
@@ -38,7 +40,7 @@ pub fn check_entry<C: Certifier, F: Files>(
     match certificate_of(alloc, certifier, &entry, size, remarks) {
         Ok(text) => {
             let reply = deliver(alloc, notes, text, words.out, files, remarks);
-            advise_on(alloc, &entry, size, &reply, remarks);
+            further_on(alloc, certifier, &entry, size, &reply, remarks);
             Ok(reply)
         }
         Err(failure) => Ok(Reply {
@@ -49,10 +51,21 @@ pub fn check_entry<C: Certifier, F: Files>(
     }
 }
 
-/// Adds advice on `entry` to `remarks`, if the `reply` has delivered its certificate.
-fn advise_on(alloc: Global, entry: &Entry, size: Size, reply: &Reply, remarks: &mut Remarks) {
+/// Adds advice on `entry` to `remarks`, and its bound if the `certifier` wants that, if the `reply` has delivered its
+/// certificate.
+fn further_on<C: Certifier>(
+    alloc: Global,
+    certifier: &C,
+    entry: &Entry,
+    size: Size,
+    reply: &Reply,
+    remarks: &mut Remarks,
+) {
     if reply.failure.is_none() {
         advise(alloc, entry, size, remarks);
+        if certifier.tells_bound() {
+            note_bound(alloc, entry, size, remarks);
+        }
     }
 }
 
@@ -88,6 +101,7 @@ fn certificate_of<C: Certifier>(
         Err(no) => {
             explain_no(alloc, entry, size, &no, remarks);
             note_outside(alloc, entry, size, remarks);
+            note_left_out_names(alloc, entry, size, remarks);
             Err(no_failure(alloc, &no))
         }
     }

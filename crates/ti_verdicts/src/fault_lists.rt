@@ -25,6 +25,7 @@ use ti_faults::{Mended, faults};
 use ti_files::{Files, Remarks, Replied, Reply, size_words};
 use ti_grades::{Grade, grade_of};
 use ti_hints::{advise, advise_unchecked};
+use ti_openings::note_names_beside;
 use ti_requests::FaultsWords;
 use ti_sources::LinedFile;
 use vt_term::Size;
@@ -33,8 +34,8 @@ use vt_term::Size;
 /// there and its explanation, and with their number; or with `yes` if there is none. The reply fails as the first of
 /// the faults does. The `originals` are the texts of those files whose lines were joined, as they were before.
 /// Further lines go to `remarks`: that the entry seems to be for a terminal of another kind, that a fault may go once
-/// others are mended, advice on an entry without a fault, and advice on strings that aren't checked, with their
-/// number.
+/// others are mended, what a session goes without, advice on an entry without a fault, and advice on strings that
+/// aren't checked, with their number.
 pub fn check_all<F: Files>(
     alloc: Global,
     words: &FaultsWords<'_>,
@@ -63,6 +64,8 @@ pub fn check_all<F: Files>(
     note_all_outside(alloc, &found.entry, size, nos.as_slice(), remarks);
     if nos.is_empty() {
         advise(alloc, &found.entry, size, remarks);
+    } else {
+        note_names_beside(alloc, &found.entry, size, nos.as_slice(), remarks);
     }
     advise_unchecked(alloc, &found.entry, remarks);
     Ok(reply)

@@ -23,7 +23,7 @@ mod starts;
 mod written;
 
 pub use answers::{Answer, answers_line, fault_answers};
-pub use certifiers::{Certifier, Checker};
+pub use certifiers::{Certifier, Checker, TellingChecker};
 pub use checks::{check_entry, notes_on, store_text};
 pub use fault_lists::check_all;
 pub use fault_runs::FaultRun;

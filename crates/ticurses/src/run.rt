@@ -26,7 +26,7 @@ use ti_requests::{CheckWords, FaultsWords, Request, ScriptWords, SurveyWords};
 use ti_source::FaultKind;
 use ti_sources::LinedFile;
 use ti_surveys::{Survey, survey_files};
-use ti_verdicts::{Checker, check_all, check_entry};
+use ti_verdicts::{Checker, TellingChecker, check_all, check_entry};
 
 /// The output of a command, and the standard error.
 #[derive(Drop)]
@@ -117,8 +117,8 @@ fn is_open_field(reply: &Replied) -> bool {
     }
 }
 
-/// The reply of `check` to its `words`. If `err` is a terminal, and the certificate goes to a file,
-/// a last line in `remarks` says how many lines it has.
+/// The reply of `check` to its `words`. If `err` is a terminal, a further line in `remarks` has the bound of a session,
+/// and if the certificate goes to a file, the last one says how many lines it has.
 fn check_counted<F: Files, E: IsTerminal>(
     alloc: Global,
     words: &CheckWords<'_>,
@@ -127,12 +127,13 @@ fn check_counted<F: Files, E: IsTerminal>(
     remarks: &mut Remarks,
 ) -> Replied {
     let mut counted = Counted::new(files);
-    let reply = check_entry(alloc, &Checker, words, &mut counted, remarks)?;
+    if !err.is_terminal() {
+        return check_entry(alloc, &Checker, words, &mut counted, remarks);
+    }
+    let reply = check_entry(alloc, &TellingChecker, words, &mut counted, remarks)?;
     if let Some(lines) = counted.lines {
-        if err.is_terminal() {
-            if let Ok(text) = format!(in alloc; "yes, {lines} lines") {
-                remarks.add_words(text.as_bytes());
-            }
+        if let Ok(text) = format!(in alloc; "yes, {lines} lines") {
+            remarks.add_words(text.as_bytes());
         }
     }
     Ok(reply)
