@@ -24,10 +24,10 @@ range_more from (suc n) = ap (λ (l : List ℕ). from ∷ l) (range_more (from +
 -- ---- statements
 
 right_nothing : (t : Told) → followed_by t nothing ≡ t
-right_nothing t = rw (append-nil t.lines, append-nil t.places, append-nil t.answers) refl
+right_nothing t = rw (append-nil t.lines, append-nil t.places, append-nil t.answers, append-nil t.opened) refl
 
 said_assoc : (a b c : Told) → followed_by (followed_by a b) c ≡ followed_by a (followed_by b c)
-said_assoc a b c = rw (append_assoc a.lines b.lines c.lines, append_assoc a.places b.places c.places, append_assoc a.answers b.answers c.answers) refl
+said_assoc a b c = rw (append_assoc a.lines b.lines c.lines, append_assoc a.places b.places c.places, append_assoc a.answers b.answers c.answers, append_assoc a.opened b.opened c.opened) refl
 
 said_end : {X : Type 0} (P : X → Told → Type 0) (xs : List X) (x : X) (told own : Told) → IsToldOfEach P xs told → P x own → IsToldOfEach P (xs ++ x ∷ []) (followed_by told own)
 unfolding IsToldOfEach

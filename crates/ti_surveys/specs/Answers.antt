@@ -10,6 +10,7 @@ use Rattle.ti_files.specs.declared.failure.CommandRefusal.{CommandRefusal}
 use Rattle.ti_faults.specs.AllFaults.{AreAllFaults}
 use Rattle.ti_surveys.specs.Kinds.{kind_answers, listed_kind}
 use Rattle.ti_surveys.specs.Lines.{Leaving, Refusing, Saying}
+use Rattle.ti_surveys.specs.Openings.{AreOpenings}
 use Rattle.ti_verdicts.specs.Parts.{HasParts}
 use Rattle.ti_verdicts.specs.Locations.{IsPlaced, PlaceInSource, PlacedText}
 use Rattle.ti_verdicts.specs.Refusals.{no_text}
@@ -26,9 +27,14 @@ use Rattle.ti_files.specs.Shown.{shown}
 abbrev pub line_of : List ℕ → List ℕ → List ℕ
 line_of name words = shown (name ++ words) ++ 10 ∷ []
 
--- one line alone, and its answer
+-- one line alone, and its answer; no session is asked about
 abbrev pub one_line : List ℕ → List ℕ → Answer → Told
-one_line name words answer = record { lines = line_of name words; places = []; answers = answer ∷ [] }
+one_line name words answer = record {
+  lines = line_of name words;
+  places = [];
+  answers = answer ∷ [];
+  opened = [];
+}
 
 -- there is a certificate, and the line says so
 pub record HasYes (Certifies : List ℕ → Type 0) (name : List ℕ) (told : Told) : Type 0 where
@@ -92,6 +98,7 @@ pub record HasAllFaults (height width : ℕ) (names_parts : Bool) (originals : L
   pub all : AreAllFaults entry height width nos
   pub tells : TellsFaults (listed_kind entry nos) names_parts originals stands name nos told.lines told.places
   pub answers : told.answers ≡ kind_answers (listed_kind entry nos) nos
+  pub opened : AreOpenings (listed_kind entry nos) entry height width told.opened
 
 -- the statement about an entry under its name: all its faults, or a certifier's answer
 abbrev pub SaysBy : Bool → Bool → List FileText → (Content → ℕ → ℕ → List ℕ → Type 0)

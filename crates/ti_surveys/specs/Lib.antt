@@ -10,4 +10,5 @@ pub mod Surveys
 pub mod Told
 pub mod Together
 pub mod Lines
+pub mod Openings
 pub mod Faultless

@@ -4,14 +4,16 @@ use Rattle.ti_verdicts.specs.declared.answers.Answer.{Answer}
 use Rattle.ti_verdicts.specs.Locations.{PlacedText, placed_in}
 use Rattle.ti_surveys.specs.declared.said.Said.{Said}
 
--- lines, the faults that they name where these have a place in a source, and the answer of each line
+-- lines, the faults that they name where these have a place in a source, the answer of each line, and whether a session
+-- opens on each entry that is asked about
 pub record Told : Type 0 where
   pub lines : List ℕ
   pub places : List PlacedText
   pub answers : List Answer
+  pub opened : List Bool
 
 abbrev pub nothing : Told
-nothing = record { lines = []; places = []; answers = [] }
+nothing = record { lines = []; places = []; answers = []; opened = [] }
 
 -- one statement, and then the other
 abbrev pub followed_by : Told → Told → Told
@@ -19,6 +21,7 @@ followed_by first later = record {
   lines = first.lines ++ later.lines;
   places = first.places ++ later.places;
   answers = first.answers ++ later.answers;
+  opened = first.opened ++ later.opened;
 }
 
 -- the statements about each item, one after another
@@ -46,10 +49,11 @@ IsToldOrLeft {X} P Leaves (x ∷ xs) told left =
     (is_left : Bool) × (own : Told) × (later : Told) × (others : List X) × (told ≡ followed_by own later)
     × (left ≡ left_if is_left x ++ others) × IsEither P Leaves is_left x own × IsToldOrLeft P Leaves xs later others
 
--- (Serves the code alone.) the lines, the places and the answers, without their memory
+-- (Serves the code alone.) all of it, without its memory
 abbrev pub told_of : Said → Told
 told_of said = record {
   lines = said.lines.items;
   places = map placed_in said.places.items;
   answers = said.answers.items;
+  opened = said.opened.items;
 }

@@ -1,9 +1,10 @@
-//! The notes of a survey: faults at their places, and how many have which grade.
+//! The notes of a survey: faults at their places, how many have which grade, and how many entries open.
 
 ghost use Rattle.std.specs.Prelude.{IfOk, map};
 ghost use Rattle.ti_surveys.specs.Surveys.{HasNotes};
 ghost use Rattle.ti_verdicts.specs.Locations.{placed_in};
 
+use crate::openings::{Opened, openings_line};
 use crate::places::places_lines;
 use std::alloc::{AllocError, Global};
 use ti_grades::Grade;
@@ -17,14 +18,27 @@ const GRADES: [Grade; 4] = [
     Grade::Unknown,
 ];
 
-/// The lines of `places`, each once, and behind these how many of the `grades` there are.
-pub(crate) fn notes_text(alloc: Global, places: &[PlacedFault], grades: &[Grade]) -> Lines
+/// The lines of `places`, each once; behind these how many of the `grades` there are, and how many entries `opened`.
+pub(crate) fn notes_text(
+    alloc: Global,
+    places: &[PlacedFault],
+    grades: &[Grade],
+    opened: Opened<'_>,
+) -> Lines
     ensures { IfOk result (λ notes. HasNotes (map placed_in places.now) notes.items) }
 {
     let mut notes = places_lines(alloc, places)?;
-    let counts = counts_line(alloc, grades)?;
+    let counts = counts_lines(alloc, grades, opened)?;
     notes.extend_from_slice(counts.as_slice())?;
     Ok(notes)
+}
+
+/// The lines of counts: of the `grades`, and of the entries that `opened`.
+fn counts_lines(alloc: Global, grades: &[Grade], opened: Opened<'_>) -> Lines {
+    let mut lines = counts_line(alloc, grades)?;
+    let openings = openings_line(alloc, opened)?;
+    lines.extend_from_slice(openings.as_slice())?;
+    Ok(lines)
 }
 
 /// The line with the number of these `grades`, kind by kind; none without any.

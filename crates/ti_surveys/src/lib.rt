@@ -7,6 +7,7 @@ mod grades;
 mod kinds;
 mod laws;
 mod lines;
+mod openings;
 mod parts;
 mod places;
 mod said;

@@ -10,6 +10,7 @@ ghost use Rattle.ti_sources.specs.LinedFiles.{file_text};
 
 use crate::asked::Asked;
 use crate::kinds::{EntryKind, answers_of, kind_of};
+use crate::openings::openings_of;
 use crate::said::Said;
 use crate::speakers::{FileEntry, Lacking, Speaker};
 use std::alloc::{AllocError, Global};
@@ -111,6 +112,7 @@ fn all_faults<C: Certifier>(
     let nos = faults(alloc, found.entry, asked.size)?;
     let kind = kind_of(true, found.entry, nos.as_slice());
     let answers = answers_of(alloc, kind, nos.as_slice())?;
+    let opened = openings_of(alloc, kind, found.entry, asked.size, nos.as_slice())?;
     let (lines, placed) = told(alloc, asked, kind, found, nos.as_slice())?;
     let GradedFaults { places, grades } = placed;
     Ok(Said {
@@ -118,6 +120,7 @@ fn all_faults<C: Certifier>(
         places,
         answers,
         grades,
+        opened,
     })
 }
 

@@ -18,6 +18,8 @@ pub struct Said {
     pub answers: Vec<Answer>,
     /// The grade of each fault in the lines.
     pub grades: Vec<Grade>,
+    /// Whether a session opens on each entry that is asked about.
+    pub opened: Vec<bool>,
 }
 
 impl Said {
@@ -30,19 +32,21 @@ impl Said {
             places: Vec::new(alloc),
             answers: Vec::new(alloc),
             grades: Vec::new(alloc),
+            opened: Vec::new(alloc),
         }
     }
 
-    /// One `line` with this `answer`, in which no fault has a place or a grade.
+    /// One `line` with this `answer`, in which no fault has a place or a grade; about no session.
     pub fn of_line(alloc: Global, line: Vec<u8>, answer: Answer) -> Result<Said, AllocError>
         ensures { IfOk result (λ said. spec.told_of said
-            ≡ record { lines = line.items; places = []; answers = answer ∷ [] }) }
+            ≡ record { lines = line.items; places = []; answers = answer ∷ []; opened = [] }) }
     {
         Ok(Said {
             lines: line,
             places: Vec::new(alloc),
             answers: vec![in alloc; answer]?,
             grades: Vec::new(alloc),
+            opened: Vec::new(alloc),
         })
     }
 
@@ -57,10 +61,12 @@ impl Said {
             mut places,
             answers,
             mut grades,
+            mut opened,
         } = later;
         self.lines.extend_from_slice(lines.as_slice())?;
         self.places.append(&mut places)?;
         self.grades.append(&mut grades)?;
+        self.opened.append(&mut opened)?;
         self.answers.extend_from_slice(answers.as_slice())
     }
 }

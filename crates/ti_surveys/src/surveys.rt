@@ -11,6 +11,7 @@ ghost use Rattle.ti_surveys.specs.Told.{IsEither, IsToldOrLeft, followed_by, lef
 use crate::asked::Asked;
 use crate::files::{Surveying, file_lines};
 use crate::grades::notes_text;
+use crate::openings::Opened;
 use crate::said::Said;
 use crate::speakers::Speaker;
 use crate::strict::strict_failure;
@@ -49,10 +50,10 @@ pub struct Survey<'a, C> {
 /// ask for that; and an entry for a terminal of another kind has one line. An entry that can't be read has its line
 /// too. The reply's text is the last line, which counts the answers. For each listed fault of a source's entry, the
 /// reply's notes give the place of its value, the field there, its grade, and the names of all entries that have it;
-/// and then how many faults have which grade. If files
-/// can't be read, the reply has the failure of the first such file, the `remarks` name the further ones, and the
-/// others are surveyed all the same; else it is refused if the words ask for that and a line doesn't say yes. The
-/// `watcher` also receives reports of how far the survey has come.
+/// then how many faults have which grade, and on how many entries a session opens. If files can't be read, the reply
+/// has the failure of the first such file, the `remarks` name the further ones, and the others are surveyed all the
+/// same; else it is refused if the words ask for that and a line doesn't say yes. The `watcher` also receives reports
+/// of how far the survey has come.
 ///
 /// # Errors
 /// The reason why the words give no size, or a file of `--with` that can't be read, before any line is known; a file of
@@ -89,8 +90,13 @@ pub fn survey_files<C: Certifier, F: Files, W: Watcher>(
         places,
         answers,
         grades,
+        opened,
     } = surveyed.said;
-    let notes = notes_text(alloc, places.as_slice(), grades.as_slice())?;
+    let opened = Opened {
+        is_counted: words.lists_all,
+        entries: opened.as_slice(),
+    };
+    let notes = notes_text(alloc, places.as_slice(), grades.as_slice(), opened)?;
     let text = answers_line(alloc, answers.as_slice())?;
     let failure = strict_failure(alloc, words.is_strict, answers.as_slice(), surveyed.failure)?;
     Ok(Reply {
