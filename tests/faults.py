@@ -192,11 +192,14 @@ def graded(fault, faults):
 
 def places(source, wanted):
     """The output of `survey --all` on standard error: each fault once at its place, the field there, its grade, and the
-    names of the entries that have it, if it is more than one; and how many faults have which grade."""
-    found, grades = {}, []
+    names of the entries that have it, if it is more than one; how many faults have which grade, and on how many entries
+    a session opens."""
+    found, grades, opened = {}, [], 0
     for name, faults in wanted.items():
         if set(surveyed(name, faults)[1]) & {"OtherKind", "part"}:
             continue
+        # a session can do without every string but three, and not with the flags and numbers that are no string
+        opened += all(named(field) not in WHOLE or named(field) == "acsc" for (field, _, _), _ in faults)
         for fault, owner in faults:
             grade = graded(fault, faults)
             grades.append(grade)
@@ -209,7 +212,7 @@ def places(source, wanted):
         lines += [*excerpt(fault[0]), f"    grade: {grade}"]
         if len(names) > 1:
             lines.append(f"    in {', '.join(names)}")
-    return [*lines, f"grades: {', '.join(f'{it} {grades.count(it)}' for it in GRADES if it in grades)}"]
+    return [*lines, f"grades: {', '.join(f'{it} {grades.count(it)}' for it in GRADES if it in grades)}", f"opens {opened}"]
 
 
 def is_explained(lines):
@@ -570,6 +573,7 @@ twins.ti:5:2: ed of tw\355n: tw\355n no ed: WrongEffect
        ^~~~
     grade: wrong
 grades: wrong 2
+opens 2
 """
 TWIN_LINES = rb"""tw\355n no el: WrongEffect
 tw\355n no ed: WrongEffect
@@ -603,6 +607,7 @@ KIND_PLACE = rb"""kinds.ti:10:2: el of wrong: wrong no el: WrongEffect
        ^~~~~
     grade: wrong
 grades: wrong 1
+opens 2
 """
 KIND_LINES = [
     (["--all"], "good yes\nother no: OtherKind\nwrong no el: WrongEffect\n"),

@@ -17,10 +17,10 @@ from trying import PROGRAM, TOP, Case, run_cases
 # the members of an object, and what each may be
 TEXT, NUMBER, TRUTH = (str, type(None)), (int, type(None)), (bool, type(None))
 MEMBERS = {
-    "aliases": (list,), "aliases_hex": (list,), "another_kind": TRUTH, "bytes": TEXT, "capability": TEXT, "cause": TEXT,
-    "column": NUMBER, "end_column": NUMBER, "end_line": NUMBER, "entry": TEXT, "entry_hex": TEXT, "explanation": (list,), "fault_column": NUMBER, "fault_end_column": NUMBER, "fault_end_line": NUMBER, "fault_line": NUMBER, "file": (str,), "grade": TEXT, "judged": TRUTH, "line": NUMBER, "parameters": (list,), "part": TRUTH, "rule": TEXT, "seen": TEXT, "size": (dict,),
+    "aliases": (list,), "aliases_hex": (list,), "another_kind": TRUTH, "bytes": TEXT, "capability": TEXT, "cause": TEXT, "cell_limit": NUMBER,
+    "column": NUMBER, "end_column": NUMBER, "end_line": NUMBER, "entry": TEXT, "entry_hex": TEXT, "explanation": (list,), "fault_column": NUMBER, "fault_end_column": NUMBER, "fault_end_line": NUMBER, "fault_line": NUMBER, "file": (str,), "grade": TEXT, "judged": TRUTH, "left_out": (list,), "line": NUMBER, "parameters": (list,), "part": TRUTH, "rule": TEXT, "seen": TEXT, "size": (dict,),
     "source_entry": TEXT, "source_entry_hex": TEXT, "source_file": TEXT, "start": TEXT, "string": TEXT, "string_hex": TEXT, "suggested_with": (list,), "suggestion": TEXT, "suggestion_hex": TEXT, "verdict": (str,),
-    "version": (int,), "wanted": TEXT,
+    "version": (int,), "wanted": TEXT, "way_out": NUMBER,
 }  # fmt: skip
 OF_FAULTS = [
     "another_kind", "bytes", "capability", "column", "end_column", "end_line", "fault_column", "fault_end_column", "fault_end_line", "fault_line", "grade", "judged", "line", "seen", "source_entry", "source_entry_hex", "source_file", "start", "string", "string_hex",
@@ -48,6 +48,8 @@ ALIASES = [['a "right" one'], ["written in UTF-8"], [], ["a", "written in Latin-
 ABSENT = {"verdict": "no", "capability": "cup", "cause": "Absent", "rule": "Absent", "judged": True, "another_kind": False}
 ABSENT["grade"] = "wrong"
 ABSENT["explanation"] = ["cup is missing"]
+# what a yes alone has
+BOUND = {"cell_limit": 10, "way_out": 10}
 # and advice
 ADVICE = {"verdict": "advice", "rule": "Advice", "capability": "sgr", "explanation": ["bold is never shown"]}
 # and a hint
@@ -87,6 +89,12 @@ REFUSED_BY_SCHEMA = [
     {"column": 5, "end_line": 5, "end_column": 9},
     {"fault_line": 5, "fault_column": 7, "fault_end_line": 5, "fault_end_column": 8},
     {"other": None},
+    {"cell_limit": None},
+    {"way_out": None},
+    {"left_out": ["op"]},
+    {**ABSENT, "another_kind": None, "left_out": ["op"]},
+    {**ABSENT, "left_out": ["op", "op"]},
+    {**ABSENT, "left_out": ["a b"]},
     {"verdict": "no"},
     {**ABSENT, "cause": "Unheard", "rule": "Unheard"},
     {**ABSENT, "cause": "WrongEffect", "rule": "WrongEffect"},
@@ -154,12 +162,20 @@ SCHEMA = schema()
 def judge_schema():
     """The schema accepts a yes, and refuses objects that no report may be."""
     yes = {**{key: [] if list in kinds else None for key, kinds in MEMBERS.items()}, "entry": "a", "entry_hex": "61", "file": "a.ti"}
-    yes |= {"size": {"cols": COLS, "rows": ROWS}, "part": False, "verdict": "yes", "version": 1}
-    for right in (yes, {**yes, **ABSENT}, {**yes, **ADVICE}, {**yes, **HINT}, {**yes, **HINT, **NO_COLUMNS}, {**yes, **UNREAD}, {**yes, **BESIDE}, {**yes, **LOST}, {**yes, **LOST, **NO_PLACE}):
-        if not SCHEMA.is_valid(right):
-            fail(f"the schema refuses {right}")
+    no = {**yes, "size": {"cols": COLS, "rows": ROWS}, "part": False, "version": 1}
+    yes = {**no, **BOUND, "verdict": "yes"}
+    left_out = {"left_out": ["op", "smacs"]}
+    for right in (ABSENT, {**ABSENT, **left_out}, ADVICE, HINT, {**HINT, **NO_COLUMNS}, UNREAD, BESIDE, LOST, {**LOST, **NO_PLACE}):
+        if not SCHEMA.is_valid({**no, **right}):
+            fail(f"the schema refuses {no} with {right}")
+        if SCHEMA.is_valid({**no, **right, "cell_limit": 10}) or SCHEMA.is_valid({**no, **right, "way_out": 10}):
+            fail(f"the schema accepts a bound in {right}")
+        if right["verdict"] != "no" and SCHEMA.is_valid({**no, **right, **left_out}):
+            fail(f"the schema accepts strings that are left out in {right}")
+    if not SCHEMA.is_valid(yes):
+        fail(f"the schema refuses {yes}")
     for other in REFUSED_BY_SCHEMA:
-        if SCHEMA.is_valid({**yes, **other}):
+        if SCHEMA.is_valid({**(no if "verdict" in other else yes), **other}):
             fail(f"the schema accepts {yes} with {other}")
 
 
@@ -181,6 +197,8 @@ def objects(told, size=(ROWS, COLS)):
         said_of = {"advice": ("capability",), "refused": placed, "hint": ("capability", *placed, *NO_COLUMNS)}.get(one["verdict"], ())
         if one["verdict"] != "no" and any(one[key] is not None for key in OF_FAULTS if key not in said_of):
             fail(f"a fault of an entry without one: {line}")
+        if any((one[key] is not None) != (one["verdict"] == "yes") for key in BOUND) or one["left_out"] != sorted(one["left_out"]):
+            fail(f"not the bound of a yes, or strings that are left out in no order: {line}")
         judge_forms(one)
         found.append(one)
     return found
@@ -414,7 +432,8 @@ def judge_entries(path, held, names, planted=None):
 
 def judge_places(path, ones, places):
     """The objects of `survey --all --json` have the places that the plain form prints on standard error, each fault of a
-    field once, with its grade and the names of the entries that have it; and then the number of each grade."""
+    field once, with its grade and the names of the entries that have it; then the number of each grade, and that of the
+    entries on which a session opens."""
     listed = [it for it in ones if it["verdict"] == "no" and not it["part"] and not it["another_kind"]]
     placed = [it for it in listed if it["line"] is not None]
     users = {}
@@ -429,6 +448,9 @@ def judge_places(path, ones, places):
     grades = [it["grade"] for it in listed]
     counted = [f"{grade} {grades.count(grade)}" for grade in ("broken", "contradicts", "wrong", "unknown") if grade in grades]
     wanted += [f"grades: {', '.join(counted)}"] if counted else []
+    own = [list(it) for _, it in itertools.groupby(ones, lambda it: (it["entry_hex"], it["verdict"] == "refused", it["part"]))]
+    usual = [it for it in own if not it[0]["part"] and not it[0]["another_kind"]]
+    wanted.append(f"opens {sum(it[0]['verdict'] == 'yes' or it[0]['left_out'] != [] for it in usual)}")
     told = [line for line in places if not line.startswith("    ") or line.startswith(("    in ", "    grade: "))]
     if told != wanted:
         fail(f"the objects of {path} are about {wanted}, and survey --all printed {told}")
@@ -660,6 +682,49 @@ def judge_refused():
         fail(f"a file that can't be read: {unread}")
 
 
+# strings as rxvt-unicode has them: T hasn't their colors, and the cursor is elsewhere after `rmcup`; an entry in which
+# `op` could go, and `cup` can't; a right one
+OPENINGS = rb"""urxvt|as rxvt-unicode,
+	clear=\E[H\E[2J, cup=\E[%i%p1%d;%p2%dH, sgr0=\E[m\E(B, op=\E[39;49m, smcup=\E[?1049h,
+	rmcup=\E[r\E[?1049l, setaf=\E[38;5;%p1%dm, setab=\E[48;5;%p1%dm,
+lost|without a cursor,
+	clear=\E[H\E[2J, cup=\E[%p1%d;%p2%dH, sgr0=\E[m, op=\E[m, setaf=\E[3%p1%dm, setab=\E[4%p1%dm,
+mini|a right one,
+	clear=\E[H\E[2J, cup=\E[%i%p1%d;%p2%dH, sgr0=\E[m,
+"""
+# these names in the order of the alphabet, with smcup since rmcup is at fault
+URXVT = ["rmcup", "setab", "setaf", "smcup"]
+LEAVES_OUT = "a session leaves out rmcup setab setaf smcup"
+# 1, 8 bytes of the longest cup and 3 of sgr0; sgr0 and clear lead out of an unknown state
+MINI_BOUND = {"cell_limit": 12, "way_out": 10}
+
+
+def judge_openings():
+    """`check` and `survey --all` say what a session leaves out, and a yes has the bound of a session."""
+    forms = [[], ["--all"], ["--json"], ["--json", "--all"]]
+    size = ["24", "80"]
+    cases = [Case(["check", *form, f"openings:{name}", *size]) for name in ("urxvt", "lost", "mini") for form in forms]
+    cases += [Case(["survey", *form, *size, "openings"]) for form in (["--all"], ["--json", "--all"])]
+    *checks, plain, reported = run_cases(PROGRAM, cases, {"openings": OPENINGS})
+    lines = [sum(line.startswith("a session leaves out") for line in it.err.decode().splitlines()) for it in checks]
+    if lines != [1, 1, 1, 0] + 8 * [0] or checks[0].err.decode().splitlines()[-1] != LEAVES_OUT:
+        fail(f"{lines} lines say what a session leaves out: {checks[0].err}")
+    if any(LEAVES_OUT not in it.err.decode().splitlines() for it in checks[:3]):
+        fail(f"a session leaves out {checks[1].err}, with --json {checks[2].err}")
+    ones = [objects(it, (24, 80)) for it in (*checks[2::4], *checks[3::4], reported)]
+    for at, found in enumerate(ones):
+        for one in found:
+            wanted = URXVT if one["entry"] == "urxvt" and one["verdict"] == "no" and at > 2 else []
+            bound = MINI_BOUND if one["verdict"] == "yes" else dict.fromkeys(MINI_BOUND)
+            if one["left_out"] != wanted or {key: one[key] for key in bound} != bound:
+                fail(f"a session was to leave out {wanted}, with the bound {bound}: {one}")
+    if [len([it for it in found if it["left_out"]]) for found in ones] != [0, 0, 0, 3, 0, 0, 3]:
+        fail(f"not as many objects have what is left out: {ones}")
+    if plain.err.decode().splitlines()[-1] != "opens 2":
+        fail(f"survey --all ended with {plain.err}")
+    print("reports: what a session leaves out, and the bound of a yes, are what was worked out by hand")
+
+
 def main():
     if SCHEMA:
         judge_schema()
@@ -678,6 +743,7 @@ def main():
     surveyed = {"planted": source.text(), "samples": samples, "five.ti": FIVE, "together": together, "names": NAMES}
     lines = sum(judge_survey(path, held) for path, held in surveyed.items())
     judge_looks()
+    judge_openings()
     judge_names()
     judge_twins()
     judge_uses()

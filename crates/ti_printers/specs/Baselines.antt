@@ -51,7 +51,7 @@ is_worded known report = is_first_line known.explanation.items report.finding.ex
 
 -- It states the same: a fault with its cause, a refusal with its reason, advice and hints in the same words.
 abbrev pub states_by : KnownVerdict → Verdict → Known → Report → Bool
-states_by known_verdicts.Yes verdicts.Yes known report = true
+states_by known_verdicts.Yes (verdicts.Yes bound) known report = true
 states_by known_verdicts.No verdicts.No known report = is_same known.cause report.cause && has_subject known report
 states_by known_verdicts.Refused verdicts.Refused known report = is_same known.cause report.cause
 states_by known_verdicts.Advice verdicts.Advice known report = has_subject known report && is_worded known report

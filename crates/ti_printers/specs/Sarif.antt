@@ -10,7 +10,7 @@ IsResult text = (json : List ℕ) × (text ≡ codes ",\n" ++ printable_json jso
 
 -- a report that all is well has no result, and each other one has one
 abbrev pub IsResultIf : Verdict → List ℕ → Type 0
-IsResultIf Yes text = text ≡ []
+IsResultIf (Yes bound) text = text ≡ []
 IsResultIf No text = IsResult text
 IsResultIf Refused text = IsResult text
 IsResultIf Advice text = IsResult text

@@ -164,7 +164,7 @@ fn states(known: &Known, report: &Report) -> bool
     ensures { result ≡ spec.states known.now report.now }
 {
     match (known.verdict, report.verdict) {
-        (KnownVerdict::Yes, Verdict::Yes) => true,
+        (KnownVerdict::Yes, Verdict::Yes(_)) => true,
         (KnownVerdict::No, Verdict::No) => {
             is_same(&known.cause, &report.cause) && has_subject(known, report)
         }
@@ -175,13 +175,19 @@ fn states(known: &Known, report: &Report) -> bool
         (KnownVerdict::Hint, Verdict::Hint(_)) => is_worded(known, report),
         (KnownVerdict::Yes, Verdict::No | Verdict::Refused | Verdict::Advice | Verdict::Hint(_)) =>
             false,
-        (KnownVerdict::No, Verdict::Yes | Verdict::Refused | Verdict::Advice | Verdict::Hint(_)) =>
-            false,
-        (KnownVerdict::Refused, Verdict::Yes | Verdict::No | Verdict::Advice | Verdict::Hint(_)) =>
-            false,
-        (KnownVerdict::Advice, Verdict::Yes | Verdict::No | Verdict::Refused | Verdict::Hint(_)) =>
-            false,
-        (KnownVerdict::Hint, Verdict::Yes | Verdict::No | Verdict::Refused | Verdict::Advice) =>
+        (
+            KnownVerdict::No,
+            Verdict::Yes(_) | Verdict::Refused | Verdict::Advice | Verdict::Hint(_),
+        ) => false,
+        (
+            KnownVerdict::Refused,
+            Verdict::Yes(_) | Verdict::No | Verdict::Advice | Verdict::Hint(_),
+        ) => false,
+        (
+            KnownVerdict::Advice,
+            Verdict::Yes(_) | Verdict::No | Verdict::Refused | Verdict::Hint(_),
+        ) => false,
+        (KnownVerdict::Hint, Verdict::Yes(_) | Verdict::No | Verdict::Refused | Verdict::Advice) =>
             false,
     }
 }

@@ -7,6 +7,7 @@ use crate::escapes::printable_json;
 use serde::Serialize;
 use std::alloc::{AllocError, Global};
 use ti_hints::HintKind;
+use ti_openings::Bound;
 use ti_reports::{Explanation, Form, Report, Verdict, Written};
 use ti_sources::Region;
 
@@ -60,6 +61,7 @@ struct Object<'a> {
     bytes: Option<&'a str>,
     capability: Option<&'a str>,
     cause: Option<&'a str>,
+    cell_limit: Option<usize>,
     column: Option<usize>,
     end_column: Option<usize>,
     end_line: Option<usize>,
@@ -73,6 +75,7 @@ struct Object<'a> {
     file: &'a str,
     grade: Option<&'static str>,
     judged: Option<bool>,
+    left_out: &'a [String],
     line: Option<usize>,
     parameters: &'a [u16],
     part: Option<bool>,
@@ -91,6 +94,7 @@ struct Object<'a> {
     verdict: &'a str,
     version: u32,
     wanted: Option<&'a str>,
+    way_out: Option<usize>,
 }
 
 /// The terminal's size.
@@ -109,6 +113,7 @@ fn object_of<'a>(alloc: Global, report: &'a Report) -> Result<Object<'a>, AllocE
         seen,
     } = &finding.run;
     let place = &finding.place;
+    let bound = bound_in(report);
     Ok(Object {
         aliases: texts_in(alloc, report.aliases.as_slice())?,
         aliases_hex: digits_in(alloc, report.aliases.as_slice())?,
@@ -116,6 +121,7 @@ fn object_of<'a>(alloc: Global, report: &'a Report) -> Result<Object<'a>, AllocE
         bytes: text_if(&finding.bytes),
         capability: text_if(&finding.capability),
         cause: text_if(&report.cause),
+        cell_limit: bound.map(|bound| bound.cell_limit),
         column: column(place.region),
         end_column: end_column(place.region),
         end_line: end_line(place.region),
@@ -129,6 +135,7 @@ fn object_of<'a>(alloc: Global, report: &'a Report) -> Result<Object<'a>, AllocE
         file: report.file.as_str(),
         grade: finding.grade.map(|grade| grade.name()),
         judged: finding.judged,
+        left_out: finding.left_out.as_slice(),
         line: place.line,
         parameters: finding.parameters.as_slice(),
         part: report.is_part,
@@ -150,13 +157,22 @@ fn object_of<'a>(alloc: Global, report: &'a Report) -> Result<Object<'a>, AllocE
         verdict: verdict_word(report.verdict),
         version: VERSION,
         wanted: text_if(wanted),
+        way_out: bound.map(|bound| bound.way_out),
     })
+}
+
+/// The bound of a session, if the entry of `report` has a certificate.
+fn bound_in(report: &Report) -> Option<Bound> {
+    match report.verdict {
+        Verdict::Yes(bound) => Some(bound),
+        Verdict::No | Verdict::Refused | Verdict::Advice | Verdict::Hint(_) => None,
+    }
 }
 
 /// The word for `verdict`.
 fn verdict_word(verdict: Verdict) -> &'static str {
     match verdict {
-        Verdict::Yes => "yes",
+        Verdict::Yes(_) => "yes",
         Verdict::No => "no",
         Verdict::Refused => "refused",
         Verdict::Advice => "advice",
@@ -168,7 +184,7 @@ fn verdict_word(verdict: Verdict) -> &'static str {
 /// read, one for advice, and the kind of a hint.
 pub(crate) fn rule_of(report: &Report) -> Option<&str> {
     match report.verdict {
-        Verdict::Yes => None,
+        Verdict::Yes(_) => None,
         Verdict::No => text_if(&report.cause),
         Verdict::Refused => Some("Refused"),
         Verdict::Advice => Some("Advice"),

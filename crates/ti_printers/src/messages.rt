@@ -36,7 +36,7 @@ fn statement_text(alloc: Global, report: &Report) -> Result<String, AllocError> 
     let cause = text_or_empty(&report.cause);
     let rule = rule_of(report).unwrap_or("");
     match report.verdict {
-        Verdict::Yes => Ok(subject),
+        Verdict::Yes(_) => Ok(subject),
         Verdict::No => format!(in alloc; "no {subject}: {cause}"),
         Verdict::Refused => format!(in alloc; "refused: {cause}"),
         Verdict::Advice => format!(in alloc; "advice {subject}"),

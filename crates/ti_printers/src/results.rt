@@ -55,7 +55,7 @@ fn level_of(report: &Report) -> Level {
         Verdict::No if report.finding.another_kind == Some(true) => Level::Note,
         Verdict::No => level_by(report.finding.grade),
         Verdict::Refused => Level::Error,
-        Verdict::Advice | Verdict::Hint(_) | Verdict::Yes => Level::Note,
+        Verdict::Advice | Verdict::Hint(_) | Verdict::Yes(_) => Level::Note,
     }
 }
 

@@ -59,7 +59,7 @@ impl Form for Sarif {
 
     fn print(&self, alloc: Global, report: &Report) -> Result<Vec<u8>, AllocError> {
         match report.verdict {
-            Verdict::Yes => Ok(Vec::new(alloc)),
+            Verdict::Yes(_) => Ok(Vec::new(alloc)),
             Verdict::No | Verdict::Refused => result_text(alloc, report),
             Verdict::Advice | Verdict::Hint(_) => result_text(alloc, report),
         }

@@ -7,6 +7,8 @@ use Rattle.ti_checker.specs.declared.causes.No.{No}
 use Rattle.ti_faults.specs.declared.mended.Mended.{Mended}
 use Rattle.ti_hints.specs.Places.{IsHintOf}
 use Rattle.ti_hints.specs.declared.hints.FieldHint.{FieldHint}
+use Rattle.ti_openings.specs.Openings.{IsBound}
+use Rattle.ti_openings.specs.declared.bounds.Bound.{Bound}
 use Rattle.ti_reports.specs.Faults.{Finds, HasWords, IsCapIf, IsReportOn, ReportsAdvice, ReportsFault, ReportsHint, ReportsYes, of_subject}
 use Rattle.ti_reports.specs.Hints.{HintText, IsHintPlace}
 use Rattle.ti_reports.specs.Reports.{IsNothing, SaysWords}
@@ -17,6 +19,7 @@ use Rattle.ti_reports.specs.declared.reports.Report.{Report}
 use Rattle.ti_reports.specs.declared.reports.Verdict.TheVariants as verdicts
 use Rattle.ti_source.specs.Layout.{lines_of}
 use Rattle.ti_verdicts.specs.Refusals.{cause_name}
+use denote.Ref.{Bor}
 
 -- what holds of each report, where something follows of it
 pub all_weaker : (P Q : Report → Type 0) (reports : List Report) → ((report : Report) → P report → Q report) → AllByRecursion P reports → AllByRecursion Q reports
@@ -49,23 +52,25 @@ advice_reported subject finding report nowhere says on = record {
 }
 
 -- and that of a certificate
-pub yes_reported : (subject : Subject) (finding : Finding) (report : Report) → IsNothing finding → IsReportOn subject verdicts.Yes None finding report
+pub yes_reported : (subject : Subject) (bound : Bound) (finding : Finding) (report : Report) → IsBound subject.entry.now subject.size.rows subject.size.cols bound → IsNothing finding → IsReportOn subject (verdicts.Yes bound) None finding report
     → ReportsYes subject.entry.now subject.size.rows subject.size.cols subject.file.now report
-yes_reported subject finding report nothing on = record {
+yes_reported subject bound finding report is_bound nothing on = record {
   about = on.about;
+  bound = bound;
+  is_bound = is_bound;
   verdict = on.verdict_is;
   cause = on.cause_is;
   faultless = subst IsNothing (sym on.finding_is) nothing;
 }
 
 -- and that of a fault
-pub fault_reported : (subject : Subject) (nos : List No) (mended : Option Mended) (refusal : No) (cause : String Global) (finding : Finding) (report : Report) → HasWords (cause_name refusal.cause) (Some cause)
-    → Finds (of_subject subject nos mended) refusal finding → IsReportOn subject verdicts.No (Some cause) finding report → ReportsFault (of_subject subject nos mended) subject.file.now refusal report
-fault_reported subject nos mended refusal cause finding report named finds on = record {
+pub fault_reported : (subject : Subject) (nos : List No) (mended : Option Mended) (left_out : List (Bor (List ℕ))) (refusal : No) (cause : String Global) (finding : Finding) (report : Report) → HasWords (cause_name refusal.cause) (Some cause)
+    → Finds (of_subject subject nos mended left_out) refusal finding → IsReportOn subject verdicts.No (Some cause) finding report → ReportsFault (of_subject subject nos mended left_out) subject.file.now refusal report
+fault_reported subject nos mended left_out refusal cause finding report named finds on = record {
   about = on.about;
   verdict = on.verdict_is;
   cause = subst (HasWords (cause_name refusal.cause)) (sym on.cause_is) named;
-  finds = subst (Finds (of_subject subject nos mended) refusal) (sym on.finding_is) finds;
+  finds = subst (Finds (of_subject subject nos mended left_out) refusal) (sym on.finding_is) finds;
 }
 
 -- what follows of a report, if there is one

@@ -12,8 +12,11 @@ use Rattle.ti_grades.specs.declared.grades.Grade.{Grade}
 use Rattle.ti_hints.specs.Places.{IsHintOf}
 use Rattle.ti_hints.specs.declared.hints.FieldHint.{FieldHint}
 use Rattle.ti_reports.specs.Explanations.{HasDigits, ShowsRun}
+use Rattle.ti_openings.specs.Openings.{IsBound, texts_of}
+use Rattle.ti_openings.specs.declared.bounds.Bound.{Bound}
 use Rattle.ti_reports.specs.Names.{AreAliases, HasName}
 use Rattle.ti_reports.specs.Hints.{HintText, IsHintPlace, hint_text}
+use Rattle.ti_reports.specs.Openings.{AreLeftOut, IsNameText}
 use Rattle.ti_reports.specs.Reports.{IsNothing, SaysWords}
 use Rattle.ti_reports.specs.Sources.{IsFaultyAt, IsNowhere, IsValuePlace}
 use Rattle.ti_reports.specs.Spellings.{IsSpelling}
@@ -34,6 +37,7 @@ use Rattle.ti_verdicts.specs.Locations.{PlaceInSource, first_name, place_if}
 use Rattle.ti_verdicts.specs.Refusals.{cause_name}
 use Rattle.ti_verdicts.specs.declared.fault_runs.FaultRun.{FaultRun}
 use Rattle.ti_sources.specs.LinedFiles.{FileText, file_text}
+use denote.Ref.{Bor}
 
 -- the text of these bytes is there
 abbrev pub HasWords : List ℕ → Option (String Global) → Type 0
@@ -49,16 +53,18 @@ pub record Concerns (entry : Content) (height width : ℕ) (file : List ℕ) (re
   pub cols : report.cols ≡ width
   pub path : string_bytes report.file ≡ file
 
--- the entry has a certificate
+-- the entry has a certificate, and a session on it this bound
 pub record ReportsYes (entry : Content) (height width : ℕ) (file : List ℕ) (report : Report) : Type 0 where
   pub about : Concerns entry height width file report
-  pub verdict : report.verdict ≡ verdicts.Yes
+  pub bound : Bound
+  pub is_bound : IsBound entry height width bound
+  pub verdict : report.verdict ≡ verdicts.Yes bound
   pub cause : report.cause ≡ None
   pub faultless : IsNothing report.finding
 
 -- The subject of the reports on an entry's faults: the entry, the terminal's size, the texts of those files whose lines
--- were joined, the place of the entry, whether all of its faults are reported, these faults, and the entry in which
--- they are mended, if there is one.
+-- were joined, the place of the entry, whether all of its faults are reported, these faults, the entry in which they
+-- are mended, if there is one, and the names of what a session goes without.
 pub record OfFaults : Type 0 where
   pub entry : Content
   pub height : ℕ
@@ -68,10 +74,11 @@ pub record OfFaults : Type 0 where
   pub all : Bool
   pub nos : List No
   pub mended : Option Mended
+  pub left_out : List (Bor (List ℕ))
 
 abbrev pub of_faults : Content → ℕ → ℕ → List FileText → Option PlaceInSource → Bool → List No → Option Mended
-    → OfFaults
-of_faults entry height width originals stands all nos mended = record {
+    → List (Bor (List ℕ)) → OfFaults
+of_faults entry height width originals stands all nos mended left_out = record {
   entry = entry;
   height = height;
   width = width;
@@ -80,6 +87,7 @@ of_faults entry height width originals stands all nos mended = record {
   all = all;
   nos = nos;
   mended = mended;
+  left_out = left_out;
 }
 
 -- the grade of this fault, which may be the only one of these
@@ -105,6 +113,7 @@ pub record Finds (of : OfFaults) (refusal : No) (finding : Finding) : Type 0 whe
   pub judged : finding.judged ≡ Some (is_judged refusal.cause)
   pub grade : HasGrade of refusal finding.grade
   pub another_kind : finding.another_kind ≡ other_kind of.all of.nos
+  pub left_out : HasParts IsNameText of.left_out finding.left_out.items
 
 -- the entry has this fault
 pub record ReportsFault (of : OfFaults) (file : List ℕ) (refusal : No) (report : Report) : Type 0 where
@@ -120,12 +129,16 @@ IsOne P reports = (report : Report) × P report × (reports ≡ report ∷ [])
 abbrev pub IsFaultReport : OfFaults → List ℕ → No → List Report → Type 0
 IsFaultReport of file refusal reports = IsOne (ReportsFault of file refusal) reports
 
--- a report for each fault, in their order; with all faults of the entry, they are mended for the suggestions
+-- a report for each fault, in their order; with all faults of the entry, they are mended for the suggestions, and the
+-- reports have what a session goes without
 pub record AreFaultReports (entry : Content) (height width : ℕ) (all : Bool) (file : List ℕ) (originals : List FileText)
     (stands : Option PlaceInSource) (nos : List No) (reports : List Report) : Type 0 where
   pub mended : Option Mended
   pub mends : IsMendedFor all entry height width nos mended
-  pub each : HasParts (IsFaultReport (of_faults entry height width originals stands all nos mended) file) nos reports
+  pub left_out : List (Bor (List ℕ))
+  pub leaves : AreLeftOut all entry height width nos (texts_of left_out)
+  pub each : HasParts
+      (IsFaultReport (of_faults entry height width originals stands all nos mended left_out) file) nos reports
 
 -- a report for each fault, or one that there is none
 abbrev pub AreVerdicts : Content → ℕ → ℕ → Bool → List ℕ → List FileText → Option PlaceInSource → List No → List Report
@@ -210,7 +223,7 @@ pub record IsReportOn (subject : Subject) (verdict : Verdict) (cause : Option (S
   pub finding_is : report.finding ≡ finding
 
 -- the subject without its memory
-abbrev pub of_subject : Subject → List No → Option Mended → OfFaults
-of_subject subject nos mended =
+abbrev pub of_subject : Subject → List No → Option Mended → List (Bor (List ℕ)) → OfFaults
+of_subject subject nos mended left_out =
     of_faults subject.entry.now subject.size.rows subject.size.cols (map file_text subject.originals.now)
-    (place_if subject.stands.now) subject.lists_all nos mended
+    (place_if subject.stands.now) subject.lists_all nos mended left_out

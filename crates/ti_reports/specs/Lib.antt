@@ -8,6 +8,7 @@ pub mod Hints
 pub mod Lacks
 pub mod Names
 pub mod Reports
+pub mod Openings
 pub mod Sizes
 pub mod Sources
 pub mod Spellings

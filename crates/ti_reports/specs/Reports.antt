@@ -6,7 +6,7 @@ use Rattle.ti_reports.specs.declared.reports.Verdict.TheVariants.{Yes, No, Refus
 
 -- whether a verdict is that something is wrong
 abbrev pub is_wrong : Verdict → Bool
-is_wrong Yes = false
+is_wrong (Yes bound) = false
 is_wrong No = true
 is_wrong Refused = true
 is_wrong Advice = false
@@ -26,6 +26,7 @@ pub record SaysWords (finding : Finding) : Type 0 where
   pub judged : finding.judged ≡ None
   pub grade : finding.grade ≡ None
   pub another_kind : finding.another_kind ≡ None
+  pub left_out : finding.left_out.items ≡ []
 
 -- nothing is said of a fault, but perhaps where something is
 pub record IsBare (finding : Finding) : Type 0 where

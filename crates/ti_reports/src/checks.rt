@@ -18,6 +18,7 @@ use ti_caps::Entry;
 use ti_checker::No;
 use ti_commands::{Sourced, sourced_entry};
 use ti_files::{Failure, Files, Remarks, Replied, Reply, size_words};
+use ti_openings::note_left_out_names;
 use ti_requests::FaultsWords;
 use ti_sources::LinedFile;
 use ti_verdicts::{LinedSource, SourcePlace, explain_no, no_failure, note_outside, notes_on};
@@ -201,10 +202,11 @@ fn failure_of(alloc: Global, has_news: bool, nos: &[No]) -> Option<Failure>
     }
 }
 
-/// Adds to `remarks` the explanation of the first of `nos`.
+/// Adds to `remarks` the explanation of the first of `nos`, and what a session goes without.
 fn explain_first(alloc: Global, entry: &Entry, size: Size, nos: &[No], remarks: &mut Remarks) {
     if let [first, ..] = nos {
         explain_no(alloc, entry, size, first, remarks);
         note_outside(alloc, entry, size, remarks);
+        note_left_out_names(alloc, entry, size, remarks);
     }
 }

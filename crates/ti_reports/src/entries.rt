@@ -69,6 +69,7 @@ fn entry_said<'x, 'y, P: Form>(
         places: Vec::new(alloc),
         answers: answers_if(alloc, has_news, kind, nos.as_slice())?,
         grades: Vec::new(alloc),
+        opened: Vec::new(alloc),
     })
 }
 

@@ -13,6 +13,7 @@ use crate::advice::advice_reports;
 use crate::explanations::{explained, hex_if};
 use crate::hints::{Hinted, hint_reports};
 use crate::names::{entry_aliases, entry_name};
+use crate::openings::{bound_on, left_out_if, name_texts};
 use crate::places::{faulty_region, value_place};
 use crate::reports::{Finding, Report, Verdict};
 use crate::spellings::own_string;
@@ -57,7 +58,7 @@ pub struct Subject<'a, 'b> {
 
 /// The reports of the faults `nos` of the `subject`, or that it has a certificate if there are none; and then those of
 /// the advice on it and of the hints about its fields. If all faults are reported, what is suggested is right with all
-/// of them mended.
+/// of them mended, and the reports have what a session goes without.
 pub fn found_reports(alloc: Global, subject: &Subject<'_, '_>, nos: &[No]) -> AllReported
     ensures { IfOk result (λ reports. spec.AreFound subject.now.entry.now
         subject.now.size.rows subject.now.size.cols subject.now.lists_all subject.now.hinted subject.now.file.now
@@ -90,26 +91,30 @@ fn reports_of(alloc: Global, subject: &Subject<'_, '_>, nos: &[No]) -> AllReport
         (map file_text subject.now.originals.now) (place_if subject.now.stands.now) nos.now reports.items) }
 {
     let mended = mended_if(alloc, subject.lists_all, subject.entry, subject.size, nos)?;
+    let left_out = left_out_if(alloc, subject.lists_all, subject.entry, subject.size, nos)?;
     let faults = Faults {
         nos,
         mended: &mended,
+        left_out: left_out.as_slice(),
     };
     let reports = fault_reports(alloc, subject, &faults)?;
     Ok(reports)
 }
 
-/// Faults of an entry, and the entry with all of them mended, if they are all that it has.
+/// Faults of an entry; if they are all that it has, the entry with all of them mended, and the names of what a session
+/// goes without.
 #[derive(Drop)]
 struct Faults<'a> {
     nos: &'a [No],
     mended: &'a Option<Mended>,
+    left_out: &'a [&'static [u8]],
 }
 
 /// A report for each of the `faults` of the `subject`, in their order.
 fn fault_reports(alloc: Global, subject: &Subject<'_, '_>, faults: &Faults<'_>) -> AllReported
     ensures { IfOk result (λ reports. HasParts
-        (spec.IsFaultReport (spec.of_subject subject.now faults.now.nos.now faults.now.mended.now)
-        subject.now.file.now) faults.now.nos.now reports.items) }
+        (spec.IsFaultReport (spec.of_subject subject.now faults.now.nos.now faults.now.mended.now
+        faults.now.left_out.now) subject.now.file.now) faults.now.nos.now reports.items) }
 {
     let mut reports = Vec::new(alloc);
     for no in faults.nos {
@@ -135,12 +140,19 @@ pub(crate) fn only(alloc: Global, report: Report) -> AllReported
     Ok(vec![in alloc; report]?)
 }
 
-/// The report that the `subject` has a certificate.
+/// The report that the `subject` has a certificate, with the bound of a session.
 fn yes_report(alloc: Global, subject: &Subject<'_, '_>) -> Reported
     ensures { IfOk result (λ report. spec.ReportsYes subject.now.entry.now
         subject.now.size.rows subject.now.size.cols subject.now.file.now report) }
 {
-    report_on(alloc, subject, Verdict::Yes, None, Finding::none(alloc))
+    let bound = bound_on(alloc, subject.entry, subject.size)?;
+    report_on(
+        alloc,
+        subject,
+        Verdict::Yes(bound),
+        None,
+        Finding::none(alloc),
+    )
 }
 
 /// The report on the `subject` with this `verdict`, `cause` and `finding`.
@@ -169,7 +181,8 @@ pub(crate) fn report_on(
 /// The report of `no`, one of the `faults` of the `subject`.
 fn fault_report(alloc: Global, subject: &Subject<'_, '_>, faults: &Faults<'_>, no: &No) -> Reported
     ensures { IfOk result (λ report. spec.ReportsFault
-        (spec.of_subject subject.now faults.now.nos.now faults.now.mended.now) subject.now.file.now no.now report) }
+        (spec.of_subject subject.now faults.now.nos.now faults.now.mended.now faults.now.left_out.now)
+        subject.now.file.now no.now report) }
 {
     let cause = cause_text(alloc, no.cause)?;
     let finding = finding_of(alloc, subject, faults, no)?;
@@ -184,7 +197,7 @@ fn finding_of(
     no: &No,
 ) -> Result<Finding, AllocError>
     ensures { IfOk result (λ finding. spec.Finds
-        (spec.of_subject subject.now faults.now.nos.now faults.now.mended.now) no.now finding) }
+        (spec.of_subject subject.now faults.now.nos.now faults.now.mended.now faults.now.left_out.now) no.now finding) }
 {
     let entry = subject.entry;
     let judged = Judged {
@@ -210,6 +223,7 @@ fn finding_of(
         judged: Some(is_judged(no.cause)),
         grade: Some(grade_of(alloc, entry, subject.size, no, faults.nos.len() == 1)?),
         another_kind: other_kind(subject.lists_all, faults.nos),
+        left_out: name_texts(alloc, faults.left_out)?,
         explanation: explanation_of(alloc, &fault)?,
     })
 }

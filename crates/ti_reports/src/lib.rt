@@ -12,6 +12,7 @@ mod forms;
 mod hints;
 mod lacks;
 mod names;
+mod openings;
 mod places;
 mod refusals;
 mod reports;

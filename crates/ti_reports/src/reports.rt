@@ -7,13 +7,14 @@ use crate::written::Written;
 use std::alloc::{AllocError, Global};
 use ti_grades::Grade;
 use ti_hints::HintKind;
+use ti_openings::Bound;
 use ti_sources::Region;
 
 /// The verdict on an entry.
 #[derive(Clone, Copy, Debug, PartialEq, Eq)]
 pub enum Verdict {
-    /// The entry has a certificate.
-    Yes,
+    /// The entry has a certificate, and a session on it this bound.
+    Yes(Bound),
     /// The entry has a fault.
     No,
     /// The entry can't be read.
@@ -34,7 +35,7 @@ impl Verdict {
     {
         match self {
             Verdict::No | Verdict::Refused => true,
-            Verdict::Yes | Verdict::Advice | Verdict::Hint(_) => false,
+            Verdict::Yes(_) | Verdict::Advice | Verdict::Hint(_) => false,
         }
     }
 }
@@ -89,6 +90,8 @@ pub struct Finding {
     pub grade: Option<Grade>,
     /// Whether the entry seems to be for a terminal of another kind.
     pub another_kind: Option<bool>,
+    /// The names of what a session on the entry goes without.
+    pub left_out: Vec<String>,
     /// Lines that explain the fault, the advice or the hint to people.
     pub explanation: Vec<String>,
 }
@@ -136,6 +139,7 @@ impl Finding {
             judged: None,
             grade: None,
             another_kind: None,
+            left_out: Vec::new(alloc),
             explanation: Vec::new(alloc),
         }
     }

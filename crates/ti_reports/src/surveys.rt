@@ -63,6 +63,7 @@ pub fn survey_reports<P: Form, F: Files, W: Watcher>(
         places,
         answers,
         grades: _grades,
+        opened: _opened,
     } = said;
     let notes = places_lines(alloc, places.as_slice())?;
     let failure = strict_failure(alloc, survey.words.is_strict, answers.as_slice(), failure)?;

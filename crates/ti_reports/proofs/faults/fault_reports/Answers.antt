@@ -11,5 +11,5 @@ loop-no-init c = c.new-reports.ensures.items
 -- the report of the next fault follows those so far
 pub loop-no-preserved : goal.loop-no-preserved
 loop-no-preserved c =
-    parts_next (IsFaultReport (of_subject c.args.subject.now c.args.faults.now.nos.now c.args.faults.now.mended.now) c.args.subject.now.file.now) c.args.faults.now.nos.now c.loop-no.no-index c.no-item.result c.loop-no.reports.items (c.in_ok-report.report ∷ []) c.push.new.self.items (omega arith) c.no-item.is
+    parts_next (IsFaultReport (of_subject c.args.subject.now c.args.faults.now.nos.now c.args.faults.now.mended.now c.args.faults.now.left_out.now) c.args.subject.now.file.now) c.args.faults.now.nos.now c.loop-no.no-index c.no-item.result c.loop-no.reports.items (c.in_ok-report.report ∷ []) c.push.new.self.items (omega arith) c.no-item.is
     c.in_ok-push.ensures.items c.loop-no.invariant (c.in_ok-report.report, c.in_ok-report.ensures, refl)

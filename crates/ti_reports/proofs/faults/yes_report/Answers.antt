@@ -6,4 +6,4 @@ pub returns : goal.returns
 returns c =
     let subject = c.args.subject.now in
     as_reported (ReportsYes subject.entry.now subject.size.rows subject.size.cols subject.file.now) c.report_on.result c.report_on.ensures
-    (λ report on. yes_reported subject c.none.result report c.none.ensures on)
+    (λ report on. yes_reported subject c.in_ok-bound.bound c.none.result report c.in_ok-bound.ensures c.none.ensures on)
