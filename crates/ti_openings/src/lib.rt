@@ -6,5 +6,5 @@ mod openings;
 mod remarks;
 
 pub use bounds::{Bound, bound_of};
-pub use openings::{Names, names_left_out, names_left_out_beside};
+pub use openings::{Names, names_left_out, names_left_out_beside, opens_beside};
 pub use remarks::{note_bound, note_left_out_names, note_names_beside};

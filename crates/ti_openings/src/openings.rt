@@ -8,7 +8,7 @@ use std::alloc::{AllocError, Global};
 use ti_caps::{Entry, name};
 use ti_checker::No;
 use ti_faults::must_claim;
-use ti_without::{LeftOut, can_go_on, certify_without};
+use ti_without::{LeftOut, certify_beside, certify_without, found_beside};
 use vt_term::Size;
 
 /// The names of capabilities.
@@ -24,7 +24,10 @@ pub fn names_left_out(alloc: Global, entry: &Entry, size: Size) -> Result<Option
         (option_map (λ names. spec.texts_of names.items) found)) }
 {
     match certify_without(alloc, entry, size) {
-        Ok(found) => Ok(Some(names_of(alloc, found.left_out.as_slice())?)),
+        Ok(found) => {
+            let names = names_of(alloc, found.left_out.as_slice())?;
+            Ok(Some(names))
+        }
         Err(no) => {
             must_claim(no.cause)?;
             Ok(None)
@@ -33,7 +36,8 @@ pub fn names_left_out(alloc: Global, entry: &Entry, size: Size) -> Result<Option
 }
 
 /// The names of what a session on `entry` goes without, as [`names_left_out`] has them, for an entry whose faults are
-/// known: `nos` must be all of them. One that has a fault that can't be left out isn't judged again.
+/// known: `nos` must be all of them. An entry without a fault, and one with a fault that can't be left out, isn't judged
+/// again.
 ///
 /// # Errors
 /// Out of memory.
@@ -43,15 +47,41 @@ pub fn names_left_out_beside(
     size: Size,
     nos: &[No],
 ) -> Result<Option<Names>, AllocError>
-    ensures { AreAllFaults entry.now size.rows size.cols nos.now
-        → IfOk result (λ found. spec.OpensIf entry.now size.rows size.cols
+    requires { AreAllFaults entry.now size.rows size.cols nos.now }
+    ensures { IfOk result (λ found. spec.OpensIf entry.now size.rows size.cols
         (option_map (λ names. spec.texts_of names.items) found)) }
 {
-    if nos.is_empty() || can_go_on(entry, nos) {
-        names_left_out(alloc, entry, size)
-    } else {
-        Ok(None)
+    if nos.is_empty() {
+        return Ok(Some(Vec::new(alloc)));
     }
+    match certify_beside(alloc, entry, size, nos)? {
+        Some(found) => {
+            let names = names_of(alloc, found.left_out.as_slice())?;
+            Ok(Some(names))
+        }
+        None => Ok(None),
+    }
+}
+
+/// Whether a session opens on `entry`, whole or without some strings, for an entry whose faults are known: `nos` must be
+/// all of them.
+///
+/// # Errors
+/// Out of memory.
+pub fn opens_beside(
+    alloc: Global,
+    entry: &Entry,
+    size: Size,
+    nos: &[No],
+) -> Result<bool, AllocError>
+    requires { AreAllFaults entry.now size.rows size.cols nos.now }
+    ensures { IfOk result (λ opens. spec.OpensAs opens entry.now size.rows size.cols) }
+{
+    if nos.is_empty() {
+        return Ok(true);
+    }
+    let found = found_beside(alloc, entry, size, nos)?;
+    Ok(found.is_some())
 }
 
 /// The names of the capabilities of `left`, in the order of the alphabet.

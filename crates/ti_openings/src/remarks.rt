@@ -1,5 +1,7 @@
 //! Further lines about sessions: what one goes without, and its bound.
 
+ghost use Rattle.ti_faults.specs.AllFaults.{AreAllFaults};
+
 use crate::bounds::{Bound, bound_of};
 use crate::openings::{Names, names_left_out, names_left_out_beside};
 use std::alloc::{AllocError, Global};
@@ -21,7 +23,9 @@ pub fn note_names_beside(
     size: Size,
     nos: &[No],
     remarks: &mut Remarks,
-) {
+)
+    requires { AreAllFaults entry.now size.rows size.cols nos.now }
+{
     let _ = note_names(
         alloc,
         names_left_out_beside(alloc, entry, size, nos),

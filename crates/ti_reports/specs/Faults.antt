@@ -136,7 +136,7 @@ pub record AreFaultReports (entry : Content) (height width : ℕ) (all : Bool) (
   pub mended : Option Mended
   pub mends : IsMendedFor all entry height width nos mended
   pub left_out : List (Bor (List ℕ))
-  pub leaves : AreLeftOut all entry height width nos (texts_of left_out)
+  pub leaves : AreLeftOut all entry height width (texts_of left_out)
   pub each : HasParts
       (IsFaultReport (of_faults entry height width originals stands all nos mended left_out) file) nos reports
 

@@ -3,6 +3,7 @@
 ghost use Rattle.std.specs.Prelude.{◌≡◌, Bool, IfErr, IfOk, map};
 ghost use Rattle.ti_reports.specs.Lacks.{is_alone};
 ghost use Rattle.ti_reports.specs.Checks as spec;
+ghost use Rattle.ti_reports.specs.Findings.{AreFaults};
 ghost use Rattle.ti_files.specs.Sizes.{LacksSize};
 ghost use Rattle.ti_sources.specs.LinedFiles.{file_text};
 ghost use Rattle.ti_verdicts.specs.Locations.{place_if, source_place};
@@ -117,6 +118,7 @@ fn found_reply<'x, P: Form>(
     notes: Vec<u8>,
     nos: &[No],
 ) -> Answered
+    requires { AreFaults asked.now.lists_all found.now.entry asked.now.size.rows asked.now.size.cols nos.now }
     ensures noted { IfOk result (λ reply. reply.notes ≡ notes) }
     ensures told { IfOk result (λ reply. spec.TellsFound (P.wanted asked.now.form.now) (P.prints asked.now.form.now)
         found.now.entry asked.now.size.rows asked.now.size.cols asked.now.lists_all
@@ -159,6 +161,7 @@ fn placed_reply<'x, 'y, P: Form>(
     notes: Vec<u8>,
     nos: &[No],
 ) -> Answered
+    requires { AreFaults asked.now.lists_all named.entry.entry.now asked.now.size.rows asked.now.size.cols nos.now }
     ensures noted { IfOk result (λ reply. reply.notes ≡ notes) }
     ensures told { IfOk result (λ reply. spec.TellsFound (P.wanted asked.now.form.now) (P.prints asked.now.form.now)
         named.entry.entry.now asked.now.size.rows asked.now.size.cols asked.now.lists_all named.entry.file.now
@@ -177,7 +180,9 @@ fn reply_of<P: Form>(
     notes: Vec<u8>,
     nos: &[No],
 ) -> Answered
-    requires { subject.now.hinted ≡ Hinted.WithUsed }
+    requires faults { AreFaults subject.now.lists_all subject.now.entry.now subject.now.size.rows subject.now.size.cols
+        nos.now }
+    requires hinted { subject.now.hinted ≡ Hinted.WithUsed }
     ensures noted { IfOk result (λ reply. reply.notes ≡ notes) }
     ensures told { IfOk result (λ reply. spec.TellsFound (P.wanted form.now) (P.prints form.now) subject.now.entry.now
         subject.now.size.rows subject.now.size.cols subject.now.lists_all subject.now.file.now

@@ -5,6 +5,7 @@ ghost use Rattle.ti_caps.specs.Table.{name_at};
 ghost use Rattle.ti_sources.specs.LinedFiles.{file_text};
 ghost use Rattle.ti_verdicts.specs.Locations.{place_if};
 ghost use Rattle.ti_reports.specs.Faults as spec;
+ghost use Rattle.ti_reports.specs.Findings.{AreFaults};
 ghost use Rattle.ti_reports.specs.Texts.{IsShownAs};
 ghost use Rattle.ti_verdicts.specs.Parts.{HasParts};
 ghost use Rattle.ti_verdicts.specs.Refusals.{cause_name};
@@ -60,6 +61,7 @@ pub struct Subject<'a, 'b> {
 /// the advice on it and of the hints about its fields. If all faults are reported, what is suggested is right with all
 /// of them mended, and the reports have what a session goes without.
 pub fn found_reports(alloc: Global, subject: &Subject<'_, '_>, nos: &[No]) -> AllReported
+    requires { AreFaults subject.now.lists_all subject.now.entry.now subject.now.size.rows subject.now.size.cols nos.now }
     ensures { IfOk result (λ reports. spec.AreFound subject.now.entry.now
         subject.now.size.rows subject.now.size.cols subject.now.lists_all subject.now.hinted subject.now.file.now
         (map file_text subject.now.originals.now) (place_if subject.now.stands.now) nos.now reports.items) }
@@ -74,6 +76,7 @@ pub fn found_reports(alloc: Global, subject: &Subject<'_, '_>, nos: &[No]) -> Al
 
 /// The reports of the faults `nos` of the `subject`, or that it has a certificate if there are none.
 fn verdicts(alloc: Global, subject: &Subject<'_, '_>, nos: &[No]) -> AllReported
+    requires { AreFaults subject.now.lists_all subject.now.entry.now subject.now.size.rows subject.now.size.cols nos.now }
     ensures { IfOk result (λ reports. spec.AreVerdicts subject.now.entry.now
         subject.now.size.rows subject.now.size.cols subject.now.lists_all subject.now.file.now
         (map file_text subject.now.originals.now) (place_if subject.now.stands.now) nos.now reports.items) }
@@ -86,6 +89,7 @@ fn verdicts(alloc: Global, subject: &Subject<'_, '_>, nos: &[No]) -> AllReported
 
 /// A report for each of the faults `nos` of the `subject`.
 fn reports_of(alloc: Global, subject: &Subject<'_, '_>, nos: &[No]) -> AllReported
+    requires { AreFaults subject.now.lists_all subject.now.entry.now subject.now.size.rows subject.now.size.cols nos.now }
     ensures { IfOk result (λ reports. spec.AreFaultReports subject.now.entry.now
         subject.now.size.rows subject.now.size.cols subject.now.lists_all subject.now.file.now
         (map file_text subject.now.originals.now) (place_if subject.now.stands.now) nos.now reports.items) }

@@ -3,6 +3,7 @@
 ghost use Rattle.std.specs.Prelude.{IfOk};
 ghost use Rattle.ti_faults.specs.AllFaults.{AreAllFaults};
 ghost use Rattle.ti_openings.specs.Openings.{IsBound, texts_of};
+ghost use Rattle.ti_reports.specs.Findings.{AreFaults};
 ghost use Rattle.ti_reports.specs.Openings as spec;
 ghost use Rattle.ti_verdicts.specs.Parts.{HasParts};
 
@@ -22,8 +23,8 @@ pub(crate) fn left_out_if(
     size: Size,
     nos: &[No],
 ) -> Result<Names, AllocError>
-    ensures { IfOk result (λ names. spec.AreLeftOut lists_all entry.now size.rows size.cols nos.now
-        (texts_of names.items)) }
+    requires { AreFaults lists_all entry.now size.rows size.cols nos.now }
+    ensures { IfOk result (λ names. spec.AreLeftOut lists_all entry.now size.rows size.cols (texts_of names.items)) }
 {
     if lists_all {
         left_out(alloc, entry, size, nos)
@@ -34,8 +35,8 @@ pub(crate) fn left_out_if(
 
 /// The names of what a session on `entry` goes without; none if there is no session. `nos` must be all of its faults.
 fn left_out(alloc: Global, entry: &Entry, size: Size, nos: &[No]) -> Result<Names, AllocError>
-    ensures { IfOk result (λ names. AreAllFaults entry.now size.rows size.cols nos.now
-        → spec.LeavesOut entry.now size.rows size.cols (texts_of names.items)) }
+    requires { AreAllFaults entry.now size.rows size.cols nos.now }
+    ensures { IfOk result (λ names. spec.LeavesOut entry.now size.rows size.cols (texts_of names.items)) }
 {
     match names_left_out_beside(alloc, entry, size, nos)? {
         Some(names) => Ok(names),

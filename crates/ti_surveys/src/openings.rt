@@ -8,7 +8,7 @@ use crate::kinds::EntryKind;
 use std::alloc::{AllocError, Global};
 use ti_caps::Entry;
 use ti_checker::No;
-use ti_openings::names_left_out_beside;
+use ti_openings::opens_beside;
 use ti_verdicts::Lines;
 use vt_term::Size;
 
@@ -27,7 +27,7 @@ pub(crate) fn openings_of(
     match kind {
         EntryKind::Part | EntryKind::Other => Ok(Vec::new(alloc)),
         EntryKind::Usual => {
-            let opens = names_left_out_beside(alloc, entry, size, nos)?.is_some();
+            let opens = opens_beside(alloc, entry, size, nos)?;
             Ok(vec![in alloc; opens]?)
         }
     }

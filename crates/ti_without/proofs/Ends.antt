@@ -6,14 +6,15 @@ use Rattle.ti_caps.specs.Entry.{Content}
 use Rattle.ti_checker.specs.No as nos
 use Rattle.ti_checker.specs.declared.causes.Cause.TheVariants.{NoMemory}
 use Rattle.ti_checker.specs.declared.causes.No.{No}
-use Rattle.ti_without.specs.Going.{IsFurther}
+use Rattle.ti_faults.specs.AllFaults.{AreFaults}
+use Rattle.ti_without.specs.Going.{IsFurther, LeavesAll}
 use Rattle.ti_without.specs.Less.{but, caps_of, comes_with, both, colors, alternate, goes_with, less}
-use Rattle.ti_without.specs.Rounds.{AreRounds, IsRound, NoRound, OneMore}
+use Rattle.ti_without.specs.Rounds.{AreRounds, IsRound, NoRound, OneMore, can_go_on}
 use Rattle.ti_without.specs.Without.{IsCertified, IsEnd, IsFound, OutOfMemory}
 use Rattle.ti_without.specs.declared.left_out.LeftOut.{LeftOut}
 use Rattle.ti_without.specs.declared.rounds.Smaller.{Smaller}
 use Rattle.ti_without.specs.declared.without.Without.{Without}
-use Rattle.ti_without.proofs.Leaves.{itself, or_left}
+use Rattle.ti_without.proofs.Leaves.{further, itself, or_left}
 use Rattle.ti_without.proofs.Less.{less_both}
 
 -- ---- rounds
@@ -31,6 +32,21 @@ further_is entry rows cols s t e f =
 
 pub further_rounds : (entry : Content) (rows cols : ℕ) (s t : Smaller) → s.entry ≡ less entry (caps_of s.left.items) → AreRounds entry rows cols s.left.items → IsFurther rows cols s t → AreRounds entry rows cols t.left.items
 further_rounds entry rows cols s t e r f = OneMore s.left.items f.gone t.left.items f.left_is r (subst (λ (x : Content). IsRound x rows cols f.gone) e f.round)
+
+-- ---- the first round, for an entry whose faults are known
+
+pub whole_is : (entry : Content) (s : Smaller) → s.entry ≡ entry → s.left.items ≡ [] → s.entry ≡ less entry (caps_of s.left.items)
+whole_is entry s e l = e ∙ ap (λ (left : List LeftOut). less entry (caps_of left)) (sym l)
+
+first_further : (entry : Content) (rows cols : ℕ) (s t : Smaller) (nos : List No) → s.entry ≡ entry → AreFaults entry rows cols nos → can_go_on entry nos ≡ true → LeavesAll s nos t → IsFurther rows cols s t
+first_further entry rows cols s t nos e faults can a =
+    further s t rows cols nos (subst (λ (x : Content). AreFaults x rows cols nos) (sym e) faults) (subst (λ (x : Content). can_go_on x nos ≡ true) (sym e) can) a
+
+pub first_is : (entry : Content) (rows cols : ℕ) (s t : Smaller) (nos : List No) → s.entry ≡ entry → s.left.items ≡ [] → AreFaults entry rows cols nos → can_go_on entry nos ≡ true → LeavesAll s nos t → t.entry ≡ less entry (caps_of t.left.items)
+first_is entry rows cols s t nos e l faults can a = further_is entry rows cols s t (whole_is entry s e l) (first_further entry rows cols s t nos e faults can a)
+
+pub first_rounds : (entry : Content) (rows cols : ℕ) (s t : Smaller) (nos : List No) → s.entry ≡ entry → s.left.items ≡ [] → AreFaults entry rows cols nos → can_go_on entry nos ≡ true → LeavesAll s nos t → AreRounds entry rows cols t.left.items
+first_rounds entry rows cols s t nos e l faults can a = further_rounds entry rows cols s t (whole_is entry s e l) (NoRound s.left.items l) (first_further entry rows cols s t nos e faults can a)
 
 pub found_by : (entry smaller : Content) (rows cols : ℕ) (w : Without) → smaller ≡ less entry (caps_of w.left_out.items) → AreRounds entry rows cols w.left_out.items → IsCertified smaller rows cols w.checked → IsFound entry rows cols w
 found_by entry smaller rows cols w e r c = record {

@@ -62,3 +62,9 @@ pub record IsEnd (entry : Content) (rows cols : ℕ) (refusal : No) : Type 0 whe
   pub left : List LeftOut
   pub rounds : AreRounds entry rows cols left
   pub stop : IsStop (less entry (caps_of left)) rows cols refusal
+
+-- no round leads to a certificate, and memory didn't run out
+pub record IsClosed (entry : Content) (rows cols : ℕ) : Type 0 where
+  pub refusal : No
+  pub end : IsEnd entry rows cols refusal
+  pub claims : refusal.cause ≢ NoMemory

@@ -8,7 +8,6 @@ mod returning;
 mod rounds;
 mod without;
 
-pub use certification::certify_without;
+pub use certification::{certify_beside, certify_without, found_beside};
 pub use left_out::{LeftOut, without_all};
-pub use rounds::can_go_on;
 pub use without::Without;

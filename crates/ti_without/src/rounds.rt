@@ -63,7 +63,7 @@ fn each_may_go(entry: &Entry, nos: &[No]) -> bool
 
 /// Whether there is a round: one of the faults `nos` doesn't wait, and `entry` can do without the string of each that
 /// doesn't.
-pub fn can_go_on(entry: &Entry, nos: &[No]) -> bool
+pub(crate) fn can_go_on(entry: &Entry, nos: &[No]) -> bool
     ensures { result ≡ spec.can_go_on entry.now nos.now }
 {
     some_counts(nos) && each_may_go(entry, nos)
@@ -130,7 +130,7 @@ impl Smaller {
     }
 
     /// Leaves out what goes for the faults `nos`.
-    fn but_all(self, nos: &[No]) -> Result<Smaller, AllocError>
+    pub(crate) fn but_all(self, nos: &[No]) -> Result<Smaller, AllocError>
         ensures { IfOk result (going.LeavesAll self nos.now) }
     {
         let mut smaller = self;

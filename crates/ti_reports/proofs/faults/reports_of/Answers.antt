@@ -10,6 +10,6 @@ returns c =
       mended = c.in_ok-mended.mended;
       mends = c.in_ok-mended.ensures;
       left_out = c.as_slice.result.now;
-      leaves = subst (λ (names : List (Bor (List ℕ))). AreLeftOut subject.lists_all subject.entry.now subject.size.rows subject.size.cols c.args.nos.now (texts_of names)) (sym c.as_slice.ensures.value) c.in_ok-left_out.ensures;
+      leaves = subst (λ (names : List (Bor (List ℕ))). AreLeftOut subject.lists_all subject.entry.now subject.size.rows subject.size.cols (texts_of names)) (sym c.as_slice.ensures.value) c.in_ok-left_out.ensures;
       each = c.in_ok-reports.ensures;
     }

@@ -3,7 +3,7 @@ use Rattle.ti_checker.specs.No.{IsNo}
 use Rattle.ti_without.specs.Going.{present}
 use Rattle.ti_without.specs.Less.{caps_of, less}
 use Rattle.ti_without.specs.Rounds.{AreRounds}
-use Rattle.ti_without.proofs.certification.by_rounds.Given as goal
+use Rattle.ti_without.proofs.certification.further_rounds.Given as goal
 
 abbrev pub invariant-loop-further : goal.invariant-loop-further
 invariant-loop-further l = record {
