@@ -191,9 +191,9 @@ def graded(fault, faults):
 
 
 def places(source, wanted):
-    """The output of `survey --all` on standard error: each fault once at its place, the field there, its grade, and the
-    names of the entries that have it, if it is more than one; how many faults have which grade, and on how many entries
-    a session opens."""
+    """The output of `survey --all` on standard error for a source whose entries have the `wanted` faults: each fault once
+    at its place, the field there, its grade, and the names of the entries that have it, if it is more than one; how many
+    faults have which grade, and on how many entries a session opens."""
     found, grades, opened = {}, [], 0
     for name, faults in wanted.items():
         if set(surveyed(name, faults)[1]) & {"OtherKind", "part"}:

@@ -28,8 +28,8 @@ pub record AreNames (left : List LeftOut) (names : List (List ℕ)) : Type 0 whe
   pub all : IsPermutation (names_of left) names
   pub in_order : IsSorted (slice_cmp nat_cmp) names
 
--- A session on the entry goes without the capabilities of these names: none where the entry has a certificate; else what
--- `certify_without` leaves out of it.
+-- A session on the entry goes without the capabilities of these names: none where the entry has a certificate; else
+-- what `certify_without` leaves out of it.
 pub data Opens (entry : Content) (rows cols : ℕ) (names : List (List ℕ)) : Type 0 where
   Whole : HasCertificate entry rows cols → names ≡ [] → Opens entry rows cols names
   Less : (without : Without) → IsFound entry rows cols without

@@ -36,8 +36,8 @@ pub fn names_left_out(alloc: Global, entry: &Entry, size: Size) -> Result<Option
 }
 
 /// The names of what a session on `entry` goes without, as [`names_left_out`] has them, for an entry whose faults are
-/// known: `nos` must be all of them. An entry without a fault, and one with a fault that can't be left out, isn't judged
-/// again.
+/// known: `nos` must be all of them. An entry without a fault, and one with a fault that can't be left out, isn't
+/// judged again.
 ///
 /// # Errors
 /// Out of memory.
@@ -63,8 +63,8 @@ pub fn names_left_out_beside(
     }
 }
 
-/// Whether a session opens on `entry`, whole or without some strings, for an entry whose faults are known: `nos` must be
-/// all of them.
+/// Whether a session opens on `entry`, whole or without some strings, for an entry whose faults are known: `nos` must
+/// be all of them.
 ///
 /// # Errors
 /// Out of memory.

@@ -61,7 +61,8 @@ pub struct Subject<'a, 'b> {
 /// the advice on it and of the hints about its fields. If all faults are reported, what is suggested is right with all
 /// of them mended, and the reports have what a session goes without.
 pub fn found_reports(alloc: Global, subject: &Subject<'_, '_>, nos: &[No]) -> AllReported
-    requires { AreFaults subject.now.lists_all subject.now.entry.now subject.now.size.rows subject.now.size.cols nos.now }
+    requires { AreFaults subject.now.lists_all subject.now.entry.now subject.now.size.rows subject.now.size.cols
+        nos.now }
     ensures { IfOk result (λ reports. spec.AreFound subject.now.entry.now
         subject.now.size.rows subject.now.size.cols subject.now.lists_all subject.now.hinted subject.now.file.now
         (map file_text subject.now.originals.now) (place_if subject.now.stands.now) nos.now reports.items) }
@@ -76,7 +77,8 @@ pub fn found_reports(alloc: Global, subject: &Subject<'_, '_>, nos: &[No]) -> Al
 
 /// The reports of the faults `nos` of the `subject`, or that it has a certificate if there are none.
 fn verdicts(alloc: Global, subject: &Subject<'_, '_>, nos: &[No]) -> AllReported
-    requires { AreFaults subject.now.lists_all subject.now.entry.now subject.now.size.rows subject.now.size.cols nos.now }
+    requires { AreFaults subject.now.lists_all subject.now.entry.now subject.now.size.rows subject.now.size.cols
+        nos.now }
     ensures { IfOk result (λ reports. spec.AreVerdicts subject.now.entry.now
         subject.now.size.rows subject.now.size.cols subject.now.lists_all subject.now.file.now
         (map file_text subject.now.originals.now) (place_if subject.now.stands.now) nos.now reports.items) }
@@ -89,7 +91,8 @@ fn verdicts(alloc: Global, subject: &Subject<'_, '_>, nos: &[No]) -> AllReported
 
 /// A report for each of the faults `nos` of the `subject`.
 fn reports_of(alloc: Global, subject: &Subject<'_, '_>, nos: &[No]) -> AllReported
-    requires { AreFaults subject.now.lists_all subject.now.entry.now subject.now.size.rows subject.now.size.cols nos.now }
+    requires { AreFaults subject.now.lists_all subject.now.entry.now subject.now.size.rows subject.now.size.cols
+        nos.now }
     ensures { IfOk result (λ reports. spec.AreFaultReports subject.now.entry.now
         subject.now.size.rows subject.now.size.cols subject.now.lists_all subject.now.file.now
         (map file_text subject.now.originals.now) (place_if subject.now.stands.now) nos.now reports.items) }

@@ -15,8 +15,8 @@ use ti_checker::{No, certify};
 use ti_faults::must_claim;
 use vt_term::Size;
 
-/// The first certificate that further rounds lead to, for `entry` without what `smaller` lacks, which `check` refuses by
-/// `no`.
+/// The first certificate that further rounds lead to, for `entry` without what `smaller` lacks, which `check` refuses
+/// by `no`.
 #[tactic(auto, using(crate::proofs::Ends::memory_end))]
 fn further_rounds(
     alloc: Global,
