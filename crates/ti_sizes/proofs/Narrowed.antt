@@ -60,7 +60,7 @@ its_record t row bytes g l =
 its_steady : (t : Table) (row : Row) (bytes : List ℕ) → IsSteadyText row bytes → (l : AskedLine t row bytes) → IsSteady row l.tokens
 its_steady t row bytes s l = subst (λ (ts : List (List ℕ)). IsSteady row ts) (sym (one_splitting bytes s.tokens l.tokens [] [] s.whole l.whole).0) s.steady
 
-line_too : (t : Table) (rows cols : ℕ) (row : Row) (bytes : List ℕ) → IsGreatest t → IsSize rows cols → IsInRange rows cols row → IsSteadyText row bytes → AskedLine t row bytes → AskedLine (narrowed rows cols t) row bytes
+pub line_too : (t : Table) (rows cols : ℕ) (row : Row) (bytes : List ℕ) → IsGreatest t → IsSize rows cols → IsInRange rows cols row → IsSteadyText row bytes → AskedLine t row bytes → AskedLine (narrowed rows cols t) row bytes
 line_too t rows cols row bytes g z range s l = record {
   tokens = l.tokens;
   whole = l.whole;
@@ -180,7 +180,7 @@ pub agrees_too : (entry : Content) (t : Table) (rows cols : ℕ) → IsSize rows
 agrees_too entry t rows cols z agrees row range =
     subst (λ (o : Option (List ℕ)). LineAgrees entry o row) (sym (if_true (allows rows cols row) (t.line_of row) (is_allowed rows cols row range))) (agrees row (in_greatest rows cols row z range))
 
-at_greatest : (entry : Content) (t : Table) → IsGreatest t → EntryAgrees t.rows t.cols entry t.line_of → EntryAgrees max_rows max_cols entry t.line_of
+pub at_greatest : (entry : Content) (t : Table) → IsGreatest t → EntryAgrees t.rows t.cols entry t.line_of → EntryAgrees max_rows max_cols entry t.line_of
 at_greatest entry t g agrees =
     subst (λ (n : ℕ). EntryAgrees max_rows n entry t.line_of) g.cols (subst (λ (n : ℕ). EntryAgrees n t.cols entry t.line_of) g.rows agrees)
 

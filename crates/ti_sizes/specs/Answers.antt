@@ -1,12 +1,13 @@
 -- The answers to the question whether an entry is right at every size.
-use Rattle.std.specs.Prelude.{ℕ, ◌≢◌}
+use Rattle.std.specs.Prelude.{ℕ, ◌≢◌, List}
 use Rattle.vt_term.specs.Size.{max_rows, max_cols}
 use Rattle.ti_caps.specs.Entry.{Content}
 use Rattle.ti_conforms.specs.Conforms.{Conforms}
+use Rattle.ti_checker.specs.Certificate.{IsCertificateOf}
 use Rattle.ti_checker.specs.No.{IsNo}
 use Rattle.ti_checker.specs.declared.causes.Cause.TheVariants.{NoMemory}
 use Rattle.ti_checker.specs.declared.causes.No.{No as Refusal}
-use Rattle.ti_sizes.specs.EverySize.{ConformsAtEverySize}
+use Rattle.ti_sizes.specs.EverySize.{IsRightAtEverySize}
 use Rattle.ti_sizes.specs.declared.verdicts.EverySize.{EverySize}
 use Rattle.ti_sizes.specs.declared.verdicts.EverySize.TheVariants.{Yes, No, Undecided}
 use Rattle.ti_sizes.specs.declared.verdicts.Doubt.{Doubt}
@@ -24,7 +25,7 @@ pub record IsRightWhereTried (entry : Content) : Type 0 where
   pub greatest : Conforms entry max_rows max_cols
 
 abbrev pub IsAnswer : Content → EverySize → Type 0
-IsAnswer entry Yes = ConformsAtEverySize entry
+IsAnswer entry Yes = IsRightAtEverySize entry
 IsAnswer entry (No size refusal) = IsNoAt entry size.rows size.cols refusal
 IsAnswer entry (Undecided cap) = IsRightWhereTried entry
 
@@ -34,3 +35,8 @@ IsDoubt entry (doubts.Because Yes) = ⊥
 IsDoubt entry (doubts.Because (No size refusal)) = IsNoAt entry size.rows size.cols refusal
 IsDoubt entry (doubts.Because (Undecided cap)) = IsRightWhereTried entry
 IsDoubt entry doubts.NoMemory = Unit {0}
+
+-- (Serves the code alone.) The entry has a certificate for the greatest size.
+pub record HasGreatest (entry : Content) : Type 0 where
+  pub text : List ℕ
+  pub certificate : IsCertificateOf entry max_rows max_cols text

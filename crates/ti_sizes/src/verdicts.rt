@@ -6,7 +6,7 @@ ghost use Rattle.ti_conforms.specs.{Conforms.{Conforms, IsFit}, Entries.{EntryAg
 ghost use Rattle.ti_cert.specs.Table.{table_of};
 ghost use Rattle.ti_checker.specs.No.{IsNo};
 ghost use Rattle.ti_checker.specs.declared.causes.Cause.TheVariants as causes;
-ghost use Rattle.ti_sizes.specs.{EverySize.{ConformsAtEverySize}, Lines.{AreSteady}};
+ghost use Rattle.ti_sizes.specs.{EverySize.{IsRightAtEverySize}, Lines.{AreSteady}};
 ghost use Rattle.ti_sizes.specs.Answers as spec;
 ghost use Rattle.vt_term.specs.Size.{max_rows, max_cols};
 
@@ -21,7 +21,7 @@ use vt_term::Size;
 /// The answer to the question whether an entry is right at every size.
 #[derive(Debug, Drop)]
 pub enum EverySize {
-    /// The entry conforms at every size.
+    /// The entry conforms at every size, and a session opens at each, unless memory runs out.
     Yes,
     /// The entry has no certificate at this size, for this reason.
     No(Size, ti_checker::No),
@@ -89,6 +89,7 @@ fn greatest_table(alloc: Global, entry: &Entry) -> Result<Table, Doubt>
     ensures cols { IfOk result (λ table. table.known.strings.cols ≡ max_cols) }
     ensures sends { IfOk result (λ table. EntryAgrees table.known.strings.rows table.known.strings.cols entry.now
         (table_of table).line_of) }
+    ensures certificate { OnOk result (spec.HasGreatest entry.now) }
     ensures doubt { IfErr result (spec.IsDoubt entry.now) }
 {
     let size = greatest();
@@ -108,7 +109,7 @@ fn greatest_table(alloc: Global, entry: &Entry) -> Result<Table, Doubt>
 
 /// Checks that the entry is right at every size.
 fn check_sizes(alloc: Global, entry: &Entry) -> Result<(), Doubt>
-    ensures yes { OnOk result (ConformsAtEverySize entry.now) }
+    ensures yes { OnOk result (IsRightAtEverySize entry.now) }
     ensures doubt { IfErr result (spec.IsDoubt entry.now) }
 {
     check_at(alloc, entry, least())?;
@@ -143,6 +144,8 @@ fn common() -> Size
 /// certificate is the answer. A string sends the same for its parameters at every size, so those of the greatest size
 /// are all that the entry ever sends. It remains to show that the effect of each is one for all sizes, from its tokens
 /// alone; where that can't be shown, as with a tab, the answer is `Undecided`.
+///
+/// After a `Yes`, `ti_checker::certify` refuses the entry at no size, unless memory runs out.
 ///
 /// # Errors
 /// Out of memory.
