@@ -39,6 +39,7 @@ PUBLISHED = [
     "ti_commands",
     "ti_verdicts",
     "ti_surveys",
+    "ti_everywhere",
     "ti_repairs",
     "ti_files",
     "ti_reports",
@@ -66,6 +67,8 @@ COMMANDS = [
     ("check --json, survey --json", [("ti_reports", "check_reports"), ("ti_reports", "survey_reports")]),
     ("check --sarif, survey --sarif", [("ti_printers", "sarif_file")]),
     ("survey --baseline", [("ti_printers", "sarif_file")]),
+    ("check --every-size", [("ti_everywhere", "check_everywhere")]),
+    ("survey --every-size", [("ti_everywhere", "survey_everywhere")]),
 ]
 
 # functions by which the program answers all commands, and the parser of the line, which has no clause

@@ -19,6 +19,7 @@ PARTS = [
             "cur_commands",
             "ti_printers",
             "ti_reports",
+            "ti_everywhere",
             "ti_surveys",
             "ti_repairs",
             "ti_verdicts",
