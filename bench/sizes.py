@@ -1,11 +1,11 @@
-"""Whether the entries that are certified at one size are certified at others too.
+"""Whether the entries that are certified at one size are certified at others too, and right at every size.
 
     python3 -B bench/sizes.py COMMIT FILE..
 
 A program is built from the commit with its run-time checks taken out (bench/states.py says how and what for), and surveys
-the entries of the files, sources or compiled, at 24 by 80 and at six sizes more. A line for each size has the number of
-entries with a yes, the seconds of the processor, and the entries whose answer differs from that at 24 by 80. It needs the
-toolchain, gcc and some five minutes of a processor."""
+the entries of the files, sources or compiled, at 24 by 80, at six sizes more, and for every size. A line for each has the
+number of entries with a yes, the seconds of the processor, and the entries whose answer differs from that at 24 by 80. It
+needs the toolchain, gcc and some six minutes of a processor."""
 
 import os
 import resource
@@ -18,15 +18,17 @@ import states
 SIZES = ((24, 80), (2, 2), (3, 9), (43, 132), (200, 2), (2, 500), (200, 500))
 
 
-def answers(program, rows, cols, files):
-    """The answer for each entry of the files at a size, by its place and name, and the processor's seconds."""
+def answers(program, words, files):
+    """The answer for each entry of the files at the size in the words, by its place and name, and the processor's seconds."""
     before = resource.getrusage(resource.RUSAGE_CHILDREN)
-    words = [program, "survey", str(rows), str(cols), *files]
+    words = [program, "survey", *words, *files]
     lines = subprocess.run(words, stdout=subprocess.PIPE, stderr=subprocess.DEVNULL, check=False).stdout.splitlines()
     after = resource.getrusage(resource.RUSAGE_CHILDREN)
     found = {}
-    # the last line has the totals
-    for place, line in enumerate(lines[:-1]):
+    for place, line in enumerate(lines):
+        # the last line of a survey of one size has the totals
+        if line.startswith(b"total ") and line == lines[-1]:
+            break
         name, _, answer = line.decode("latin-1").partition(" ")
         found[place, name] = answer
     return found, after.ru_utime + after.ru_stime - before.ru_utime - before.ru_stime
@@ -39,12 +41,12 @@ def main(commit, files):
         # the last step of a build leaves the folder that it was in
         os.chdir(states.HERE)
         first = None
-        for rows, cols in SIZES:
-            found, seconds = answers(program, rows, cols, files)
+        for words in [*((str(rows), str(cols)) for rows, cols in SIZES), ("--every-size",)]:
+            found, seconds = answers(program, words, files)
             yes = {key for key, answer in found.items() if answer == "yes"}
             first = yes if first is None else first
             differ = sorted(f"{name}: {found.get((place, name), 'no answer')}" for place, name in yes ^ first)
-            print(f"{rows} by {cols}: {len(found)} entries, {len(yes)} yes, {seconds:.1f} s" + "".join(
+            print(f"{' by '.join(words)}: {len(found)} entries, {len(yes)} yes, {seconds:.1f} s" + "".join(
                 f"\n    {line}" for line in differ), flush=True)
 
 

@@ -29,7 +29,7 @@ LEFT_OUT = re.compile(r".*(left out|nothing of this is tried|skipped).*")
 OF_PROGRAM = {
     "c.sh", "compiled.sh", "conform.sh", "curses.sh", "edge.sh", "examples.sh", "expansions.sh", "faults.sh", "fixes.sh", "grades.sh", "hello.sh", "infocmp.sh", "joins.sh",
     "manual.sh", "package.sh", "pictures.sh", "python.sh",
-    "reality.sh", "report.sh", "reports.sh", "sarif.sh", "screens.sh", "scripts.sh", "second.sh", "terminals.sh", "terminfo.sh", "tour.sh", "vectors.sh", "with.sh",
+    "reality.sh", "report.sh", "reports.sh", "sarif.sh", "screens.sh", "scripts.sh", "second.sh", "sizes.sh", "terminals.sh", "terminfo.sh", "tour.sh", "vectors.sh", "with.sh",
 }
 
 
