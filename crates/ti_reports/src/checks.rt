@@ -161,7 +161,7 @@ fn placed_reply<'x, 'y, P: Form>(
     notes: Vec<u8>,
     nos: &[No],
 ) -> Answered
-    requires { AreFaults asked.now.lists_all named.entry.entry.now asked.now.size.rows asked.now.size.cols nos.now }
+    requires { AreFaults asked.now.lists_all named.entry.now asked.now.size.rows asked.now.size.cols nos.now }
     ensures noted { IfOk result (λ reply. reply.notes ≡ notes) }
     ensures told { IfOk result (λ reply. spec.TellsFound (P.wanted asked.now.form.now) (P.prints asked.now.form.now)
         named.entry.entry.now asked.now.size.rows asked.now.size.cols asked.now.lists_all named.entry.file.now
