@@ -29,7 +29,7 @@ returns-clause-reply g c =
           (g.F.Files.holds c.args.files.now) (texts_of paths) (told_of said) c.in_ok-surveyed.surveyed.failure c.survey_paths.new.remarks)
           c.as_slice-paths.ensures.value c.in_ok-surveyed.ensures.told;
       strictly = subst (λ (answered : List Answer). EndsStrictly c.args.survey.now.words.now.is_strict answered c.in_ok-surveyed.surveyed.failure c.in_ok-failure.failure) c.as_slice-5.ensures.value c.in_ok-failure.ensures;
-      places = subst (λ (faults : List PlacedFault). HasNotes (map placed_in faults) c.in_ok-notes.notes.items) c.as_slice.ensures.value c.in_ok-notes.ensures;
+      places = subst (λ (faults : List PlacedFault). HasNotes (map placed_in faults) c.in_ok-notes.notes.items) c.as_slice-2.ensures.value c.in_ok-notes.ensures;
       heard = c.in_ok-surveyed.ensures.heard;
       counts = c.in_ok-text.ensures ∙ ap answers_line c.as_slice-4.ensures.value;
     }
