@@ -25,20 +25,20 @@ OWN = rb"""own|its own strings,
 BASE = rb"""# an entry that others use, and one that it uses
 base|strings for others,
 	clear=\E[H\E[2J, cup=\E[%i%p1%d;%p2%dH, sgr0=\E[m,
-	ed=\E[1J, el1=\E[K,
+	ed=\E[2J, el1=\E[K,
 	use=more,
 more|and more of them,
-	ech=\E[%p1%dP, ri=\E[A,
+	ech=\E[K, ri=\E[H,
 """
 # by hand: the file and the line of each planted fault, the entry there, and ECMA-48's or VT100's string
 PLANTED = {
     "el": ("own.ti", 2, "own", r"\E[1K", r"\E[K"),
     "home": ("own.ti", 2, "own", r"\E[2H", r"\E[H"),
     "bel": ("own.ti", 3, "own", r"\E[", r"\007"),
-    "ed": ("base.ti", 4, "base", r"\E[1J", r"\E[J"),
+    "ed": ("base.ti", 4, "base", r"\E[2J", r"\E[J"),
     "el1": ("base.ti", 4, "base", r"\E[K", r"\E[1K"),
-    "ech": ("base.ti", 7, "more", r"\E[%p1%dP", r"\E[%p1%dX"),
-    "ri": ("base.ti", 7, "more", r"\E[A", r"\EM"),
+    "ech": ("base.ti", 7, "more", r"\E[K", r"\E[%p1%dX"),
+    "ri": ("base.ti", 7, "more", r"\E[H", r"\EM"),
 }
 FILES = {"own.ti": OWN, "base.ti": BASE}
 WITH = ["--with", "base.ti"]
@@ -166,8 +166,8 @@ def judge_fixes():
         def holds(where):
             return {one.name: one.read_bytes() for one in Path(folder, where).iterdir() if one.is_file()}
 
-        for where in ("mended", "blocked"):
-            Path(folder, where).mkdir()
+        # a folder that isn't there is made
+        Path(folder, "blocked").mkdir()
         Path(folder, "blocked", "base.ti").mkdir()
         done = told(*fix, "mended")
         if (done.returncode, done.stdout, done.stderr) != (0, b"", b"") or holds("mended") != right:
@@ -180,11 +180,13 @@ def judge_fixes():
         twice = told("check", "--fix", "--with", "deep/own.ti", *ENTRY, "--out", "blocked")
         if twice.returncode != 3 or holds("blocked"):
             fail(f"two files of one name: {twice}, and {holds('blocked')}")
-        Path(folder, "surveyed").mkdir()
         survey = ["survey", "--fix", "--fail", *WITH, "--with", "spare.ti", *SIZE, "own.ti", "--out"]
         every = told(*survey, "surveyed")
         if (every.returncode, every.stdout, every.stderr) != (0, b"", b"") or holds("surveyed") != right:
             fail(f"survey --fix --with: {every}, and {holds('surveyed')}")
+        none = told("check", "--fix", "--with", "base.ti", "spare.ti:spare", *SIZE, "--out", "nothing")
+        if holds("nothing") or told(*fix, "no/folder").returncode != 3:
+            fail(f"a folder for nothing, and one without a parent: {none}")
         over = told(*fix, ".")
         if over.returncode or {name: holds(".")[name] for name in FILES} != right or holds(".")["spare.ti"] != spare:
             fail(f"the sources themselves: {over}")

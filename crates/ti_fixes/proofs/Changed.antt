@@ -1,12 +1,13 @@
 -- Fields that were given strings, one after another.
-use Rattle.std.proofs.Common.{◌≡◌, ◌∙◌, ◌<◌, ◌≤◌, ◌+◌, ◌-◌, ℕ, zero, suc, List, [], ◌∷◌, ◌++◌, true, Some, Vec, Global, length, take, drop, get_or, set, ap, refl, sym, subst, append_assoc, arith}
-use Rattle.std.proofs.lemmas.Bool.{cond-true}
+use Rattle.std.proofs.Common.{◌≡◌, ◌∙◌, ◌<◌, ◌≤◌, ◌+◌, ◌-◌, ℕ, zero, suc, List, [], ◌∷◌, ◌++◌, true, false, Some, Vec, Global, length, take, drop, get_or, set, ap, refl, sym, subst, append_assoc, arith}
+use Rattle.std.proofs.lemmas.Bool.{cond-false, cond-true}
+use Rattle.std.specs.List.{list_all}
 use Rattle.std.proofs.lemmas.List.{take_more, take_rest}
 use Rattle.std.proofs.lemmas.Option.{slice_get-get_or}
 use Rattle.ti_caps.specs.declared.value.Value.TheVariants.{String}
 use Rattle.ti_fixes.specs.Changes.{IsChangedAt, IsChangedBy, IsWrittenBy}
 use Rattle.ti_fixes.specs.Cuts.{whole}
-use Rattle.ti_fixes.specs.Given.{with_given}
+use Rattle.ti_fixes.specs.Given.{is_use, own_count, with_own}
 use Rattle.ti_fixes.specs.Texts.{IsWritten, field_text}
 use Rattle.ti_fixes.specs.declared.changes.Change.{Change}
 use Rattle.ti_resolve.specs.Uses.{is_about}
@@ -64,7 +65,7 @@ written_part cap string (part ∷ parts) (suc at) own next l is h =
 -- ---- the fields of one entry
 
 -- the first field about the capability is given the string, and those behind it stay
-pub given_first : (cap : ℕ) (string : List ℕ) (rest : List Field) (first own : Field) (given pushed all whole : List Field) → 1 ≤ length rest → first ≡ get_or rest 0 first → is_about cap first ≡ true → own ≡ Set cap (String string) → pushed ≡ given ++ own ∷ [] → all ≡ pushed ++ take (length rest - 1) (drop 1 rest) → given ++ with_given cap string rest ≡ whole → all ≡ whole
+pub given_first : (cap : ℕ) (string : List ℕ) (rest : List Field) (first own : Field) (given pushed all whole : List Field) → 1 ≤ length rest → first ≡ get_or rest 0 first → is_about cap first ≡ true → own ≡ Set cap (String string) → pushed ≡ given ++ own ∷ [] → all ≡ pushed ++ take (length rest - 1) (drop 1 rest) → given ++ with_own cap string rest ≡ whole → all ≡ whole
 given_first cap string [] first own given pushed all whole l is about o p a w = absurd (omega (arith, l))
 given_first cap string (x ∷ rest) first own given pushed all whole l is about o p a w =
     a
@@ -72,11 +73,11 @@ given_first cap string (x ∷ rest) first own given pushed all whole l is about 
     ∙ (ap (λ (fields : List Field). fields ++ rest) p
     ∙ (append_assoc given (own ∷ []) rest
     ∙ (ap (λ (field : Field). given ++ field ∷ rest) o
-    ∙ (sym (ap (λ (fields : List Field). given ++ fields) (cond-true (is_about cap x) (Set cap (String string) ∷ rest) (x ∷ with_given cap string rest) (subst (λ (f : Field). is_about cap f ≡ true) is about)))
+    ∙ (sym (ap (λ (fields : List Field). given ++ fields) (cond-true (is_about cap x) (Set cap (String string) ∷ rest) (x ∷ with_own cap string rest) (subst (λ (f : Field). is_about cap f ≡ true) is about)))
     ∙ w)))))
 
 -- none is about the capability, so another field is put behind them
-pub given_last : (cap : ℕ) (string : List ℕ) (rest : List Field) (own : Field) (given all whole : List Field) → length rest < 1 → own ≡ Set cap (String string) → all ≡ given ++ own ∷ [] → given ++ with_given cap string rest ≡ whole → all ≡ whole
+pub given_last : (cap : ℕ) (string : List ℕ) (rest : List Field) (own : Field) (given all whole : List Field) → length rest < 1 → own ≡ Set cap (String string) → all ≡ given ++ own ∷ [] → given ++ with_own cap string rest ≡ whole → all ≡ whole
 given_last cap string [] own given all whole l o a w = a ∙ (ap (λ (field : Field). given ++ field ∷ []) o ∙ w)
 given_last cap string (x ∷ rest) own given all whole l o a w = absurd (omega (arith, l))
 
@@ -91,3 +92,31 @@ changed_at changes olds news place one other l m is are h = λ old new o n.
     let first : one ≡ old = some_inner one old (ap (λ (r : RawEntry). Some r) is ∙ sym (slice_get-get_or olds place one l) ∙ o) in
     let second : other ≡ new = some_inner other new (ap (λ (r : RawEntry). Some r) are ∙ sym (slice_get-get_or news place other m) ∙ n) in
     subst (λ (r : RawEntry). IsChangedBy changes place r new) first (subst (λ (r : RawEntry). IsChangedBy changes place one r) second h)
+
+-- ---- how many fields come before the uses at the end
+
+count_none : (fields : List Field) → list_all is_use fields ≡ true → own_count fields ≡ 0
+count_none [] all = refl
+count_none (field ∷ fields) all = cond-true (list_all is_use (field ∷ fields)) 0 (suc (own_count fields)) all
+
+count_some : (field : Field) (fields : List Field) → list_all is_use (field ∷ fields) ≡ false → own_count (field ∷ fields) ≡ suc (own_count fields)
+count_some field fields some = cond-false (list_all is_use (field ∷ fields)) 0 (suc (own_count fields)) some
+
+count_one : (fields : List Field) (at : ℕ) → at < length fields → list_all is_use (drop at fields) ≡ false → own_count (drop at fields) ≡ suc (own_count (drop (at + 1) fields))
+count_one [] at l some = absurd (omega (arith, l))
+count_one (field ∷ fields) zero l some = count_some field fields some
+count_one (field ∷ fields) (suc at) l some =
+    let e : suc (at + 1) ≡ suc at + 1 = omega arith in
+    subst (λ (n : ℕ). own_count (drop (suc at) (field ∷ fields)) ≡ suc (own_count (drop n (field ∷ fields)))) e (count_one fields at (omega (arith, l)) some)
+
+-- one field more, behind which not all are uses
+pub count_next : (fields : List Field) (at : ℕ) → at < length fields → list_all is_use (drop at fields) ≡ false → own_count fields ≡ at + own_count (drop at fields) → own_count fields ≡ (at + 1) + own_count (drop (at + 1) fields)
+count_next fields at l some h = h ∙ (ap (λ (n : ℕ). at + n) (count_one fields at l some) ∙ omega arith)
+
+-- the uses at the end
+pub count_here : (fields : List Field) (at : ℕ) → at < length fields → list_all is_use (drop at fields) ≡ true → own_count fields ≡ at + own_count (drop at fields) → at ≡ own_count fields
+count_here fields at l all h = sym (h ∙ (ap (λ (n : ℕ). at + n) (count_none (drop at fields) all) ∙ omega arith))
+
+-- some field is left
+pub count_all : (fields : List Field) (at : ℕ) → drop at fields ≡ [] → own_count fields ≡ at + own_count (drop at fields) → own_count fields ≡ at
+count_all fields at none h = h ∙ (ap (λ (rest : List Field). at + own_count rest) none ∙ omega arith)

@@ -3,7 +3,5 @@ pub mod Changed
 pub mod Lists
 pub mod PartFacts
 pub mod Gathered
-pub mod StandingFacts
 pub mod FileFacts
-pub mod HeldFacts
-pub mod RoundFacts
+pub mod StepFacts

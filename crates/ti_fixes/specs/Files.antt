@@ -1,5 +1,5 @@
 -- Files whose entries are put together, before and after fields of them were given strings.
-use Rattle.std.specs.Prelude.{ℕ, ◌≡◌, ◌-◌, nat_lt, Bool, true, List, [], ◌∷◌, if◌then◌else◌, length, map, string_bytes}
+use Rattle.std.specs.Prelude.{ℕ, ◌≡◌, ◌≢◌, ◌-◌, nat_lt, Bool, true, List, [], ◌∷◌, if◌then◌else◌, length, map, string_bytes}
 use Rattle.std.specs.List.{flat_map}
 use Rattle.ti_fixes.specs.Changes.{GivesAll}
 use Rattle.ti_fixes.specs.declared.changes.Change.{Change}
@@ -37,6 +37,7 @@ later_changes count changes = flat_map (later_change count) changes
 
 -- a source in which fields were given the strings of these changes, and nothing else has changed
 pub record IsChangedFile (changes : List Change) (old new : Sheet) : Type 0 where
+  pub some : changes ≢ []
   pub source : old.is_source ≡ true
   pub gives : GivesAll old.bytes old.raws changes new.bytes new.raws
   pub path : new.path ≡ old.path

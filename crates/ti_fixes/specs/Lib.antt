@@ -5,6 +5,8 @@ pub mod Changes
 pub mod Files
 pub mod Among
 pub mod Parts
-pub mod Standings
 pub mod Remedies
-pub mod Treated
+pub mod Findings
+pub mod Steps
+pub mod Reasons
+pub mod Mended

@@ -27,6 +27,7 @@ pub record IsPlaced (raws : List RawEntry) (root : ℕ) (advice : Advice) (remed
   pub owner : remedy.root ≡ root
   pub cap : remedy.change.cap ≡ advice.cap
   pub string : remedy.change.string ≡ advice.string
+  pub fault : remedy.fault ≡ advice.fault
   pub origin : Option Origin
   pub first : IsOriginAt raws root advice.cap origin
   pub place : remedy.change.place ≡ place_or root origin

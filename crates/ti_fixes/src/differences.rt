@@ -1,8 +1,9 @@
 //! Comparing the entries of a text with those that the changes of another text were to give.
 
-ghost use Rattle.std.specs.Prelude.{◌≡◌, None, IfOk, true};
+ghost use Rattle.std.specs.Prelude.{◌≡◌, ◌≤◌, None, IfOk, length, true};
+ghost use Rattle.std.specs.List.{list_all};
 ghost use Rattle.ti_caps.specs.declared.value.Value.TheVariants as values;
-ghost use Rattle.ti_fixes.specs.Given.{with_given};
+ghost use Rattle.ti_fixes.specs.Given.{is_use, own_count, with_given, with_own};
 ghost use Rattle.ti_fixes.specs.Changes as spec;
 ghost use Rattle.ti_resolve.specs.Uses.{is_about};
 ghost use Rattle.ti_source.specs.declared.types.Field.TheVariants as fields;
@@ -22,14 +23,45 @@ fn string_field(alloc: Global, cap: Cap, string: &[u8]) -> Result<Field, AllocEr
     Ok(Field::Set(cap, Value::String(bytes)))
 }
 
+/// Whether the field is a use of another entry.
+fn is_use(field: &Field) -> bool
+    ensures { result ≡ is_use field.now }
+{
+    match field {
+        Field::Set(_, _) => false,
+        Field::Cancel(_) => false,
+        Field::Include(_) => true,
+    }
+}
+
+/// Whether all of these fields are uses.
+fn are_uses(fields: &[Field]) -> bool
+    ensures { result ≡ list_all is_use fields.now }
+{
+    fields.iter().all(|field| is_use(field))
+}
+
+/// How many fields there are up to the last one that is no use.
+fn own_count(fields: &[Field]) -> usize
+    ensures count { result ≡ own_count fields.now }
+    ensures range { result ≤ length fields.now }
+{
+    for at in 0..fields.len() {
+        if are_uses(&fields[at..]) {
+            return at;
+        }
+    }
+    fields.len()
+}
+
 /// The fields with the first one about the capability given the string, or with one more behind them.
-fn with_string(
+fn with_own(
     alloc: Global,
     fields: &[Field],
     cap: Cap,
     string: &[u8],
 ) -> Result<Vec<Field>, AllocError>
-    ensures { IfOk result (λ given. given.items ≡ with_given cap string.now fields.now) }
+    ensures { IfOk result (λ given. given.items ≡ with_own cap string.now fields.now) }
 {
     let mut given = Vec::new(alloc);
     let mut rest = fields;
@@ -46,6 +78,21 @@ fn with_string(
     }
     let last = string_field(alloc, cap, string)?;
     given.push(last)?;
+    Ok(given)
+}
+
+/// The fields with the first one about the capability given the string, or with one more before the uses at the end.
+fn with_string(
+    alloc: Global,
+    fields: &[Field],
+    cap: Cap,
+    string: &[u8],
+) -> Result<Vec<Field>, AllocError>
+    ensures { IfOk result (λ given. given.items ≡ with_given cap string.now fields.now) }
+{
+    let (own, uses) = fields.split_at(own_count(fields));
+    let mut given = with_own(alloc, own, cap, string)?;
+    push_copied(&mut given, uses)?;
     Ok(given)
 }
 

@@ -1,6 +1,6 @@
 //! Files whose entries are put together, with fields that are given strings.
 
-ghost use Rattle.std.specs.{Prelude.{◌≡◌, ◌++◌, IfOk, IsTrue, OnOk, true}, List.{AllByRecursion}};
+ghost use Rattle.std.specs.{Prelude.{◌≡◌, ◌≢◌, ◌++◌, [], IfOk, IsTrue, OnOk, true}, List.{AllByRecursion}};
 ghost use Rattle.ti_caps.specs.Fits.{string_fits};
 ghost use Rattle.ti_fixes.specs.Files as spec;
 
@@ -80,6 +80,7 @@ fn copied(alloc: Global, file: &Text) -> Result<Text, AllocError>
 /// The source with the changes, of which there is at least one.
 fn changed(alloc: Global, file: &Text, changes: &[Change]) -> Result<Text, ChangeFault>
     requires fits { AllByRecursion (λ change. IsTrue (string_fits change.string)) changes.now }
+    requires some { changes.now ≢ [] }
     requires source { file.now.is_source ≡ true }
     ensures { IfOk result (λ new. spec.IsChangedFile changes.now (spec.sheet_of file.now) (spec.sheet_of new)) }
 {

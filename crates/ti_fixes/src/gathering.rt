@@ -2,6 +2,7 @@
 
 ghost use Rattle.std.specs.{Prelude.{◌≡◌, ◌<◌, ◌≤◌, IfErr, IfOk, IsTrue, length}, List.{AllByRecursion}};
 ghost use Rattle.ti_caps.specs.Fits.{string_fits};
+ghost use Rattle.ti_fixes.specs.Mended as mended;
 ghost use Rattle.ti_fixes.specs.Remedies as spec;
 ghost use Rattle.ti_resolve.specs.Walk.{FailsBy, walk_at};
 ghost use Rattle.ti_source.specs.Raw.{IsRaw};
@@ -10,9 +11,19 @@ use crate::advice::{Advice, Adviser, Remedy};
 use crate::changes::Change;
 use std::alloc::{AllocError, Global};
 use ti_resolve::{Index, Origin, ResolveFault, origin_from, resolve_from};
+use ti_source::RawEntry;
+
+/// The entries that are to be mended.
+#[derive(Clone, Copy, Debug, PartialEq, Eq)]
+pub enum Wanted {
+    /// As many entries as this, from the first one on.
+    First(usize),
+    /// The entry at this place alone.
+    Only(usize),
+}
 
 /// The place of the entry that has the field at `origin`; else `root`.
-fn place_or(root: usize, origin: Option<Origin>) -> usize
+pub fn place_or(root: usize, origin: Option<Origin>) -> usize
     ensures { result ≡ spec.place_or root origin }
 {
     match origin {
@@ -34,14 +45,18 @@ fn placed(
 {
     let origin = origin_from(alloc, index, root, advice.cap)?;
     let change = Change::of(place_or(root, origin), advice.cap, &advice.string)?;
-    Ok(Remedy { root, change })
+    Ok(Remedy {
+        root,
+        fault: advice.fault,
+        change,
+    })
 }
 
 /// The remedies for an entry, or why it can't be resolved.
-type Found = Result<Vec<Remedy>, ResolveFault>;
+type Placed = Result<Vec<Remedy>, ResolveFault>;
 
 /// The remedies by which the entry at `root` gets the advised strings.
-fn all_placed(alloc: Global, index: &Index<'_>, root: usize, advices: &[Advice]) -> Found
+fn all_placed(alloc: Global, index: &Index<'_>, root: usize, advices: &[Advice]) -> Placed
     requires there { root < length index.now.raws.now }
     requires fits { AllByRecursion (λ one. IsTrue (string_fits one.string)) advices.now }
     ensures placed { IfOk result (λ remedies. spec.ArePlaced index.now.raws.now root advices.now remedies.items) }
@@ -58,7 +73,7 @@ fn all_placed(alloc: Global, index: &Index<'_>, root: usize, advices: &[Advice])
 
 /// The remedies for the entry at `root`, which can be resolved.
 #[tactic(auto, using(ti_resolve::proofs::Taken::raws_fields, ti_resolve::proofs::Taken::names_fit_at))]
-fn found<A: Adviser>(alloc: Global, adviser: &A, index: &Index<'_>, root: usize) -> Found
+fn found<A: Adviser>(alloc: Global, adviser: &A, index: &Index<'_>, root: usize) -> Placed
     requires fit { AllByRecursion IsRaw index.now.raws.now }
     requires there { root < length index.now.raws.now }
     ensures advised { IfOk result
@@ -72,18 +87,13 @@ fn found<A: Adviser>(alloc: Global, adviser: &A, index: &Index<'_>, root: usize)
 }
 
 /// The remedies for entries, unless memory ran out.
-pub type Advised = Result<Vec<Remedy>, AllocError>;
+type Advised = Result<Vec<Remedy>, AllocError>;
 
 /// The remedies for the entry at `root`; none if it can't be resolved.
 ///
 /// # Errors
 /// Out of memory.
-pub fn remedies_at<A: Adviser>(
-    alloc: Global,
-    adviser: &A,
-    index: &Index<'_>,
-    root: usize,
-) -> Advised
+fn remedies_at<A: Adviser>(alloc: Global, adviser: &A, index: &Index<'_>, root: usize) -> Advised
     requires fit { AllByRecursion IsRaw index.now.raws.now }
     requires there { root < length index.now.raws.now }
     ensures advised { IfOk result
@@ -103,12 +113,7 @@ pub fn remedies_at<A: Adviser>(
 ///
 /// # Errors
 /// Out of memory.
-pub fn all_remedies<A: Adviser>(
-    alloc: Global,
-    adviser: &A,
-    index: &Index<'_>,
-    count: usize,
-) -> Advised
+fn all_remedies<A: Adviser>(alloc: Global, adviser: &A, index: &Index<'_>, count: usize) -> Advised
     requires fit { AllByRecursion IsRaw index.now.raws.now }
     requires there { count ≤ length index.now.raws.now }
     ensures advised { IfOk result
@@ -121,4 +126,27 @@ pub fn all_remedies<A: Adviser>(
         remedies.append(&mut own)?;
     }
     Ok(remedies)
+}
+
+/// The remedies that `adviser` has for the `wanted` entries of the `raws`, in their order.
+///
+/// # Errors
+/// Out of memory.
+pub fn remedies_for<A: Adviser>(
+    alloc: Global,
+    adviser: &A,
+    raws: &[RawEntry],
+    wanted: Wanted,
+) -> Advised
+    requires fit { AllByRecursion IsRaw raws.now }
+    requires there { mended.Fits (length raws.now) wanted }
+    ensures advised { IfOk result
+        (λ remedies. mended.AreWanted (A.advises adviser.now) raws.now wanted remedies.items) }
+    ensures fits { IfOk result (λ remedies. AllByRecursion spec.Fits remedies.items) }
+{
+    let index = Index::new(alloc, raws)?;
+    match wanted {
+        Wanted::First(count) => all_remedies(alloc, adviser, &index, count),
+        Wanted::Only(root) => remedies_at(alloc, adviser, &index, root),
+    }
 }

@@ -3,28 +3,29 @@
 #![tactic(auto)]
 
 mod advice;
+mod boards;
 mod changes;
+mod choices;
 mod comparisons;
 mod copies;
 mod cuts;
 mod differences;
 mod entries;
 mod files;
+mod findings;
 mod fixes;
 mod gathering;
-mod losses;
+mod kept;
 mod places;
-mod rivals;
 mod rounds;
-mod standings;
+mod steps;
 mod texts;
-mod treated;
 
-pub use advice::{Advice, Adviser, Remedy};
+pub use advice::{Advice, Adviser, Finding, Found, Remedy, Weight};
 pub use changes::{Change, ChangeFault, give_all};
 pub use copies::push_entries;
 pub use files::{Text, Texts};
 pub use fixes::{Fixed, entries_of};
-pub use gathering::{all_remedies, remedies_at};
-pub use rounds::{Remedied, take_all};
-pub use treated::{Reason, Treated};
+pub use gathering::Wanted;
+pub use kept::{Kept, Reason};
+pub use rounds::{Remedied, mend_all};

@@ -146,19 +146,27 @@ fn named_piece(text: &[u8], pieces: &[Piece], name: &[u8]) -> Option<Piece> {
     None
 }
 
-/// The empty piece behind the comma after the last of the pieces.
-fn behind(pieces: &[Piece]) -> Option<Piece> {
-    match pieces {
-        [] => None,
-        [.., last] => Some(Piece {
-            start: last.start.saturating_add(last.length).saturating_add(1),
-            length: 0,
-        }),
-    }
+/// Whether the piece is a use of another entry.
+fn is_use(text: &[u8], piece: Piece) -> bool {
+    bytes_of(text, trimmed(text, piece)).starts_with(b"use=")
 }
 
-/// The piece of the text that is the first of the entry's fields about `cap`, or the empty piece behind the last one if
-/// there is none. `pieces` are those of the entry before commas.
+/// The empty piece behind the comma after the last of the pieces that is no use.
+fn behind(text: &[u8], pieces: &[Piece]) -> Option<Piece> {
+    let mut found = None;
+    for piece in pieces {
+        if !is_use(text, *piece) {
+            found = Some(Piece {
+                start: piece.start.saturating_add(piece.length).saturating_add(1),
+                length: 0,
+            });
+        }
+    }
+    found
+}
+
+/// The piece of the text that is the first of the entry's fields about `cap`, or the empty piece behind the last own one
+/// if there is none. `pieces` are those of the entry before commas.
 fn piece_about(text: &[u8], pieces: &[Piece], cap: Cap) -> Option<Piece> {
     let fields: &[Piece] = match pieces {
         [] => &[],
@@ -166,11 +174,11 @@ fn piece_about(text: &[u8], pieces: &[Piece], cap: Cap) -> Option<Piece> {
     };
     match named_piece(text, fields, name(cap)) {
         Some(piece) => Some(piece),
-        None => behind(pieces),
+        None => behind(text, pieces),
     }
 }
 
-/// The piece of a text of one entry that is its field about `cap`, or the empty piece behind its last field.
+/// The piece of a text of one entry that is its field about `cap`, or the empty piece behind its last own field.
 pub fn find_own_piece(alloc: Global, text: &[u8], cap: Cap) -> Result<Option<Piece>, AllocError> {
     let pieces = pieces_of(alloc, text)?;
     Ok(piece_about(text, pieces.as_slice(), cap))

@@ -1,5 +1,5 @@
 -- The reply of `check --fix`.
-use Rattle.std.specs.Prelude.{ℕ, ◌≡◌, ◌≢◌, ◌⊎◌, List, [], ◌∷◌, ◌++◌, false, Option, Some, None}
+use Rattle.std.specs.Prelude.{ℕ, ◌≡◌, ◌≢◌, ◌⊎◌, List, [], ◌∷◌, ◌++◌, Bool, false, Option, Some, None}
 use Rattle.std.specs.Prelude.{Result, Ok, Err, Vec, codes}
 use Rattle.std.specs.Global.{Global}
 use Rattle.std.specs.List.{AllByRecursion}
@@ -15,39 +15,39 @@ use Rattle.ti_files.specs.declared.failure.Failure.{Failure}
 use Rattle.ti_files.specs.declared.failure.Failure.TheVariants as failures
 use Rattle.ti_files.specs.declared.failure.Reply.{Reply}
 use Rattle.ti_fixes.specs.Files.{Sheet, all_raws}
-use Rattle.ti_fixes.specs.Remedies.{IsAdvisedAt}
-use Rattle.ti_fixes.specs.Treated.{IsRemedied}
-use Rattle.ti_fixes.specs.declared.advice.Remedy.{Remedy}
-use Rattle.ti_fixes.specs.declared.treated.Treated.{Treated}
-use Rattle.ti_repairs.specs.Advices.{Advises, Judges}
+use Rattle.ti_fixes.specs.Mended.{AreMended}
+use Rattle.ti_fixes.specs.declared.gathering.Wanted.TheVariants.{Only}
+use Rattle.ti_fixes.specs.declared.kept.Kept.{Kept}
+use Rattle.ti_repairs.specs.Advices.{Advises}
 use Rattle.ti_repairs.specs.Delivery.{Delivers}
-use Rattle.ti_repairs.specs.Notes.{IsStillWrong, left_out_lines, wrong_lines}
+use Rattle.ti_repairs.specs.Notes.{IsStillWrong, kept_lines, wrong_lines}
 use Rattle.ti_repairs.specs.Texts.{AreSheetsOf}
+use Rattle.ti_repairs.specs.Weights.{Finds, terms_of}
+use Rattle.ti_repairs.specs.declared.weights.Terms.{Terms}
 use Rattle.ti_requests.specs.declared.request.CheckWords.{CheckWords}
 use Rattle.ti_resolve.specs.Uses.{place_named}
 use Rattle.ti_source.specs.Raw.{IsRaw}
 use Rattle.ti_verdicts.specs.Checks.{FailsForEntry}
 use Rattle.ti_verdicts.specs.Refusals.{IsVerdict, TellsNo}
 
--- Files with all suggestions for the entry at a place taken or left out. The notes say which are left out, and what is
+-- Files in which the suggestions for the entry at a place are taken or kept. The notes say which are kept, and what is
 -- still wrong with the entry.
-pub record IsRepairedEntry (olds : List Sheet) (rows cols root : ℕ) (news : List Sheet) (notes : List ℕ)
+pub record IsRepairedEntry (olds : List Sheet) (terms : Terms) (root : ℕ) (news : List Sheet) (notes : List ℕ)
     (wrong : Result (Vec No Global) CommandRefusal) : Type 0 where
-  pub remedies : List Remedy
-  pub advised : IsAdvisedAt (Advises rows cols) (all_raws olds) root remedies
-  pub treated : List Treated
-  pub done : IsRemedied (Judges rows cols) olds remedies treated news
-  pub still : IsStillWrong (all_raws news) rows cols root wrong
-  pub noted : notes ≡ left_out_lines false (all_raws news) treated ++ wrong_lines [] wrong
+  pub kept : List Kept
+  pub is_ended : Bool
+  pub mended : AreMended (Finds terms) (Advises terms) olds (Only root) news kept
+  pub still : IsStillWrong (all_raws news) terms.size.rows terms.size.cols root wrong
+  pub noted : notes ≡ kept_lines false (all_raws news) kept is_ended ++ wrong_lines [] wrong
 
 -- the files of a source, and its entry of that name
-pub record IsRepairedSource (source : SourceText) (rows cols : ℕ) (news : List Sheet) (notes : List ℕ)
+pub record IsRepairedSource (source : SourceText) (terms : Terms) (news : List Sheet) (notes : List ℕ)
     (wrong : Result (Vec No Global) CommandRefusal) : Type 0 where
   pub olds : List Sheet
   pub files_are : AreSheetsOf source.path.now source.text.items (together_of source) olds
   pub root : ℕ
   pub named : place_named source.raws.items source.name.now ≡ Some root
-  pub repaired : IsRepairedEntry olds rows cols root news notes wrong
+  pub repaired : IsRepairedEntry olds terms root news notes wrong
 
 -- the reply fails as the first of the faults does; it doesn't fail if there is none
 abbrev pub EndsAsFaults : List No → Option Failure → Type 0
@@ -62,7 +62,7 @@ EndsAsWrong (Err refusal) ended = ended ≡ Some (failures.Refused refusal)
 
 -- The source that the word names, and the files of `--with`, with the suggestions for the entry's faults taken. The new
 -- texts are read and judged again, and what is still wrong decides how the reply ends.
-pub record IsFixed (before after : Held) (words : CheckWords) (reply : Reply) : Type 0 where
+pub record IsFixed (before after : Held) (words : CheckWords) (standard : Bool) (reply : Reply) : Type 0 where
   pub height : ℕ
   pub width : ℕ
   pub given : SizeGiven words.rows.now words.cols.now height width
@@ -71,7 +71,7 @@ pub record IsFixed (before after : Held) (words : CheckWords) (reply : Reply) : 
   pub gives : IsSourced before words.entry.now entry (Some source)
   pub news : List Sheet
   pub wrong : Result (Vec No Global) CommandRefusal
-  pub repaired : IsRepairedSource source height width news reply.notes.items wrong
+  pub repaired : IsRepairedSource source (terms_of height width standard) news reply.notes.items wrong
   pub ended : Option Failure
   pub ends : EndsAsWrong wrong ended
   pub delivers : Delivers source.further.items news ended words.out before after reply
@@ -101,10 +101,10 @@ FailsToFix held words failure =
 -- ---- for private clauses
 
 -- files of which the reply would end so
-pub record IsReady (source : SourceText) (rows cols : ℕ) (news : List Sheet) (notes : List ℕ) (ended : Option Failure)
+pub record IsReady (source : SourceText) (terms : Terms) (news : List Sheet) (notes : List ℕ) (ended : Option Failure)
     : Type 0 where
   pub wrong : Result (Vec No Global) CommandRefusal
-  pub repaired : IsRepairedSource source rows cols news notes wrong
+  pub repaired : IsRepairedSource source terms news notes wrong
   pub ends : EndsAsWrong wrong ended
 
 -- the entry of this name in the entries of a source and of further files, which are read as these

@@ -1,3 +1,5 @@
+pub mod Paddings
+pub mod Weights
 pub mod Advices
 pub mod Texts
 pub mod Notes

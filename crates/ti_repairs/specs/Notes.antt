@@ -1,5 +1,5 @@
 -- The notes on standard error about files with suggestions taken.
-use Rattle.std.specs.Prelude.{ℕ, ◌≡◌, Bool, true, false, List, [], ◌∷◌, ◌++◌, Option, Some, None, Result, Ok, Err}
+use Rattle.std.specs.Prelude.{ℕ, ◌≡◌, Bool, true, false, List, [], ◌∷◌, ◌++◌, Result, Ok, Err}
 use Rattle.std.specs.Prelude.{Vec, codes}
 use Rattle.std.specs.Global.{Global}
 use Rattle.std.specs.List.{flat_map}
@@ -13,9 +13,9 @@ use Rattle.ti_files.specs.Shown.{shown}
 use Rattle.ti_files.specs.declared.failure.CommandRefusal.{CommandRefusal}
 use Rattle.ti_fixes.specs.Parts.{AreParts}
 use Rattle.ti_fixes.specs.declared.advice.Remedy.{Remedy}
-use Rattle.ti_fixes.specs.declared.treated.Reason.{Reason}
-use Rattle.ti_fixes.specs.declared.treated.Reason.TheVariants.{Unplaced, Rival, Lost}
-use Rattle.ti_fixes.specs.declared.treated.Treated.{Treated}
+use Rattle.ti_fixes.specs.declared.kept.Kept.{Kept}
+use Rattle.ti_fixes.specs.declared.kept.Reason.{Reason}
+use Rattle.ti_fixes.specs.declared.kept.Reason.TheVariants.{Unplaced, Changes, Faults, Loses, Refused}
 use Rattle.ti_resolve.specs.Uses.{names_at}
 use Rattle.ti_source.specs.declared.types.RawEntry.{RawEntry}
 use Rattle.ti_verdicts.specs.Locations.{first_name}
@@ -27,11 +27,13 @@ own_name raws place = first_name (names_at raws place)
 
 -- ---- suggestions that are left out
 
--- why a suggestion is left out, with the first name of another entry
-abbrev pub reason_text : List RawEntry → Reason → List ℕ
-reason_text raws Unplaced = codes "no place for its field was found"
-reason_text raws (Rival root) = shown (own_name raws root) ++ codes " wants another string"
-reason_text raws (Lost place) = shown (own_name raws place) ++ codes " would lose its yes"
+-- why a suggestion is left out, with the first name of an entry; `root` is the one that wants it
+abbrev pub reason_text : List RawEntry → ℕ → Reason → List ℕ
+reason_text raws root Unplaced = codes "no way to take it was found"
+reason_text raws root (Changes place) = shown (own_name raws place) ++ codes " would change and not be mended"
+reason_text raws root (Faults place cap) = shown (own_name raws place) ++ (codes " would be at fault in " ++ name_at cap)
+reason_text raws root (Loses place) = shown (own_name raws place) ++ codes " would lose its yes"
+reason_text raws root Refused = shown (own_name raws root) ++ codes " would stay at fault"
 
 -- ` of NAME`, if entries are named
 abbrev pub of_text : Bool → List ℕ → List ℕ
@@ -42,16 +44,20 @@ of_text false name = []
 abbrev pub reason_line : Bool → List RawEntry → Remedy → Reason → List ℕ
 reason_line named raws remedy reason =
     codes "kept " ++ (name_at remedy.change.cap ++ (of_text named (own_name raws remedy.root)
-    ++ (codes ": " ++ (reason_text raws reason ++ 10 ∷ []))))
-
--- nothing for a suggestion that is taken
-abbrev pub left_out_line : Bool → List RawEntry → Remedy → Option Reason → List ℕ
-left_out_line named raws remedy None = []
-left_out_line named raws remedy (Some reason) = reason_line named raws remedy reason
+    ++ (codes ": " ++ (reason_text raws remedy.root reason ++ 10 ∷ []))))
 
 -- a line for each suggestion that is left out
-abbrev pub left_out_lines : Bool → List RawEntry → List Treated → List ℕ
-left_out_lines named raws treated = flat_map (λ one. left_out_line named raws one.remedy one.left_out) treated
+abbrev pub left_out_lines : Bool → List RawEntry → List Kept → List ℕ
+left_out_lines named raws kept = flat_map (λ (one : Kept). reason_line named raws one.remedy one.reason) kept
+
+-- a line if it isn't known that nothing more can be taken
+abbrev pub ended_line : Bool → List ℕ
+ended_line true = []
+ended_line false = codes "more suggestions may be taken by another run\n"
+
+-- the notes about suggestions that are left out
+abbrev pub kept_lines : Bool → List RawEntry → List Kept → Bool → List ℕ
+kept_lines named raws kept ended = left_out_lines named raws kept ++ ended_line ended
 
 -- ---- entries that are still wrong
 

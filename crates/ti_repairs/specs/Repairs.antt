@@ -11,29 +11,29 @@ use Rattle.ti_files.specs.declared.failure.Failure.{Failure}
 use Rattle.ti_files.specs.declared.failure.Failure.TheVariants.{NoMemory}
 use Rattle.ti_files.specs.declared.failure.Reply.{Reply}
 use Rattle.ti_fixes.specs.Files.{Sheet, all_raws}
-use Rattle.ti_fixes.specs.Remedies.{AreAdvised}
-use Rattle.ti_fixes.specs.Treated.{IsRemedied}
-use Rattle.ti_fixes.specs.declared.advice.Remedy.{Remedy}
-use Rattle.ti_fixes.specs.declared.treated.Treated.{Treated}
-use Rattle.ti_repairs.specs.Advices.{Advises, Judges}
+use Rattle.ti_fixes.specs.Mended.{AreMended}
+use Rattle.ti_fixes.specs.declared.gathering.Wanted.TheVariants.{First}
+use Rattle.ti_fixes.specs.declared.kept.Kept.{Kept}
+use Rattle.ti_repairs.specs.Advices.{Advises}
 use Rattle.ti_repairs.specs.Delivery.{Delivers}
-use Rattle.ti_repairs.specs.Notes.{AreStillWrong, left_out_lines}
+use Rattle.ti_repairs.specs.Notes.{AreStillWrong, kept_lines}
 use Rattle.ti_repairs.specs.Texts.{AreSheetsOf}
+use Rattle.ti_repairs.specs.Weights.{Finds, terms_of}
+use Rattle.ti_repairs.specs.declared.weights.Terms.{Terms}
 use Rattle.ti_repairs.specs.declared.words.FixWords.{FixWords}
 use Rattle.ti_source.specs.Source.{source_of}
 use Rattle.ti_source.specs.declared.types.RawEntry.{RawEntry}
 use Rattle.ti_verdicts.specs.Refusals.{IsVerdict}
 
--- Files with all suggestions for the first `count` entries taken or left out. The notes say which are left out, and
+-- Files in which the suggestions for the first `count` entries are taken or kept. The notes say which are kept, and
 -- then what is still wrong with these entries.
-pub record IsRepaired (olds : List Sheet) (rows cols count : ℕ) (news : List Sheet) (notes still : List ℕ)
+pub record IsRepaired (olds : List Sheet) (terms : Terms) (count : ℕ) (news : List Sheet) (notes still : List ℕ)
     : Type 0 where
-  pub remedies : List Remedy
-  pub advised : AreAdvised (Advises rows cols) (all_raws olds) count remedies
-  pub treated : List Treated
-  pub done : IsRemedied (Judges rows cols) olds remedies treated news
-  pub lines : AreStillWrong (all_raws news) rows cols count still
-  pub noted : notes ≡ left_out_lines true (all_raws news) treated ++ still
+  pub kept : List Kept
+  pub is_ended : Bool
+  pub mended : AreMended (Finds terms) (Advises terms) olds (First count) news kept
+  pub lines : AreStillWrong (all_raws news) terms.size.rows terms.size.cols count still
+  pub noted : notes ≡ kept_lines true (all_raws news) kept is_ended ++ still
 
 -- the file at a path is this source text with this number of entries; all are its own and those of `--with`
 pub record IsReadAt (held : Held) (path text : List ℕ) (count : ℕ) (all : Together) : Type 0 where
@@ -55,10 +55,10 @@ has_lines [] = false
 has_lines (first ∷ others) = true
 
 -- files of which a reply would end so: a strict one fails if something is still wrong
-pub record IsReady (olds : List Sheet) (rows cols count : ℕ) (is_strict : Bool) (news : List Sheet) (notes : List ℕ)
+pub record IsReady (olds : List Sheet) (terms : Terms) (count : ℕ) (is_strict : Bool) (news : List Sheet) (notes : List ℕ)
     (ended : Option Failure) : Type 0 where
   pub still : List ℕ
-  pub repaired : IsRepaired olds rows cols count news notes still
+  pub repaired : IsRepaired olds terms count news notes still
   pub ends : FailsIf (is_strict && has_lines still) ended
 
 -- The source at the path, and the files of `--with`, with all suggestions for the source's entries taken or left out.
@@ -74,7 +74,7 @@ pub record IsFixed (before after : Held) (words : FixWords) (reply : Reply) : Ty
   pub files_are : AreSheetsOf words.path.now text all olds
   pub news : List Sheet
   pub ended : Option Failure
-  pub ready : IsReady olds height width count words.is_strict news reply.notes.items ended
+  pub ready : IsReady olds (terms_of height width words.is_standard) count words.is_strict news reply.notes.items ended
   pub delivers : Delivers all.files news ended words.out before after reply
 
 -- the file at a path can't be read, or its text has a fault

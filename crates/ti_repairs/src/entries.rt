@@ -9,21 +9,20 @@ ghost use Rattle.ti_resolve.specs.Uses.{place_named};
 ghost use Rattle.ti_source.specs.Raw.{IsRaw};
 
 use crate::delivery::{Repaired, delivered, refused, target_of};
-use crate::notes::left_out_lines;
-use crate::remedies::own_remedies;
+use crate::notes::kept_lines;
 use crate::still_wrong::{StillWrong, still_wrong, wrong_lines};
 use crate::suggestions::Suggestions;
 use crate::texts::texts_of;
+use crate::weights::Terms;
 use std::alloc::{AllocError, Global};
 use ti_checker::No;
 use ti_commands::{PutTogether, SourceText, Sourced, sourced_entry};
 use ti_files::{Failure, Files, Remarks, Replied, size_words};
-use ti_fixes::{Text, Texts, take_all};
+use ti_fixes::{Remedied, Text, Texts, Wanted, mend_all};
 use ti_requests::CheckWords;
 use ti_source::RawEntry;
 use ti_sources::place_named;
 use ti_verdicts::no_failure;
-use vt_term::Size;
 
 /// Files with suggestions for one entry taken, the notes about them, and what is still wrong with the entry.
 #[derive(Drop)]
@@ -65,29 +64,32 @@ fn root_of(raws: &[RawEntry], name: &[u8]) -> usize
     }
 }
 
-/// The files in which the suggestions for all faults of the entry at `root` are taken or left out.
+/// The files in which the suggestions for the faults of the entry at `root` are taken or kept.
 fn repaired_at(
     alloc: Global,
-    size: Size,
+    terms: Terms,
     root: usize,
     texts: Texts,
 ) -> Result<RepairedEntry, AllocError>
     requires whole { texts.raws.items ≡ all_raws (sheets texts.files.items) }
     requires fit { AllByRecursion IsRaw texts.raws.items }
     requires there { root < length texts.raws.items }
-    ensures { IfOk result (λ done. spec.IsRepairedEntry (sheets texts.files.items) size.rows size.cols root
+    ensures { IfOk result (λ done. spec.IsRepairedEntry (sheets texts.files.items) terms root
         (sheets done.files.items) done.notes.items done.wrong) }
 {
-    let adviser = Suggestions { size };
-    let remedies = own_remedies(alloc, &adviser, texts.raws.as_slice(), root)?;
-    let done = take_all(alloc, &adviser, texts, remedies.as_slice())?;
-    let raws = done.texts.raws.as_slice();
-    let wrong = still_wrong(alloc, raws, size, root)?;
-    let mut notes = left_out_lines(alloc, false, raws, done.treated.as_slice())?;
+    let adviser = Suggestions { terms };
+    let Remedied {
+        texts,
+        kept,
+        is_ended,
+    } = mend_all(alloc, &adviser, texts, Wanted::Only(root))?;
+    let raws = texts.raws.as_slice();
+    let wrong = still_wrong(alloc, raws, terms.size, root)?;
+    let mut notes = kept_lines(alloc, false, raws, kept.as_slice(), is_ended)?;
     let lines = wrong_lines(alloc, &[], &wrong)?;
     notes.extend_from_slice(lines.as_slice())?;
     Ok(RepairedEntry {
-        files: done.texts.files,
+        files: texts.files,
         notes,
         wrong,
     })
@@ -96,11 +98,11 @@ fn repaired_at(
 /// The files of `source` in which the suggestions for all faults of its entry are taken or left out.
 fn repaired_source(
     alloc: Global,
-    size: Size,
+    terms: Terms,
     source: SourceText<'_>,
 ) -> Result<RepairedEntry, AllocError>
     requires { (entry : Content) × spec.StandsTogether source entry }
-    ensures { IfOk result (λ done. spec.IsRepairedSource source.entry size.rows size.cols (sheets done.files.items)
+    ensures { IfOk result (λ done. spec.IsRepairedSource source.entry terms (sheets done.files.items)
         done.notes.items done.wrong) }
 {
     let SourceText {
@@ -118,20 +120,20 @@ fn repaired_source(
         counts,
     };
     let texts = texts_of(alloc, path, text, all)?;
-    repaired_at(alloc, size, root, texts)
+    repaired_at(alloc, terms, root, texts)
 }
 
 /// The files of `source`, and how the reply with them ends.
-fn ready(alloc: Global, size: Size, source: SourceText<'_>) -> Result<Repaired, AllocError>
+fn ready(alloc: Global, terms: Terms, source: SourceText<'_>) -> Result<Repaired, AllocError>
     requires { (entry : Content) × spec.StandsTogether source entry }
-    ensures { IfOk result (λ done. spec.IsReady source.entry size.rows size.cols (sheets done.files.items)
+    ensures { IfOk result (λ done. spec.IsReady source.entry terms (sheets done.files.items)
         done.notes.items done.ended) }
 {
     let RepairedEntry {
         files,
         notes,
         wrong,
-    } = repaired_source(alloc, size, source)?;
+    } = repaired_source(alloc, terms, source)?;
     Ok(Repaired {
         files,
         notes,
@@ -141,10 +143,10 @@ fn ready(alloc: Global, size: Size, source: SourceText<'_>) -> Result<Repaired, 
 
 /// Replies with the source text that the `words` name, in which the suggestions for all faults of the entry are taken;
 /// it goes to a path, or to standard output. With files of `--with` suggestions are taken in these too, and each file
-/// in which a field was given another string goes to the folder that the words name, under its own name. A suggestion
-/// is left out if its field isn't found, or if an entry of these files would lose its yes. The notes have a line for
-/// each suggestion that is left out and for each fault that the entry still has, and the reply fails with the first of
-/// these faults.
+/// in which a field was given another string goes to the folder that the words name, under its own name. No entry of
+/// these files gets a fault by it, and no value of them changes but those at fault. The notes have a line for each
+/// suggestion that is left out and for each fault that the entry still has, and the reply fails with the first of these
+/// faults. If `is_standard`, strings are also suggested for faults of which T can't tell whether they are some.
 ///
 /// # Errors
 /// The words give no size or no entry; `NoSource` for the entry of a compiled file; `SeveralFiles` with files of
@@ -152,10 +154,12 @@ fn ready(alloc: Global, size: Size, source: SourceText<'_>) -> Result<Repaired, 
 pub fn fix_entry<F: Files>(
     alloc: Global,
     words: &CheckWords<'_>,
+    is_standard: bool,
     files: &mut F,
     remarks: &mut Remarks,
 ) -> Replied
-    ensures reply { IfOk result (λ reply. spec.IsFixed (F.holds files.old) (F.holds files.new) words.now reply) }
+    ensures reply { IfOk result
+        (λ reply. spec.IsFixed (F.holds files.old) (F.holds files.new) words.now is_standard reply) }
     ensures failure { IfErr result (λ e. spec.FailsToFix (F.holds files.old) words.now e) }
     ensures kept { OnErr result (F.holds files.new ≡ F.holds files.old) }
 {
@@ -169,6 +173,7 @@ pub fn fix_entry<F: Files>(
         return Err(refused(alloc, b"NoSource"));
     };
     let target = target_of(alloc, source.further.as_slice(), words.out, remarks)?;
-    let repaired = ready(alloc, size, source)?;
+    let terms = Terms { size, is_standard };
+    let repaired = ready(alloc, terms, source)?;
     Ok(delivered(alloc, repaired, target, files, remarks)?)
 }

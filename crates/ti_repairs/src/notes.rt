@@ -6,7 +6,7 @@ ghost use Rattle.ti_repairs.specs.Notes as spec;
 use std::alloc::{AllocError, Global};
 use ti_caps::name;
 use ti_files::push_shown;
-use ti_fixes::{Reason, Remedy, Treated};
+use ti_fixes::{Kept, Reason, Remedy};
 use ti_source::RawEntry;
 use ti_verdicts::{first_name, names_of};
 
@@ -17,19 +17,33 @@ pub fn own_name(raws: &[RawEntry], place: usize) -> &[u8]
     first_name(names_of(raws, place))
 }
 
-/// Appends why a suggestion is left out.
-fn push_reason(lines: &mut Vec<u8>, raws: &[RawEntry], reason: Reason) -> Result<(), AllocError>
-    ensures { OnOk result (lines.new.items ≡ lines.old.items ++ spec.reason_text raws.now reason) }
+/// Appends why a suggestion is left out that the entry at `root` wants.
+fn push_reason(
+    lines: &mut Vec<u8>,
+    raws: &[RawEntry],
+    root: usize,
+    reason: Reason,
+) -> Result<(), AllocError>
+    ensures { OnOk result (lines.new.items ≡ lines.old.items ++ spec.reason_text raws.now root reason) }
 {
     match reason {
-        Reason::Unplaced => lines.extend_from_slice(b"no place for its field was found"),
-        Reason::Rival(root) => {
-            push_shown(lines, own_name(raws, root))?;
-            lines.extend_from_slice(b" wants another string")
+        Reason::Unplaced => lines.extend_from_slice(b"no way to take it was found"),
+        Reason::Changes(place) => {
+            push_shown(lines, own_name(raws, place))?;
+            lines.extend_from_slice(b" would change and not be mended")
         }
-        Reason::Lost(place) => {
+        Reason::Faults(place, cap) => {
+            push_shown(lines, own_name(raws, place))?;
+            lines.extend_from_slice(b" would be at fault in ")?;
+            lines.extend_from_slice(name(cap))
+        }
+        Reason::Loses(place) => {
             push_shown(lines, own_name(raws, place))?;
             lines.extend_from_slice(b" would lose its yes")
+        }
+        Reason::Refused => {
+            push_shown(lines, own_name(raws, root))?;
+            lines.extend_from_slice(b" would stay at fault")
         }
     }
 }
@@ -59,39 +73,48 @@ fn push_line(
     lines.extend_from_slice(name(remedy.change.cap))?;
     push_of(lines, named, own_name(raws, remedy.root))?;
     lines.extend_from_slice(b": ")?;
-    push_reason(lines, raws, reason)?;
+    push_reason(lines, raws, remedy.root, reason)?;
     lines.push(b'\n')?;
     Ok(())
 }
 
-/// Appends the line of a suggestion, if it is left out.
-fn push_left_out(
-    lines: &mut Vec<u8>,
-    named: bool,
-    raws: &[RawEntry],
-    one: &Treated,
-) -> Result<(), AllocError>
-    ensures { OnOk result
-        (lines.new.items ≡ lines.old.items ++ spec.left_out_line named raws.now one.now.remedy one.now.left_out) }
+/// Appends a line if it isn't known that nothing more can be taken.
+fn push_ended(lines: &mut Vec<u8>, is_ended: bool) -> Result<(), AllocError>
+    ensures { OnOk result (lines.new.items ≡ lines.old.items ++ spec.ended_line is_ended) }
 {
-    match one.left_out {
-        None => Ok(()),
-        Some(reason) => push_line(lines, named, raws, &one.remedy, reason),
+    if !is_ended {
+        lines.extend_from_slice(b"more suggestions may be taken by another run\n")?;
     }
+    Ok(())
 }
 
 /// A line for each suggestion that is left out. Entries are `named` unless all suggestions are for one.
-pub fn left_out_lines(
+fn left_out_lines(
     alloc: Global,
     named: bool,
     raws: &[RawEntry],
-    treated: &[Treated],
+    kept: &[Kept],
 ) -> Result<Vec<u8>, AllocError>
-    ensures { IfOk result (λ lines. lines.items ≡ spec.left_out_lines named raws.now treated.now) }
+    ensures { IfOk result (λ lines. lines.items ≡ spec.left_out_lines named raws.now kept.now) }
 {
     let mut lines = Vec::new(alloc);
-    for one in treated {
-        push_left_out(&mut lines, named, raws, one)?;
+    for one in kept {
+        push_line(&mut lines, named, raws, &one.remedy, one.reason)?;
     }
+    Ok(lines)
+}
+
+/// The lines about the suggestions that are left out, and whether more may be taken.
+pub fn kept_lines(
+    alloc: Global,
+    named: bool,
+    raws: &[RawEntry],
+    kept: &[Kept],
+    is_ended: bool,
+) -> Result<Vec<u8>, AllocError>
+    ensures { IfOk result (λ lines. lines.items ≡ spec.kept_lines named raws.now kept.now is_ended) }
+{
+    let mut lines = left_out_lines(alloc, named, raws, kept)?;
+    push_ended(&mut lines, is_ended)?;
     Ok(lines)
 }

@@ -7,21 +7,20 @@ ghost use Rattle.ti_repairs.specs.Repairs as spec;
 ghost use Rattle.ti_source.specs.{Raw.{IsRaw}, Source.{source_of}};
 
 use crate::delivery::{Repaired, delivered, refused, target_of};
-use crate::notes::left_out_lines;
-use crate::remedies::first_remedies;
+use crate::notes::kept_lines;
 use crate::still_wrong::all_still_wrong;
 use crate::suggestions::Suggestions;
 use crate::texts::texts_of;
+use crate::weights::Terms;
 use crate::words::FixWords;
 use std::alloc::{AllocError, Global};
 use ti_commands::{PutTogether, put_together};
 use ti_files::{
     CommandRefusal, Failure, Files, LONGEST_FILE, Remarks, Replied, read_whole, size_words,
 };
-use ti_fixes::{Text, Texts, take_all};
+use ti_fixes::{Remedied, Text, Texts, Wanted, mend_all};
 use ti_hints::explain_source;
 use ti_source::{RawEntry, read};
-use vt_term::Size;
 
 /// A source text, and its entries together with those of the files of `--with`.
 #[derive(Drop)]
@@ -95,28 +94,31 @@ fn read_source<F: Files>(
     Ok(Source { text, count, all })
 }
 
-/// The files with all suggestions for the first `count` entries taken or left out.
+/// The files with the suggestions for the first `count` entries taken or kept.
 fn repaired_files(
     alloc: Global,
-    size: Size,
+    terms: Terms,
     count: usize,
     texts: Texts,
 ) -> Result<RepairedFiles, AllocError>
     requires whole { texts.raws.items ≡ all_raws (sheets texts.files.items) }
     requires fit { AllByRecursion IsRaw texts.raws.items }
     requires there { count ≤ length texts.raws.items }
-    ensures { IfOk result (λ done. spec.IsRepaired (sheets texts.files.items) size.rows size.cols count
-        (sheets done.files.items) done.notes.items done.still.items) }
+    ensures { IfOk result (λ done. spec.IsRepaired (sheets texts.files.items) terms count (sheets done.files.items)
+        done.notes.items done.still.items) }
 {
-    let adviser = Suggestions { size };
-    let remedies = first_remedies(alloc, &adviser, texts.raws.as_slice(), count)?;
-    let done = take_all(alloc, &adviser, texts, remedies.as_slice())?;
-    let raws = done.texts.raws.as_slice();
-    let mut notes = left_out_lines(alloc, true, raws, done.treated.as_slice())?;
-    let still = all_still_wrong(alloc, raws, size, count)?;
+    let adviser = Suggestions { terms };
+    let Remedied {
+        texts,
+        kept,
+        is_ended,
+    } = mend_all(alloc, &adviser, texts, Wanted::First(count))?;
+    let raws = texts.raws.as_slice();
+    let mut notes = kept_lines(alloc, true, raws, kept.as_slice(), is_ended)?;
+    let still = all_still_wrong(alloc, raws, terms.size, count)?;
     notes.extend_from_slice(still.as_slice())?;
     Ok(RepairedFiles {
-        files: done.texts.files,
+        files: texts.files,
         notes,
         still,
     })
@@ -146,7 +148,7 @@ fn ending(alloc: Global, is_strict: bool, still: &[u8]) -> Option<Failure>
 /// The files with all suggestions taken or left out, and how the reply with them ends.
 fn ready(
     alloc: Global,
-    size: Size,
+    terms: Terms,
     is_strict: bool,
     count: usize,
     texts: Texts,
@@ -154,14 +156,14 @@ fn ready(
     requires whole { texts.raws.items ≡ all_raws (sheets texts.files.items) }
     requires fit { AllByRecursion IsRaw texts.raws.items }
     requires there { count ≤ length texts.raws.items }
-    ensures { IfOk result (λ done. spec.IsReady (sheets texts.files.items) size.rows size.cols count is_strict
+    ensures { IfOk result (λ done. spec.IsReady (sheets texts.files.items) terms count is_strict
         (sheets done.files.items) done.notes.items done.ended) }
 {
     let RepairedFiles {
         files,
         notes,
         still,
-    } = repaired_files(alloc, size, count, texts)?;
+    } = repaired_files(alloc, terms, count, texts)?;
     Ok(Repaired {
         files,
         notes,
@@ -172,9 +174,8 @@ fn ready(
 /// Replies with the source text at the path of the `words`, in which the strings that are suggested for the faults of
 /// all its entries are taken; it goes to a path, or to standard output. With files of `--with` suggestions are taken in
 /// these too, and each file in which a field was given another string goes to the folder that the words name, under its
-/// own name. A suggestion is left out if its field isn't found, if another entry wants another string there, or if an
-/// entry of these files would lose its yes. The notes have a line for each suggestion that is left out, and for each
-/// fault that an entry of the source still has.
+/// own name. No entry of these files gets a fault by it, and no value of them changes but those at fault. The notes have
+/// a line for each suggestion that is left out, and for each fault that an entry of the source still has.
 ///
 /// # Errors
 /// The words give no size, or the path no source text; a file of `--with` can't be read; `SeveralFiles` with files of
@@ -193,6 +194,10 @@ pub fn fix_survey<F: Files>(
     let Source { text, count, all } = read_source(alloc, files, words.path, remarks)?;
     let target = target_of(alloc, all.files.as_slice(), words.out, remarks)?;
     let texts = texts_of(alloc, words.path, text, all)?;
-    let repaired = ready(alloc, size, words.is_strict, count, texts)?;
+    let terms = Terms {
+        size,
+        is_standard: words.is_standard,
+    };
+    let repaired = ready(alloc, terms, words.is_strict, count, texts)?;
     Ok(delivered(alloc, repaired, target, files, remarks)?)
 }

@@ -208,6 +208,7 @@ fn survey_plainly<F: Files, O: Output, E: Write + IsTerminal>(
 fn fix_words<'a>(words: &SurveyWords<'a>, out: Option<&'a str>) -> FixWords<'a> {
     FixWords {
         is_strict: words.is_strict,
+        is_standard: false,
         rows: words.rows,
         cols: words.cols,
         path: words.paths.first().copied().unwrap_or(""),
@@ -360,7 +361,7 @@ fn reply_to<P: Form, F: Files, O: Output, E: Write + IsTerminal>(
         Request::Feed { rows, cols, file } => feed_file(alloc, rows, cols, file, files, remarks),
         Request::FeedAs(words) => feed_state(alloc, words, files, remarks),
         Request::Tic { entry, out } => compile_entry(alloc, entry, *out, files, remarks),
-        Request::Check(words) if asked.fixes => fix_entry(alloc, words, files, remarks),
+        Request::Check(words) if asked.fixes => fix_entry(alloc, words, false, files, remarks),
         Request::Check(words) => check_counted(alloc, words, files, streams.err, remarks),
         Request::CheckAll(words) => check_all(alloc, words, texts, files, remarks),
         Request::CheckJson { lists_all, words } => {

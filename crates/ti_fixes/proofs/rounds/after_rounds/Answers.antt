@@ -1,30 +1,25 @@
-use Rattle.std.proofs.Common.{List, map, subst}
-use Rattle.ti_fixes.specs.Files.{sheets}
-use Rattle.ti_fixes.specs.Treated.{IsRound}
-use Rattle.ti_fixes.specs.declared.treated.Treated.{Treated}
-use Rattle.ti_fixes.proofs.RoundFacts.{again_is, done_is, done_raws, fits_of, start_round}
+use Rattle.std.proofs.Common.{refl, subst, sym}
+use Rattle.ti_fixes.proofs.StepFacts.{HaveSteps, steps_next}
+use Rattle.ti_fixes.specs.Steps.{AreSteps}
+use Rattle.ti_fixes.specs.declared.files.Texts.{Texts}
+use Rattle.ti_fixes.proofs.rounds.after_rounds.Goals.{in-Done, in-Unplaced+in_ok-push-in-Unplaced}
 use Rattle.ti_fixes.proofs.rounds.after_rounds.Goals as goal
 
 pub loop-round-init : goal.loop-round-init
-loop-round-init g c =
-    start_round (g.A.Adviser.judges c.args.adviser.now) (sheets c.args.source.now.files.items) c.in_ok-treated.treated.items c.args.start.now c.in_ok-treated.ensures c.requires.held
+loop-round-init g c = record { steps = AreSteps.NoStep; whole = c.requires.whole; fit = c.requires.fit; many = refl }
 
-pub take_together-requires-clause-fits : goal.take_together-requires-clause-fits
-take_together-requires-clause-fits g c = fits_of (map (λ t. t.remedy) c.args.start.now) c.loop-round.treated.items c.as_slice.result.now c.as_slice.ensures.value c.loop-round.invariant.all c.requires.fits
-
--- the last round
-pub returns-in-Done-clause-done : goal.returns-in-Done-clause-done
-returns-in-Done-clause-done g c =
-    done_is (g.A.Adviser.judges c.args.adviser.now) (sheets c.args.source.now.files.items) c.loop-round.treated.items (map (λ t. t.remedy) c.args.start.now) c.in_ok-texts.field-0 c.in-Done.texts c.in-Done.is c.loop-round.invariant
-    (subst (λ (ts : List Treated). IsRound (g.A.Adviser.judges c.args.adviser.now) (sheets c.args.source.now.files.items) ts c.in_ok-texts.field-0) c.as_slice.ensures.value c.in_ok-texts.ensures)
-
-pub returns-in-Done-clause-raws : goal.returns-in-Done-clause-raws
-returns-in-Done-clause-raws g c =
-    done_raws (g.A.Adviser.judges c.args.adviser.now) (sheets c.args.source.now.files.items) c.as_slice.result.now c.in_ok-texts.field-0 c.in-Done.texts c.in-Done.is c.in_ok-texts.ensures
-
--- another round
+-- another step, or the same files
 pub loop-round-preserved : goal.loop-round-preserved
 loop-round-preserved g c =
-    again_is (g.A.Adviser.judges c.args.adviser.now) (sheets c.args.source.now.files.items) c.loop-round.treated.items (map (λ t. t.remedy) c.args.start.now) c.in_ok-texts.field-0 c.in-Again.next c.in-Again.is
-    c.loop-round.invariant
-    (subst (λ (ts : List Treated). IsRound (g.A.Adviser.judges c.args.adviser.now) (sheets c.args.source.now.files.items) ts c.in_ok-texts.field-0) c.as_slice.ensures.value c.in_ok-texts.ensures)
+    let before : HaveSteps (g.A.Adviser.finds c.args.adviser.now) c.args.source c.loop-round.texts = record {
+      steps = c.loop-round.invariant.steps;
+      whole = c.loop-round.invariant.whole;
+      fit = c.loop-round.invariant.fit;
+      many = c.loop-round.invariant.many;
+    } in
+    let after : HaveSteps (g.A.Adviser.finds c.args.adviser.now) c.args.source c.match-branch-2.texts = elim c.match-branch-2.branch [
+      | in-Done w ↦ subst (λ (t : Texts). HaveSteps (g.A.Adviser.finds c.args.adviser.now) c.args.source t) (sym w.texts-is)
+          (steps_next (g.A.Adviser.finds c.args.adviser.now) c.args.source c.loop-round.texts w.in-Done.next c.in_ok-next.field-0 w.in-Done.is c.in_ok-next.ensures before)
+      | in-Unplaced+in_ok-push-in-Unplaced w ↦ subst (λ (t : Texts). HaveSteps (g.A.Adviser.finds c.args.adviser.now) c.args.source t) (sym w.texts-is) before
+    ] in
+    record { steps = after.steps; whole = after.whole; fit = after.fit; many = after.many }

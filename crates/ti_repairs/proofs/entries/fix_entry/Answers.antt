@@ -5,6 +5,7 @@ use Rattle.ti_files.specs.Contents.{Held}
 use Rattle.ti_fixes.specs.Files.{sheets}
 use Rattle.ti_repairs.proofs.Facts.{delivers_so, several_paths}
 use Rattle.ti_repairs.specs.Delivery.{DeliversTo, IsTarget}
+use Rattle.ti_repairs.specs.Weights.{terms_of}
 use Rattle.ti_repairs.specs.Entries.{IsRepairedSource}
 use Rattle.ti_repairs.proofs.entries.fix_entry.Goals as goal
 use Rattle.ti_sources.specs.declared.files.FurtherFile.{FurtherFile}
@@ -42,7 +43,7 @@ returns-clause-reply g c =
       gives = gives;
       news = sheets c.in_ok-repaired.repaired.files.items;
       wrong = c.in_ok-repaired.ensures.wrong;
-      repaired = subst (λ (notes : List ℕ). IsRepairedSource c.in-Some.source c.in_ok-size.size.rows c.in_ok-size.size.cols (sheets c.in_ok-repaired.repaired.files.items) notes c.in_ok-repaired.ensures.wrong)
+      repaired = subst (λ (notes : List ℕ). IsRepairedSource c.in-Some.source (terms_of c.in_ok-size.size.rows c.in_ok-size.size.cols c.args.is_standard) (sheets c.in_ok-repaired.repaired.files.items) notes c.in_ok-repaired.ensures.wrong)
           (ap (λ v. v.items) (sym c.in_ok-delivered.ensures.noted)) c.in_ok-repaired.ensures.repaired;
       ended = c.in_ok-repaired.repaired.ended;
       ends = c.in_ok-repaired.ensures.ends;

@@ -1,9 +1,0 @@
-use Rattle.std.proofs.Common.{◌≡◌, ◌++◌, length}
-use Rattle.ti_fixes.specs.Given.{with_given}
-use Rattle.ti_fixes.proofs.differences.with_string.Given as goal
-
-abbrev pub invariant-loop-rest : goal.invariant-loop-rest
-invariant-loop-rest l = l.given.items ++ with_given l.cap l.string l.rest ≡ with_given l.cap l.string l.fields
-
-abbrev pub decreases-loop-rest : goal.decreases-loop-rest
-decreases-loop-rest l = length l.rest
