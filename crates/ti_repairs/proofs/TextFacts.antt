@@ -15,6 +15,13 @@ zip_end R [] (b ∷ ys) x y h r = absurd h
 zip_end R (a ∷ xs) [] x y h r = absurd h
 zip_end R (a ∷ xs) (b ∷ ys) x y h r = (h.0, zip_end R xs ys x y h.1 r)
 
+-- one pair more, behind the others
+pub zip_next : {A B : Type 0} (R : A → B → Type 0) (xs : List A) (i : ℕ) (x : A) (ys more : List B) (y : B) → i < length xs → x ≡ get_or xs i x → more ≡ ys ++ y ∷ [] → AllZip R (take i xs) ys → R x y → AllZip R (take (i + 1) xs) more
+zip_next R xs i x ys more y l is pushed h r =
+    subst (λ (all : List _). AllZip R all more) (sym (take_more xs i x l))
+    (subst (λ (all : List _). AllZip R (take i xs ++ get_or xs i x ∷ []) all) (sym pushed)
+    (zip_end R (take i xs) ys (get_or xs i x) y h (subst (λ (a : _). R a y) is r)))
+
 sheets_end : (texts more : List Text) (text : Text) → more ≡ texts ++ text ∷ [] → sheets more ≡ sheets texts ++ sheet_of text ∷ []
 sheets_end texts more text pushed = ap (λ (ts : List Text). sheets ts) pushed ∙ map-append (λ (t : Text). sheet_of t) texts (text ∷ [])
 

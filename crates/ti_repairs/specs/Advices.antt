@@ -20,7 +20,7 @@ use Rattle.ti_repairs.specs.Weights.{AreFindings}
 use Rattle.ti_repairs.specs.declared.suggestions.Listed.{Listed}
 use Rattle.ti_repairs.specs.declared.weights.Terms.{Terms}
 use Rattle.ti_rows.specs.Names.{cap_of}
-use Rattle.ti_rows.specs.declared.rows.Row as rows
+use Rattle.ti_rows.specs.declared.rows.Row.TheVariants as rows
 use Rattle.ti_surveys.specs.Kinds.{listed_kind}
 use Rattle.ti_surveys.specs.declared.kinds.EntryKind.{EntryKind}
 use Rattle.ti_surveys.specs.declared.kinds.EntryKind.TheVariants.{Other, Part, Usual}
@@ -38,8 +38,11 @@ counts Shown = true
 counts Doubtful = false
 counts Lent = false
 
+abbrev pub listed_as : Finding → ℕ → Listed
+listed_as fault cap = record { cap = cap; fault = fault }
+
 abbrev pub with_fault : Finding → List ℕ → List Listed
-with_fault fault caps = map (λ (cap : ℕ). the Listed (record { cap = cap; fault = fault })) caps
+with_fault fault caps = map (listed_as fault) caps
 
 -- the capabilities whose suggestions are listed with a fault that counts
 abbrev pub listed_for : List No → Finding → List Listed

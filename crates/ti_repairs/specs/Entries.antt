@@ -22,7 +22,7 @@ use Rattle.ti_repairs.specs.Advices.{Advises}
 use Rattle.ti_repairs.specs.Delivery.{Delivers}
 use Rattle.ti_repairs.specs.Notes.{IsStillWrong, kept_lines, wrong_lines}
 use Rattle.ti_repairs.specs.Texts.{AreSheetsOf}
-use Rattle.ti_repairs.specs.Weights.{Finds, terms_of}
+use Rattle.ti_repairs.specs.Weights.{AreTerms, Finds}
 use Rattle.ti_repairs.specs.declared.weights.Terms.{Terms}
 use Rattle.ti_requests.specs.declared.request.CheckWords.{CheckWords}
 use Rattle.ti_resolve.specs.Uses.{place_named}
@@ -66,12 +66,14 @@ pub record IsFixed (before after : Held) (words : CheckWords) (standard : Bool) 
   pub height : ℕ
   pub width : ℕ
   pub given : SizeGiven words.rows.now words.cols.now height width
+  pub terms : Terms
+  pub terms_are : AreTerms height width standard terms
   pub entry : Content
   pub source : SourceText
   pub gives : IsSourced before words.entry.now entry (Some source)
   pub news : List Sheet
   pub wrong : Result (Vec No Global) CommandRefusal
-  pub repaired : IsRepairedSource source (terms_of height width standard) news reply.notes.items wrong
+  pub repaired : IsRepairedSource source terms news reply.notes.items wrong
   pub ended : Option Failure
   pub ends : EndsAsWrong wrong ended
   pub delivers : Delivers source.further.items news ended words.out before after reply

@@ -7,12 +7,12 @@ abbrev pub begins : ℕ → List ℕ → Bool
 begins byte [] = false
 begins byte (next ∷ rest) = byte == 36 && next == 60
 
--- the bytes from each `$<` to the next `>`, where one is open before the text or not
+-- the bytes from each `$<` to the next `>`, where the text begins inside of one or not
 abbrev pub delays_in : Bool → List ℕ → List ℕ
-delays_in open [] = []
-delays_in open (byte ∷ rest) =
-    (if open || begins byte rest then byte ∷ [] else [])
-    ++ delays_in ((open || begins byte rest) && not (byte == 62)) rest
+delays_in inside [] = []
+delays_in inside (byte ∷ rest) =
+    (if inside || begins byte rest then byte ∷ [] else [])
+    ++ delays_in ((inside || begins byte rest) && not (byte == 62)) rest
 
 -- the delays of a string; none if one of them isn't one, so that it would be sent
 abbrev pub padding_of : List ℕ → List ℕ

@@ -18,7 +18,7 @@ use Rattle.ti_repairs.specs.Advices.{Advises}
 use Rattle.ti_repairs.specs.Delivery.{Delivers}
 use Rattle.ti_repairs.specs.Notes.{AreStillWrong, kept_lines}
 use Rattle.ti_repairs.specs.Texts.{AreSheetsOf}
-use Rattle.ti_repairs.specs.Weights.{Finds, terms_of}
+use Rattle.ti_repairs.specs.Weights.{AreTerms, Finds}
 use Rattle.ti_repairs.specs.declared.weights.Terms.{Terms}
 use Rattle.ti_repairs.specs.declared.words.FixWords.{FixWords}
 use Rattle.ti_source.specs.Source.{source_of}
@@ -66,6 +66,8 @@ pub record IsFixed (before after : Held) (words : FixWords) (reply : Reply) : Ty
   pub height : ℕ
   pub width : ℕ
   pub given : SizeGiven words.rows.now words.cols.now height width
+  pub terms : Terms
+  pub terms_are : AreTerms height width words.is_standard terms
   pub text : List ℕ
   pub count : ℕ
   pub all : Together
@@ -74,7 +76,7 @@ pub record IsFixed (before after : Held) (words : FixWords) (reply : Reply) : Ty
   pub files_are : AreSheetsOf words.path.now text all olds
   pub news : List Sheet
   pub ended : Option Failure
-  pub ready : IsReady olds (terms_of height width words.is_standard) count words.is_strict news reply.notes.items ended
+  pub ready : IsReady olds terms count words.is_strict news reply.notes.items ended
   pub delivers : Delivers all.files news ended words.out before after reply
 
 -- the file at a path can't be read, or its text has a fault

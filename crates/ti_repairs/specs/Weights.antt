@@ -20,8 +20,10 @@ use Rattle.ti_surveys.specs.declared.kinds.EntryKind.{EntryKind}
 use Rattle.ti_surveys.specs.declared.kinds.EntryKind.TheVariants.{Other, Part, Usual}
 
 -- the terms of a size, with `--standard` or without it
-abbrev pub terms_of : ℕ → ℕ → Bool → Terms
-terms_of rows cols standard = record { size = record { rows = rows; cols = cols }; is_standard = standard }
+pub record AreTerms (rows cols : ℕ) (standard : Bool) (terms : Terms) : Type 0 where
+  pub rows_are : terms.size.rows ≡ rows
+  pub cols_are : terms.size.cols ≡ cols
+  pub standard_is : terms.is_standard ≡ standard
 
 -- a number for each fault of codes, and for each cause of a fault
 abbrev pub code_number : ParmFault → ℕ
@@ -87,11 +89,11 @@ pub record IsGraded (terms : Terms) (entry : Content) (alone : Bool) (no : No) (
   pub is : weight ≡ graded grade terms.is_standard
 
 abbrev pub WeighsBy : Bool → Terms → Content → Bool → No → Weight → Type 0
-WeighsBy true terms entry alone no weight = weight ≡ weights.Lent
-WeighsBy false terms entry alone no weight = IsGraded terms entry alone no weight
+WeighsBy true terms entry alone fault weight = weight ≡ weights.Lent
+WeighsBy false terms entry alone fault weight = IsGraded terms entry alone fault weight
 
 abbrev pub IsWeight : Terms → Content → EntryKind → Bool → No → Weight → Type 0
-IsWeight terms entry kind alone no weight = WeighsBy (is_lent kind no.cause) terms entry alone no weight
+IsWeight terms entry kind alone fault weight = WeighsBy (is_lent kind fault.cause) terms entry alone fault weight
 
 -- a fault of an entry, as a finding
 pub record IsFinding (terms : Terms) (entry : Content) (kind : EntryKind) (alone : Bool) (no : No) (finding : Finding)

@@ -1,6 +1,6 @@
 //! The padding of a string, which stays where another string is suggested.
 
-ghost use Rattle.std.specs.Prelude.{◌≡◌, ◌++◌, ◌∷◌, ◌==◌, ◌&&◌, ◌||◌, [], if◌then◌else◌, IfOk, OnOk, not};
+ghost use Rattle.std.specs.Prelude.{◌≡◌, ◌++◌, ◌∷◌, ◌==◌, ◌&&◌, ◌||◌, [], if◌then◌else◌, IfOk, OnOk, false, not};
 ghost use Rattle.ti_repairs.specs.Paddings as spec;
 
 use std::alloc::{AllocError, Global};

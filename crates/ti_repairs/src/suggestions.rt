@@ -46,19 +46,22 @@ fn counts(weight: Weight) -> bool
 }
 
 /// Each of these capabilities, with the fault.
-fn with_fault(alloc: Global, caps: &[Cap], fault: Finding) -> Result<Vec<Listed>, AllocError>
-    ensures { IfOk result (λ listed. listed.items ≡ spec.with_fault fault caps.now) }
+fn with_fault(alloc: Global, caps: &[Cap], fault: &Finding) -> Result<Vec<Listed>, AllocError>
+    ensures { IfOk result (λ listed. listed.items ≡ spec.with_fault fault.now caps.now) }
 {
     let mut listed = Vec::new(alloc);
     for cap in caps {
-        listed.push(Listed { cap: *cap, fault })?;
+        listed.push(Listed {
+            cap: *cap,
+            fault: *fault,
+        })?;
     }
     Ok(listed)
 }
 
 /// The capabilities whose suggestions are listed with a fault, one of the faults `nos`; none if it doesn't count.
-fn listed_for(alloc: Global, nos: &[No], fault: Finding) -> Result<Vec<Listed>, AllocError>
-    ensures { IfOk result (λ listed. listed.items ≡ spec.listed_for nos.now fault) }
+fn listed_for(alloc: Global, nos: &[No], fault: &Finding) -> Result<Vec<Listed>, AllocError>
+    ensures { IfOk result (λ listed. listed.items ≡ spec.listed_for nos.now fault.now) }
 {
     if counts(fault.weight) {
         let caps = listed_with(alloc, nos, fault.cap)?;
@@ -78,7 +81,7 @@ fn all_listed(
 {
     let mut listed = Vec::new(alloc);
     for fault in findings {
-        let mut own = listed_for(alloc, nos, *fault)?;
+        let mut own = listed_for(alloc, nos, fault)?;
         listed.append(&mut own)?;
     }
     Ok(listed)
@@ -160,12 +163,12 @@ fn advice(
     alloc: Global,
     entry: &Entry,
     mended: &Mended,
-    listed: Listed,
+    listed: &Listed,
 ) -> Result<Option<Advice>, AllocError>
-    ensures found { IfOk result (spec.IsAdvice entry.now mended.now listed) }
+    ensures found { IfOk result (spec.IsAdvice entry.now mended.now listed.now) }
     ensures fits { IfOk result (λ found. IfSome found spec.Fits) }
 {
-    let Listed { cap, fault } = listed;
+    let Listed { cap, fault } = *listed;
     if !may_suggest(entry, cap) {
         return Ok(None);
     }
@@ -200,7 +203,7 @@ fn all_advices(
 {
     let mut advices = Vec::new(alloc);
     for one in listed {
-        let found = advice(alloc, entry, mended, *one)?;
+        let found = advice(alloc, entry, mended, one)?;
         push_found(&mut advices, found)?;
     }
     Ok(advices)

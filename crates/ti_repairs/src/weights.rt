@@ -1,9 +1,7 @@
 //! What is found about an entry, and how much it counts.
 
-ghost use Rattle.std.specs.Prelude.{◌≡◌, ◌++◌, ◌∷◌, [], IfOk, OnOk};
-ghost use Rattle.ti_faults.specs.AllFaults.{AreAllFaults};
+ghost use Rattle.std.specs.{Prelude.{◌≡◌, IfOk}, List.{AllZip}};
 ghost use Rattle.ti_repairs.specs.Weights as spec;
-ghost use Rattle.ti_surveys.specs.Kinds.{listed_kind};
 
 use std::alloc::{AllocError, Global};
 use ti_caps::Entry;
@@ -144,6 +142,19 @@ fn finding_of(alloc: Global, terms: Terms, of: Faulty<'_>, no: &No) -> Result<Fi
     })
 }
 
+/// Each of the faults `nos` of the entry, as a finding.
+fn all_findings(alloc: Global, terms: Terms, of: Faulty<'_>, nos: &[No]) -> Found
+    ensures { IfOk result (λ findings. AllZip (spec.IsFinding terms of.entry.entry.now of.entry.kind of.entry.alone)
+        nos.now findings.items) }
+{
+    let mut findings = Vec::new(alloc);
+    for no in nos {
+        let own = finding_of(alloc, terms, of, no)?;
+        findings.push(own)?;
+    }
+    Ok(findings)
+}
+
 /// Each of the faults `nos`, all those of the entry, as a finding.
 pub fn findings_of(alloc: Global, terms: Terms, entry: &Entry, nos: &[No]) -> Found
     ensures { IfOk result (λ findings. spec.AreFindings terms entry.now nos.now findings.items) }
@@ -153,12 +164,7 @@ pub fn findings_of(alloc: Global, terms: Terms, entry: &Entry, nos: &[No]) -> Fo
         kind: kind_of(true, entry, nos),
         alone: nos.len() == 1,
     };
-    let mut findings = Vec::new(alloc);
-    for no in nos {
-        let own = finding_of(alloc, terms, of, no)?;
-        findings.push(own)?;
-    }
-    Ok(findings)
+    all_findings(alloc, terms, of, nos)
 }
 
 /// All that is found about the entry.

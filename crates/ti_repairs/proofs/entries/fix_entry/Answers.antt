@@ -1,11 +1,11 @@
-use Rattle.std.proofs.Common.{List, Option, Some, ap, inl, inr, rules, subst, sym, ℕ}
+use Rattle.std.proofs.Common.{List, Option, Some, ap, inl, inr, refl, rules, subst, sym, ℕ}
 use Rattle.std.proofs.lemmas.Result.{err_from_is_err_and}
 use Rattle.ti_commands.specs.Sources.{IsSourced, together_of}
 use Rattle.ti_files.specs.Contents.{Held}
 use Rattle.ti_fixes.specs.Files.{sheets}
 use Rattle.ti_repairs.proofs.Facts.{delivers_so, several_paths}
 use Rattle.ti_repairs.specs.Delivery.{DeliversTo, IsTarget}
-use Rattle.ti_repairs.specs.Weights.{terms_of}
+use Rattle.ti_repairs.specs.declared.weights.Terms.{Terms}
 use Rattle.ti_repairs.specs.Entries.{IsRepairedSource}
 use Rattle.ti_repairs.proofs.entries.fix_entry.Goals as goal
 use Rattle.ti_sources.specs.declared.files.FurtherFile.{FurtherFile}
@@ -33,17 +33,20 @@ returns-in_err-target-clause-failure g c =
 pub returns-clause-reply : goal.returns-clause-reply
 returns-clause-reply g c =
     let source = c.in-Some.source in
+    let terms : Terms = record { size = c.in_ok-size.size; is_standard = c.args.is_standard } in
     let gives : IsSourced (g.F.Files.holds c.args.files.now) c.args.words.now.entry.now c.in_ok-_entry.field-0.entry (Some c.in-Some.source) = search rules in
     record {
       height = c.in_ok-size.size.rows;
       width = c.in_ok-size.size.cols;
       given = c.in_ok-size.ensures.size;
+      terms = terms;
+      terms_are = record { rows_are = refl; cols_are = refl; standard_is = refl };
       entry = c.in_ok-_entry.field-0.entry;
       source = source;
       gives = gives;
       news = sheets c.in_ok-repaired.repaired.files.items;
       wrong = c.in_ok-repaired.ensures.wrong;
-      repaired = subst (λ (notes : List ℕ). IsRepairedSource c.in-Some.source (terms_of c.in_ok-size.size.rows c.in_ok-size.size.cols c.args.is_standard) (sheets c.in_ok-repaired.repaired.files.items) notes c.in_ok-repaired.ensures.wrong)
+      repaired = subst (λ (notes : List ℕ). IsRepairedSource c.in-Some.source terms (sheets c.in_ok-repaired.repaired.files.items) notes c.in_ok-repaired.ensures.wrong)
           (ap (λ v. v.items) (sym c.in_ok-delivered.ensures.noted)) c.in_ok-repaired.ensures.repaired;
       ended = c.in_ok-repaired.repaired.ended;
       ends = c.in_ok-repaired.ensures.ends;
