@@ -34,7 +34,7 @@ PARTS = [
     (
         "Descriptions",
         [
-            "ti_fixes", "ti_sources", "ti_resolve", "ti_source", "ti_compiled", "ti_caps", "ti_parm",
+            "ti_rounds", "ti_steps", "ti_fixes", "ti_sources", "ti_resolve", "ti_source", "ti_compiled", "ti_caps", "ti_parm",
             "ti_blames",
         ],
     ),

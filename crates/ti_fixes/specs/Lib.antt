@@ -4,9 +4,3 @@ pub mod Cuts
 pub mod Changes
 pub mod Files
 pub mod Among
-pub mod Parts
-pub mod Remedies
-pub mod Findings
-pub mod Steps
-pub mod Reasons
-pub mod Mended

@@ -2,7 +2,8 @@
 
 ghost use Rattle.std.specs.{Prelude.{◌≡◌, Ok, IfOk, IfSome, IsTrue, true}, List.{AllByRecursion}};
 ghost use Rattle.ti_caps.specs.Fits.{string_fits};
-ghost use Rattle.ti_fixes.specs.{Cuts.{whole}, Texts.{IsWritten}};
+ghost use Rattle.ti_fixes.specs.Cuts.{whole};
+ghost use Rattle.ti_fixes.specs.Texts.{IsWritten};
 ghost use Rattle.ti_fixes.specs.Changes as spec;
 ghost use Rattle.ti_source.specs.{Raw.{IsRaw}, Source.{source_of}};
 

@@ -6,12 +6,14 @@ ghost use Rattle.ti_resolve.specs.Uses.{is_about};
 use ti_caps::{Cap, Value};
 use ti_source::Field;
 
+/// Whether both are the same bytes.
 pub fn same_bytes(one: &[u8], other: &[u8]) -> bool
     ensures { result ≡ true → one.now ≡ other.now }
 {
     one == other
 }
 
+/// Whether both are the same value.
 pub fn same_value(one: &Value, other: &Value) -> bool
     ensures { result ≡ true → one.now ≡ other.now }
 {

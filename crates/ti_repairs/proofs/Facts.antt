@@ -15,8 +15,8 @@ use Rattle.ti_files.specs.Contents.{Held}
 use Rattle.ti_files.specs.declared.failure.Failure.{Failure}
 use Rattle.ti_files.specs.declared.failure.Reply.{Reply}
 use Rattle.ti_fixes.specs.Files.{Sheet}
-use Rattle.ti_fixes.specs.declared.advice.Advice.{Advice}
-use Rattle.ti_fixes.specs.declared.kept.Kept.{Kept}
+use Rattle.ti_steps.specs.declared.advice.Advice.{Advice}
+use Rattle.ti_steps.specs.declared.kept.Kept.{Kept}
 use Rattle.ti_source.specs.declared.types.RawEntry.{RawEntry}
 use Rattle.ti_sources.specs.declared.files.FurtherFile.{FurtherFile}
 use denote.Ref.{Bor}

@@ -10,11 +10,11 @@ use Rattle.ti_faults.specs.AllFaults.{AreAllFaults}
 use Rattle.ti_faults.specs.Mended.{IsBestMended}
 use Rattle.ti_faults.specs.Remedies.{IsSuggestion, listed_with}
 use Rattle.ti_faults.specs.declared.mended.Mended.{Mended}
-use Rattle.ti_fixes.specs.Parts.{AreParts}
-use Rattle.ti_fixes.specs.declared.advice.Advice.{Advice}
-use Rattle.ti_fixes.specs.declared.advice.Finding.{Finding}
-use Rattle.ti_fixes.specs.declared.advice.Weight.{Weight}
-use Rattle.ti_fixes.specs.declared.advice.Weight.TheVariants.{Certain, Shown, Doubtful, Lent}
+use Rattle.ti_steps.specs.Parts.{AreParts}
+use Rattle.ti_steps.specs.declared.advice.Advice.{Advice}
+use Rattle.ti_steps.specs.declared.advice.Finding.{Finding}
+use Rattle.ti_steps.specs.declared.advice.Weight.{Weight}
+use Rattle.ti_steps.specs.declared.advice.Weight.TheVariants.{Certain, Shown, Doubtful, Lent}
 use Rattle.ti_repairs.specs.Paddings.{padding_of}
 use Rattle.ti_repairs.specs.Weights.{AreFindings}
 use Rattle.ti_repairs.specs.declared.suggestions.Listed.{Listed}

@@ -11,11 +11,11 @@ use Rattle.ti_faults.specs.AllFaults.{AreAllFaults}
 use Rattle.ti_files.specs.Refusals.{refusal_text_of}
 use Rattle.ti_files.specs.Shown.{shown}
 use Rattle.ti_files.specs.declared.failure.CommandRefusal.{CommandRefusal}
-use Rattle.ti_fixes.specs.Parts.{AreParts}
-use Rattle.ti_fixes.specs.declared.advice.Remedy.{Remedy}
-use Rattle.ti_fixes.specs.declared.kept.Kept.{Kept}
-use Rattle.ti_fixes.specs.declared.kept.Reason.{Reason}
-use Rattle.ti_fixes.specs.declared.kept.Reason.TheVariants.{Unplaced, Changes, Faults, Loses, Refused}
+use Rattle.ti_steps.specs.Parts.{AreParts}
+use Rattle.ti_steps.specs.declared.advice.Remedy.{Remedy}
+use Rattle.ti_steps.specs.declared.kept.Kept.{Kept}
+use Rattle.ti_steps.specs.declared.kept.Reason.{Reason}
+use Rattle.ti_steps.specs.declared.kept.Reason.TheVariants.{Unplaced, Changes, Faults, Loses, Refused}
 use Rattle.ti_resolve.specs.Uses.{names_at}
 use Rattle.ti_source.specs.declared.types.RawEntry.{RawEntry}
 use Rattle.ti_verdicts.specs.Locations.{first_name}

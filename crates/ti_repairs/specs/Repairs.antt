@@ -11,9 +11,9 @@ use Rattle.ti_files.specs.declared.failure.Failure.{Failure}
 use Rattle.ti_files.specs.declared.failure.Failure.TheVariants.{NoMemory}
 use Rattle.ti_files.specs.declared.failure.Reply.{Reply}
 use Rattle.ti_fixes.specs.Files.{Sheet, all_raws}
-use Rattle.ti_fixes.specs.Mended.{AreMended}
-use Rattle.ti_fixes.specs.declared.gathering.Wanted.TheVariants.{First}
-use Rattle.ti_fixes.specs.declared.kept.Kept.{Kept}
+use Rattle.ti_steps.specs.Mended.{AreMended}
+use Rattle.ti_steps.specs.declared.gathering.Wanted.TheVariants.{First}
+use Rattle.ti_steps.specs.declared.kept.Kept.{Kept}
 use Rattle.ti_repairs.specs.Advices.{Advises}
 use Rattle.ti_repairs.specs.Delivery.{Delivers}
 use Rattle.ti_repairs.specs.Notes.{AreStillWrong, kept_lines}

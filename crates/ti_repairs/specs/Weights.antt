@@ -6,9 +6,9 @@ use Rattle.ti_checker.specs.declared.causes.Cause.{Cause}
 use Rattle.ti_checker.specs.declared.causes.Cause.TheVariants as causes
 use Rattle.ti_checker.specs.declared.causes.No.{No}
 use Rattle.ti_faults.specs.AllFaults.{AreAllFaults}
-use Rattle.ti_fixes.specs.declared.advice.Finding.{Finding}
-use Rattle.ti_fixes.specs.declared.advice.Weight.{Weight}
-use Rattle.ti_fixes.specs.declared.advice.Weight.TheVariants as weights
+use Rattle.ti_steps.specs.declared.advice.Finding.{Finding}
+use Rattle.ti_steps.specs.declared.advice.Weight.{Weight}
+use Rattle.ti_steps.specs.declared.advice.Weight.TheVariants as weights
 use Rattle.ti_grades.specs.Grades.{IsGrade}
 use Rattle.ti_grades.specs.declared.grades.Grade.{Grade}
 use Rattle.ti_grades.specs.declared.grades.Grade.TheVariants as grades

@@ -18,10 +18,12 @@ use std::alloc::{AllocError, Global};
 use ti_checker::No;
 use ti_commands::{PutTogether, SourceText, Sourced, sourced_entry};
 use ti_files::{Failure, Files, Remarks, Replied, size_words};
-use ti_fixes::{Remedied, Text, Texts, Wanted, mend_all};
+use ti_fixes::{Text, Texts};
 use ti_requests::CheckWords;
+use ti_rounds::{Remedied, mend_all};
 use ti_source::RawEntry;
 use ti_sources::place_named;
+use ti_steps::Wanted;
 use ti_verdicts::no_failure;
 
 /// Files with suggestions for one entry taken, the notes about them, and what is still wrong with the entry.

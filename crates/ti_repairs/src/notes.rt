@@ -6,8 +6,8 @@ ghost use Rattle.ti_repairs.specs.Notes as spec;
 use std::alloc::{AllocError, Global};
 use ti_caps::name;
 use ti_files::push_shown;
-use ti_fixes::{Kept, Reason, Remedy};
 use ti_source::RawEntry;
+use ti_steps::{Kept, Reason, Remedy};
 use ti_verdicts::{first_name, names_of};
 
 /// The first name of the entry at `place`; empty behind all entries.

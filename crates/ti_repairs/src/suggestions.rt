@@ -13,8 +13,8 @@ use ti_caps::{Bytes, Cap, Entry, string_fits};
 use ti_checker::No;
 use ti_conforms::acsc;
 use ti_faults::{Mended, faults, listed_with, suggestion};
-use ti_fixes::{Advice, Adviser, Finding, Found, Weight};
 use ti_rows::Row;
+use ti_steps::{Advice, Adviser, Finding, Found, Weight};
 use ti_surveys::{EntryKind, kind_of};
 
 /// Finds the faults of an entry, and advises the strings that `check --all` suggests for those that count.
@@ -72,11 +72,7 @@ fn listed_for(alloc: Global, nos: &[No], fault: &Finding) -> Result<Vec<Listed>,
 }
 
 /// The capabilities whose suggestions are listed with the faults `nos` that count, in their order.
-fn all_listed(
-    alloc: Global,
-    nos: &[No],
-    findings: &[Finding],
-) -> Result<Vec<Listed>, AllocError>
+fn all_listed(alloc: Global, nos: &[No], findings: &[Finding]) -> Result<Vec<Listed>, AllocError>
     ensures { IfOk result (λ listed. listed.items ≡ spec.all_listed nos.now findings.now) }
 {
     let mut listed = Vec::new(alloc);

@@ -18,9 +18,11 @@ use ti_commands::{PutTogether, put_together};
 use ti_files::{
     CommandRefusal, Failure, Files, LONGEST_FILE, Remarks, Replied, read_whole, size_words,
 };
-use ti_fixes::{Remedied, Text, Texts, Wanted, mend_all};
+use ti_fixes::{Text, Texts};
 use ti_hints::explain_source;
+use ti_rounds::{Remedied, mend_all};
 use ti_source::{RawEntry, read};
+use ti_steps::Wanted;
 
 /// A source text, and its entries together with those of the files of `--with`.
 #[derive(Drop)]

@@ -7,9 +7,9 @@ use std::alloc::{AllocError, Global};
 use ti_caps::Entry;
 use ti_checker::{Cause, No};
 use ti_faults::faults;
-use ti_fixes::{Finding, Found, Weight};
 use ti_grades::{Grade, grade_of};
 use ti_parm::ParmFault;
+use ti_steps::{Finding, Found, Weight};
 use ti_surveys::{EntryKind, kind_of};
 use vt_term::Size;
 

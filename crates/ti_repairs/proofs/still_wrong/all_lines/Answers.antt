@@ -1,5 +1,5 @@
 use Rattle.std.proofs.Common.{◌++◌, ◌∙◌, List, ℕ, ap}
-use Rattle.ti_fixes.proofs.PartFacts.{no_parts, parts_next}
+use Rattle.ti_steps.proofs.PartFacts.{no_parts, parts_next}
 use Rattle.ti_repairs.specs.Notes.{AreWrongLines}
 use Rattle.ti_repairs.proofs.still_wrong.all_lines.Goals as goal
 

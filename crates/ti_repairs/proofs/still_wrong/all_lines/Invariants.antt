@@ -1,4 +1,4 @@
-use Rattle.ti_fixes.specs.Parts.{AreParts}
+use Rattle.ti_steps.specs.Parts.{AreParts}
 use Rattle.ti_repairs.specs.Notes.{AreWrongLines}
 use Rattle.ti_repairs.proofs.still_wrong.all_lines.Given as goal
 

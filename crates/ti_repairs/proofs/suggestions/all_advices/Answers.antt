@@ -1,6 +1,6 @@
 use Rattle.std.proofs.Common.{[], refl, arith}
 use Rattle.ti_fixes.proofs.Lists.{all_append}
-use Rattle.ti_fixes.proofs.PartFacts.{no_parts, parts_next}
+use Rattle.ti_steps.proofs.PartFacts.{no_parts, parts_next}
 use Rattle.ti_repairs.specs.Advices.{Fits, IsAdvisedAt, optional}
 use Rattle.ti_repairs.proofs.Facts.{advised_here, fits_next}
 use Rattle.ti_repairs.proofs.suggestions.all_advices.Goals as goal

@@ -1,5 +1,5 @@
 use Rattle.std.specs.List.{AllByRecursion}
-use Rattle.ti_fixes.specs.Parts.{AreParts}
+use Rattle.ti_steps.specs.Parts.{AreParts}
 use Rattle.ti_repairs.specs.Advices.{Fits, IsAdvisedAt}
 use Rattle.ti_repairs.proofs.suggestions.all_advices.Given as goal
 

@@ -1,6 +1,0 @@
-use Rattle.std.specs.List.{AllByRecursion}
-use Rattle.ti_fixes.specs.Remedies.{Fits}
-use Rattle.ti_fixes.proofs.choices.chosen_ones.Given as goal
-
-abbrev pub invariant-loop-at : goal.invariant-loop-at
-invariant-loop-at g l = AllByRecursion Fits l.taken.items

@@ -1,0 +1,3 @@
+pub mod PartFacts
+pub mod Gathered
+pub mod StepFacts
