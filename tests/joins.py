@@ -91,7 +91,6 @@ def commands(entry, cert="cert"):
         ["check", f"text:{entry}", *SIZE],
         ["check", "--all", f"text:{entry}", *SIZE],
         ["check", "--json", "--all", f"text:{entry}", *SIZE],
-        ["check", "--fix", f"text:{entry}", *SIZE],
         ["verify", f"text:{entry}", *SIZE, cert],
         ["survey", *SIZE, "text"],
         ["survey", "--all", *SIZE, "text"],
@@ -172,7 +171,7 @@ def judge_places():
     every, fixed, given = told
     if "no el: WrongEffect\ntext:8:13: el of wrapped\n    el=\\E[1K\n       ^~~~~\n" not in every.out.decode():
         fail(f"the line of el: {every.out}")
-    if (fixed.status, fixed.out, fixed.err) != (0, MENDED, b""):
+    if (fixed.status, fixed.out, fixed.err) != (0, WRAPPED_MENDED, b""):
         fail(f"--fix --join: {fixed.status} {fixed.out} {fixed.err}")
     if (given.status, b"refused: no el: WrongEffect\n" in given.err) != (1, True):
         fail(f"standard input: {given.status} {given.err}")
@@ -289,7 +288,7 @@ def judge_stored():
             fail(f"check --join --out of the source: {told}")
         Path(folder, "text").write_bytes(WRAPPED)
         told = run("check", "--join", "--fix", "text:user", *SIZE, "--out", "text")
-        if (told.returncode, told.stdout) != (0, b"") or not has("text", MENDED):
+        if (told.returncode, told.stdout) != (0, b"") or not has("text", WRAPPED_MENDED):
             fail(f"--fix --join over the source: {told}")
     print("joins: compiled files and certificates are stored and read as they are")
 

@@ -4,6 +4,15 @@ use crate::help;
 use clap::{Arg, ArgAction, Command};
 use std::alloc::{AllocError, Global};
 
+/// The sizes of a terminal that a line is about.
+#[derive(Clone, Copy)]
+pub enum Sizes {
+    /// The one that `check` and `survey` are given.
+    One,
+    /// All, by `--every-size`: `check` and `survey` are given none.
+    Every,
+}
+
 /// An argument of a command: how it is written, its name and its help.
 #[derive(Clone, Copy)]
 enum Argument {
@@ -62,6 +71,31 @@ const SARIF: Argument = Argument::Switch(
 const FIX: Argument = Argument::Switch(
     "fix",
     "Write the source text with the suggested strings in it, and nothing else",
+);
+
+const STANDARD: Argument = Argument::Switch(
+    "standard",
+    "With --fix, take the standard's strings also for strings that T can't judge",
+);
+
+const DIFF: Argument = Argument::Switch(
+    "diff",
+    "With --fix, write what differs, for patch, in place of the text",
+);
+
+const FAIL: Argument = Argument::Switch(
+    "fail",
+    "End with status 1 if an entry has a fault or can't be read",
+);
+
+const FILES: Argument = Argument::Words(
+    "FILE",
+    "A source file, all entries of which are checked, or a compiled file",
+);
+
+const EVERY_SIZE: Argument = Argument::Switch(
+    "every-size",
+    "Judge at all sizes, 2 to 200 rows and 2 to 500 columns; no ROWS and COLS are given",
 );
 
 const EXPAND: &[Argument] = &[
@@ -127,6 +161,9 @@ const CHECK: &[Argument] = &[
     ),
     SARIF,
     FIX,
+    STANDARD,
+    DIFF,
+    EVERY_SIZE,
     JOIN,
     WITH,
     Argument::Path(
@@ -137,6 +174,9 @@ const CHECK: &[Argument] = &[
     ROWS,
     COLS,
 ];
+
+/// The arguments of `check --every-size`.
+const CHECK_SIZES: &[Argument] = &[EVERY_SIZE, JOIN, WITH, ENTRY];
 
 const VERIFY: &[Argument] = &[
     JOIN,
@@ -151,10 +191,7 @@ const SURVEY: &[Argument] = &[
     Argument::Switch("all", "List all faults of each entry, a line for each"),
     Argument::Switch("json", "Report in JSON, an object on each line"),
     SARIF,
-    Argument::Switch(
-        "fail",
-        "End with status 1 if an entry has a fault or can't be read",
-    ),
+    FAIL,
     Argument::Switch(
         "parts",
         "With --all, name the entries that are only there to be used",
@@ -163,17 +200,20 @@ const SURVEY: &[Argument] = &[
         "baseline",
         "With --json or --sarif, leave out what this earlier output of --json has",
     ),
+    EVERY_SIZE,
     JOIN,
     WITH,
     FIX,
+    STANDARD,
+    DIFF,
     Argument::Path("out", "Write the text of --fix to this file"),
     ROWS,
     COLS,
-    Argument::Words(
-        "FILE",
-        "A source file, all entries of which are checked, or a compiled file",
-    ),
+    FILES,
 ];
+
+/// The arguments of `survey --every-size`.
+const SURVEY_SIZES: &[Argument] = &[FAIL, EVERY_SIZE, JOIN, WITH, FILES];
 
 /// The arguments of `play` and `show`.
 const RUN: &[Argument] = &[ENTRY, ROWS, COLS, CERT, SCRIPT];
@@ -214,12 +254,15 @@ fn infocmp_words() -> CommandWords {
     }
 }
 
-fn check_words() -> CommandWords {
+fn check_words(sizes: Sizes) -> CommandWords {
     CommandWords {
         name: "check",
         about: help::CHECK,
         more: help::CHECK_MORE,
-        arguments: CHECK,
+        arguments: match sizes {
+            Sizes::One => CHECK,
+            Sizes::Every => CHECK_SIZES,
+        },
     }
 }
 
@@ -232,12 +275,15 @@ fn verify_words() -> CommandWords {
     }
 }
 
-fn survey_words() -> CommandWords {
+fn survey_words(sizes: Sizes) -> CommandWords {
     CommandWords {
         name: "survey",
         about: help::SURVEY,
         more: help::SURVEY_MORE,
-        arguments: SURVEY,
+        arguments: match sizes {
+            Sizes::One => SURVEY,
+            Sizes::Every => SURVEY_SIZES,
+        },
     }
 }
 
@@ -259,24 +305,24 @@ fn show_words() -> CommandWords {
     }
 }
 
-/// The commands, in the order of the program's help. Each comes from a function of its own: as one constant, the table
-/// is too large for a proof.
-fn commands() -> [CommandWords; 9] {
+/// The commands of a line about these `sizes`, in the order of the program's help. Each comes from a function of its
+/// own: as one constant, the table is too large for a proof.
+fn commands(sizes: Sizes) -> [CommandWords; 9] {
     [
         expand_words(),
         feed_words(),
         tic_words(),
         infocmp_words(),
-        check_words(),
+        check_words(sizes),
         verify_words(),
-        survey_words(),
+        survey_words(sizes),
         play_words(),
         show_words(),
     ]
 }
 
-/// The program, its commands and their arguments.
-pub fn command_line<'a>(alloc: Global) -> Result<Command<'a>, AllocError> {
+/// The program, its commands and their arguments on a line about these `sizes`.
+pub fn command_line<'a>(alloc: Global, sizes: Sizes) -> Result<Command<'a>, AllocError> {
     let mut program = Command::new(alloc, "ticurses")
         .no_binary_name(true)
         .bin_name("ticurses")?
@@ -286,7 +332,7 @@ pub fn command_line<'a>(alloc: Global) -> Result<Command<'a>, AllocError> {
         .propagate_version(true)
         .subcommand_required(true)
         .arg_required_else_help(true);
-    for words in &commands() {
+    for words in &commands(sizes) {
         program = program.subcommand(command_of(alloc, words)?)?;
     }
     Ok(program)

@@ -230,14 +230,25 @@ entry seems to be for a terminal of another kind. The message has the line of th
 suggestion. A result marks the whole field, and has a fix if a string is suggested that is right without others and the
 grade isn't unknown.
 
-With --fix there is no certificate. The output is the text of the source file in which each string that --all suggests
-is taken: the field is replaced in its place, in the entry that --all names, and a missing one is added after the last
-field of the entry; nothing else of the text is changed. With --out it is written to FILE, whole or not at all; only
-here FILE may be the source itself. Standard error has a line `kept CAP: REASON` for each of these strings that isn't
-taken: no place for its field was found, or an entry of the source would lose its yes. The text is judged again:
-standard error has a line `left: no CAP P..: CAUSE` for each fault that is left, and the first of them after
-`refused: `. With --with the strings are taken in those files too, and --out names a folder: each file that has changed
-is written there under its own name, or none is.
+With --fix there is no certificate. The output is the text of the source file in which strings that --all suggests are
+taken: the field is replaced in its place, in the entry that --all names, and a missing one is added behind the last
+field of the entry's own; nothing else of the text is changed, and with --join a field keeps its line breaks. A string
+is taken if the entry has a certificate with it and the others, or if its fault is broken or contradicts. No entry of
+the source changes but by a fault that it has itself, and one that stays at fault only by a fault of these two grades;
+none gets a fault that it hadn't. With --standard strings are also taken for faults of the grade unknown. With --out
+the text is written to FILE, whole or not at all; only here FILE may be the source itself. With --diff what differs is
+written in place of the text, as `diff -u` prints it and patch(1) reads it. Standard error has a line `kept CAP:
+REASON` for each string that isn't taken, with the entry that it would harm, or that it is of no use. The text is
+judged again: standard error has a line `left: no CAP P..: CAUSE` for each fault that is left, and the first of them
+after `refused: `. With --with the strings are taken in those files too, and --out names a folder: each file that has
+changed is written there under its own name, or none is; two files of one name are refused, and a folder that isn't
+there is made.
+
+With --every-size the entry is judged at all sizes, and no ROWS and COLS are given. The output is `yes at every size`
+where it has a certificate at each of them. Else standard error has `refused: no CAP P..: CAUSE`, as without it, and
+below it the line `at ROWS COLS` with a size at which the entry has this fault, or `refused: Undecided CAP` where the
+effect of a string depends on the size in a way that isn't judged. --all, --json, --sarif, --fix and --out are not for
+--every-size.
 
 A certificate has at most 67108864 bytes. The limits of a source file and of a compiled file are those of
 `ticurses tic --help`.
@@ -474,21 +485,27 @@ entry is null where a FILE has a fault of its own, or can't be read, with the ca
 With --sarif the output is one file of SARIF for all FILEs, as `ticurses check --help` describes it.
 
 With --baseline FILE, which is for --json and --sarif, the objects that FILE has are left out: those of an earlier
-output of --json, whatever lines they are on. An object that says the same of the same entry of the same file counts as
-one. So the output is what is new. With --fail the status is 1 only if a new object is a fault or a refusal.
+output of --json, whatever lines they are on. An object that says the same of the same entry of the same file at the
+same size counts as one. So the output is what is new. With --fail the status is 1 only if a new object is a fault or a
+refusal. Standard error has a line that says how many faults and refusals of FILE are gone. A FILE with a line that is
+no such object can't be read.
+
+With --every-size each entry is judged at all sizes, and no ROWS and COLS are given. The lines are `NAME yes`, `NAME no
+CAP P..: CAUSE at ROWS COLS`, `NAME undecided CAP` and those of what can't be read, and the last line counts them.
+--all, --json, --sarif, --baseline and --fix are not for --every-size.
 
 With --fail the status is 1 if an answer isn't yes, with the line `refused: Faulty` on standard error. The output is the
 same.
 
-With --fix the output is the text of the one FILE, a source file, in which each string that --all suggests for one of
-its entries is taken, as `ticurses check --help` describes it for one entry; nothing else of the text is changed. With
---out it is written to the file named there, whole or not at all, which may be FILE itself. For each of these strings
-that isn't taken standard error has a line `kept CAP of NAME: REASON`: no place for its field was found, another entry
-wants another string in the field, or an entry that has a yes would lose it. The text is judged again: standard error
-has a line `left: NAME no CAP P..: CAUSE` for each fault that is left, and `left: NAME refused: KIND` for an entry that
-can't be resolved. An entry that can't be read refuses the text. With --fail the status is 1 if something is left. With
---with the strings for the entries of FILE are taken in those files too, no entry of which loses a yes, and --out names
-a folder, as for `ticurses check --fix`; a line without it is refused.
+With --fix the output is the text of the one FILE, a source file, in which strings that --all suggests for its entries
+are taken by the rules of `ticurses check --help`; nothing else of the text is changed, and a second run changes
+nothing. With --out it is written to the file named there, whole or not at all, which may be FILE itself; with --diff
+what differs is written, and --standard is as for check. For each of these strings that isn't taken standard error has
+a line `kept CAP of NAME: REASON`. The text is judged again: standard error has a line `left: NAME no CAP P..: CAUSE`
+for each fault that is left, and `left: NAME refused: KIND` for an entry that can't be resolved. An entry that can't be
+read refuses the text. With --fail the status is 1 if something is left. With --with the strings for the entries of
+FILE are taken in those files too, and --out names a folder, as for `ticurses check --fix`; a line without --out and
+--diff is refused.
 
 A FILE has at most 16777216 bytes. One that can't be read has no line, and the others are checked all the same.
 
@@ -499,7 +516,9 @@ or a text or standard output could not be written; 4 out of memory.
 
 Example:
   ticurses survey 24 80 my.ti /usr/share/terminfo/*/*
+  ticurses survey --every-size my.ti
   ticurses survey --all --fail 24 80 my.ti
   ticurses survey --fix 24 80 my.ti --out mended.ti
+  ticurses survey --fix --diff 24 80 my.ti | patch
   ticurses survey --json 24 80 my.ti
   ticurses survey --sarif --baseline old.json 24 80 my.ti";

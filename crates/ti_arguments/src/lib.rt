@@ -4,6 +4,7 @@
 mod commands;
 mod help;
 mod inputs;
+mod names;
 mod parser;
 mod requests;
 mod rules;

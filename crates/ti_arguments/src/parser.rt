@@ -1,7 +1,8 @@
 //! The parser of the command line, from words to a request.
 
-use crate::commands::command_line;
+use crate::commands::{Sizes, command_line};
 use crate::inputs::input_fault;
+use crate::names::names_fault;
 use crate::requests::{all_words, request_of};
 use crate::rules::fault_of;
 use clap::ArgMatches;
@@ -20,6 +21,13 @@ pub struct Asked<'a> {
     pub further: Vec<&'a str>,
     /// Whether the line has `--fix`: a `check` or a `survey` is to write a mended source text.
     pub fixes: bool,
+    /// Whether the line has `--standard`: the standard's strings are suggested also where nothing is known of a string.
+    pub standard: bool,
+    /// Whether the line has `--diff`: what differs is to be written in place of a mended text.
+    pub diff: bool,
+    /// Whether the line has `--every-size`: a `check` or a `survey` is about all sizes, and its rows and columns are
+    /// empty.
+    pub every_size: bool,
     /// Whether the line has `--sarif`: the report is to be a file of SARIF.
     pub sarif: bool,
     /// The path of an earlier report, if the line has `--baseline`: only what it doesn't say is to be reported.
@@ -58,9 +66,21 @@ impl From<AllocError> for UsageFault {
 /// # Errors
 /// `Usage` with a message, or `NoMemory`.
 pub fn parse_line<'a>(alloc: Global, words: &'a [String]) -> Result<ParsedLine<'a>, UsageFault> {
-    match command_line(alloc)?.try_get_matches_from(words) {
+    match command_line(alloc, sizes_of(words))?.try_get_matches_from(words) {
         Ok(matches) => Ok(ParsedLine::Request(asked_by(alloc, &matches)?)),
         Err(error) => explain(alloc, &error),
+    }
+}
+
+/// The sizes that a line with these `words` is about. Behind `--` a word is no option.
+fn sizes_of(words: &[String]) -> Sizes {
+    let mut options = words
+        .iter()
+        .map_while(|word| (word.as_str() != "--").then_some(word.as_str()));
+    if options.any(|word| word == "--every-size") {
+        Sizes::Every
+    } else {
+        Sizes::One
     }
 }
 
@@ -89,12 +109,18 @@ fn asked_by<'a>(alloc: Global, matches: &ArgMatches<'a>) -> Result<Asked<'a>, Us
         joins: words.get_flag("join"),
         further: all_words(alloc, words, "with")?,
         fixes: words.get_flag("fix"),
+        standard: words.get_flag("standard"),
+        diff: words.get_flag("diff"),
+        every_size: words.get_flag("every-size"),
         sarif: words.get_flag("sarif"),
         baseline: words.get_str("baseline"),
         out: words.get_str("out"),
     };
-    match input_fault(&asked) {
-        Some(message) => Err(usage_error(alloc, message)),
+    if let Some(message) = input_fault(&asked) {
+        return Err(usage_error(alloc, message));
+    }
+    match names_fault(alloc, &asked)? {
+        Some(message) => Err(usage_error(alloc, message.as_str())),
         None => Ok(asked),
     }
 }

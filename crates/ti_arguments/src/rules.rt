@@ -38,6 +38,9 @@ fn infocmp_fault(words: &ArgMatches<'_>) -> Option<&'static str> {
 
 /// `check` writes a certificate, a source text or a report.
 fn check_fault(words: &ArgMatches<'_>) -> Option<&'static str> {
+    if lacks_fix(words) {
+        return Some(FIX_ALONE);
+    }
     let reports = reports(words);
     if !reports && !lists_all(words) {
         return None;
@@ -60,6 +63,9 @@ fn check_fault(words: &ArgMatches<'_>) -> Option<&'static str> {
 
 /// `survey` prints lines, a report, or with `--fix` one mended text.
 fn survey_fault(words: &ArgMatches<'_>) -> Option<&'static str> {
+    if lacks_fix(words) {
+        return Some(FIX_ALONE);
+    }
     let reports = reports(words);
     if words.get_flag("parts") && (reports || !lists_all(words)) {
         return Some(
@@ -76,6 +82,14 @@ fn survey_fault(words: &ArgMatches<'_>) -> Option<&'static str> {
         return Some("survey writes a text only with --fix: --out is for --fix");
     }
     None
+}
+
+/// The message about a line that has an option of `--fix` without it.
+const FIX_ALONE: &str = "--standard and --diff say what --fix writes: they are for --fix";
+
+/// Whether the `words` have an option of `--fix` without it.
+fn lacks_fix(words: &ArgMatches<'_>) -> bool {
+    !words.get_flag("fix") && (words.get_flag("standard") || words.get_flag("diff"))
 }
 
 /// `survey --fix` mends one file, with those of `--with`.

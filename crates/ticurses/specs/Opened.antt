@@ -1,4 +1,4 @@
--- What is left of an opened file or of standard input.
+-- The bytes that are left of an opened file or of standard input.
 use Rattle.std.specs.Prelude.{ℕ, List, Option}
 use Rattle.ticurses.specs.declared.stored.Opened.{Opened}
 use Rattle.ticurses.specs.declared.stored.Opened.TheVariants.{File, Input}

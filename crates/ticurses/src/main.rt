@@ -2,9 +2,11 @@
 #![tactic(auto)]
 
 mod batches;
+mod collected;
 mod counted;
 mod forms;
 mod hints;
+mod mended;
 mod originals;
 mod progress;
 mod run;

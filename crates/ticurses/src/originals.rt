@@ -19,22 +19,21 @@ const LONGEST_READ: u64 = LONGEST_FILE as u64 + 1;
 /// A file that was read: its path, and its bytes, or one more than a source may have.
 #[derive(Drop)]
 pub struct Original<'a> {
-    path: &'a str,
-    bytes: Vec<u8>,
+    pub path: &'a str,
+    pub bytes: Vec<u8>,
 }
 
-/// The files in which the places are that the reply to the command that is `asked` for names. One that can't be read
-/// isn't among them: it is the command's to say so.
+/// The files at these `paths`. One that can't be read isn't among them: it is the command's to say so.
 pub fn originals<'a, F: Files>(
     alloc: Global,
-    asked: &'a Asked<'a>,
+    paths: &[&'a str],
     files: &mut F,
 ) -> Result<Vec<Original<'a>>, Failure>
     ensures read { IfOk result (λ originals. WereRead (F.holds files.old) originals.items) }
     ensures kept { F.holds files.new ≡ F.holds files.old }
 {
     let mut originals = Vec::new(alloc);
-    for path in &paths_of(alloc, asked)? {
+    for path in paths {
         add_original(alloc, files, path, &mut originals)?;
     }
     Ok(originals)
@@ -67,8 +66,8 @@ fn add<'a>(originals: &mut Vec<Original<'a>>, original: Original<'a>) -> Result<
     }
 }
 
-/// The paths of the files in which the places are that the reply names.
-fn paths_of<'a>(alloc: Global, asked: &'a Asked<'a>) -> Result<Vec<&'a str>, AllocError> {
+/// The paths of the files in which the places are that the reply to the command that is `asked` for names.
+pub fn paths_of<'a>(alloc: Global, asked: &'a Asked<'a>) -> Result<Vec<&'a str>, AllocError> {
     let mut paths = Vec::new(alloc);
     match &asked.request {
         Request::CheckAll(words) | Request::CheckJson { words, .. } => {

@@ -2,10 +2,12 @@
 
 ghost use Rattle.std.specs.Prelude.{◌≤◌};
 
+use crate::collected::Collected;
 use crate::counted::Counted;
 use crate::forms::{baseline_of, count_gone, formed, is_kept};
 use crate::hints::{hint_join, hint_path};
-use crate::originals::{Kept, lined, originals};
+use crate::mended::{Mended, Mending, delivered, fix_out, folder_of, is_collected, sources_of};
+use crate::originals::{Kept, lined, originals, paths_of};
 use crate::progress::SurveyLines;
 use crate::stored::Sources;
 use cur_commands::{play_script, show_script, verify_certificate};
@@ -15,9 +17,10 @@ use ti_arguments::{Asked, ParsedLine, UsageFault, parse_line};
 use ti_commands::{
     Comparison, compare_entries, compile_entry, expand_string, feed_file, feed_state, print_entry,
 };
+use ti_everywhere::{check_everywhere, survey_everywhere};
 use ti_files::{
     Beside, CommandRefusal, Failure, Files, Output, Remarks, Replied, Reply, Wrapped, Written,
-    report, write_reply, write_text,
+    file_fault, report, write_reply, write_text,
 };
 use ti_printers::{Baseline, Json, News, Sarif};
 use ti_repairs::{FixWords, fix_entry, fix_survey};
@@ -139,6 +142,31 @@ fn check_counted<F: Files, E: IsTerminal>(
     Ok(reply)
 }
 
+/// The reply of `check` to its `words`, which is mended text or an answer about all sizes if that is `asked` for.
+fn check_by<F: Files, E: IsTerminal>(
+    alloc: Global,
+    asked: &Asked<'_>,
+    words: &CheckWords<'_>,
+    files: &mut F,
+    err: &E,
+    remarks: &mut Remarks,
+) -> Replied {
+    if asked.fixes {
+        let out = fix_out(asked);
+        fix_entry(
+            alloc,
+            &CheckWords { out, ..*words },
+            asked.standard,
+            files,
+            remarks,
+        )
+    } else if asked.every_size {
+        check_everywhere(alloc, words.entry, files, remarks)
+    } else {
+        check_counted(alloc, words, files, err, remarks)
+    }
+}
+
 /// The reply of `play` to its `words`. The bytes that it sends go to `out` as they come.
 fn play<F: Files, O: Output>(
     alloc: Global,
@@ -204,15 +232,30 @@ fn survey_plainly<F: Files, O: Output, E: Write + IsTerminal>(
     Ok(lines.end(alloc, reply))
 }
 
-/// The words of `survey --fix`: those of a survey of one file, and the path of the text.
-fn fix_words<'a>(words: &SurveyWords<'a>, out: Option<&'a str>) -> FixWords<'a> {
+/// Runs `survey --every-size` over the files of the `words`, and returns its reply. The lines of the entries go to the
+/// output as they come.
+fn survey_sizes<F: Files, O: Output, E: Write + IsTerminal>(
+    alloc: Global,
+    words: &SurveyWords<'_>,
+    files: &mut F,
+    streams: &mut Streams<'_, '_, O, E>,
+    remarks: &mut Remarks,
+) -> Replied {
+    let mut lines = SurveyLines::new(alloc, streams.out, streams.err);
+    let paths = words.paths.as_slice();
+    let reply = survey_everywhere(alloc, paths, words.is_strict, files, &mut lines, remarks)?;
+    Ok(lines.end(alloc, reply))
+}
+
+/// The words of the `survey --fix` that is `asked` for: those of a survey of one file, and the path of the text.
+fn fix_words<'a>(asked: &'a Asked<'a>, words: &SurveyWords<'a>) -> FixWords<'a> {
     FixWords {
         is_strict: words.is_strict,
-        is_standard: false,
+        is_standard: asked.standard,
         rows: words.rows,
         cols: words.cols,
         path: words.paths.first().copied().unwrap_or(""),
-        out,
+        out: fix_out(asked),
     }
 }
 
@@ -298,9 +341,54 @@ fn reply_by<P: Form, F: Files + Sources, O: Output, E: Write + IsTerminal>(
     streams: &mut Streams<'_, '_, O, E>,
     remarks: &mut Remarks,
 ) -> Replied {
-    if asked.fixes {
+    if asked.fixes && !asked.diff {
         files.allow_source();
     }
+    let reply = if is_collected(asked) {
+        collected_reply(alloc, asked, form, files, streams, remarks)?
+    } else {
+        sourced_reply(alloc, asked, form, files, streams, remarks)?
+    };
+    match folder_of(asked) {
+        Some(folder) => match files.make_folder(folder) {
+            Ok(()) => Ok(reply),
+            Err(fault) => Err(file_fault(alloc, folder, fault, remarks)),
+        },
+        None => Ok(reply),
+    }
+}
+
+/// The reply of the command that is `asked` for, which mends texts that aren't what goes out.
+fn collected_reply<P: Form, F: Files, O: Output, E: Write + IsTerminal>(
+    alloc: Global,
+    asked: &Asked<'_>,
+    form: &P,
+    files: &mut F,
+    streams: &mut Streams<'_, '_, O, E>,
+    remarks: &mut Remarks,
+) -> Replied {
+    let sources = sources_of(alloc, asked)?;
+    let originals = originals(alloc, sources.as_slice(), files)?;
+    let mut kept = Kept::new(files, originals.as_slice());
+    let mut collected = Collected::new(alloc, &mut kept);
+    let reply = sourced_reply(alloc, asked, form, &mut collected, streams, remarks)?;
+    let stored = collected.stored;
+    let mending = Mending {
+        asked,
+        originals: originals.as_slice(),
+    };
+    delivered(alloc, mending, Mended { stored, reply }, files, remarks)
+}
+
+/// The reply of the command that is `asked` for, whose sources are read as they are, or each field on one line.
+fn sourced_reply<P: Form, F: Files, O: Output, E: Write + IsTerminal>(
+    alloc: Global,
+    asked: &Asked<'_>,
+    form: &P,
+    files: &mut F,
+    streams: &mut Streams<'_, '_, O, E>,
+    remarks: &mut Remarks,
+) -> Replied {
     if asked.joins {
         return joined_reply(alloc, asked, form, files, streams, remarks);
     }
@@ -323,7 +411,8 @@ fn joined_reply<P: Form, F: Files, O: Output, E: Write + IsTerminal>(
     streams: &mut Streams<'_, '_, O, E>,
     remarks: &mut Remarks,
 ) -> Replied {
-    let originals = originals(alloc, asked, files)?;
+    let paths = paths_of(alloc, asked)?;
+    let originals = originals(alloc, paths.as_slice(), files)?;
     let texts = lined(alloc, originals.as_slice())?;
     let mut kept = Kept::new(files, originals.as_slice());
     let mut beside = Beside::new(&mut kept, asked.further.as_slice());
@@ -344,6 +433,24 @@ struct Job<'a, P> {
     texts: &'a [LinedFile<'a>],
 }
 
+/// The reply of `survey` to its `words`, which is mended text or answers about all sizes if the `job` is to have that.
+fn survey_by<P, F: Files, O: Output, E: Write + IsTerminal>(
+    alloc: Global,
+    job: &Job<'_, P>,
+    words: &SurveyWords<'_>,
+    files: &mut F,
+    streams: &mut Streams<'_, '_, O, E>,
+    remarks: &mut Remarks,
+) -> Replied {
+    if job.asked.fixes {
+        fix_survey(alloc, &fix_words(job.asked, words), files, remarks)
+    } else if job.asked.every_size {
+        survey_sizes(alloc, words, files, streams, remarks)
+    } else {
+        survey_plainly(alloc, &survey_of(words, job.texts), files, streams, remarks)
+    }
+}
+
 /// The reply of the command of the `job`. The bytes that `play` sends and the lines of a survey go to `out` as they
 /// come, and the reply has what follows them.
 fn reply_to<P: Form, F: Files, O: Output, E: Write + IsTerminal>(
@@ -361,8 +468,7 @@ fn reply_to<P: Form, F: Files, O: Output, E: Write + IsTerminal>(
         Request::Feed { rows, cols, file } => feed_file(alloc, rows, cols, file, files, remarks),
         Request::FeedAs(words) => feed_state(alloc, words, files, remarks),
         Request::Tic { entry, out } => compile_entry(alloc, entry, *out, files, remarks),
-        Request::Check(words) if asked.fixes => fix_entry(alloc, words, false, files, remarks),
-        Request::Check(words) => check_counted(alloc, words, files, streams.err, remarks),
+        Request::Check(words) => check_by(alloc, asked, words, files, streams.err, remarks),
         Request::CheckAll(words) => check_all(alloc, words, texts, files, remarks),
         Request::CheckJson { lists_all, words } => {
             check_reports(
@@ -375,12 +481,7 @@ fn reply_to<P: Form, F: Files, O: Output, E: Write + IsTerminal>(
         Request::Verify(words) => verify_certificate(alloc, words, files, remarks),
         Request::Play(words) => play(alloc, words, files, streams.out, remarks),
         Request::Show(words) => show_script(alloc, words, files, remarks),
-        Request::Survey(words) if asked.fixes => {
-            fix_survey(alloc, &fix_words(words, asked.out), files, remarks)
-        }
-        Request::Survey(words) => {
-            survey_plainly(alloc, &survey_of(words, texts), files, streams, remarks)
-        }
+        Request::Survey(words) => survey_by(alloc, job, words, files, streams, remarks),
         Request::SurveyJson(words) => {
             survey_json(
                 alloc,

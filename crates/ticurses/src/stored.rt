@@ -25,6 +25,11 @@ const INPUT_FILE: &str = "/dev/stdin";
 pub trait Sources {
     /// From now on a command may also store to the file that it has read.
     fn allow_source(&mut self) {}
+
+    /// Makes a folder at the path, unless something is there.
+    fn make_folder(&self, _path: &str) -> Result<(), FileFault> {
+        Ok(())
+    }
 }
 
 /// The system's files for a command to read and write. The path `-` is standard input; a file of
@@ -74,6 +79,27 @@ impl<'a, R: rt::Files, I> Stored<'a, R, I> {
             Ok(()) => Ok(()),
             Err(_) => Err(FileFault::NoMemory),
         }
+    }
+
+    /// Makes a folder at the path, unless something is there.
+    fn make_missing(&self, path: &str) -> Result<(), FileFault> {
+        match fs::metadata(self.rt, path) {
+            Ok(_) => Ok(()),
+            Err(error) if error.kind() == ErrorKind::NotFound => Ok(fs::create_dir(self.rt, path)?),
+            Err(error) => Err(FileFault::from(error)),
+        }
+    }
+
+    /// Makes the folders of the `new_files`, where these are missing.
+    fn make_folders(&self, new_files: &[NewFile]) -> Result<(), FileFault> {
+        for file in new_files {
+            if let Some((folder, _name)) = file.path.as_str().rsplit_once('/') {
+                if !folder.is_empty() {
+                    self.make_missing(folder)?;
+                }
+            }
+        }
+        Ok(())
     }
 
     /// Makes the `new_files` ready to take their paths.
@@ -191,9 +217,13 @@ impl<F: Read, I: Read> Read for Opened<F, I> {
     }
 }
 
-impl<R, I> Sources for Stored<'_, R, I> {
+impl<R: rt::Files, I> Sources for Stored<'_, R, I> {
     fn allow_source(&mut self) {
         self.keeps_source = false;
+    }
+
+    fn make_folder(&self, path: &str) -> Result<(), FileFault> {
+        self.make_missing(path)
     }
 }
 
@@ -234,8 +264,10 @@ impl<R: rt::Files, I: Read + Drop> Files for Stored<'_, R, I> {
         }
     }
 
-    /// All files are written beside their paths before the first of them takes its path.
+    /// All files are written beside their paths before the first of them takes its path. A folder of theirs that isn't
+    /// there is made.
     fn store_all(&mut self, new_files: &[NewFile]) -> Result<(), FileFault> {
+        self.make_folders(new_files)?;
         let mut batch = Batch::new(self.alloc, self.rt);
         match self.prepare(&mut batch, new_files) {
             Ok(()) => batch.commit(),

@@ -1,0 +1,2 @@
+mod CommonFacts
+mod PieceFacts
