@@ -252,7 +252,7 @@ bad|one fault,
 
 
 def judge_harms():
-    """What isn't at fault, or not for certain, stays; so do line breaks and padding."""
+    """Strings that aren't at fault, or not for certain, stay; so do line breaks and padding."""
     ways = [["survey", "--fix", *SIZE, name] for name in STAYING]
     told = run_cases(PROGRAM, [Case(way) for way in ways], STAYING)
     for (name, text), one in zip(STAYING.items(), told):

@@ -1,5 +1,6 @@
 -- Files whose entries are put together, before and after fields of them were given strings.
-use Rattle.std.specs.Prelude.{ℕ, ◌≡◌, ◌≢◌, ◌-◌, nat_lt, Bool, true, List, [], ◌∷◌, if◌then◌else◌, length, map, string_bytes}
+use Rattle.std.specs.Prelude.{ℕ, ◌≡◌, ◌≢◌, ◌-◌, nat_lt, Bool, true, List, [], ◌∷◌, if◌then◌else◌, length, map}
+use Rattle.std.specs.Prelude.{string_bytes}
 use Rattle.std.specs.List.{flat_map}
 use Rattle.ti_fixes.specs.Changes.{GivesAll}
 use Rattle.ti_fixes.specs.declared.changes.Change.{Change}

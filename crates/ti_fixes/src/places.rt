@@ -165,8 +165,8 @@ fn behind(text: &[u8], pieces: &[Piece]) -> Option<Piece> {
     found
 }
 
-/// The piece of the text that is the first of the entry's fields about `cap`, or the empty piece behind the last own one
-/// if there is none. `pieces` are those of the entry before commas.
+/// The piece of the text that is the first of the entry's fields about `cap`, or the empty piece behind the last own
+/// one if there is none. `pieces` are those of the entry before commas.
 fn piece_about(text: &[u8], pieces: &[Piece], cap: Cap) -> Option<Piece> {
     let fields: &[Piece] = match pieces {
         [] => &[],

@@ -55,7 +55,8 @@ has_lines [] = false
 has_lines (first ∷ others) = true
 
 -- files of which a reply would end so: a strict one fails if something is still wrong
-pub record IsReady (olds : List Sheet) (terms : Terms) (count : ℕ) (is_strict : Bool) (news : List Sheet) (notes : List ℕ)
+pub record IsReady (olds : List Sheet) (terms : Terms) (count : ℕ) (is_strict : Bool) (news : List Sheet)
+    (notes : List ℕ)
     (ended : Option Failure) : Type 0 where
   pub still : List ℕ
   pub repaired : IsRepaired olds terms count news notes still

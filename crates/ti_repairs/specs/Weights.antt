@@ -1,4 +1,4 @@
--- What is found about an entry: all its faults, and how much each counts.
+-- The findings about an entry: all its faults, and how much each counts.
 use Rattle.std.specs.Prelude.{ℕ, ◌≡◌, ◌==◌, Bool, true, false, List, [], if◌then◌else◌, length}
 use Rattle.std.specs.List.{AllZip}
 use Rattle.ti_caps.specs.Entry.{Content}

@@ -20,7 +20,7 @@ use ti_surveys::{EntryKind, kind_of};
 /// Finds the faults of an entry, and advises the strings that `check --all` suggests for those that count.
 #[derive(Clone, Copy, Debug)]
 pub struct Suggestions {
-    /// What counts.
+    /// The findings that count.
     pub terms: Terms,
 }
 

@@ -176,8 +176,8 @@ fn ready(
 /// Replies with the source text at the path of the `words`, in which the strings that are suggested for the faults of
 /// all its entries are taken; it goes to a path, or to standard output. With files of `--with` suggestions are taken in
 /// these too, and each file in which a field was given another string goes to the folder that the words name, under its
-/// own name. No entry of these files gets a fault by it, and no value of them changes but those at fault. The notes have
-/// a line for each suggestion that is left out, and for each fault that an entry of the source still has.
+/// own name. No entry of these files gets a fault by it, and no value of them changes but those at fault. The notes
+/// have a line for each suggestion that is left out, and for each fault that an entry of the source still has.
 ///
 /// # Errors
 /// The words give no size, or the path no source text; a file of `--with` can't be read; `SeveralFiles` with files of

@@ -1,4 +1,4 @@
-//! What is found about an entry, and how much it counts.
+//! The findings about an entry, and how much each counts.
 
 ghost use Rattle.std.specs.{Prelude.{◌≡◌, IfOk}, List.{AllZip}};
 ghost use Rattle.ti_repairs.specs.Weights as spec;

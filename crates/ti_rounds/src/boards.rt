@@ -1,5 +1,5 @@
-//! All fields that are to be given strings, and the entries that have their values from them. Nothing is promised of it:
-//! what is chosen by it is judged when it is taken.
+//! All fields that are to be given strings, and the entries that have their values from them. Nothing is promised of
+//! it: a choice is judged when it is taken.
 
 ghost use Rattle.std.specs.List.{AllByRecursion};
 ghost use Rattle.ti_source.specs.Raw.{IsRaw};
@@ -44,9 +44,9 @@ pub struct Case {
     pub entry: Option<Entry>,
     /// The fields that give it values.
     pub slots: Vec<usize>,
-    /// What is found about it, where that was asked for.
+    /// The findings about it, where they were asked for.
     pub old: Option<Vec<Finding>>,
-    /// What is found with all that is chosen.
+    /// The findings with all that is chosen.
     pub new: Option<Vec<Finding>>,
 }
 
@@ -369,7 +369,7 @@ fn with_chosen(entry: &Entry, slots: &[Slot], own: &[usize]) -> Result<Entry, Al
     Ok(changed)
 }
 
-/// What is found about an entry; nothing if it can't be resolved.
+/// The findings about an entry; none if it can't be resolved.
 fn found_about<A: Adviser>(alloc: Global, adviser: &A, entry: &Option<Entry>) -> Found {
     match entry {
         Some(entry) => adviser.find(alloc, entry),

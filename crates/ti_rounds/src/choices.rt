@@ -17,7 +17,7 @@ type Done = Result<(), AllocError>;
 /// How often a list of remedies is made smaller before it is given up.
 const TRIES: usize = 200;
 
-/// What is found about an entry before and after.
+/// The findings about an entry before and after.
 #[derive(Clone, Copy)]
 struct Both<'a> {
     old: &'a [Finding],
@@ -37,7 +37,7 @@ fn know<A: Adviser>(alloc: Global, adviser: &A, board: &mut Board, place: usize)
     Ok(())
 }
 
-/// What is known of the entry at `place`.
+/// The things known of the entry at `place`.
 fn known(board: &Board, place: usize) -> Both<'_> {
     if place >= board.cases.len() {
         return Both { old: &[], new: &[] };
@@ -325,7 +325,7 @@ fn passing<A: Adviser>(
     Ok(good)
 }
 
-/// Those of the fields for which nothing is chosen yet, each once; the strings are chosen.
+/// Strings for those of the fields for which nothing is chosen yet, each field once.
 fn chosen_of(alloc: Global, board: &mut Board, picks: &[Pick]) -> Result<Vec<Pick>, AllocError> {
     let mut own = Vec::new(alloc);
     for pick in picks {

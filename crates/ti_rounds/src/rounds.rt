@@ -27,7 +27,7 @@ const ROUNDS: usize = 100;
 pub struct Remedied {
     /// The files, and their entries.
     pub texts: Texts,
-    /// What is still advised for them, and why it isn't taken.
+    /// The suggestions that are left for them, and why they aren't taken.
     pub kept: Vec<Kept>,
     /// Whether nothing more was found that may be taken; else the limit of rounds was met.
     pub is_ended: bool,
@@ -317,7 +317,7 @@ fn kept_one<A: Adviser>(
     Ok(Kept { remedy, reason })
 }
 
-/// What is still advised for the `wanted` entries, and why it isn't taken.
+/// The suggestions that are left for the `wanted` entries, and why they aren't taken.
 fn all_kept<A: Adviser>(
     alloc: Global,
     adviser: &A,

@@ -1,4 +1,4 @@
--- What is found about an entry, and which of its values may change for it. A finding is known by its capability and
+-- The findings about an entry, and which of its values may change for them. A finding is known by its capability and
 -- its cause.
 use Rattle.std.specs.Prelude.{ℕ, Bool, true, false, List, [], ◌∷◌, ◌==◌, ◌&&◌, ◌||◌, not}
 use Rattle.std.specs.List.{list_all, list_any}

@@ -25,7 +25,7 @@ pub record IsThere (raws : List RawEntry) (one : Remedy) (place : ℕ) : Type 0 
   pub first : IsOriginAt raws place one.change.cap origin
   pub is : one.change.place ≡ place_or place origin
 
--- That is so of the entry at a place, and `old` is found about it; `new` is found with the remedy's string.
+-- The entry at a place is such a one, and `old` is found about it; `new` is found with the remedy's string.
 pub record IsTouched (Finds : Content → List Finding → Type 0) (raws : List RawEntry) (one : Remedy) (place : ℕ)
     (entry : Content) (old new : List Finding) : Type 0 where
   pub gives : IsResolvedAt raws place entry

@@ -1,4 +1,4 @@
-//! What is found about entries, and strings that are advised for them.
+//! The findings about entries, and strings that are advised for them.
 
 ghost use Rattle.std.specs.{Prelude.{◌≡◌, List, IfOk, IsTrue}, List.{AllByRecursion}};
 ghost use Rattle.ti_caps.specs.{Entry.{Content}, Fits.{string_fits}};
@@ -74,7 +74,7 @@ impl Remedy {
 /// Whether something is so of entries, unless memory ran out.
 pub type Judged = Result<bool, AllocError>;
 
-/// What is found about an entry, unless memory ran out.
+/// The findings about an entry, unless memory ran out.
 pub type Found = Result<Vec<Finding>, AllocError>;
 
 /// Finds what is wrong with entries, and advises strings for them.

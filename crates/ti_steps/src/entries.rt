@@ -49,7 +49,7 @@ pub fn same_values(one: &Entry, other: &Entry) -> bool
     true
 }
 
-/// What is found about an entry before and after some of its values change, and the remedies that are taken.
+/// The findings about an entry before and after some of its values change, and the remedies that are taken.
 #[derive(Clone, Copy)]
 struct Change<'a> {
     old: &'a [Finding],

@@ -1,4 +1,4 @@
-//! What findings mean for the values of an entry.
+//! The meaning of findings for the values of an entry.
 
 ghost use Rattle.std.specs.Prelude.{◌≡◌, ◌==◌, ◌&&◌, not};
 ghost use Rattle.std.specs.List.{list_all, list_any};

@@ -75,7 +75,7 @@ fn with_string(entry: &Entry, one: &Remedy) -> Result<Option<Entry>, AllocError>
     Ok(Some(changed))
 }
 
-/// What is found about the entry without the remedy and with it.
+/// The findings about the entry without the remedy and with it.
 fn make_tried<A: Adviser>(
     alloc: Global,
     adviser: &A,
@@ -96,7 +96,7 @@ fn make_tried<A: Adviser>(
     Ok(Some(Tried { entry, old, new }))
 }
 
-/// What is found about the entry at `place` without the remedy and with it; none if that doesn't touch it.
+/// The findings about the entry at `place` without the remedy and with it; none if that doesn't touch it.
 fn tried_at<A: Adviser>(
     alloc: Global,
     adviser: &A,

@@ -181,7 +181,8 @@ fn are_of_use<A: Adviser>(
 fn changes_of(alloc: Global, taken: &[Remedy]) -> Result<Vec<Change>, AllocError>
     requires { AllByRecursion Fits taken.now }
     ensures changes { IfOk result (λ changes. changes.items ≡ spec.changes_of taken.now) }
-    ensures fits { IfOk result (λ changes. AllByRecursion (λ change. IsTrue (string_fits change.string)) changes.items) }
+    ensures fits { IfOk result (λ changes.
+        AllByRecursion (λ change. IsTrue (string_fits change.string)) changes.items) }
 {
     let mut changes = Vec::new(alloc);
     for one in taken {
@@ -191,7 +192,7 @@ fn changes_of(alloc: Global, taken: &[Remedy]) -> Result<Vec<Change>, AllocError
     Ok(changes)
 }
 
-/// What comes of taking remedies together.
+/// The outcome of taking remedies together.
 #[derive(Drop)]
 pub enum Step {
     /// The files in which they are taken.
