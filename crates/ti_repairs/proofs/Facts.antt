@@ -39,6 +39,7 @@ value_or one (Some own) = own
 
 -- the suggestion for the item at a place of a list
 pub advised_here : (entry : Content) (mended : Mended) (all : List Listed) (n : ℕ) (one : Listed) (found : Option Advice) → n < length all → one ≡ get_or all n one → IsAdvice entry mended one found → IsAdvisedAt entry mended all n (optional found)
+unfolding value_or
 advised_here entry mended all n one found l is h = λ listed there. record {
   found = found;
   advice = subst (λ (x : Listed). IsAdvice entry mended x found) (is ∙ ap (value_or one) (sym (slice_get-get_or all n one l) ∙ there)) h;

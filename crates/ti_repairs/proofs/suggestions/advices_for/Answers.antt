@@ -1,7 +1,8 @@
-use Rattle.std.proofs.Common.{List, subst, sym, ◌∙◌}
+use Rattle.std.proofs.Common.{List, ap, subst, sym, ◌∙◌}
 use Rattle.std.proofs.lemmas.Result.{IfOk-weaker}
-use Rattle.ti_repairs.specs.Advices.{Advises, AreAdvices}
+use Rattle.ti_repairs.specs.Advices.{Advises, AreAdvices, all_listed}
 use Rattle.ti_repairs.specs.declared.suggestions.Listed.{Listed}
+use Rattle.ti_steps.specs.declared.advice.Finding.{Finding}
 use Rattle.ti_repairs.proofs.suggestions.advices_for.Goals as goal
 
 -- nothing is suggested for a terminal of another kind
@@ -12,5 +13,5 @@ pub returns-clause-advised : goal.returns-clause-advised
 returns-clause-advised c =
     IfOk-weaker c.all_advices.result _ _
     (λ advices h. Advises.Each c.args.nos.now c.requires (sym c.is_other.ensures ∙ c.if-is_other.false) c.in_ok-findings.findings.items c.in_ok-findings.ensures c.in_ok-mended.mended c.in_ok-mended.ensures
-    (subst (λ (listed : List Listed). AreAdvices c.args.entry.now c.in_ok-mended.mended listed advices.items) (c.as_slice-2.ensures.value ∙ c.in_ok-listed.ensures) h))
+    (subst (λ (listed : List Listed). AreAdvices c.args.entry.now c.in_ok-mended.mended listed advices.items) (c.as_slice-2.ensures.value ∙ (c.in_ok-listed.ensures ∙ ap (λ (findings : List Finding). all_listed c.args.nos.now findings) c.as_slice.ensures.value)) h))
     c.all_advices.ensures.advised
