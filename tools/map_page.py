@@ -28,6 +28,7 @@ PARTS = [
             "ti_hints",
             "ti_words",
             "ti_files",
+            "ti_diffs",
         ],
     ),
     ("For programs", ["curses", "hello", "curses_c", "terminfo_c"]),
