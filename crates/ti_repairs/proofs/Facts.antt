@@ -1,5 +1,7 @@
 -- Suggestions, one after another, and names for parts of a reply.
-use Rattle.std.proofs.Common.{◌≡◌, ◌≢◌, ◌<◌, ◌+◌, ℕ, Bool, List, [], ◌∷◌, ◌++◌, Option, Some, None, IfSome, length, get_or, ap, refl, sym, subst, ◌∙◌}
+use Rattle.std.proofs.Common.{◌≡◌, ◌≢◌, ◌<◌, ◌+◌, ℕ, Bool, List, [], ◌∷◌, ◌++◌, Option, Some, None, Result, Ok, Err, IfSome, append_assoc, length, get_or, ap, refl, sym, subst, ◌∙◌}
+use Rattle.std.specs.Prelude.{OnOk, if◌then◌else◌}
+use Rattle.std.specs.Result.{is_ok}
 use Rattle.std.specs.List.{AllByRecursion}
 use Rattle.std.proofs.lemmas.Option.{slice_get-get_or}
 use Rattle.ti_caps.specs.Entry.{Content}
@@ -52,6 +54,15 @@ noted_so named ended slice raws own kept notes lines still all r t n l is =
     is
     ∙ (ap (λ (x : List ℕ). x ++ lines) (n ∙ (ap (λ (rs : List RawEntry). kept_lines named rs own ended) r ∙ ap (λ (ks : List Kept). kept_lines named raws ks ended) t))
     ∙ ap (λ (x : List ℕ). kept_lines named raws kept ended ++ x) l)
+
+-- a text in three parts behind an old one, the last of which may fail
+pub three_parts : {T E : Type 0} (result : Result T E) (old own words tail mid all given : List ℕ) → mid ≡ old ++ (own ++ words) → tail ≡ given → all ≡ (if is_ok result then mid ++ tail else mid) → OnOk result (all ≡ old ++ (own ++ (words ++ given)))
+three_parts (Ok done) old own words tail mid all given e t h =
+    h
+    ∙ (ap (λ (x : List ℕ). x ++ tail) e
+    ∙ (append_assoc old (own ++ words) tail
+    ∙ (ap (λ (x : List ℕ). old ++ x) (append_assoc own words tail) ∙ ap (λ (x : List ℕ). old ++ (own ++ (words ++ x))) t)))
+three_parts (Err fault) old own words tail mid all given e t h = tt
 
 -- ---- where the texts go
 

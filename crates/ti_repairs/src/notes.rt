@@ -1,10 +1,12 @@
 //! The lines about suggestions that are left out.
 
-ghost use Rattle.std.specs.Prelude.{◌≡◌, ◌++◌, IfOk, OnOk};
+ghost use Rattle.std.specs.Prelude.{◌≡◌, ◌++◌, IfOk, OnOk, codes};
+ghost use Rattle.ti_caps.specs.Table.{name_at};
+ghost use Rattle.ti_files.specs.Shown.{shown};
 ghost use Rattle.ti_repairs.specs.Notes as spec;
 
 use std::alloc::{AllocError, Global};
-use ti_caps::name;
+use ti_caps::{Cap, name};
 use ti_files::push_shown;
 use ti_source::RawEntry;
 use ti_steps::{Kept, Reason, Remedy};
@@ -29,23 +31,40 @@ fn push_reason(
     match reason {
         Reason::Unplaced => lines.extend_from_slice(b"no way to take it was found"),
         Reason::Changes(place) => {
-            push_shown(lines, own_name(raws, place))?;
-            lines.extend_from_slice(b" would change and not be mended")
+            push_about(lines, raws, place, b" would change and not be mended")
         }
-        Reason::Faults(place, cap) => {
-            push_shown(lines, own_name(raws, place))?;
-            lines.extend_from_slice(b" would be at fault in ")?;
-            lines.extend_from_slice(name(cap))
-        }
-        Reason::Loses(place) => {
-            push_shown(lines, own_name(raws, place))?;
-            lines.extend_from_slice(b" would lose its yes")
-        }
-        Reason::Refused => {
-            push_shown(lines, own_name(raws, root))?;
-            lines.extend_from_slice(b" would stay at fault")
-        }
+        Reason::Faults(place, cap) => push_faulty(lines, raws, place, cap),
+        Reason::Loses(place) => push_about(lines, raws, place, b" would lose its yes"),
+        Reason::Refused => push_about(lines, raws, root, b" would stay at fault"),
     }
+}
+
+/// Appends the name of the entry at `place` and the `words` about it.
+fn push_about(
+    lines: &mut Vec<u8>,
+    raws: &[RawEntry],
+    place: usize,
+    words: &[u8],
+) -> Result<(), AllocError>
+    ensures { OnOk result
+        (lines.new.items ≡ lines.old.items ++ (shown (spec.own_name raws.now place) ++ words.now)) }
+{
+    push_shown(lines, own_name(raws, place))?;
+    lines.extend_from_slice(words)
+}
+
+/// Appends that the capability of the entry at `place` would be at fault.
+fn push_faulty(
+    lines: &mut Vec<u8>,
+    raws: &[RawEntry],
+    place: usize,
+    cap: Cap,
+) -> Result<(), AllocError>
+    ensures { OnOk result (lines.new.items ≡ lines.old.items
+        ++ (shown (spec.own_name raws.now place) ++ (codes " would be at fault in " ++ name_at cap))) }
+{
+    push_about(lines, raws, place, b" would be at fault in ")?;
+    lines.extend_from_slice(name(cap))
 }
 
 /// Appends ` of NAME`, if entries are `named`.

@@ -79,9 +79,9 @@ pub fn count_gone(
 /// The `reply` with the `kept` reports before its own text; as a file, if SARIF is `asked` for.
 pub fn formed(alloc: Global, asked: &Asked<'_>, kept: Vec<u8>, reply: Reply) -> Replied
     ensures text { IfOk result (λ formed.
-        IsFormed asked.now.sarif (kept.entry.items ++ reply.entry.text.items) formed.text.items) }
-    ensures notes { IfOk result (λ formed. formed.notes ≡ reply.entry.notes) }
-    ensures failure { IfOk result (λ formed. formed.failure ≡ reply.entry.failure) }
+        IsFormed asked.now.sarif (kept.items ++ reply.text.items) formed.text.items) }
+    ensures notes { IfOk result (λ formed. formed.notes ≡ reply.notes) }
+    ensures failure { IfOk result (λ formed. formed.failure ≡ reply.failure) }
 {
     let Reply {
         notes,
