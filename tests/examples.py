@@ -461,7 +461,7 @@ RUNS += [
     (["survey", "24", "80", "absent", "mini"], 3, "mini yes\ntotal 1, yes 1\n", "file: absent\n"),
     # with --fail the lines are those without it; any no or refused is status 1, after a file that can't be read
     (["survey", "--fail", "24", "80", "samples"], 0, "mini yes\nvt yes\nxt yes\nxc yes\ntotal 4, yes 4\n", ""),
-    (["survey", "--all", "--fail", "24", "80", "mini"], 0, "mini yes\ntotal 1, yes 1\n", ""),
+    (["survey", "--all", "--fail", "24", "80", "mini"], 0, "mini yes\ntotal 1, yes 1\n", "opens 1\n"),
     (["survey", "--fail", "24", "80", "empty.cert"], 0, "total 0\n", ""),
     (
         ["survey", "--fail", "24", "80", "even.out", "mini"],
